@@ -27,9 +27,10 @@ use Rattle.sv_world.specs.Ranges.{is_i64, is_byte, expr_fits, cond_fits, stmt_fi
 use Rattle.sv_world.specs.Trees.{expr_nodes, cond_nodes, stmt_nodes, body_nodes}
 use Rattle.sv_world.proofs.Ranged.{lit_fits, attr_fits, binary_fits, compare_fits, join_fits, not_fits, set_fits, if_fits}
 use Rattle.sv_world.proofs.TreeInduction.{each_expr, each_cond, all_stmts}
+use Rattle.sv_world.proofs.TreeMeasures.{pair_nodes, lit_nodes, attr_nodes, test_nodes, joint_nodes, not_nodes, set_nodes, if_nodes}
 use Rattle.sv_text.specs.Canonical.{object_in, ref_text, between, op_text, comparison_text, joint_text, expr_text, cond_text, spaced, block_part, block_text, else_text, stmt_text, object_text, spaced_objects, written, origin_text, body_text, canonical}
 use Rattle.sv_text.specs.Printable.{IsPrintable}
-use Rattle.sv_text.proofs.Layers.{pair_text_is, pair_nodes, lit_text, lit_nodes, attr_text, attr_nodes, test_text_is, test_nodes, joint_text_is, joint_nodes, not_text, not_nodes, set_text_is, set_nodes, if_text, if_nodes}
+use Rattle.sv_text.proofs.Layers.{pair_text_is, lit_text, attr_text, test_text_is, joint_text_is, not_text, set_text_is, if_text}
 use Rattle.sv_lines.proofs.Plain.{object_small, written_small}
 
 number_short : (n : ℕ) → n < 2 ^ 64 → length (decimal n) ≤ 20

@@ -27,7 +27,8 @@ use Rattle.sv_world.specs.Ranges.{is_byte, expr_fits, cond_fits}
 use Rattle.sv_text.proofs.Lexing.{blank_front}
 use Rattle.sv_world.proofs.Ranged.{binary_fits as pair_fits, lit_fits, attr_fits, compare_fits as test_fits, join_fits as joint_fits, not_fits}
 use Rattle.sv_world.proofs.TreeInduction.{each_expr, each_cond}
-use Rattle.sv_text.proofs.Layers.{pair_text_is, pair_nodes, pair_depth, pair_passes, lit_text, lit_nodes, lit_depth, attr_text, attr_nodes, attr_depth, attr_passes, test_text_is, test_nodes, test_depth, test_passes, joint_text_is, joint_nodes, joint_depth, joint_passes, not_text, not_nodes, not_depth, not_passes}
+use Rattle.sv_world.proofs.TreeMeasures.{pair_nodes, pair_depth, pair_passes, lit_nodes, lit_depth, attr_nodes, attr_depth, attr_passes, test_nodes, test_depth, test_passes, joint_nodes, joint_depth, joint_passes, not_nodes, not_depth, not_passes}
+use Rattle.sv_text.proofs.Layers.{pair_text_is, lit_text, attr_text, test_text_is, joint_text_is, not_text}
 use Rattle.sv_text.proofs.Spelled.{toks, lexeme, Stops, spelled, spaced_stands, is_bracket, bracket_stands, number_stands, ref_bytes, ref_stands}
 
 -- ---- one token

@@ -18,7 +18,8 @@ use Rattle.sv_text.specs.Canonical.{object_in, ref_text, expr_text, cond_text, s
 use Rattle.sv_world.specs.Ranges.{is_byte, expr_fits, cond_fits, stmt_fits, body_fits}
 use Rattle.sv_world.proofs.Ranged.{set_fits, if_fits}
 use Rattle.sv_world.proofs.TreeInduction.{all_stmts}
-use Rattle.sv_text.proofs.Layers.{set_text_is, set_nodes, set_depth, set_passes, if_text, if_nodes, if_depth, if_passes}
+use Rattle.sv_world.proofs.TreeMeasures.{set_nodes, set_depth, set_passes, if_nodes, if_depth, if_passes}
+use Rattle.sv_text.proofs.Layers.{set_text_is, if_text}
 use Rattle.sv_text.proofs.Spelled.{toks, spelled, is_bracket, ref_bytes, ref_stands}
 use Rattle.sv_text.proofs.Standing.{blank_at, between_stands, word_node, bracket_mark, along, regroup, ref_text_is, below, HasSlots, expr_stands, cond_stands}
 

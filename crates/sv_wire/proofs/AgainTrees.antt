@@ -29,7 +29,8 @@ use Rattle.sv_wire.proofs.Append.{nodes_more}
 use Rattle.sv_wire.proofs.Again.{int64_again, and_left, and_right}
 use Rattle.sv_world.proofs.Ranged.{binary_fits as fits_by, lit_fits, compare_fits, join_fits, not_fits, set_fits, if_fits}
 use Rattle.sv_world.proofs.TreeInduction.{each_expr, each_cond, all_stmts}
-use Rattle.sv_wire.proofs.Layers.{bytes_by, nodes_by, depth_by, kind_by, lit_bytes, lit_nodes, lit_depth, attr_bytes, attr_nodes, attr_depth, compare_bytes, compare_nodes, compare_depth, compare_kind, join_bytes, join_nodes, join_depth, join_kind, not_bytes, not_nodes, not_depth, set_bytes, set_nodes, set_depth, if_bytes, if_nodes, if_depth}
+use Rattle.sv_world.proofs.TreeMeasures.{pair_nodes, pair_depth, lit_nodes, lit_depth, attr_nodes, attr_depth, test_nodes, test_depth, joint_nodes, joint_depth, not_nodes, not_depth, set_nodes, set_depth, if_nodes, if_depth}
+use Rattle.sv_wire.proofs.Layers.{bytes_by, kind_by, lit_bytes, attr_bytes, compare_bytes, compare_kind, join_bytes, join_kind, not_bytes, set_bytes, if_bytes}
 
 node_again : {K : Type 0} (kind_of : ℕ → Option K) (kind : K) (b : ℕ) → kind_of b ≡ Some kind → (depth nodes : ℕ) (rest : List ℕ) → 0 < depth → nodes < 64 → node_from kind_of depth nodes (b ∷ rest) ≡ Ok (kind, rest)
 unfolding node_from byte_from room_at
@@ -87,8 +88,8 @@ pair_read o a b p q depth nodes rest fa fb da db few =
 
 pair_again : (o : Operator) (a b : Expr) → ExprAgain a → ExprAgain b → ExprAgain (expr_by o a b)
 pair_again o a b p q depth nodes rest fits deep few =
-    let count = nodes_by o a b in
-    let level = depth_by o a b in
+    let count = pair_nodes o a b in
+    let level = pair_depth o a b in
     let both = sym (fits_by o a b) ∙ fits in
     along (expr_from depth nodes) (expr_bytes (expr_by o a b) ++ rest) (operator_byte o ∷ (expr_bytes a ++ (expr_bytes b ++ rest))) (expr_by o a b) (nodes + 1 + expr_nodes a + expr_nodes b) (nodes + expr_nodes (expr_by o a b)) rest
     (ap (λ (t : List ℕ). t ++ rest) (bytes_by o a b) ∙ ap (λ (t : List ℕ). operator_byte o ∷ t) (append_assoc (expr_bytes a) (expr_bytes b) rest))
@@ -116,8 +117,8 @@ compare_read o a b depth nodes rest fa fb da db few =
 
 compare_again : (o : Comparison) (a b : Expr) → CondAgain (compare_by o a b)
 compare_again o a b depth nodes rest fits deep few =
-    let count = compare_nodes o a b in
-    let level = compare_depth o a b in
+    let count = test_nodes o a b in
+    let level = test_depth o a b in
     let both = sym (compare_fits o a b) ∙ fits in
     along (cond_from depth nodes) (cond_bytes (compare_by o a b) ++ rest) (comparison_byte o ∷ (expr_bytes a ++ (expr_bytes b ++ rest))) (compare_by o a b) (nodes + 1 + expr_nodes a + expr_nodes b) (nodes + cond_nodes (compare_by o a b)) rest
     (ap (λ (t : List ℕ). t ++ rest) (compare_bytes o a b) ∙ ap (λ (t : List ℕ). comparison_byte o ∷ t) (append_assoc (expr_bytes a) (expr_bytes b) rest))
@@ -137,8 +138,8 @@ join_read o a b p q depth nodes rest fa fb da db few =
 
 join_again : (o : Connective) (a b : Cond) → CondAgain a → CondAgain b → CondAgain (join_by o a b)
 join_again o a b p q depth nodes rest fits deep few =
-    let count = join_nodes o a b in
-    let level = join_depth o a b in
+    let count = joint_nodes o a b in
+    let level = joint_depth o a b in
     let both = sym (join_fits o a b) ∙ fits in
     along (cond_from depth nodes) (cond_bytes (join_by o a b) ++ rest) (connective_byte o ∷ (cond_bytes a ++ (cond_bytes b ++ rest))) (join_by o a b) (nodes + 1 + cond_nodes a + cond_nodes b) (nodes + cond_nodes (join_by o a b)) rest
     (ap (λ (t : List ℕ). t ++ rest) (join_bytes o a b) ∙ ap (λ (t : List ℕ). connective_byte o ∷ t) (append_assoc (cond_bytes a) (cond_bytes b) rest))

@@ -25,6 +25,7 @@ use Rattle.sv_wire.specs.declared.nodes.CondKind.TheVariants as cond_kind
 use Rattle.sv_wire.specs.declared.nodes.StmtKind.{StmtKind}
 use Rattle.sv_wire.specs.declared.nodes.StmtKind.TheVariants as stmt_kind
 use Rattle.sv_world.specs.Parts.{binary_by as expr_by, compare_by, join_by}
+use Rattle.sv_world.proofs.TreeMeasures.{pair_nodes, pair_depth, lit_nodes, lit_depth, attr_nodes, attr_depth, test_nodes, test_depth, joint_nodes, joint_depth, not_nodes, not_depth, set_nodes, set_depth, if_nodes, if_depth}
 use Rattle.sv_wire.specs.Steps.{◌>>=◌, in_turn}
 use Rattle.sv_wire.specs.Fields.{byte_from, int_from}
 use Rattle.sv_wire.specs.Nodes.{among, kind_in, room_at, node_from, expr_kind_of, cond_kind_of, stmt_kind_of}
@@ -34,7 +35,7 @@ use Rattle.sv_wire.proofs.Near.{ok_is}
 use Rattle.sv_wire.proofs.NearFields.{bind_ok}
 use Rattle.sv_wire.proofs.Append.{nodes_more}
 use Rattle.sv_wire.proofs.Found.{IsBytes, Takes, after, takes_nothing, byte_takes, int64_takes}
-use Rattle.sv_wire.proofs.Layers.{bytes_by, nodes_by, depth_by, lit_bytes, lit_nodes, lit_depth, attr_bytes, attr_nodes, attr_depth, compare_bytes, compare_nodes, compare_depth, join_bytes, join_nodes, join_depth, not_bytes, not_nodes, not_depth, set_bytes, set_nodes, set_depth, if_bytes, if_nodes, if_depth}
+use Rattle.sv_wire.proofs.Layers.{bytes_by, lit_bytes, attr_bytes, compare_bytes, join_bytes, not_bytes, set_bytes, if_bytes}
 
 -- ---- the table of kinds
 
@@ -199,8 +200,8 @@ pair_found reader depth found o nodes bytes x fits e =
     let b = bind_ok (reader a.0.1 a.0.2) (λ b. Ok (expr_by o a.0.0 b.0, b.1, b.2)) x a.2 in
     let p = found nodes bytes a.0 fits a.1 in
     let q = found a.0.1 a.0.2 b.0 p.takes.bytes_left b.1 in
-    let count = nodes_by o a.0.0 b.0.0 in
-    let level = depth_by o a.0.0 b.0.0 in
+    let count = pair_nodes o a.0.0 b.0.0 in
+    let level = pair_depth o a.0.0 b.0.0 in
     subst (λ (y : Expr × ℕ × List ℕ). MakesExpr (operator_byte o) depth nodes bytes y) (ok_is (expr_by o a.0.0 b.0.0, b.0.1, b.0.2) x b.2)
     (record {
       rest_text = expr_bytes a.0.0 ++ expr_bytes b.0.0;
@@ -239,8 +240,8 @@ compare_found reader depth found o nodes bytes x fits e =
     let b = bind_ok (reader a.0.1 a.0.2) (λ b. Ok (compare_by o a.0.0 b.0, b.1, b.2)) x a.2 in
     let p = found nodes bytes a.0 fits a.1 in
     let q = found a.0.1 a.0.2 b.0 p.takes.bytes_left b.1 in
-    let count = compare_nodes o a.0.0 b.0.0 in
-    let level = compare_depth o a.0.0 b.0.0 in
+    let count = test_nodes o a.0.0 b.0.0 in
+    let level = test_depth o a.0.0 b.0.0 in
     subst (λ (y : Cond × ℕ × List ℕ). MakesCond (comparison_byte o) depth nodes bytes y) (ok_is (compare_by o a.0.0 b.0.0, b.0.1, b.0.2) x b.2)
     (record {
       rest_text = expr_bytes a.0.0 ++ expr_bytes b.0.0;
@@ -257,8 +258,8 @@ join_found reader depth found o nodes bytes x fits e =
     let b = bind_ok (reader a.0.1 a.0.2) (λ b. Ok (join_by o a.0.0 b.0, b.1, b.2)) x a.2 in
     let p = found nodes bytes a.0 fits a.1 in
     let q = found a.0.1 a.0.2 b.0 p.takes.bytes_left b.1 in
-    let count = join_nodes o a.0.0 b.0.0 in
-    let level = join_depth o a.0.0 b.0.0 in
+    let count = joint_nodes o a.0.0 b.0.0 in
+    let level = joint_depth o a.0.0 b.0.0 in
     subst (λ (y : Cond × ℕ × List ℕ). MakesCond (connective_byte o) depth nodes bytes y) (ok_is (join_by o a.0.0 b.0.0, b.0.1, b.0.2) x b.2)
     (record {
       rest_text = cond_bytes a.0.0 ++ cond_bytes b.0.0;

@@ -18,4 +18,5 @@ pub mod Sound
 pub mod Spells
 pub mod Sweeps
 pub mod TreeInduction
+pub mod TreeMeasures
 pub mod Writers

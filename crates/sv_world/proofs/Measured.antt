@@ -1,39 +1,17 @@
 -- The measures and tests of what a node makes of its parts.
 use Rattle.std.proofs.Common.{◌≡◌, ℕ, zero, suc, ◌+◌, ◌≤◌, max, Bool, true, false, ◌&&◌, List, [], ◌∷◌, map, drop, refl, ap, sym, ◌∙◌, subst, arith}
 use Rattle.std.proofs.lemmas.List.Sums.{sum_by-cons}
-use Rattle.sv_world.specs.declared.action.Expr.{Expr}
 use Rattle.sv_world.specs.declared.action.Expr.TheVariants as expr
 use Rattle.sv_world.specs.declared.node.Operator.{Operator}
-use Rattle.sv_world.specs.declared.node.Operator.TheVariants.{Add, Sub, Mul, Div, Rem, Min, Max}
 use Rattle.sv_world.specs.declared.node.Comparison.{Comparison}
-use Rattle.sv_world.specs.declared.node.Comparison.TheVariants.{Eq, Lt, Le}
 use Rattle.sv_world.specs.declared.node.Connective.{Connective}
-use Rattle.sv_world.specs.declared.node.Connective.TheVariants.{And, Or}
 use Rattle.sv_world.specs.declared.fits.Limits.{Limits}
 use Rattle.sv_world.specs.Parts.{Part, Expression, Condition, Statement, Block, first, binary, comparison, connective, negated, assignment, choice, with_statement, block, is_expr, is_cond, is_stmt, is_block}
 use Rattle.sv_world.specs.PartTrees.{part_nodes, part_depth, part_passes, may_set, may_get, fits}
 use Rattle.sv_world.specs.Trees.{expr_by as expr_value, cond_by as cond_value, expr_nodes, cond_nodes, stmt_nodes_step, stmt_nodes, expr_depth, cond_depth, stmt_depth_step, expr_passes, cond_passes, stmt_passes_step}
-use Rattle.sv_world.proofs.Layers.{binary_layer, compare_layer, join_layer, lit_fold, attr_fold, binary_fold, compare_fold, join_fold, not_fold, set_fold, if_fold}
+use Rattle.sv_world.proofs.Layers.{lit_fold, attr_fold, binary_fold, compare_fold, join_fold, not_fold, set_fold, if_fold}
 use Rattle.sv_world.proofs.Sorted.{more_parts, next_kind, next_behind, first_kind, binary_exprs, compare_exprs, join_conds, not_cond, set_expr, if_parts}
-
--- One node of an expression over two parts, and of a condition.
-value_layer : {A : Type 0} (lit : A) (attr : ℕ → ℕ → A) (two : A → A → A) (o : Operator) (x y : A) → expr_value lit attr two (binary_layer o x y) ≡ two x y
-value_layer lit attr two Add x y = refl
-value_layer lit attr two Sub x y = refl
-value_layer lit attr two Mul x y = refl
-value_layer lit attr two Div x y = refl
-value_layer lit attr two Rem x y = refl
-value_layer lit attr two Min x y = refl
-value_layer lit attr two Max x y = refl
-
-compare_value : {A : Type 0} (expr : Expr → A) (two : A → A → A) (one : A → A) (o : Comparison) (a b : Expr) → cond_value expr two one (compare_layer o a b) ≡ two (expr a) (expr b)
-compare_value expr two one Eq a b = refl
-compare_value expr two one Lt a b = refl
-compare_value expr two one Le a b = refl
-
-join_value : {A : Type 0} (expr : Expr → A) (two : A → A → A) (one : A → A) (o : Connective) (x y : A) → cond_value expr two one (join_layer o x y) ≡ two x y
-join_value expr two one And x y = refl
-join_value expr two one Or x y = refl
+use Rattle.sv_world.proofs.TreeMeasures.{value_layer, compare_value, join_value}
 
 -- ---- how many nodes
 

@@ -17,10 +17,10 @@ use Rattle.sv_wire.specs.declared.message.ObjectValue.{ObjectValue}
 use Rattle.sv_wire.specs.declared.message.Item.{Item}
 use Rattle.sv_wire.specs.declared.message.Reply.TheVariants as replies
 use Rattle.sv_wire.proofs.Append.{nodes_more}
-use Rattle.sv_wire.proofs.Layers.{lit_nodes, lit_depth, set_nodes, set_depth}
 use Rattle.sv_world.proofs.Layers.{lit_fold, set_fold}
 use Rattle.sv_wire.specs.Grammar.{IsWireValue, IsWireAction, IsWireHead}
 use Rattle.sv_world.specs.Ranges.{expr_fits_step, stmt_fits_step, stmt_fits, ObjectFits}
+use Rattle.sv_world.proofs.TreeMeasures.{lit_nodes, lit_depth, set_nodes, set_depth}
 use Rattle.sv_wire.specs.Ranges.{HeldFits, ActionFits, ItemFits}
 use Rattle.sv_wire.specs.Laws.{IsReply}
 use Rattle.test_exchange.specs.Worked.{greatest_number, great_held, great_heads, great_reads, great_stmt, great_body, great_action, great_item, great_items}
