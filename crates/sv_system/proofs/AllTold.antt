@@ -15,7 +15,6 @@ use Rattle.sv_client.specs.Taking.{Identity, outstanding, unanswered}
 use Rattle.sv_client.specs.Proper.{AreProper, in_session, identity_of}
 use Rattle.sv_script.specs.Following.{is_finished}
 use Rattle.sv_system.specs.Outcomes.{is_quit, HasOutcomes}
-use Rattle.sv_system.specs.Served.{FitsButValues}
 use Rattle.sv_system.proofs.Awaited.{Owner}
 use Rattle.sv_system.proofs.Histories.{same}
 use Rattle.sv_system.proofs.Entered.{IsEntered, entered}
@@ -113,6 +112,7 @@ not-reversed p xs e = elim (cases_Bool (list_any p (reverse xs))) [ inr f ↦ f 
 
 module _ (owner : Owner) where
   open owner use {keeping as K, rules as r, journal as H, trace as L, served}
+  open owner.served use {fits as this_one}
 
   abbrev whole : List Event
   whole = reverse L.events
@@ -125,9 +125,6 @@ module _ (owner : Owner) where
 
   abbrev k : ℕ
   k = L.client.0
-
-  abbrev this_one : FitsButValues r.world.shape H L
-  this_one = served.fits
 
   -- All that was got was answered in the journal.
   given : (o n : ℕ) (reply : Reply) → slice_get (got whole o) n ≡ Some reply → IsEntered A H o n reply

@@ -36,7 +36,7 @@ use Rattle.sv_client.specs.Traces.{joins, makes, current_session, is_session, he
 use Rattle.sv_client.specs.Taking.{Identity, allows, items_of, is_bad_head, is_bad_relay, is_good_relay, has_bad_item}
 use Rattle.sv_client.specs.Proper.{AreProper, identity_of}
 use Rattle.sv_system.specs.Fits.{replies_in}
-use Rattle.sv_system.specs.Served.{AreSameButValues, FitsButValues}
+use Rattle.sv_system.specs.Served.{AreSameButValues}
 use Rattle.sv_system.proofs.Awaited.{Truthful}
 use Rattle.sv_system.proofs.Fronts.{front-then, get-last}
 use Rattle.sv_system.proofs.Every.{each-append}
@@ -170,6 +170,7 @@ good-reads objects shape_of (a ∷ xs) f h = (f a.action h.0, good-reads objects
 
 module _ (truthful : Truthful) where
   open truthful.awaited.owner use {keeping as K, rules as r, journal as H, trace as L, served}
+  open truthful.awaited.owner.served use {fits as this_one, keeps, legal}
   open truthful.awaited use {session as s, entry as e, before as g, earlier as b, mine}
   open truthful use {awaited, count, shaped, bound, serial}
 
@@ -184,15 +185,6 @@ module _ (truthful : Truthful) where
 
   abbrev k : ℕ
   k = L.client.0
-
-  abbrev this_one : FitsButValues r.world.shape H L
-  this_one = served.fits
-
-  abbrev keeps : IsKeeping K
-  keeps = served.keeps
-
-  abbrev legal : LegalFor K r H
-  legal = served.legal
 
   earlier : IsEarlier g H
   earlier = earlier-rest g e H b

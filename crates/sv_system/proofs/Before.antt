@@ -18,7 +18,6 @@ use Rattle.sv_client.specs.Traces.{joins, asked, got}
 use Rattle.sv_client.specs.Taking.{Identity, commit_in, told_with, told}
 use Rattle.sv_client.specs.Proper.{identity_of}
 use Rattle.sv_system.specs.Fits.{replies_in}
-use Rattle.sv_system.specs.Served.{FitsButValues}
 use Rattle.sv_system.proofs.Awaited.{Awaited}
 use Rattle.sv_system.proofs.Fronts.{get-last, fronts-same}
 use Rattle.sv_system.proofs.Histories.{IsEarlier, same, after, earlier-then, earlier-rest, earlier-served, earlier-kept}
@@ -69,6 +68,7 @@ with-most (Some c) n m f l = (let k : c ≤ m = f c refl in omega arith)
 
 module _ (awaited : Awaited) where
   open awaited.owner use {keeping as K, rules as r, journal as H, trace as L, served}
+  open awaited.owner.served use {fits as this_one, keeps, legal}
   open awaited use {session as s, current, entry as e, before as g, earlier as b, mine, next}
 
   abbrev whole : List Event
@@ -79,15 +79,6 @@ module _ (awaited : Awaited) where
 
   abbrev who : Identity
   who = identity_of r.world.shape L
-
-  abbrev this_one : FitsButValues r.world.shape H L
-  this_one = served.fits
-
-  abbrev keeps : IsKeeping K
-  keeps = served.keeps
-
-  abbrev legal : LegalFor K r H
-  legal = served.legal
 
   earlier : IsEarlier g H
   earlier = earlier-rest g e H b

@@ -15,13 +15,12 @@ use Rattle.sv_journal.specs.declared.entry.Logged.TheVariants as logged
 use Rattle.sv_journal.specs.History.{Authored, accepted, client_of, is_client, is_welcome, joining, full_reply, commit_of}
 use Rattle.sv_journal.specs.Sessions.{is_end, welcomes, is_joined, is_over, is_live, asked_in, life_in, life_of}
 use Rattle.sv_journal.specs.Answer.{Rules, committed_held, is_good_interest, reply_to_join, reply_to_open, reply_to_request, reply_to, refused}
-use Rattle.sv_journal.specs.Serving.{with_last_rows, reply_for, LegalFor, IsKeeping}
+use Rattle.sv_journal.specs.Serving.{with_last_rows, reply_for}
 use Rattle.sv_journal.proofs.Kept.{over-kept, asked-kept, life-kept, live-kept}
 use Rattle.sv_client.specs.declared.trace.Event.{Event}
 use Rattle.sv_client.specs.Traces.{joins, asked, got}
 use Rattle.sv_client.specs.Proper.{identity_of}
 use Rattle.sv_system.specs.Fits.{requests_in, replies_in}
-use Rattle.sv_system.specs.Served.{FitsButValues}
 use Rattle.sv_system.proofs.Awaited.{Awaited}
 use Rattle.sv_system.proofs.Histories.{IsEarlier, same, after, earlier-then, earlier-rest, earlier-served}
 use Rattle.sv_system.proofs.Entered.{is_of, of-parts, of-from, as-many, IsWelcome}
@@ -96,7 +95,8 @@ open-reply r g s q f o l = end-apart q f ∙ cond-false (is_over g s) (refused 4
     end-apart requests.End f = absurd (true≢false f)
 
 module _ (awaited : Awaited) where
-  open awaited.owner use {keeping as K, rules as r, journal as H, trace as L, served}
+  open awaited.owner use {keeping as K, rules as r, journal as H, trace as L}
+  open awaited.owner.served use {fits as this_one, keeps, legal}
   open awaited use {owner, session as s, current, few, entry as e, before as g, earlier as b, mine, next}
 
   abbrev whole : List Event
@@ -107,15 +107,6 @@ module _ (awaited : Awaited) where
 
   abbrev k : ℕ
   k = L.client.0
-
-  abbrev this_one : FitsButValues r.world.shape H L
-  this_one = served.fits
-
-  abbrev keeps : IsKeeping K
-  keeps = served.keeps
-
-  abbrev legal : LegalFor K r H
-  legal = served.legal
 
   pub open' : is_over g s ≡ false
   open' = not-over awaited

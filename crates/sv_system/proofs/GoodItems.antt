@@ -26,7 +26,6 @@ use Rattle.sv_client.specs.declared.trace.Event.{Event}
 use Rattle.sv_client.specs.Traces.{pending_of}
 use Rattle.sv_client.specs.Taking.{Identity, is_bad_head, is_for_front, ends_with_front, is_good_relay, is_bad_relay, has_bad_item}
 use Rattle.sv_client.specs.Proper.{identity_of}
-use Rattle.sv_system.specs.Served.{FitsButValues}
 use Rattle.sv_system.proofs.Awaited.{Truthful}
 use Rattle.sv_system.proofs.Tests.{three-false}
 use Rattle.sv_system.proofs.Every.{each-is_in}
@@ -88,7 +87,8 @@ objects-below n [] h = tt
 objects-below n (x ∷ xs) h = (h.0, objects-below n xs h.1)
 
 module _ (truthful : Truthful) where
-  open truthful.awaited.owner use {keeping as K, rules as r, journal as H, trace as L, served}
+  open truthful.awaited.owner use {keeping as K, rules as r, journal as H, trace as L}
+  open truthful.awaited.owner.served use {fits as this_one, keeps, legal}
   open truthful.awaited use {session as s, current, entry as e, before as g, earlier as b}
   open truthful use {awaited, count, serial}
 
@@ -103,15 +103,6 @@ module _ (truthful : Truthful) where
 
   abbrev k : ℕ
   k = L.client.0
-
-  abbrev this_one : FitsButValues r.world.shape H L
-  this_one = served.fits
-
-  abbrev keeps : IsKeeping K
-  keeps = served.keeps
-
-  abbrev legal : LegalFor K r H
-  legal = served.legal
 
   earlier : IsEarlier g H
   earlier = earlier-rest g e H b

@@ -15,13 +15,12 @@ use Rattle.sv_journal.specs.declared.entry.Logged.{Logged}
 use Rattle.sv_journal.specs.declared.entry.Logged.TheVariants as logged
 use Rattle.sv_journal.specs.History.{Authored, Outcome, Accepted, accepted, actions_of, client_of, is_client, is_relay, is_submit_of, outcome_in, new_action, outcomes_of, next_seq, full_reply, commit_of}
 use Rattle.sv_journal.specs.Sessions.{is_end, kept_outcome, outcome_at, positions_in, sent_to}
-use Rattle.sv_journal.specs.Serving.{LegalFor, IsKeeping}
+use Rattle.sv_journal.specs.Serving.{LegalFor}
 use Rattle.sv_client.specs.declared.trace.Event.{Event}
 use Rattle.sv_client.specs.Traces.{asked, got}
 use Rattle.sv_client.specs.Taking.{Identity}
 use Rattle.sv_client.specs.Proper.{identity_of}
 use Rattle.sv_system.specs.Fits.{requests_in, replies_in, has_session}
-use Rattle.sv_system.specs.Served.{FitsButValues}
 use Rattle.sv_system.proofs.Awaited.{Awaited}
 use Rattle.sv_system.proofs.Histories.{IsEarlier, same, after, earlier-then, earlier-rest, earlier-served, accepted-grows, actions-count, new-counts, kept-is}
 use Rattle.sv_system.proofs.Replies.{TellsFor, IsRelayReply, new_of, served-tells}
@@ -146,7 +145,8 @@ relay-of (logged.Refused code detail) p m = absurd (true≢false (sym m))
 relay-of logged.Bye p m = absurd (true≢false (sym m))
 
 module _ (awaited : Awaited) where
-  open awaited.owner use {keeping as K, rules as r, journal as H, trace as L, served}
+  open awaited.owner use {keeping as K, rules as r, journal as H, trace as L}
+  open awaited.owner.served use {fits as this_one, keeps, legal}
   open awaited use {owner, session as s, current, entry as e, before as g, earlier as b}
 
   abbrev whole : List Event
@@ -160,15 +160,6 @@ module _ (awaited : Awaited) where
 
   abbrev k : ℕ
   k = L.client.0
-
-  abbrev this_one : FitsButValues r.world.shape H L
-  this_one = served.fits
-
-  abbrev keeps : IsKeeping K
-  keeps = served.keeps
-
-  abbrev legal : LegalFor K r H
-  legal = served.legal
 
   earlier : IsEarlier g H
   earlier = earlier-rest g e H b

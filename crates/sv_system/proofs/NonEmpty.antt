@@ -13,7 +13,7 @@ use Rattle.sv_journal.specs.declared.entry.Logged.TheVariants as logged
 use Rattle.sv_journal.specs.History.{Authored, Accepted, accepted, actions_of, client_of, commit_of, item_at, full_reply}
 use Rattle.sv_journal.specs.Sessions.{is_over, kept_outcome, sent_to}
 use Rattle.sv_journal.specs.Answer.{Rules, Legal}
-use Rattle.sv_journal.specs.Serving.{Keeping, plain, LegalFor, IsKeeping}
+use Rattle.sv_journal.specs.Serving.{Keeping, plain}
 use Rattle.sv_client.specs.declared.trace.Trace.{Trace}
 use Rattle.sv_client.specs.Traces.{current_session, requests_of, got}
 use Rattle.sv_system.specs.Fits.{replies_in, Fits}
@@ -34,14 +34,9 @@ not-nil [] n ys e f = (let g : n ∷ [] ≡ [] = sym e ∙ f in cc)
 not-nil (x ∷ xs) n ys e f = (let g : x ∷ (xs ++ n ∷ []) ≡ [] = sym e ∙ f in cc)
 
 module _ (awaited : Awaited) where
-  open awaited.owner use {keeping as K, rules as r, journal as H, trace as L, served}
+  open awaited.owner use {keeping as K, rules as r, journal as H, trace as L}
+  open awaited.owner.served use {keeps, legal}
   open awaited use {owner, session as s, entry as e, before as g, earlier as b, mine}
-
-  abbrev keeps : IsKeeping K
-  keeps = served.keeps
-
-  abbrev legal : LegalFor K r H
-  legal = served.legal
 
   earlier : IsEarlier g H
   earlier = earlier-rest g e H b

@@ -9,7 +9,6 @@ use Rattle.sv_client.specs.declared.trace.Event.{Event}
 use Rattle.sv_client.specs.Traces.{makes, pending_of}
 use Rattle.sv_client.specs.Taking.{Identity}
 use Rattle.sv_client.specs.Proper.{identity_of}
-use Rattle.sv_system.specs.Served.{FitsButValues}
 use Rattle.sv_system.proofs.Awaited.{Awaited}
 use Rattle.sv_system.proofs.Histories.{earlier-rest}
 use Rattle.sv_system.proofs.Asked.{all}
@@ -25,7 +24,8 @@ get-none (x ∷ xs) zero l = absurd (omega arith)
 get-none (x ∷ xs) (suc i) l = get-none xs i (omega arith)
 
 module _ (awaited : Awaited) where
-  open awaited.owner use {rules as r, journal as H, trace as L, served}
+  open awaited.owner use {rules as r, journal as H, trace as L}
+  open awaited.owner.served use {fits as this_one}
   open awaited use {owner, session as s, current, entry as e, before as g, earlier as b}
 
   abbrev whole : List Event
@@ -36,9 +36,6 @@ module _ (awaited : Awaited) where
 
   abbrev k : ℕ
   k = L.client.0
-
-  abbrev this_one : FitsButValues r.world.shape H L
-  this_one = served.fits
 
   -- A Submit that is answered next is that of the front pending action; its outcome is kept, or it has the next number.
   pub record IsNumberedWell (n : ℕ) (a : Action) : Type 0 where

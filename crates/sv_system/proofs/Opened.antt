@@ -197,10 +197,8 @@ module _ (owner : Owner) where
 
 module _ (awaited : Awaited) where
   open awaited.owner use {keeping as K, rules as r, journal as H, trace as L, served}
+  open awaited.owner.served use {fits}
   open awaited use {owner, session as s, current, entry as e, before as g, earlier as b, mine, next}
-
-  abbrev fits : FitsButValues r.world.shape H L
-  fits = served.fits
 
   abbrev who : Identity
   who = identity_of r.world.shape L

@@ -18,7 +18,7 @@ use Rattle.sv_journal.specs.declared.entry.Logged.TheVariants as logged
 use Rattle.sv_journal.specs.History.{Authored, accepted, client_of, joining, full_reply}
 use Rattle.sv_journal.specs.Sessions.{is_over, life_in, life_of}
 use Rattle.sv_journal.specs.Answer.{Rules, refused}
-use Rattle.sv_journal.specs.Serving.{Keeping, LegalFor, IsKeeping}
+use Rattle.sv_journal.specs.Serving.{Keeping}
 use Rattle.sv_client.specs.declared.trace.Event.{Event}
 use Rattle.sv_client.specs.declared.trace.Event.TheVariants as events
 use Rattle.sv_client.specs.declared.trace.Trace.{Trace}
@@ -27,7 +27,6 @@ use Rattle.sv_client.specs.Taking.{Identity, allows}
 use Rattle.sv_client.specs.Proper.{AreProper, identity_of}
 use Rattle.sv_system.specs.Fronts.{IsFront}
 use Rattle.sv_system.specs.Fits.{requests_in, replies_in, is_join_of, has_session}
-use Rattle.sv_system.specs.Served.{FitsButValues}
 use Rattle.sv_system.proofs.Fronts.{front-then}
 use Rattle.sv_system.proofs.Histories.{IsEarlier, same, after, earlier-then, earlier-served}
 use Rattle.sv_system.proofs.Replies.{TellsFor, IsWelcomeReply, over-refused, served-tells}
@@ -83,14 +82,7 @@ never-refused requests.Bad code detail = refl
 never-refused requests.End code detail = refl
 
 module _ (K : Keeping) (r : Rules) (H : List Entry) (L : Trace) (served : IsServed K r H L) where
-  abbrev keeps : IsKeeping K
-  keeps = served.keeps
-
-  abbrev legal : LegalFor K r H
-  legal = served.legal
-
-  abbrev fits : FitsButValues r.world.shape H L
-  fits = served.fits
+  open served use {keeps, legal, fits}
 
   abbrev who : Identity
   who = identity_of r.world.shape L

@@ -21,7 +21,7 @@ use Rattle.sv_journal.specs.declared.entry.Logged.TheVariants as logged
 use Rattle.sv_journal.specs.History.{Authored, accepted, actions_of, item_at, full_reply, commit_of}
 use Rattle.sv_journal.specs.Sessions.{sent_to, already_given}
 use Rattle.sv_journal.specs.Answer.{committed_held}
-use Rattle.sv_journal.specs.Serving.{LegalFor, IsKeeping}
+use Rattle.sv_journal.specs.Serving.{LegalFor}
 use Rattle.sv_journal.proofs.Kept.{commit_grows-kept}
 use Rattle.sv_client.specs.declared.trace.Event.{Event}
 use Rattle.sv_client.specs.declared.trace.Event.TheVariants as events
@@ -29,7 +29,6 @@ use Rattle.sv_client.specs.Traces.{held_of, head_held, item_held, got}
 use Rattle.sv_client.specs.Taking.{told, begins_by, goes_back, is_out_of_order, first_unheld, missing_at, first_missing_of, missing_in}
 use Rattle.sv_system.specs.Fronts.{IsFront}
 use Rattle.sv_system.specs.Fits.{replies_in}
-use Rattle.sv_system.specs.Served.{FitsButValues}
 use Rattle.sv_system.specs.Journals.{ResultsAreSerial}
 use Rattle.sv_system.specs.Serial.{is_covered, AreSupplied, IsSufficient}
 use Rattle.sv_system.specs.Delivery.{head_objects}
@@ -88,6 +87,7 @@ none-missing A held replies.Bye h = refl
 
 module _ (awaited : Awaited) where
   open awaited.owner use {keeping as K, rules as r, journal as H, trace as L, served}
+  open awaited.owner.served use {fits as this_one, keeps, legal}
   open awaited use {session as s, entry as e, before as g, earlier as b, mine}
 
   abbrev whole : List Event
@@ -95,15 +95,6 @@ module _ (awaited : Awaited) where
 
   abbrev A : List Authored
   A = accepted H
-
-  abbrev this_one : FitsButValues r.world.shape H L
-  this_one = served.fits
-
-  abbrev keeps : IsKeeping K
-  keeps = served.keeps
-
-  abbrev legal : LegalFor K r H
-  legal = served.legal
 
   earlier : IsEarlier g H
   earlier = earlier-rest g e H b

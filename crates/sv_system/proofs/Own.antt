@@ -11,7 +11,6 @@ use Rattle.sv_journal.specs.declared.entry.Entry.{Entry}
 use Rattle.sv_journal.specs.declared.entry.Logged.TheVariants as logged
 use Rattle.sv_journal.specs.History.{Authored, Accepted, is_relay, new_action, client_of, outcomes_of, accepted, actions_of, next_seq, authored_at, item_at, commit_of}
 use Rattle.sv_journal.specs.Sessions.{is_end, kept_outcome, sent_to}
-use Rattle.sv_journal.specs.Serving.{LegalFor, IsKeeping}
 use Rattle.sv_client.specs.Same.{is_same_action}
 use Rattle.sv_client.proofs.Equal.{action_own}
 use Rattle.sv_client.specs.declared.trace.Event.{Event}
@@ -19,7 +18,6 @@ use Rattle.sv_client.specs.Traces.{got}
 use Rattle.sv_client.specs.Taking.{Identity, is_for_front, ends_with_front}
 use Rattle.sv_client.specs.Proper.{identity_of}
 use Rattle.sv_system.specs.Fits.{requests_in, has_session}
-use Rattle.sv_system.specs.Served.{FitsButValues}
 use Rattle.sv_system.proofs.Awaited.{Awaited}
 use Rattle.sv_system.proofs.Histories.{IsEarlier, earlier-then, earlier-rest, accepted-earlier, actions-count, kept-is}
 use Rattle.sv_system.proofs.Replies.{IsRelayReply, new_of}
@@ -97,7 +95,8 @@ acceptance-relay g k n p x =
     ]
 
 module _ (awaited : Awaited) where
-  open awaited.owner use {keeping as K, rules as r, journal as H, trace as L, served}
+  open awaited.owner use {keeping as K, rules as r, journal as H, trace as L}
+  open awaited.owner.served use {fits as this_one}
   open awaited use {owner, session as s, entry as e, before as g, earlier as b, mine}
 
   abbrev whole : List Event
@@ -111,15 +110,6 @@ module _ (awaited : Awaited) where
 
   abbrev k : ℕ
   k = L.client.0
-
-  abbrev this_one : FitsButValues r.world.shape H L
-  this_one = served.fits
-
-  abbrev keeps : IsKeeping K
-  keeps = served.keeps
-
-  abbrev legal : LegalFor K r H
-  legal = served.legal
 
   earlier : IsEarlier g H
   earlier = earlier-rest g e H b

@@ -23,7 +23,6 @@ use Rattle.sv_client.specs.Traces.{joins, makes, current_session, is_session, he
 use Rattle.sv_client.specs.Taking.{Identity}
 use Rattle.sv_client.specs.Proper.{AreProper, identity_of}
 use Rattle.sv_system.specs.Fits.{requests_in, has_session}
-use Rattle.sv_system.specs.Served.{FitsButValues}
 use Rattle.sv_system.proofs.Awaited.{Owner}
 use Rattle.sv_system.proofs.Fronts.{get-last}
 use Rattle.sv_system.proofs.Histories.{IsEarlier, same, after, earlier-then, earlier-rest, earlier-served, kept-old}
@@ -229,6 +228,7 @@ client-some (Some m) j x = ap Some (eqb-true m j x)
 module _ (owner : Owner) (g : List Entry) (earlier : IsEarlier g owner.journal)
     (given : (o n : ℕ) (reply : Reply) → slice_get (got (reverse owner.trace.events) o) n ≡ Some reply → IsEntered (accepted owner.journal) g o n reply) where
   open owner use {keeping as K, rules as r, journal as H, trace as L, served}
+  open owner.served use {fits as this_one, keeps, legal}
 
   abbrev whole : List Event
   whole = reverse L.events
@@ -241,15 +241,6 @@ module _ (owner : Owner) (g : List Entry) (earlier : IsEarlier g owner.journal)
 
   abbrev k : ℕ
   k = L.client.0
-
-  abbrev this_one : FitsButValues r.world.shape H L
-  this_one = served.fits
-
-  abbrev keeps : IsKeeping K
-  keeps = served.keeps
-
-  abbrev legal : LegalFor K r H
-  legal = served.legal
 
   -- The front pending action, once its reply is got, was numbered below the server's next number.
   front-answered : (o : ℕ) (reply : Reply) (t : List Event) → IsPart (events.Got o reply ∷ t) whole → settles reply ≡ true → suc (settled t) < next_seq g k
