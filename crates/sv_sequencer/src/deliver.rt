@@ -1,5 +1,5 @@
 //! What is decided is done, where a session is sent or gives something.
-ghost use Rattle.std.specs.Prelude.{◌≡◌, ℕ, List, suc, ◌<◌, ◌≤◌, false, nat_eq, [], ◌∷◌, ◌++◌, map, length, slice_index_or, All, None, IfOk, OnOk, OnErr, if◌then◌else◌};
+ghost use Rattle.std.specs.Prelude.{◌≡◌, ℕ, List, suc, ◌<◌, ◌≤◌, false, nat_eq, [], ◌∷◌, ◌++◌, map, length, All, None, IfOk, OnOk, OnErr, if◌then◌else◌};
 ghost use Rattle.std.specs.List.{list_any};
 ghost use Rattle.sv_world.specs.declared.world.ObjectId.{ObjectId};
 ghost use Rattle.sv_world.specs.Faults.{first_fault_of_action, IsGoodAction};
@@ -20,8 +20,6 @@ ghost use Rattle.sv_sequencer.specs.Clients.{client_row};
 ghost use Rattle.sv_sequencer.specs.Cores.{core_rules, Keeps, CarriedOut, Remained};
 ghost use Rattle.sv_sequencer.specs.Decisions.{IsJoin, IsNextSubmit, IsOld, interest_in, action_in, results_in};
 ghost use Rattle.sv_sequencer.specs.Relays.{held_in, item_in, marked_all, given_all, with_reports, CanReport};
-ghost use Rattle.sv_sequencer.specs.Rows.{no_session, session_after};
-ghost use Rattle.sv_sequencer.specs.Step.{entry_of};
 
 use crate::answer::Answer;
 use crate::clients::{Clients, Outcome};
@@ -29,7 +27,7 @@ use crate::decision::ActionId;
 use crate::relays::{Relayed, base_values, give_all, mark_all, relay_in};
 use crate::reports::{copy_missing, set_reports};
 use crate::server_core::Core;
-use crate::sessions::{SessionRow, note};
+use crate::sessions::note;
 use std::alloc::AllocError;
 use sv_influence::Chain;
 use sv_journal::Logged;
@@ -144,30 +142,18 @@ fn answer_of(seq: u32, commit: u32, relayed: Relayed) -> Answer
     }
 }
 
-/// Sends a session what a relay has, as the answer to its request.
-fn send(
-    queue: &mut Queue,
-    rows: &mut Vec<SessionRow>,
-    session: u16,
-    request: &Request,
-    seq: u32,
-    relayed: Relayed,
-) -> Answer
+/// Sends a session what a relay has: the answer to its request.
+fn send(queue: &mut Queue, session: u16, seq: u32, relayed: Relayed) -> Answer
     requires positions { All (IsUncommitted queue.old) relayed.positions }
     requires objects { All (λ (x : ObjectValue). x.object.0 < queue.old.shape.objects) relayed.head }
     requires session { session < most_sessions }
-    requires count { length rows.old.items < 65536 }
     ensures queue { queue.new ≡ given_all (marked_all queue.old relayed.positions session) relayed.head session }
-    ensures count { length rows.new.items ≡ length rows.old.items }
-    ensures rows { (s : ℕ) → s < length rows.old.items → slice_index_or rows.new.items s no_session ≡ session_after (entry_of session request.now result.logged) s (slice_index_or rows.old.items s no_session) }
     ensures logged { result.logged ≡ logged.Relay seq queue.old.commit relayed.head relayed.positions }
     ensures reply { result.reply ≡ replies.Relay seq queue.old.commit relayed.sent_head relayed.items }
 {
     let commit = queue.commit();
     deliver(queue, &relayed, session);
-    let answer = answer_of(seq, commit, relayed);
-    note(rows, session, request, &answer.logged);
-    answer
+    answer_of(seq, commit, relayed)
 }
 
 impl Core {
@@ -247,14 +233,9 @@ impl Core {
         ensures err { OnErr result (Remained self.old self.new h) }
     {
         let relayed = relay_in(self.alloc, &self.queue, session, pos)?;
-        Ok(send(
-            &mut self.queue,
-            &mut self.sessions,
-            session,
-            request,
-            seq,
-            relayed,
-        ))
+        let answer = send(&mut self.queue, session, seq, relayed);
+        note(&mut self.sessions, session, request, &answer.logged);
+        Ok(answer)
     }
 
     /// Accepts a new action and sends it with what the session lacks of it.
@@ -298,14 +279,9 @@ impl Core {
     {
         let action = copy_action(self.alloc, action)?;
         let relayed = take_in(&mut self.queue, &mut self.clients, session, id, action)?;
-        Ok(send(
-            &mut self.queue,
-            &mut self.sessions,
-            session,
-            request,
-            id.seq,
-            relayed,
-        ))
+        let answer = send(&mut self.queue, session, id.seq, relayed);
+        note(&mut self.sessions, session, request, &answer.logged);
+        Ok(answer)
     }
 
     /// Notes reported results, and commits what may be.

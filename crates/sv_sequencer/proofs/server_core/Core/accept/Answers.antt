@@ -26,16 +26,16 @@ use Rattle.sv_sequencer.proofs.Replies.{relay-new}
 use Rattle.sv_sequencer.proofs.Stepped.{relayed-whole}
 use Rattle.sv_sequencer.proofs.server_core.Core.accept.Goals as goal
 
-pub send-requires-clause-positions : goal.send-requires-clause-positions
-send-requires-clause-positions g c =
+pub send-answer-requires-clause-positions : goal.send-answer-requires-clause-positions
+send-answer-requires-clause-positions g c =
     let Q = c.take_in.new.queue in
     let v = c.args.self.now.queue in
     let author : ClientId = record { 0 = c.args.id.client } in
     let last = subst (λ (u : QueueView). IsUncommitted u (last_position u)) (sym c.in_ok-relayed.ensures.queue) (pushed-last v author c.args.id.seq c.in_ok-action.action) in
     subst (All (IsUncommitted Q)) (sym c.in_ok-relayed.ensures.positions) (lacking-within Q c.args.session (last_position Q) last)
 
-pub send-requires-clause-objects : goal.send-requires-clause-objects
-send-requires-clause-objects g c =
+pub send-answer-requires-clause-objects : goal.send-answer-requires-clause-objects
+send-answer-requires-clause-objects g c =
     let Q = c.take_in.new.queue in
     subst (λ (xs : List ObjectValue). All (λ (x : ObjectValue). x.object.0 < Q.shape.objects) xs) (sym c.in_ok-relayed.ensures.head)
     (held-low Q Q.shape.objects (base_objects Q c.args.session (last_position Q)) (bases-below Q c.args.session (last_position Q)))
@@ -57,8 +57,8 @@ returns-clause-ok g c =
     let Q = c.take_in.new.queue in
     let n = Q.commit in
     let l = logged.Relay seq n x.head x.positions in
-    let sent = c.send.ensures in
-    let next = c.send.new.rows.items in
+    let sent = c.send-answer.ensures in
+    let next = c.note.new.rows.items in
     let small : s < 64 = omega (arith, c.requires.1.0, k.few_sessions) in
     let pushed : Q ≡ w = c.in_ok-relayed.ensures.queue ∙ ap (with_action v author seq) (c.in_ok-action.ensures ∙ c.requires.1.1.1.1.0) in
     let fitted = fits-pushed a.opening (accepted h) (result_at h) (sent_to h) (named_to h) v author seq (action_in q)
@@ -71,7 +71,7 @@ returns-clause-ok g c =
     ∙ ap (logged.Relay seq n (held_in Q (base_objects Q s (last_position Q)))) c.in_ok-relayed.ensures.positions
     ∙ ap (λ (u : QueueView). logged.Relay seq u.commit (held_in u (base_objects u s (last_position u))) (lacking u s (last_position u))) pushed
     ∙ relay-new (core_rules a) h v w (authored_by m seq q) s seq small k.commit refl refl refl k.sound.sent f fitted in
-    let rows = subst (λ (o : Logged). AreAfter (entry_of s q o) a.sessions.items next) sent.logged sent.rows in
+    let rows = subst (λ (o : Logged). AreAfter (entry_of s q o) a.sessions.items next) sent.logged c.note.ensures.rows in
     let items : x.items ≡ map (item_in w) x.positions =
     subst (λ (u : QueueView). x.items ≡ map (item_in u) x.positions) pushed
     (c.in_ok-relayed.ensures.items ∙ ap (map (item_in Q)) (sym c.in_ok-relayed.ensures.positions)) in
@@ -79,7 +79,7 @@ returns-clause-ok g c =
     subst (λ (A : List Authored). replies.Relay seq n x.sent_head x.items ≡ full_reply A l) (sym (accepted-next (entry_of s q l) h m seq refl c.requires.1.1.1.0))
     (relayed-whole a.opening (accepted h ++ authored_by m seq q ∷ []) (result_at h) (sent_to h) (named_to h) w seq n x.head x.sent_head x.positions x.items fitted
     (c.in_ok-relayed.ensures.sent_head ∙ sym c.in_ok-relayed.ensures.head) items within) in
-    carried a _ h s q (decisions.Accept m seq) _ l (ap (rules_with a.opening a.bound a.reach) sent.count) refl sent.logged said
+    carried a _ h s q (decisions.Accept m seq) _ l (ap (rules_with a.opening a.bound a.reach) c.note.ensures.count) refl sent.logged said
     (subst (λ (u : QueueView). Agrees (core_rules a) (entry_of s q l ∷ h) u next c.take_in.new.clients a.owed)
     (sym (sent.queue ∙ ap (λ (u : QueueView). given_all (marked_all u x.positions s) x.head s) pushed))
     (agree-accept (core_rules a) h v a.sessions.items next a.clients c.take_in.new.clients a.owed s q m seq n (suc (last_position v)) x.head x.positions

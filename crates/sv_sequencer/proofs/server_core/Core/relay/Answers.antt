@@ -23,16 +23,16 @@ use Rattle.sv_sequencer.proofs.Replies.{relay-is}
 use Rattle.sv_sequencer.proofs.Stepped.{relayed-whole}
 use Rattle.sv_sequencer.proofs.server_core.Core.relay.Goals as goal
 
-pub send-requires-clause-positions : goal.send-requires-clause-positions
-send-requires-clause-positions g c =
+pub send-answer-requires-clause-positions : goal.send-answer-requires-clause-positions
+send-answer-requires-clause-positions g c =
     let v = c.args.self.now.queue in
     let k = c.requires.0 in
     let low : v.commit < c.args.pos = omega (arith, k.commit, c.requires.1.1.1.1.0) in
     let high : c.args.pos ≤ last_position v = omega (arith, c.requires.1.1.1.1.1, k.fits.last) in
     subst (All (IsUncommitted v)) (sym c.in_ok-relayed.ensures.positions) (lacking-within v c.args.session c.args.pos (low, high))
 
-pub send-requires-clause-objects : goal.send-requires-clause-objects
-send-requires-clause-objects g c =
+pub send-answer-requires-clause-objects : goal.send-answer-requires-clause-objects
+send-answer-requires-clause-objects g c =
     let v = c.args.self.now.queue in
     subst (λ (xs : List ObjectValue). All (λ (x : ObjectValue). x.object.0 < v.shape.objects) xs) (sym c.in_ok-relayed.ensures.head)
     (held-low v v.shape.objects (base_objects v c.args.session c.args.pos) (bases-below v c.args.session c.args.pos))
@@ -48,8 +48,8 @@ returns-clause-ok g c =
     let k = c.requires.0 in
     let f = k.fits in
     let l = logged.Relay c.args.seq v.commit x.head x.positions in
-    let sent = c.send.ensures in
-    let next = c.send.new.rows.items in
+    let sent = c.send-answer.ensures in
+    let next = c.note.new.rows.items in
     let small : s < 64 = omega (arith, c.requires.1.0, k.few_sessions) in
     let above : v.commit < c.args.pos = omega (arith, k.commit, c.requires.1.1.1.1.0) in
     let most : c.args.pos ≤ last_position v = omega (arith, c.requires.1.1.1.1.1, f.last) in
@@ -58,13 +58,13 @@ returns-clause-ok g c =
     ap (λ xs. logged.Relay c.args.seq v.commit xs x.positions) c.in_ok-relayed.ensures.head
     ∙ ap (logged.Relay c.args.seq v.commit (held_in v (base_objects v s c.args.pos))) c.in_ok-relayed.ensures.positions
     ∙ relay-is (core_rules a) h v s c.args.seq c.args.pos small k.commit above c.requires.1.1.1.1.1 k.sound.sent f in
-    let rows = subst (λ (m : Logged). AreAfter (entry_of s q m) a.sessions.items next) sent.logged sent.rows in
+    let rows = subst (λ (m : Logged). AreAfter (entry_of s q m) a.sessions.items next) sent.logged c.note.ensures.rows in
     let whole : replies.Relay c.args.seq v.commit x.sent_head x.items ≡ full_reply (accepted (entry_of s q l ∷ h)) l =
     subst (λ (A : List Authored). replies.Relay c.args.seq v.commit x.sent_head x.items ≡ full_reply A l) (sym (accepted-old (entry_of s q l) h c.requires.1.1.1.0))
     (relayed-whole a.opening (accepted h) (result_at h) (sent_to h) (named_to h) v c.args.seq v.commit x.head x.sent_head x.positions x.items f
     (c.in_ok-relayed.ensures.sent_head ∙ sym c.in_ok-relayed.ensures.head)
     (c.in_ok-relayed.ensures.items ∙ ap (map (item_in v)) (sym c.in_ok-relayed.ensures.positions)) within) in
-    carried a _ h s q (decisions.Relay c.args.seq c.args.pos) _ l (ap (rules_with a.opening a.bound a.reach) sent.count) refl sent.logged said
+    carried a _ h s q (decisions.Relay c.args.seq c.args.pos) _ l (ap (rules_with a.opening a.bound a.reach) c.note.ensures.count) refl sent.logged said
     (subst (λ (w : QueueView). Agrees (core_rules a) (entry_of s q l ∷ h) w next a.clients a.owed) (sym sent.queue)
     (agree-relay (core_rules a) h v a.sessions.items next a.clients a.owed s q c.args.seq v.commit x.head x.positions refl k refl c.requires.1.0
     c.requires.1.1.1.0 c.requires.1.1.0 rows within))
