@@ -51,3 +51,10 @@ pub enum Decision {
     Idle,
     Leave,
 }
+
+/// What is done on a request of a session.
+#[derive(Clone, Copy, Drop)]
+pub struct Decided {
+    pub session: u16,
+    pub decision: Decision,
+}

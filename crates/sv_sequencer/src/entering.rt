@@ -10,7 +10,7 @@ ghost use Rattle.sv_sequencer.specs.Entering.{HasRoomForEnds, TookEntry, Entered
 ghost use Rattle.sv_sequencer.specs.Step.{entry_of, end_entry};
 
 use crate::answer::Answer;
-use crate::decision::Decision;
+use crate::decision::Decided;
 use crate::server_core::Core;
 use std::alloc::{AllocError, Global};
 use sv_journal::{Entry, Journal, Logged};
@@ -64,19 +64,19 @@ pub fn enter_end(core: &mut Core, journal: &mut Journal, session: u16)
 pub fn enter_reply(
     core: &mut Core,
     journal: &mut Journal,
-    session: u16,
+    decided: Decided,
     asked: &Request,
     taken: &Request,
-    decision: Decision,
 ) -> Result<Reply, AllocError>
     ghost h: { List Entry }
     requires keeps { Keeps core.old h }
-    requires session { session < (core_rules core.old).sessions }
+    requires session { decided.session < (core_rules core.old).sessions }
     requires more { is_end taken.now ≡ false }
-    requires holds { Holds (core_rules core.old) h session taken.now decision }
-    ensures ok { IfOk result (EnteredReply core.old core.new journal.old journal.new h session asked.now taken.now decision) }
+    requires holds { Holds (core_rules core.old) h decided.session taken.now decided.decision }
+    ensures ok { IfOk result (EnteredReply core.old core.new journal.old journal.new h decided.session asked.now taken.now decided.decision) }
     ensures err { OnErr result (NothingEntered core.old core.new journal.old journal.new h) }
 {
+    let Decided { session, decision } = decided;
     journal.reserve(core.owed() as usize + 1)?;
     let copy = copy_request(core.alloc, asked)?;
     match core.carry_out(session, taken, decision) {

@@ -19,7 +19,7 @@ mod sessions;
 mod step;
 
 pub use answer::Answer;
-pub use decision::Decision;
+pub use decision::{Decided, Decision};
 pub use deliver::reported_by;
 pub use entering::{enter_end, enter_reply, open_core};
 pub use object::Opened;

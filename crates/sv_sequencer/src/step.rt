@@ -5,6 +5,7 @@ ghost use Rattle.sv_journal.specs.Sessions.{is_end, is_ended};
 ghost use Rattle.sv_journal.specs.Answer.{Legal};
 ghost use Rattle.sv_sequencer.specs.Step.{history, end_entry, GrewByEntry, Answered, Stayed};
 
+use crate::decision::Decided;
 use crate::entering::{enter_end, enter_reply};
 use crate::sequencer::Sequencer;
 use std::alloc::AllocError;
@@ -63,10 +64,9 @@ impl Sequencer {
         enter_reply(
             &mut self.core,
             &mut self.journal,
-            session,
+            Decided { session, decision },
             request,
             request,
-            decision,
         )
     }
 }

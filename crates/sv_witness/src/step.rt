@@ -29,7 +29,7 @@ use crate::witness::Witness;
 use std::alloc::{AllocError, Global};
 use sv_journal::Journal;
 use sv_queue::Queue;
-use sv_sequencer::{Core, Decision, enter_end, enter_reply, reported_by};
+use sv_sequencer::{Core, Decided, Decision, enter_end, enter_reply, reported_by};
 use sv_wire::{Done1, Reply, Request};
 use sv_world::List;
 
@@ -93,28 +93,27 @@ fn enter_emptied(
     alloc: Global,
     core: &mut Core,
     journal: &mut Journal,
-    session: u16,
+    decided: Decided,
     request: &Request,
-    decision: Decision,
 ) -> Result<Reply, AllocError>
     ghost h: { List Entry }
     requires keeps { Keeps core.old h }
-    requires session { session < (core_rules core.old).sessions }
+    requires session { decided.session < (core_rules core.old).sessions }
     requires more { is_end request.now ≡ false }
-    requires holds { Holds (core_rules core.old) h session (emptied request.now) decision }
-    ensures ok { IfOk result (EnteredReply core.old core.new journal.old journal.new h session request.now (emptied request.now) decision) }
+    requires holds { Holds (core_rules core.old) h decided.session (emptied request.now) decided.decision }
+    ensures ok { IfOk result (EnteredReply core.old core.new journal.old journal.new h decided.session request.now (emptied request.now) decided.decision) }
     ensures err { OnErr result (NothingEntered core.old core.new journal.old journal.new h) }
 {
     if let Request::Done { .. } = request {
         let done = Request::Done {
             results: List::new(alloc),
         };
-        let entered = enter_reply(core, journal, session, request, &done, decision);
+        let entered = enter_reply(core, journal, decided, request, &done);
         // A tree that is let go at the end of its scope makes a long proof; a call that takes it, none.
         drop(done);
         return entered;
     }
-    enter_reply(core, journal, session, request, request, decision)
+    enter_reply(core, journal, decided, request, request)
 }
 
 /// Notes a Done that is not bad, when all is known of its results and there is room for what they change, and enters it: those that bring
@@ -153,7 +152,11 @@ fn install(
         results: List::from_vec(agreed),
     };
     let before = core.commit();
-    let entered = enter_reply(core, journal, session, request, &done, Decision::Note);
+    let noted = Decided {
+        session,
+        decision: Decision::Note,
+    };
+    let entered = enter_reply(core, journal, noted, request, &done);
     drop(done);
     match entered {
         Ok(reply) => {
@@ -254,9 +257,8 @@ impl Witness {
             self.alloc,
             &mut self.core,
             &mut self.journal,
-            session,
+            Decided { session, decision },
             request,
-            decision,
         )
     }
 
