@@ -3,7 +3,7 @@
 use std::alloc::{AllocError, Global};
 use std::collections::VecDeque;
 use std::sync::{Arc, Condvar, Mutex, Wait};
-use sv_link::Pipe;
+use sv_link::{Pipe, Side};
 
 /// The connections that clients made and no server has taken yet, in order.
 #[derive(Drop)]
@@ -20,15 +20,33 @@ impl Hall {
         }
     }
 
-    /// Puts a client's connection behind those that wait. Without memory it is dropped.
-    pub(crate) fn put<R: Wait>(&self, rt: &R, pipe: Arc<Pipe, Global>) -> Result<(), AllocError> {
+    /// The connection of a new end: a server takes one that waits, and a client brings one. None where there is no memory.
+    pub(crate) fn enter<R: Wait>(
+        &self,
+        alloc: Global,
+        rt: &R,
+        side: Side,
+    ) -> Option<Arc<Pipe, Global>> {
+        match side {
+            Side::Server => Some(self.take(rt)),
+            Side::Client => {
+                let pipe = Arc::new(alloc, Pipe::new(alloc)).ok()?;
+                let shared = Arc::try_clone(&pipe).ok()?;
+                self.put(rt, shared).ok()?;
+                Some(pipe)
+            }
+        }
+    }
+
+    // Puts a client's connection behind those that wait. Without memory it is dropped.
+    fn put<R: Wait>(&self, rt: &R, pipe: Arc<Pipe, Global>) -> Result<(), AllocError> {
         self.waiting.lock(rt).push_back(pipe)?;
         self.came.notify_all();
         Ok(())
     }
 
-    /// Waits for a connection, and takes the first one.
-    pub(crate) fn take<R: Wait>(&self, rt: &R) -> Arc<Pipe, Global> {
+    // Waits for a connection, and takes the first one.
+    fn take<R: Wait>(&self, rt: &R) -> Arc<Pipe, Global> {
         let mut waiting = self
             .came
             .wait_while(rt, self.waiting.lock(rt), |waiting| waiting.is_empty());

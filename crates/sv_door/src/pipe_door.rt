@@ -11,7 +11,7 @@ use crate::returned::{Returned, open_end, take_back};
 use std::alloc::{AllocError, Global};
 use std::sync::{Arc, Wait};
 use sv_bytes::CallPlan;
-use sv_link::{Book, Pipe, PipeEnd, Side, copied_plan};
+use sv_link::{Book, PipeEnd, Side, copied_plan};
 
 /// Connections in memory at one port, between threads that have a door each: [`another`](PipeDoor::another) makes the next thread's.
 /// Of all these doors, the n-th `connect` meets the n-th `accept`, whichever comes first. A client does not wait for its server to
@@ -111,13 +111,13 @@ impl<'r, R: Wait> PipeDoor<'r, R> {
         self.book.takes_room().then_some(plan)
     }
 
-    /// What `accept` does: it fails just where this call is listed or the port is not the door's, and the end has the door's list and step.
-    pub fn make_server_end(&mut self, port: u16) -> EndMade<PipeEnd<'r, R>>
+    // What both calls do, for their side.
+    fn make_end(&mut self, port: u16, side: Side) -> EndMade<PipeEnd<'r, R>>
         ensures calls { CountsCall self.old.calls self.new.calls }
         ensures fails { result ≡ EndMade.Failed ↔ IsTurnedAway self.new port }
         ensures plan { HasEndPlan self.old result }
         ensures rest { (port_of self.new ≡ port_of self.old) × (self.new.ends ≡ self.old.ends) }
-        ensures made { MakesEnd pipe_told pipe_faults Server self.old.book.made self.new.book.made result }
+        ensures made { MakesEnd pipe_told pipe_faults side self.old.book.made self.new.book.made result }
         ensures owed { OwesEnd self.old.book.owed self.new.book.owed result }
         ensures given { self.new.book.kept.items ≡ self.old.book.kept.items }
         ensures cause { MadeCause self.old.book.faults.value self.new.book.faults.value result }
@@ -129,9 +129,25 @@ impl<'r, R: Wait> PipeDoor<'r, R> {
         let Some(plan) = self.prepares() else {
             return EndMade::Memory;
         };
-        let pipe = self.hall.take(self.rt);
-        let log = open_end(&mut self.book, self.alloc, Side::Server);
+        let Some(pipe) = self.hall.enter(self.alloc, self.rt, side) else {
+            return EndMade::Memory;
+        };
+        let log = open_end(&mut self.book, self.alloc, side);
         EndMade::End(PipeEnd::new(self.rt, pipe, plan, log))
+    }
+
+    /// What `accept` does: it fails just where this call is listed or the port is not the door's, and the end has the door's list and step.
+    pub fn make_server_end(&mut self, port: u16) -> EndMade<PipeEnd<'r, R>>
+        ensures calls { CountsCall self.old.calls self.new.calls }
+        ensures fails { result ≡ EndMade.Failed ↔ IsTurnedAway self.new port }
+        ensures plan { HasEndPlan self.old result }
+        ensures rest { (port_of self.new ≡ port_of self.old) × (self.new.ends ≡ self.old.ends) }
+        ensures made { MakesEnd pipe_told pipe_faults Server self.old.book.made self.new.book.made result }
+        ensures owed { OwesEnd self.old.book.owed self.new.book.owed result }
+        ensures given { self.new.book.kept.items ≡ self.old.book.kept.items }
+        ensures cause { MadeCause self.old.book.faults.value self.new.book.faults.value result }
+    {
+        self.make_end(port, Side::Server)
     }
 
     /// What `connect` does: it fails where `make_server_end` does.
@@ -145,24 +161,7 @@ impl<'r, R: Wait> PipeDoor<'r, R> {
         ensures given { self.new.book.kept.items ≡ self.old.book.kept.items }
         ensures cause { MadeCause self.old.book.faults.value self.new.book.faults.value result }
     {
-        if self.refuses(port) {
-            self.book.count_fault();
-            return EndMade::Failed;
-        }
-        let Some(plan) = self.prepares() else {
-            return EndMade::Memory;
-        };
-        let Ok(pipe) = Arc::new(self.alloc, Pipe::new(self.alloc)) else {
-            return EndMade::Memory;
-        };
-        let Ok(shared) = Arc::try_clone(&pipe) else {
-            return EndMade::Memory;
-        };
-        if self.hall.put(self.rt, shared).is_err() {
-            return EndMade::Memory;
-        }
-        let log = open_end(&mut self.book, self.alloc, Side::Client);
-        EndMade::End(PipeEnd::new(self.rt, pipe, plan, log))
+        self.make_end(port, Side::Client)
     }
 }
 
