@@ -151,10 +151,11 @@ impl<'a> Actor<'a> {
         ensures told { IfOk result (λ rest. IsLineOf (entries_of served.now) (journal_events self.old) (journal_events self.new) text.now rest.now) }
         ensures wrong { IfWrong result (NoneComes (entries_of served.now) self.old text.now) }
     {
-        if self.client.sessions() >= MOST_SESSIONS {
+        let count = self.client.sessions();
+        if count >= MOST_SESSIONS {
             return Err(LineStop::Wrong { left: text.len() });
         }
-        let session = self.first + self.client.sessions();
+        let session = self.first + count;
         let line = join_line(alloc, session)?;
         let Some(rest) = behind_line(text, line.as_bytes()) else {
             return Err(LineStop::Wrong { left: text.len() });

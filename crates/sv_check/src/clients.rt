@@ -137,9 +137,9 @@ fn take_client<'a>(
     ensures wrong { IfWrong result (IsClientStop part.now.shape (entries_of served.now) part.now.number part.now.first part.now.plan.now text.now) }
 {
     let line = client_line(alloc, part.number)?;
-    let rest = take_line(text, line.as_bytes())?;
+    let events = take_line(text, line.as_bytes())?;
     let mut actor = open_actor(alloc, served, part)?;
-    let rest = take_events(alloc, served, &mut actor, rest)?;
+    let rest = take_events(alloc, served, &mut actor, events)?;
     match finish(served, part, actor) {
         Some(trace) => Ok((trace, rest)),
         None => Err(LineStop::Wrong { left: rest.len() }),
