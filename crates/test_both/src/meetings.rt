@@ -8,9 +8,10 @@ use std::sync::Wait;
 use std::test::Fail;
 use std::thread::Threads;
 use sv_door::{PipeDoor, TcpDoor};
-use test_calls::examples::FIRST;
+use test_calls::examples::{CONFLICT, FIRST, RETRY};
+use test_calls::scenarios::FIRST_SERVED;
 
-/// A scenario, and the programs that play it.
+/// A scenario, whose schedule is of no account here, and the programs that play it.
 struct Meeting {
     scenario: &'static str,
     server: Call,
@@ -23,9 +24,7 @@ const MEETINGS: &[Meeting] = &[
         scenario: FIRST,
         server: Call {
             line: "serve a",
-            prints: Prints::All(
-                "journal 5\n1 s0 join c0 1 [0] -> welcome 0 [0=(5)]\n2 s0 submit 1 reads 0 writes 0 { set @0.0 (@0.0 + 1); } -> relay 1 at 0 [] [1:c0.1]\n3 s0 done [1:(6)] -> noted 1\n4 s0 leave -> bye\n5 s0 end -> bye\ncommit 1\n",
-            ),
+            prints: Prints::All(FIRST_SERVED),
         },
         clients: &[Call {
             line: "join a 0",
@@ -34,7 +33,7 @@ const MEETINGS: &[Meeting] = &[
     },
     // Two clients write one object, in an order that the threads decide.
     Meeting {
-        scenario: r#"{"attrs":1,"objects":[[10]],"bound":4,"clients":[{"interest":[],"steps":[{"act":"reads 0 writes 0 { set @0.0 (@0.0 * 2); }"}]},{"interest":[0],"steps":[{"act":"reads 0 writes 0 { set @0.0 (@0.0 + 1); }"},{"act":"reads 0 writes 0 { set @0.0 (@0.0 * 3); }"},{"act":"reads 0 writes 0 { set @0.0 (@0.0 - 5); }"},{"show":[0]},{"show":[0]}]}]}"#,
+        scenario: CONFLICT,
         server: Call {
             line: "serve a",
             prints: Prints::Last("\ncommit 4\n"),
@@ -52,7 +51,7 @@ const MEETINGS: &[Meeting] = &[
     },
     // One of two clients cuts before it took a reply, and joins again: it has two sessions.
     Meeting {
-        scenario: r#"{"attrs":1,"objects":[[0]],"bound":8,"clients":[{"interest":[0],"steps":[{"act":"reads 0 writes 0 { set @0.0 (@0.0 + 1); }"},"cut",{"show":[0]}]},{"interest":[],"steps":[{"act":"reads 0 writes 0 { set @0.0 (@0.0 + 1); }"},"sync",{"show":[0]}]}]}"#,
+        scenario: RETRY,
         server: Call {
             line: "serve a",
             prints: Prints::Last("\ncommit 2\n"),

@@ -1,4 +1,4 @@
-//! Scenarios that are not in the folder examples/.
+//! Scenarios that are not in the folder examples/, and what a server prints of its first one.
 
 /// An increment of the greatest number, which is void.
 pub const FULL: &str =
@@ -19,3 +19,7 @@ pub const REJOINING: &str =
 /// A client that looks at an object.
 pub const LOOK: &str =
     r#"{"attrs":1,"objects":[[5]],"bound":4,"clients":[{"interest":[],"steps":[{"act":"reads 0 writes { }"}]}]}"#;
+
+/// What `serve` prints of the first example, where its client plays its script.
+pub const FIRST_SERVED: &str =
+    "journal 5\n1 s0 join c0 1 [0] -> welcome 0 [0=(5)]\n2 s0 submit 1 reads 0 writes 0 { set @0.0 (@0.0 + 1); } -> relay 1 at 0 [] [1:c0.1]\n3 s0 done [1:(6)] -> noted 1\n4 s0 leave -> bye\n5 s0 end -> bye\ncommit 1\n";

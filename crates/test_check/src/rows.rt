@@ -7,11 +7,7 @@ use test_calls::examples::{
 
 /// What was changed, the text, and its first wrong line.
 const ROWS: [(&str, &str, u32); 33] = [
-    (
-        "what `replay` prints",
-        "journal 5\n1 s0 join c0 1 [0] -> welcome 0 [0=(5)]\n2 s0 submit 1 reads 0 writes 0 { set @0.0 (@0.0 + 1); } -> relay 1 at 0 [] [1:c0.1]\n3 s0 done [1:(6)] -> noted 1\n4 s0 leave -> bye\n5 s0 end -> bye\nclient 0\njoin s0\ngot s0 #1\nmake 1 kept [0=(6)]\ngot s0 #2\ngot s0 #3\nshow [0=(6)]\nleave\ngot s0 #4\nworld 1\n0=(6)\n",
-        0,
-    ),
+    ("what `replay` prints", FIRST_REPORT, 0),
     (
         "value of the welcome, which the server has not",
         "journal 5\n1 s0 join c0 1 [0] -> welcome 0 [0=(6)]\n2 s0 submit 1 reads 0 writes 0 { set @0.0 (@0.0 + 1); } -> relay 1 at 0 [] [1:c0.1]\n3 s0 done [1:(6)] -> noted 1\n4 s0 leave -> bye\n5 s0 end -> bye\nclient 0\njoin s0\ngot s0 #1\nmake 1 kept [0=(6)]\ngot s0 #2\ngot s0 #3\nshow [0=(6)]\nleave\ngot s0 #4\nworld 1\n0=(6)\n",

@@ -1,18 +1,7 @@
 //! What is printed of whole scenarios. The expected lines are typed from the rules of the server and its clients.
 use crate::calls::called;
 use std::test::Fail;
-
-/// A client that writes, looks at two objects, and writes the other one.
-const LOOKS: &str =
-    r#"{"attrs":1,"objects":[[10],[20]],"bound":4,"clients":[{"interest":[],"steps":[{"act":"reads 0 writes 0 { set @0.0 (@0.0 + 1); }"},{"act":"reads 0 1 writes { }"},{"act":"reads 1 writes 1 { set @1.0 (@1.0 + 1); }"}]}]}"#;
-
-/// Two clients in conflict, neither of which looks.
-const CONFLICT: &str =
-    r#"{"attrs":1,"objects":[[10]],"bound":4,"clients":[{"interest":[],"steps":[{"act":"reads 0 writes 0 { set @0.0 (@0.0 * 2); }"}]},{"interest":[0],"steps":[{"act":"reads 0 writes 0 { set @0.0 (@0.0 + 1); }"},{"act":"reads 0 writes 0 { set @0.0 (@0.0 * 3); }"},{"act":"reads 0 writes 0 { set @0.0 (@0.0 - 5); }"},{"show":[0]},{"show":[0]}]}],"schedule":["c0","s0","t0","c0","s0","c1","s1","t1","c1","c1","c1","c1","s1","t1","c1"]}"#;
-
-/// Three players who trade and fight, as in `examples/trade.json`. The third one looks at the other two at the end.
-const TRADE: &str =
-    r#"{"attrs":3,"objects":[[3,10,20],[2,10,10],[2,10,5],[3,0,30]],"bound":5,"clients":[{"interest":[0,1,3],"steps":[{"act":"reads 0 3 writes 0 3 { set @0.2 (@0.2 + @3.2); set @3.2 0; }"},{"act":"reads 0 1 writes 0 1 { if ([@0.0 == @1.0] and [5 <= @0.2]) { set @0.2 (@0.2 - 5); set @1.2 (@1.2 + 5); set @0.1 (@0.1 + 2); } }"},"sync",{"show":[0,1,3]}]},{"interest":[1,3],"steps":[{"act":"reads 1 writes 1 { set @1.0 3; }"},{"act":"reads 1 3 writes 1 3 { set @1.2 (@1.2 + @3.2); set @3.2 0; }"},"sync",{"show":[1,3]}]},{"interest":[1,2],"steps":[{"act":"reads 1 2 writes 1 { if [@1.0 == @2.0] { set @1.1 ((@1.1 - 4) max 0); } }"},"cut",{"show":[0,1]},{"act":"reads 0 1 writes { }"},"sync",{"show":[0,1]}]}],"schedule":["c0","c1","c2","s0","s1","s2","t0","t1","t2","c2","s2","c2","c1","s1","t1","s1"]}"#;
+use test_calls::examples::{CONFLICT, LOOKS, TRADE};
 
 /// A look of sixteen objects, after a write of object 3.
 const SIXTEEN: &str =
@@ -44,8 +33,11 @@ const NO_LOOKS: &str =
 
 /// A scenario, and what is printed of it.
 const ROWS: &[(&str, &str)] = &[
+    // A client that writes, looks at two objects, and writes the other one.
     (LOOKS, "look c0 2 at 2 [0=(11) 1=(20)]\n"),
+    // Two clients in conflict, neither of which looks.
     (CONFLICT, ""),
+    // Three players who trade and fight. The third one looks at the other two at the end.
     (TRADE, "look c2 2 at 6 [0=(3,12,45) 1=(3,6,15)]\n"),
     (
         SIXTEEN,

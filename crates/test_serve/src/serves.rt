@@ -8,6 +8,7 @@ use std::thread::Threads;
 use sv_link::{Crew, FewCrew, OpenGate, ThreadCrew};
 use sv_serve::run_serve;
 use test_calls::examples::FIRST;
+use test_calls::scenarios::FIRST_SERVED;
 use test_calls::{Printed, held, words};
 
 /// What the client of the first example sends: a Join, the Submit of its action, a Done and a Leave.
@@ -16,9 +17,6 @@ const FIRST_BYTES: &[u8] = &[
     0, 0, 0, 0, 0, 0, 0, 0, 1, 0x10, 0, 0, 0x22, 0x21, 0, 0, 0x20, 0, 0, 0, 0, 0, 0, 0, 1, 0, 0, 0,
     0x10, 0x03, 1, 0, 0, 0, 1, 1, 1, 0, 0, 0, 0, 0, 0, 0, 6, 0, 0, 0, 1, 0x05,
 ];
-
-const FIRST_TEXT: &str =
-    "journal 5\n1 s0 join c0 1 [0] -> welcome 0 [0=(5)]\n2 s0 submit 1 reads 0 writes 0 { set @0.0 (@0.0 + 1); } -> relay 1 at 0 [] [1:c0.1]\n3 s0 done [1:(6)] -> noted 1\n4 s0 leave -> bye\n5 s0 end -> bye\ncommit 1\n";
 
 /// Only the End of the one session.
 const ENDED_TEXT: &str = "journal 1\n1 s0 end -> bye\ncommit 0\n";
@@ -65,7 +63,7 @@ fn prints<R: Threads + Wait + Sync>(
 
 #[test]
 fn serves_one_action(rt: HostRuntime) -> Result<(), Fail> {
-    assert!(rt; prints(&rt, rt.alloc(), FIRST_BYTES, 0, FIRST_TEXT)?);
+    assert!(rt; prints(&rt, rt.alloc(), FIRST_BYTES, 0, FIRST_SERVED)?);
     Ok(())
 }
 

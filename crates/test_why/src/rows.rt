@@ -1,14 +1,7 @@
 //! The positions and the value of an object at a position, worked out by hand from the scenario.
 use crate::calls::tells;
 use std::test::Fail;
-
-/// Two clients in conflict. The first doubles 10, and the second adds 1, makes it three times as much and takes 5 away.
-const CONFLICT: &str =
-    r#"{"attrs":1,"objects":[[10]],"bound":4,"clients":[{"interest":[],"steps":[{"act":"reads 0 writes 0 { set @0.0 (@0.0 * 2); }"}]},{"interest":[0],"steps":[{"act":"reads 0 writes 0 { set @0.0 (@0.0 + 1); }"},{"act":"reads 0 writes 0 { set @0.0 (@0.0 * 3); }"},{"act":"reads 0 writes 0 { set @0.0 (@0.0 - 5); }"},{"show":[0]},{"show":[0]}]}],"schedule":["c0","s0","t0","c0","s0","c1","s1","t1","c1","c1","c1","c1","s1","t1","c1"]}"#;
-
-/// Two objects that are written apart. The second action writes none.
-const LOOKS: &str =
-    r#"{"attrs":1,"objects":[[10],[20]],"bound":4,"clients":[{"interest":[],"steps":[{"act":"reads 0 writes 0 { set @0.0 (@0.0 + 1); }"},{"act":"reads 0 1 writes { }"},{"act":"reads 1 writes 1 { set @1.0 (@1.0 + 1); }"}]}]}"#;
+use test_calls::examples::{CONFLICT, LOOKS};
 
 /// A chain over three objects, by one client, with an action of each that does not matter to the last.
 const CHAIN: &str =
@@ -20,10 +13,12 @@ const VOID: &str =
 
 /// A scenario, an object and a position; the positions that its value there comes from, and the value.
 const ROWS: [(&str, u16, u32, &[u32], &[i64]); 21] = [
+    // Two clients in conflict. The first doubles 10, and the second adds 1, makes it three times as much and takes 5 away.
     (CONFLICT, 0, 0, &[], &[10]),
     (CONFLICT, 0, 1, &[1], &[20]),
     (CONFLICT, 0, 2, &[1, 2], &[21]),
     (CONFLICT, 0, 4, &[1, 2, 3, 4], &[58]),
+    // Two objects that are written apart. The second action writes none.
     (LOOKS, 1, 3, &[3], &[21]),
     (LOOKS, 1, 2, &[], &[20]),
     (LOOKS, 0, 3, &[1], &[11]),
