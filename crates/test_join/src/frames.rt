@@ -5,9 +5,6 @@ pub const WELCOME: &[u8] = &[
     0, 0, 0, 18, 0x81, 0, 0, 0, 0, 0, 1, 0, 0, 1, 0, 0, 0, 0, 0, 0, 0, 5,
 ];
 
-/// Commit 0, and no value.
-pub const BARE_WELCOME: &[u8] = &[0, 0, 0, 7, 0x81, 0, 0, 0, 0, 0, 0];
-
 /// The relay of the action of client 0 that adds 1 to object 0, at position 1, with the sequence number 1 and commit 0, and no value.
 pub const RELAY: &[u8] = &[
     0, 0, 0, 0x34, 0x89, 0, 0, 0, 1, 0, 0, 0, 0, 0, 0, 1, 0, 0, 0, 1, 0, 0, 0, 0, 0, 1, 1, 0, 0, 0,
@@ -29,8 +26,6 @@ pub const OTHER_RELAY: &[u8] = &[
 pub const NOTED_0: &[u8] = &[0, 0, 0, 5, 0x85, 0, 0, 0, 0];
 
 pub const NOTED_1: &[u8] = &[0, 0, 0, 5, 0x85, 0, 0, 0, 1];
-
-pub const BYE: &[u8] = &[0, 0, 0, 1, 0x88];
 
 /// A kind of an older version.
 pub const OLD_KIND: &[u8] = &[0, 0, 0, 1, 0x82];

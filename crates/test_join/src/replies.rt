@@ -2,6 +2,7 @@
 use crate::calls::answered;
 use crate::frames::*;
 use std::test::Fail;
+use test_calls::frames::{BARE_WELCOME, BYE, joined};
 
 /// What a server sends, and the status and the two outputs that the client answers.
 type Row = (&'static [&'static [u8]], u8, &'static str, &'static str);
@@ -29,10 +30,7 @@ const ROWS: &[Row] = &[
 #[test]
 fn replies_are_answered(rt: HostRuntime) -> Result<(), Fail> {
     for (frames, status, out, err) in ROWS {
-        let mut bytes = Vec::new(rt.alloc());
-        for frame in *frames {
-            bytes.extend_from_slice(frame)?;
-        }
+        let bytes = joined(rt.alloc(), *frames)?;
         let printed = answered(&rt, rt.alloc(), &bytes)?;
         assert!(&rt; printed.is(*status, out, err), "{err}");
     }

@@ -20,9 +20,6 @@ pub const POLL: &[u8] = &[0, 0, 0, 1, 0x04];
 
 pub const LEAVE: &[u8] = &[0, 0, 0, 1, 0x05];
 
-/// Commit 0, and no base value.
-pub const WELCOME: &[u8] = &[0, 0, 0, 7, 0x81, 0, 0, 0, 0, 0, 0];
-
 /// The relay of the first action, which adds 1 to object 0 and was made by client 0, with the base value 5 of that object.
 pub const RELAY_INC_0: &[u8] = &[
     0, 0, 0, 0x3f, 0x89, 0, 0, 0, 1, 0, 0, 0, 0, 0, 1, 0, 0, 1, 0, 0, 0, 0, 0, 0, 0, 5, 1, 0, 0, 0,
@@ -31,8 +28,6 @@ pub const RELAY_INC_0: &[u8] = &[
 ];
 
 pub const IDLE: &[u8] = &[0, 0, 0, 1, 0x86];
-
-pub const BYE: &[u8] = &[0, 0, 0, 1, 0x88];
 
 /// Code 1, malformed.
 pub const REFUSED_1: &[u8] = &[0, 0, 0, 6, 0x87, 1, 0, 0, 0, 0];

@@ -14,17 +14,10 @@ use sv_sequencer::Sequencer;
 use sv_session::{SessionOut, serve_session};
 use test_asked::locked;
 use test_calls::ScriptEnd;
+use test_calls::frames::{BARE_WELCOME, BYE, joined};
 
 /// What comes, in pieces, the outcome, and the frames of the replies.
 type Row<'a> = (&'a [&'a [u8]], SessionOut, &'a [&'a [u8]]);
-
-pub fn joined(alloc: Global, pieces: &[&[u8]]) -> Result<Vec<u8>, Fail> {
-    let mut bytes = Vec::new(alloc);
-    for piece in pieces {
-        bytes.extend_from_slice(piece)?;
-    }
-    Ok(bytes)
-}
 
 /// A session over an end that gives these bytes, at most `step` at a time, and whose call of number `failing` fails. It tells the outcome,
 /// and what was sent.
@@ -97,24 +90,32 @@ const ROWS: &[Row] = &[
     (&[POLL], SessionOut::Closed, &[REFUSED_2]),
     (&[LEAVE, POLL], SessionOut::Closed, &[REFUSED_2, REFUSED_2]),
     (&[POLL, LEAVE], SessionOut::Closed, &[REFUSED_2, REFUSED_2]),
-    (&[JOIN_0, POLL], SessionOut::Closed, &[WELCOME, IDLE]),
-    (&[JOIN_0, LEAVE], SessionOut::Left, &[WELCOME, BYE]),
-    (&[JOIN_0, LEAVE, POLL], SessionOut::Left, &[WELCOME, BYE]),
+    (&[JOIN_0, POLL], SessionOut::Closed, &[BARE_WELCOME, IDLE]),
+    (&[JOIN_0, LEAVE], SessionOut::Left, &[BARE_WELCOME, BYE]),
+    (
+        &[JOIN_0, LEAVE, POLL],
+        SessionOut::Left,
+        &[BARE_WELCOME, BYE],
+    ),
     (
         &[JOIN_0, SUBMIT_INC_0, LEAVE],
         SessionOut::Left,
-        &[WELCOME, RELAY_INC_0, BYE],
+        &[BARE_WELCOME, RELAY_INC_0, BYE],
     ),
     // A frame that the end cuts off.
-    (&[JOIN_0, &[0]], SessionOut::Closed, &[WELCOME]),
-    (&[JOIN_0, &[0, 0, 0, 1]], SessionOut::Closed, &[WELCOME]),
+    (&[JOIN_0, &[0]], SessionOut::Closed, &[BARE_WELCOME]),
+    (
+        &[JOIN_0, &[0, 0, 0, 1]],
+        SessionOut::Closed,
+        &[BARE_WELCOME],
+    ),
     (&[POLL, &[0, 1, 0, 0, 4]], SessionOut::Closed, &[REFUSED_2]),
     // Lengths over the limit.
     (&[&[0, 1, 0, 1]], SessionOut::Malformed, &[REFUSED_1]),
     (
         &[JOIN_0, &[0xff, 0xff, 0xff, 0xff], POLL],
         SessionOut::Malformed,
-        &[WELCOME, REFUSED_1],
+        &[BARE_WELCOME, REFUSED_1],
     ),
     // What follows a malformed payload is not looked at.
     (
@@ -200,7 +201,7 @@ fn the_greatest_frame_is_malformed(rt: HostRuntime) -> Result<(), Fail> {
 #[test]
 fn links_fail(rt: HostRuntime) -> Result<(), Fail> {
     let coming = joined(rt.alloc(), &[JOIN_0, POLL, LEAVE])?;
-    let whole = joined(rt.alloc(), &[WELCOME, IDLE, BYE])?;
+    let whole = joined(rt.alloc(), &[BARE_WELCOME, IDLE, BYE])?;
     for failing in 1..200u64 {
         let (out, sent) = serve(&rt, rt.alloc(), &coming, 3, failing)?;
         if out == SessionOut::Left {

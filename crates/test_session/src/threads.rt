@@ -4,7 +4,6 @@ ghost use Rattle.sv_session.specs.Serving.{MayServe};
 
 use crate::frames::*;
 use crate::opening::opened;
-use crate::tests::joined;
 use std::alloc::Global;
 use std::net::{Net as Sockets, TcpListener, TcpStream};
 use std::sync::Wait;
@@ -15,6 +14,7 @@ use sv_link::{End, HoldGate, Net, Pair, PipeNet, Sent, TcpNet, send_all};
 use sv_lock::{Pass, SeqLock};
 use sv_sequencer::Sequencer;
 use sv_session::{SessionOut, serve_session};
+use test_calls::frames::joined;
 
 /// A pair whose client's end was written these bytes.
 fn written<N: Net>(net: &mut N, bytes: &[u8]) -> Result<(N::E, N::E), Fail>
