@@ -20,20 +20,19 @@ impl Hall {
         }
     }
 
-    /// The connection of a new end: a server takes one that waits, and a client brings one. None where there is no memory.
+    /// The connection of a new end: a server waits for one and takes it, and a client brings one.
     pub(crate) fn enter<R: Wait>(
         &self,
         alloc: Global,
         rt: &R,
         side: Side,
-    ) -> Option<Arc<Pipe, Global>> {
+    ) -> Result<Arc<Pipe, Global>, AllocError> {
         match side {
-            Side::Server => Some(self.take(rt)),
+            Side::Server => Ok(self.take(rt)),
             Side::Client => {
-                let pipe = Arc::new(alloc, Pipe::new(alloc)).ok()?;
-                let shared = Arc::try_clone(&pipe).ok()?;
-                self.put(rt, shared).ok()?;
-                Some(pipe)
+                let pipe = Arc::new(alloc, Pipe::new(alloc))?;
+                self.put(rt, Arc::try_clone(&pipe)?)?;
+                Ok(pipe)
             }
         }
     }

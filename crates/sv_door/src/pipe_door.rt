@@ -129,7 +129,7 @@ impl<'r, R: Wait> PipeDoor<'r, R> {
         let Some(plan) = self.prepares() else {
             return EndMade::Memory;
         };
-        let Some(pipe) = self.hall.enter(self.alloc, self.rt, side) else {
+        let Ok(pipe) = self.hall.enter(self.alloc, self.rt, side) else {
             return EndMade::Memory;
         };
         let log = open_end(&mut self.book, self.alloc, side);
