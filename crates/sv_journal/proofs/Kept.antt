@@ -55,7 +55,7 @@ new-by (Some k) f g requests.Leave e = refl
 new-by (Some k) f g requests.Bad e = refl
 new-by (Some k) f g requests.End e = refl
 
-end-same : (test : Done1 → Bool) (q : Request) → is_end (with_results test q) ≡ is_end q
+pub end-same : (test : Done1 → Bool) (q : Request) → is_end (with_results test q) ≡ is_end q
 end-same test (requests.Join client life interest) = refl
 end-same test (requests.Submit seq a) = refl
 end-same test (requests.Done results) = refl

@@ -7,11 +7,11 @@ mod Fronts
 mod Heads
 pub mod Kept
 mod Messages
-mod Named
+pub mod Named
 mod Places
 pub mod Plain
 pub mod Replies
-mod Results
+pub mod Results
 mod Sizes
-mod Stays
+pub mod Stays
 mod Worked

@@ -70,7 +70,7 @@ pub accepted_one_more : (e : Entry) (h : List Entry) (k seq : ℕ) (a : Action) 
 accepted_one_more e h k seq a relayed client asked next =
     rw (relayed, client, asked, eq-eqb seq (next_seq h k) next) (length-append (accepted h) (record { client = k; seq = seq; action = a } ∷ []) ∙ omega arith)
 
-client_is : (o : Option ℕ) (k : ℕ) → is_client o k ≡ true → o ≡ Some k
+pub client_is : (o : Option ℕ) (k : ℕ) → is_client o k ≡ true → o ≡ Some k
 client_is None k e = cc
 client_is (Some j) k e = ap (λ (m : ℕ). Some m) (eqb-true j k e)
 
