@@ -6,13 +6,12 @@ use Rattle.std.specs.List.{list_any}
 use Rattle.sv_world.specs.declared.action.Action.{Action}
 use Rattle.sv_world.specs.Sets.{read_set, write_set}
 use Rattle.sv_world.specs.Control.{is_in, action_at, last_writer, missing_writers, needed_for, reads_committed}
-use Rattle.sv_world.proofs.Members.{is_in-head, is_in-tail, is_in-cons_cases}
+use Rattle.sv_world.proofs.Members.{is_in-head, is_in-tail, is_in-cons_cases, same_test, any_from, any_parts}
 use Rattle.sv_world.proofs.Writers.{last_writer-most, last_writer-writes, last_writer-unwritten, missing_writers-parts, missing_writers-lower}
 use Rattle.sv_world.proofs.Needs.{needed-target, needed-sound, needed-closed, needed-closed_writer, needed-ascending, needed-sent}
 use Rattle.sv_world.proofs.Bases.{reads_committed-from, reads_committed-parts}
 use Rattle.sv_influence.proofs.Counts.{above, above-in, above-parts, above-taken, above-left}
-use Rattle.sv_influence.proofs.Growth.{same_test}
-use Rattle.sv_influence.proofs.Walks.{written_is_read, any_from, any_parts}
+use Rattle.sv_influence.proofs.Walks.{written_is_read}
 
 -- Each position needed but the target is a missing writer of one needed.
 needed_from : (A : List Action) (c : ℕ) (s : List ℕ) (i : ℕ) → 0 < i → is_in i s ≡ false → (j : ℕ) → is_in j (needed_for A c s i) ≡ true →

@@ -7,13 +7,13 @@ use Rattle.sv_world.specs.Sets.{read_set}
 use Rattle.sv_world.specs.Control.{is_in, action_at, last_writer, missing_writers, wanted_up_to, influence, chain_length}
 use Rattle.sv_world.specs.Trees.{greatest}
 use Rattle.sv_world.specs.Faults.{is_ascending}
-use Rattle.sv_world.proofs.Influences.{influence-ascending, influence-bounds}
-use Rattle.sv_world.proofs.Members.{is_in-head, is_in-append_left, is_in-append_right, is_in-append_cases, is_in-filter, is_in-filter_parts, is_in-map, is_in-map_from}
+use Rattle.sv_world.proofs.Influences.{influence-ascending, influence-bounds, last_writer-before}
+use Rattle.sv_world.proofs.Members.{is_in-head, is_in-append_left, is_in-append_right, is_in-append_cases, is_in-filter, is_in-filter_parts, is_in-map, is_in-map_from, same_test}
 use Rattle.sv_world.proofs.Sweeps.{sweep-same, sweep-has}
-use Rattle.sv_world.proofs.Writers.{action_at-append, action_at-last, last_writer-below, last_writer-same, missing_writers-parts, missing_writers-has, missing_writers-lower}
+use Rattle.sv_world.proofs.Writers.{action_at-append, action_at-last, last_writer-below, missing_writers-parts, missing_writers-has, missing_writers-lower}
 use Rattle.sv_influence.specs.Writers.{writers_of}
 use Rattle.sv_influence.proofs.Counts.{ascending-few}
-use Rattle.sv_influence.proofs.Growth.{same_test, ascending-last, sweep-pop, whole-nil}
+use Rattle.sv_influence.proofs.Growth.{ascending-last, sweep-pop, whole-nil}
 use Rattle.sv_influence.proofs.Looks.{is_in-append, members-move}
 use Rattle.sv_influence.proofs.Takes.{is_in-swap}
 
@@ -71,9 +71,6 @@ writers_of-missing A B c k j xs up same is =
     let p = missing_writers-parts B c [] k j h in
     let low : c < j = p.1.1.1.0 in
     writers_of-has A k j p.0 xs (subst (λ (ys : List ℕ). is_in p.0 ys ≡ true) is p.1.0) (p.1.1.0 ∙ same p.0) (omega arith))
-
-last_writer-before : (A : List Action) (a : Action) (x k : ℕ) → k ≤ suc (length A) → last_writer (A ++ a ∷ []) x k ≡ last_writer A x k
-last_writer-before A a x k l = last_writer-same (A ++ a ∷ []) A x k (λ m low high. action_at-append A (a ∷ []) m (omega arith))
 
 made-earlier : (A : List Action) (c : ℕ) (a : Action) (k j : ℕ) → AreAbove A c → k ≤ length A →
     is_in j (writers_of A k (read_set (action_at A k))) ≡ is_in j (makes A c a k)

@@ -1,20 +1,15 @@
 -- Taking the greatest wanted position off, and what it makes wanted.
-use Rattle.std.proofs.Common.{◌≡◌, ℕ, zero, suc, ◌<◌, ◌≤◌, inl, inr, Bool, true, false, ◌&&◌, not, List, [], ◌∷◌, ◌++◌, filter, reverse, refl, sym, ◌∙◌, ap, subst, nat_le, arith, append_assoc}
+use Rattle.std.proofs.Common.{◌≡◌, ℕ, zero, suc, ◌<◌, ◌≤◌, inl, inr, true, false, ◌&&◌, not, List, [], ◌∷◌, ◌++◌, filter, reverse, refl, sym, ◌∙◌, ap, subst, nat_le, arith, append_assoc}
 use Rattle.std.proofs.lemmas.Bool.{and_parts, and_from, not-true, not_from_false, leb-true, le-leb}
 use Rattle.std.proofs.lemmas.List.{reverse-append, reverse-reverse}
 use Rattle.sv_world.specs.declared.action.Action.{Action}
 use Rattle.sv_world.specs.Sets.{read_set}
 use Rattle.sv_world.specs.Control.{is_in, action_at, last_writer, needed_for, reads_committed, head_for}
 use Rattle.sv_world.specs.Faults.{is_ascending}
-use Rattle.sv_world.proofs.Members.{is_in-head, is_in-one, is_in-cons_cases, is_in-append_left, is_in-append_right, is_in-append_cases, is_in-filter, is_in-filter_parts}
+use Rattle.sv_world.proofs.Members.{is_in-head, is_in-one, is_in-cons_cases, is_in-append_left, is_in-append_right, is_in-append_cases, is_in-filter, is_in-filter_parts, same_test}
 use Rattle.sv_world.proofs.Ascending.{ascending-push, ascending-head, ascending-tail, ascending_same}
 use Rattle.sv_world.proofs.Sweeps.{sweep, AreLower, sweep-has, sweep-closed, sweep-sound, sweep-ascending}
 use Rattle.sv_world.proofs.Bases.{reads_committed-from, reads_committed-parts, head_for-ascending, head_for-iff}
-
-pub same_test : (b d : Bool) → (b ≡ true → d ≡ true) → (d ≡ true → b ≡ true) → b ≡ d
-same_test true d f g = sym (f refl)
-same_test false true f g = g refl
-same_test false false f g = refl
 
 pub ascending-last : (xs : List ℕ) (y : ℕ) → is_ascending (xs ++ y ∷ []) ≡ true → (j : ℕ) → is_in j xs ≡ true → j < y
 ascending-last [] y h j m = cc

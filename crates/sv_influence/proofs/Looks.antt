@@ -6,14 +6,13 @@ use Rattle.std.proofs.lemmas.List.Elements.{filter-append}
 use Rattle.sv_world.specs.declared.action.Action.{Action}
 use Rattle.sv_world.specs.Sets.{write_set}
 use Rattle.sv_world.specs.Control.{is_in, below, blank, action_at, last_writer}
-use Rattle.sv_world.proofs.Members.{is_in-filter, is_in-filter_parts}
+use Rattle.sv_world.proofs.Members.{is_in-filter, is_in-filter_parts, same_test}
 use Rattle.sv_world.proofs.Bases.{is_in-below}
 use Rattle.sv_world.proofs.Writers.{last_writer-below, last_writer-writes}
 use Rattle.sv_queue.specs.declared.queued.Queued.{Queued}
 use Rattle.sv_queue.specs.Pairs.{is_pair}
 use Rattle.sv_queue.specs.Queue.{QueueView, IsUncommitted, last_position, queue_actions, entry_actions, sent_positions, given_objects}
 use Rattle.sv_influence.specs.Lacking.{lacking_writers, committed_reads}
-use Rattle.sv_influence.proofs.Growth.{same_test}
 use Rattle.sv_influence.proofs.ReadSets.{or_move}
 
 pub queue_length : (v : QueueView) → length (queue_actions v) ≡ last_position v

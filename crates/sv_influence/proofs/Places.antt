@@ -91,10 +91,6 @@ is_in-searched xs zs x i h same found =
     let at = searched xs x (Ok i) found' (ascending-places xs h) in
     subst (λ (n : ℕ). is_in n xs ≡ true) at.1 (is_in-get xs i at.0)
 
--- A fact of each member is one of each place.
-pub all-members : (P : ℕ → Type 0) (xs : List ℕ) → ((j : ℕ) → is_in j xs ≡ true → P j) → All P xs
-all-members P xs h k d l = subst P (get_or_default xs k 0 d l) (h (get_or xs k 0) (is_in-get xs k l))
-
 pub members-all : (P : ℕ → Type 0) (xs : List ℕ) → All P xs → (j : ℕ) → is_in j xs ≡ true → P j
 members-all P xs h j m = let p = is_in-place j xs m in subst P p.1.1 (h p.0 0 p.1.0)
 

@@ -5,11 +5,10 @@ use Rattle.std.specs.List.{list_any}
 use Rattle.sv_world.specs.declared.action.Action.{Action}
 use Rattle.sv_world.specs.Sets.{read_set, write_set, at_mask, is_in_mask}
 use Rattle.sv_world.specs.Control.{is_in, action_at, last_writer, influence, IsInfluence, direct, further}
-use Rattle.sv_world.proofs.Members.{is_in-head, is_in-tail, is_in-cons_cases}
+use Rattle.sv_world.proofs.Members.{is_in-head, is_in-tail, is_in-cons_cases, same_test, any_from, any_parts}
 use Rattle.sv_world.proofs.Writers.{last_writer-below, last_writer-writes, last_writer-unwritten}
 use Rattle.sv_world.proofs.Influences.{influence-iff, influence-bounds, influence-direct, influence-closed, influence-ascending}
 use Rattle.sv_influence.proofs.Counts.{above, above-in, above-parts, above-ascending, above-none, above-all, above-miss, ascending-few}
-use Rattle.sv_influence.proofs.Growth.{same_test}
 
 -- Some of these positions reads the object.
 abbrev pub are_read : List Action → ℕ → List ℕ → Bool
@@ -107,19 +106,6 @@ reader_of A c a n low (further {k} x more reads is) =
             (are_read-from A x k (above n (influence A c a)) (above-in n k (influence A c a) there (omega arith)) reads),
       ),
     )
-
-pub any_from : (f : ℕ → Bool) (x : ℕ) (xs : List ℕ) → is_in x xs ≡ true → f x ≡ true → list_any f xs ≡ true
-any_from f x [] h t = cc
-any_from f x (y ∷ ys) h t =
-    elim (is_in-cons_cases x y ys h) [ inl e ↦ or_left (f y) (list_any f ys) (ap f (sym e) ∙ t) | inr r ↦ or_right (f y) (list_any f ys) (any_from f x ys r t) ]
-
-pub any_parts : (f : ℕ → Bool) (xs : List ℕ) → list_any f xs ≡ true → (x : ℕ) × ((is_in x xs ≡ true) × (f x ≡ true))
-any_parts f [] h = cc
-any_parts f (y ∷ ys) h =
-    elim (or_cases (f y) (list_any f ys) h) [
-      | inl e ↦ (y, (is_in-head y ys, e))
-      | inr r ↦ (let p = any_parts f ys r in (p.0, (is_in-tail p.0 y ys p.1.0, p.1.1)))
-    ]
 
 -- With the objects that the action and the later positions of the influence read, a position's writes are met just where it is in the influence.
 pub walk-meets : (A : List Action) (c : ℕ) (a : Action) (n : ℕ) (f : ℕ → Bool) → c < n → n ≤ length A →

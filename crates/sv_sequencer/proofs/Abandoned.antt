@@ -6,8 +6,7 @@ use Rattle.std.proofs.lemmas.List.Folds.{list_all-append}
 use Rattle.std.specs.List.{list_all}
 use Rattle.sv_world.specs.Control.{is_in, below}
 use Rattle.sv_world.proofs.Bases.{below-is_in}
-use Rattle.sv_world.proofs.Members.{is_in-append_cases, is_in-append_left, is_in-append_right}
-use Rattle.sv_influence.proofs.Growth.{same_test}
+use Rattle.sv_world.proofs.Members.{is_in-append_cases, is_in-append_left, is_in-append_right, same_test}
 use Rattle.sv_journal.specs.declared.entry.Entry.{Entry}
 use Rattle.sv_journal.specs.History.{accepted, result_at, commit_of}
 use Rattle.sv_journal.specs.Sessions.{is_over, positions_in, sent_to, named_to}

@@ -8,11 +8,10 @@ use Rattle.sv_world.specs.declared.world.ObjectId.{ObjectId}
 use Rattle.sv_world.specs.Control.{is_in, below}
 use Rattle.sv_world.specs.Sets.{is_in_mask, at_mask}
 use Rattle.sv_world.proofs.Bases.{head_for-iff, below-is_in}
-use Rattle.sv_world.proofs.Members.{is_in-head, is_in-filter_parts}
+use Rattle.sv_world.proofs.Members.{is_in-head, is_in-filter_parts, all-members}
 use Rattle.sv_world.proofs.Needs.{needed-bounds}
 use Rattle.sv_wire.specs.declared.message.ObjectValue.{ObjectValue}
 use Rattle.sv_influence.specs.Lacking.{lacking, base_objects}
-use Rattle.sv_influence.proofs.Places.{all-members}
 use Rattle.sv_world.specs.declared.action.Action.{Action}
 use Rattle.sv_world.specs.declared.world.ClientId.{ClientId}
 use Rattle.sv_queue.specs.declared.queued.Queued.{Queued}

@@ -1,13 +1,13 @@
 -- What a relay leaves to its client: each read of its items finds a value that the session knows, that the head names, or that an earlier item gives.
-use Rattle.std.proofs.Common.{◌≡◌, ℕ, zero, suc, ◌+◌, ◌<◌, ◌≤◌, Bool, true, ◌&&◌, ◌==◌, nat_lt, nat_le, ◌⊎◌, inl, inr, List, [], ◌∷◌, ◌++◌, filter, take, refl, sym, ◌∙◌, subst, arith, eq-eqb, leb-true}
+use Rattle.std.proofs.Common.{◌≡◌, ℕ, zero, suc, ◌+◌, ◌<◌, ◌≤◌, true, ◌&&◌, ◌==◌, nat_lt, nat_le, ◌⊎◌, inl, inr, List, [], ◌∷◌, ◌++◌, filter, take, refl, sym, ◌∙◌, subst, arith, eq-eqb, leb-true}
 use Rattle.std.specs.List.{list_any}
-use Rattle.std.proofs.lemmas.Bool.{cases_Bool, cases_lt, or_cases, or_left, or_right, and_parts, and_from}
+use Rattle.std.proofs.lemmas.Bool.{cases_Bool, cases_lt, or_left, or_right, and_parts, and_from}
 use Rattle.std.proofs.lemmas.List.{get_or-take}
 use Rattle.sv_world.specs.Control.{is_in, below, blank, action_at, last_writer, needed_for, head_for}
 use Rattle.sv_world.specs.Faults.{is_ascending}
 use Rattle.sv_world.specs.Sets.{read_set, write_set}
 use Rattle.sv_world.specs.declared.action.Action.{Action}
-use Rattle.sv_world.proofs.Members.{is_in-head, is_in-tail, is_in-cons_cases, is_in-append_right, is_in-filter, is_in-filter_parts}
+use Rattle.sv_world.proofs.Members.{is_in-cons_cases, is_in-append_right, is_in-filter, is_in-filter_parts, any_parts}
 use Rattle.sv_world.proofs.Writers.{last_writer-below, last_writer-writes, last_writer-unwritten, last_writer-earlier}
 use Rattle.sv_world.proofs.Needs.{needed-ascending, needed-bounds, needed-agree, needed-closed_writer}
 use Rattle.sv_world.proofs.Bases.{head_for-agree, head_for-iff}
@@ -20,15 +20,6 @@ use Rattle.sv_system.proofs.Tests.{any-left, any-right}
 use Rattle.sv_system.proofs.Every.{each-is_in}
 use Rattle.sv_system.proofs.Covers.{is_held, covered-held}
 use Rattle.sv_system.proofs.Items.{IsPlain, AreWaiting}
-
--- A number that passes, of a list in which one does.
-any-number : (p : ℕ → Bool) (xs : List ℕ) → list_any p xs ≡ true → (q : ℕ) × ((is_in q xs ≡ true) × (p q ≡ true))
-any-number p [] h = cc
-any-number p (x ∷ xs) h =
-    elim (or_cases (p x) (list_any p xs) h) [
-      | inl e ↦ (x, (is_in-head x xs, e))
-      | inr r ↦ (let q = any-number p xs r in (q.0, (is_in-tail q.0 x xs q.1.0, q.1.1)))
-    ]
 
 pub head-has : (commit : ℕ) (head : List ObjectValue) (x : ℕ) → is_in x (head_objects head) ≡ true → is_held x commit (head_held commit head) ≡ true
 head-has commit [] x m = cc
@@ -94,7 +85,7 @@ module _ (objects : ℕ) (A : List Action) (plain : (k : ℕ) → IsPlain object
       let test = λ (q : ℕ). nat_le (last_writer A x (d.commit + 1)) q && nat_le q d.commit in
       elim (cases_Bool (is_in x given)) [
         | inl y ↦
-            (let g = any-number test (known_at A ds d.session x) (is_in-filter_parts (λ z. list_any (λ q. nat_le (last_writer A z (d.commit + 1)) q && nat_le q d.commit) (known_at A ds d.session z)) x (below objects) y).1 in
+            (let g = any_parts test (known_at A ds d.session x) (is_in-filter_parts (λ z. list_any (λ q. nat_le (last_writer A z (d.commit + 1)) q && nat_le q d.commit) (known_at A ds d.session z)) x (below objects) y).1 in
             let q = g.0 in
             let b = and_parts (nat_le (last_writer A x (d.commit + 1)) q) (nat_le q d.commit) g.1.1 in
             let from : last_writer A x (d.commit + 1) ≤ q = leb-true (last_writer A x (d.commit + 1)) q b.0 in

@@ -6,7 +6,7 @@ use Rattle.std.proofs.lemmas.Bool.{cases_eq, cases_Bool, false_from_ne_true, or_
 use Rattle.sv_world.specs.declared.action.Action.{Action}
 use Rattle.sv_world.specs.Sets.{read_set, write_set}
 use Rattle.sv_world.specs.Control.{is_in, action_at, last_writer, missing_writers, wanted_up_to}
-use Rattle.sv_world.proofs.Members.{is_in-head, is_in-tail, is_in-cons_cases, is_in-one, is_in-append_left, is_in-append_right, is_in-append_cases}
+use Rattle.sv_world.proofs.Members.{is_in-head, is_in-one, is_in-append_left, is_in-append_right, is_in-append_cases, same_test, any_from, any_parts}
 use Rattle.sv_world.proofs.Writers.{last_writer-most, last_writer-writes, missing_writers-parts, missing_writers-has}
 use Rattle.sv_system.proofs.Tests.{at_mask-members}
 use Rattle.sv_why.specs.Reasons.{writer_by, reasons_of}
@@ -14,26 +14,9 @@ use Rattle.sv_why.specs.Walks.{walk}
 
 -- ---- Tests of the members of a list
 
-pub any_from : (p : ℕ → Bool) (x : ℕ) (xs : List ℕ) → is_in x xs ≡ true → p x ≡ true → list_any p xs ≡ true
-any_from p x [] h t = cc
-any_from p x (y ∷ ys) h t =
-    let rest = any_from p x ys in
-    elim (is_in-cons_cases x y ys h) [ inl e ↦ or_left (p y) (list_any p ys) (ap p (sym e) ∙ t) | inr r ↦ or_right (p y) (list_any p ys) (rest r t) ]
-
-any_parts : (p : ℕ → Bool) (xs : List ℕ) → list_any p xs ≡ true → (x : ℕ) × ((is_in x xs ≡ true) × (p x ≡ true))
-any_parts p [] h = cc
-any_parts p (y ∷ ys) h =
-    let rest = any_parts p ys in
-    elim (or_cases (p y) (list_any p ys) h) [ inl e ↦ (y, (is_in-head y ys, e)) | inr r ↦ (let q = rest r in (q.0, (is_in-tail q.0 y ys q.1.0, q.1.1))) ]
-
 any_same : (p q : ℕ → Bool) → ((x : ℕ) → p x ≡ q x) → (xs : List ℕ) → list_any p xs ≡ list_any q xs
 any_same p q same [] = refl
 any_same p q same (x ∷ xs) = ap₂ (λ (a b : Bool). a || b) (same x) (any_same p q same xs)
-
-same_test : (a b : Bool) → (a ≡ true → b ≡ true) → (b ≡ true → a ≡ true) → a ≡ b
-same_test true b f g = sym (f refl)
-same_test false true f g = g refl
-same_test false false f g = refl
 
 -- The walk depends on which objects are wanted alone.
 pub walk-same : (A : List Action) (n : ℕ) (p q : ℕ → Bool) → ((x : ℕ) → p x ≡ q x) → walk A n p ≡ walk A n q

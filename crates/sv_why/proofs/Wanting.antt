@@ -8,7 +8,7 @@ use Rattle.sv_world.specs.declared.action.Action.{Action}
 use Rattle.sv_world.specs.declared.world.ObjectId.{ObjectId}
 use Rattle.sv_world.specs.Sets.{read_set, write_set, at_mask}
 use Rattle.sv_world.specs.Control.{is_in, action_at, IsNeeded}
-use Rattle.sv_world.proofs.Members.{is_in-head, is_in-tail}
+use Rattle.sv_world.proofs.Members.{all-members}
 use Rattle.sv_world.specs.Faults.{is_ascending}
 use Rattle.sv_world.proofs.Needs.{needed-ascending, needed-bounds, needed-iff}
 use Rattle.sv_world.proofs.Writers.{last_writer-most}
@@ -93,11 +93,6 @@ module _ (A : List Action) (at : ℕ) (a : Action) (reads : List ObjectId) (p q 
 
 pub no-reasons : (A : List Action) (x pos : ℕ) → writer_by A x pos ≡ 0 → reasons_of A x pos ≡ []
 no-reasons A x pos e = rw e refl
-
-pub all-members : (P : ℕ → Type 0) (xs : List ℕ) → ((j : ℕ) → is_in j xs ≡ true → P j) → All P xs
-all-members P [] h k d l = absurd (omega arith)
-all-members P (x ∷ xs) h zero d l = h x (is_in-head x xs)
-all-members P (x ∷ xs) h (suc k) d l = all-members P xs (λ j m. h j (is_in-tail j x xs m)) k d (omega arith)
 
 -- They are positions up to the last one asked for.
 pub reasons-bounded : (A : List Action) (x pos most : ℕ) → pos ≤ most → All (λ p. (1 ≤ p) × (p ≤ most)) (reasons_of A x pos)

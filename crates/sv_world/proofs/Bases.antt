@@ -6,7 +6,7 @@ use Rattle.sv_world.specs.declared.action.Action.{Action}
 use Rattle.sv_world.specs.Sets.{read_set}
 use Rattle.sv_world.specs.Control.{is_in, below, action_at, last_writer, needed_for, reads_committed, head_for}
 use Rattle.sv_world.specs.Faults.{is_ascending}
-use Rattle.sv_world.proofs.Members.{is_in-head, is_in-tail, is_in-one, is_in-cons_cases, is_in-append_left, is_in-append_right, is_in-append_cases, is_in-filter, is_in-filter_parts}
+use Rattle.sv_world.proofs.Members.{is_in-head, is_in-tail, is_in-one, is_in-cons_cases, is_in-append_left, is_in-append_right, is_in-append_cases, is_in-filter, is_in-filter_parts, same_test}
 use Rattle.sv_world.proofs.Ascending.{ascending-filter, ascending-push}
 use Rattle.sv_world.proofs.Writers.{last_writer-agree}
 use Rattle.sv_world.proofs.Needs.{needed-bounds, needed-agree}
@@ -68,11 +68,6 @@ head_for-iff objects A c s g i x =
           (and_from (reads_committed A c x (needed_for A c s i)) (not (is_in x g))
           (reads_committed-from A c x p.1.1.0 (needed_for A c s i) p.1.1.1.0 p.1.1.1.1.0 p.1.1.1.1.1) (not_from_false (is_in x g) p.1.0))),
     )
-
-same_test : (b d : Bool) → (b ≡ true → d ≡ true) → (d ≡ true → b ≡ true) → b ≡ d
-same_test true d f g = sym (f refl)
-same_test false true f g = g refl
-same_test false false f g = refl
 
 reads_committed-into : (A B : List Action) (c i x : ℕ) (ks : List ℕ) → ((k : ℕ) → c < k → k ≤ i → action_at A k ≡ action_at B k) →
     ((k : ℕ) → is_in k ks ≡ true → (c < k) × (k ≤ i)) → reads_committed A c x ks ≡ true → reads_committed B c x ks ≡ true

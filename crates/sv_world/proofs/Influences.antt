@@ -20,7 +20,7 @@ wanted_by A c a = missing_writers (A ++ a ∷ []) c [] (suc (length A))
 pub influence-ascending : (A : List Action) (c : ℕ) (a : Action) → is_ascending (influence A c a) ≡ true
 influence-ascending A c a = sweep-ascending (missing_writers (A ++ a ∷ []) c []) (length A) (wanted_by A c a)
 
-last_writer-before : (A : List Action) (a : Action) (x k : ℕ) → k ≤ suc (length A) → last_writer (A ++ a ∷ []) x k ≡ last_writer A x k
+pub last_writer-before : (A : List Action) (a : Action) (x k : ℕ) → k ≤ suc (length A) → last_writer (A ++ a ∷ []) x k ≡ last_writer A x k
 last_writer-before A a x k l = last_writer-same (A ++ a ∷ []) A x k (λ m low high. action_at-append A (a ∷ []) m (omega arith))
 
 -- What the new action lacks itself, on the list without it.

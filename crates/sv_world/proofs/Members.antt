@@ -1,5 +1,7 @@
 -- Which numbers are in a list.
-use Rattle.std.proofs.Common.{◌≡◌, ℕ, Bool, true, ◌⊎◌, inl, inr, List, [], ◌∷◌, ◌++◌, map, filter, refl, sym, ◌∙◌, ap, subst, nat_eq, eq-eqb, eqb-true}
+use Rattle.std.proofs.Common.{◌≡◌, ℕ, zero, suc, Bool, true, false, ◌⊎◌, inl, inr, List, [], ◌∷◌, ◌++◌, map, filter, refl, sym, ◌∙◌, ap, subst, nat_eq, arith, eq-eqb, eqb-true}
+use Rattle.std.specs.Prelude.{All}
+use Rattle.std.specs.List.{list_any}
 use Rattle.std.proofs.lemmas.Bool.{cond_both, or_cases, or_left, or_right}
 use Rattle.sv_world.specs.Control.{is_in}
 
@@ -71,3 +73,29 @@ is_in-map_from f k (y ∷ ys) h =
       | inl e ↦ (y, (is_in-head y ys, e))
       | inr r ↦ (let from = is_in-map_from f k ys r in (from.0, (is_in-tail from.0 y ys from.1.0, from.1.1)))
     ]
+
+-- ---- tests of the members
+
+pub any_from : (f : ℕ → Bool) (x : ℕ) (xs : List ℕ) → is_in x xs ≡ true → f x ≡ true → list_any f xs ≡ true
+any_from f x [] h t = cc
+any_from f x (y ∷ ys) h t =
+    elim (is_in-cons_cases x y ys h) [ inl e ↦ or_left (f y) (list_any f ys) (ap f (sym e) ∙ t) | inr r ↦ or_right (f y) (list_any f ys) (any_from f x ys r t) ]
+
+pub any_parts : (f : ℕ → Bool) (xs : List ℕ) → list_any f xs ≡ true → (x : ℕ) × ((is_in x xs ≡ true) × (f x ≡ true))
+any_parts f [] h = cc
+any_parts f (y ∷ ys) h =
+    elim (or_cases (f y) (list_any f ys) h) [
+      | inl e ↦ (y, (is_in-head y ys, e))
+      | inr r ↦ (let p = any_parts f ys r in (p.0, (is_in-tail p.0 y ys p.1.0, p.1.1)))
+    ]
+
+-- A fact of each member is one of each place.
+pub all-members : (P : ℕ → Type 0) (xs : List ℕ) → ((j : ℕ) → is_in j xs ≡ true → P j) → All P xs
+all-members P [] h k d l = absurd (omega arith)
+all-members P (x ∷ xs) h zero d l = h x (is_in-head x xs)
+all-members P (x ∷ xs) h (suc k) d l = all-members P xs (λ j m. h j (is_in-tail j x xs m)) k d (omega arith)
+
+pub same_test : (b d : Bool) → (b ≡ true → d ≡ true) → (d ≡ true → b ≡ true) → b ≡ d
+same_test true d f g = sym (f refl)
+same_test false true f g = g refl
+same_test false false f g = refl

@@ -2,9 +2,9 @@
 use Rattle.std.proofs.Common.{◌≡◌, ℕ, List, ◌<◌, All, sym, ◌∙◌, ap, subst, arith}
 use Rattle.sv_world.specs.declared.world.Shape.{Shape}
 use Rattle.sv_world.proofs.Bases.{head_for-iff}
+use Rattle.sv_world.proofs.Members.{all-members}
 use Rattle.sv_queue.specs.Queue.{queue_actions, sent_positions, given_objects}
 use Rattle.sv_influence.proofs.Growth.{bases-same}
-use Rattle.sv_influence.proofs.Places.{all-members}
 use Rattle.sv_influence.proofs.lacking.closure.Goals as goal
 
 pub objects_of-requires : goal.objects_of-requires
