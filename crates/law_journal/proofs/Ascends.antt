@@ -2,6 +2,7 @@
 use Rattle.std.proofs.Common.{◌≡◌, ℕ, suc, ◌+◌, ◌<◌, ◌≤◌, true, ◌&&◌, ◌==◌, ◌⊎◌, inl, inr, List, [], ◌∷◌, ◌++◌, length, Option, Some, None, refl, sym, ap, ◌∙◌, subst, arith, eq-eqb, eqb-true, true≢false, length-append}
 use Rattle.std.specs.Prelude.{if◌then◌else◌}
 use Rattle.std.proofs.lemmas.Bool.{cond-true, cond-false, cases_Bool, cases_lt, and_from}
+use Rattle.sv_system.proofs.Judged.{next-grows_here}
 use Rattle.sv_wire.specs.declared.message.Request.{Request}
 use Rattle.sv_wire.specs.declared.message.Request.TheVariants as requests
 use Rattle.sv_journal.specs.declared.entry.Entry.{Entry}
@@ -54,11 +55,6 @@ added-is e h =
 -- What an entry adds to a client's outcomes.
 abbrev told : Entry → List Entry → ℕ → List Outcome
 told e h k = if is_client (client_of h e.session) k && is_submit_of e.request (suc (length (outcomes_of h k))) then outcome_in (suc (length (accepted h))) e.reply else []
-
-next-grows : (e : Entry) (h : List Entry) (k : ℕ) → next_seq h k ≤ next_seq (e ∷ h) k
-next-grows e h k =
-    let count : length (outcomes_of h k ++ told e h k) ≡ length (outcomes_of h k) + length (told e h k) = length-append (outcomes_of h k) (told e h k) in
-    omega arith
 
 relay-one : (n : ℕ) (w : Logged) → is_relay w ≡ true → length (outcome_in n w) ≡ 1
 relay-one n (logged.Relay seq commit head positions) y = refl
@@ -126,7 +122,7 @@ made-below [] k n p m =
     absurd (omega arith)
 made-below (e ∷ h) k n p m =
     let before = made-below h k n p in
-    let grows : next_seq h k ≤ next_seq (e ∷ h) k = next-grows e h k in
+    let grows : next_seq h k ≤ next_seq (e ∷ h) k = next-grows_here e h k in
     elim (cases_lt (length (accepted h)) p) [
       | inl new ↦
           (let x = newly-made e h k n p new m in

@@ -16,10 +16,10 @@ use Rattle.sv_journal.specs.History.{either, is_welcome, joining, client_of, Aut
 use Rattle.sv_journal.specs.Sessions.{positions_in, sent_to}
 use Rattle.sv_journal.specs.Serving.{Keeping, reply_for, LegalFor}
 use Rattle.sv_journal.specs.Laws.{ServedRelaysNameAccepted}
+use Rattle.sv_journal.proofs.Stays.{accepted_grows}
 use Rattle.law_journal.specs.Entries.{EachEntry}
 use Rattle.law_journal.specs.Brought.{IsMadeBy, BringsBy, BringsWhatIsAsked, AsksForNothingSent, MayStandBefore, SubmitsInOrder, AsksForNews, ServedSessionsInOrderGetItems}
 use Rattle.law_journal.proofs.EveryEntry.{entry_of, each-entry}
-use Rattle.law_journal.proofs.Staying.{accepted-stays}
 use Rattle.law_journal.proofs.Makers.{made-more}
 use Rattle.law_journal.proofs.Ascends.{made-below, made-ascend}
 use Rattle.law_journal.proofs.Asked.{NeededEnds, NeededUpTo, NoneOfSent, served_bring}
@@ -117,7 +117,7 @@ module _ (k : Keeping) (h : List Entry) (all : EachEntry (BringsWhatIsAsked k) h
       let c : y.client ≡ client = same_Some y.client client
       (sym (client-stays x.later (d ∷ g) s y.client (client-stays (d ∷ []) g s y.client (subst (λ (o : ℕ). client_of g o ≡ Some y.client) x.session y.joined)))
       ∙ ap (λ (l : List Entry). client_of l s) (sym x.whole) ∙ joined) in
-      let more = accepted-stays x.later (d ∷ g) in
+      let more = accepted_grows x.later (d ∷ g) in
       let early : IsMadeBy (accepted (d ∷ g) ++ more.0) y.client y.number y.target = made-more (accepted (d ∷ g)) more.0 y.client y.number y.target y.made in
       let there : IsMadeBy (accepted h) y.client y.number y.target =
       subst (λ (A : List Authored). IsMadeBy A y.client y.number y.target) (sym (ap accepted x.whole ∙ more.1)) early in

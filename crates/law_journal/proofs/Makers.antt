@@ -1,8 +1,8 @@
 -- Who made the action at a position: an outcome that tells a position is that of the action there.
-use Rattle.std.proofs.Common.{◌≡◌, ℕ, zero, suc, ◌+◌, ◌≤◌, Bool, true, ◌&&◌, ◌==◌, inl, inr, List, [], ◌∷◌, ◌++◌, length, Option, Some, slice_get, refl, sym, ap, ◌∙◌, subst, arith, eq-eqb, length-append}
+use Rattle.std.proofs.Common.{◌≡◌, ℕ, zero, suc, ◌+◌, ◌≤◌, Bool, true, ◌&&◌, inl, inr, List, [], ◌∷◌, ◌++◌, length, Some, slice_get, refl, sym, ap, ◌∙◌, subst, arith, length-append}
 use Rattle.std.specs.Prelude.{if◌then◌else◌}
 use Rattle.std.proofs.lemmas.Bool.{cond-true, cond-false, cases_Bool, and_parts}
-use Rattle.std.proofs.lemmas.List.{get_or_append_left, get_or_push}
+use Rattle.std.proofs.lemmas.List.{get_or_push}
 use Rattle.std.proofs.lemmas.Option.{none-some, same_Some}
 use Rattle.sv_world.specs.declared.action.Action.{Action}
 use Rattle.sv_world.specs.Control.{blank}
@@ -10,19 +10,17 @@ use Rattle.sv_wire.specs.declared.message.Request.TheVariants as requests
 use Rattle.sv_journal.specs.declared.entry.Entry.{Entry}
 use Rattle.sv_journal.specs.declared.entry.Logged.{Logged}
 use Rattle.sv_journal.specs.declared.entry.Logged.TheVariants as logged
-use Rattle.sv_journal.specs.History.{is_relay, client_of, is_client, is_submit_of, Outcome, Accepted, Dropped, outcome_in, outcomes_of, Authored, new_action, accepted, next_seq, authored_at}
+use Rattle.sv_journal.specs.History.{is_relay, client_of, is_client, is_submit_of, Outcome, Accepted, Dropped, outcome_in, outcomes_of, Authored, accepted, next_seq, authored_at}
 use Rattle.sv_journal.specs.Sessions.{outcome_at, kept_outcome}
+use Rattle.sv_journal.proofs.Stays.{authored_stays}
+use Rattle.sv_journal.proofs.Named.{client_is, submit_is}
 use Rattle.sv_system.proofs.Asked.{get-append_cases}
 use Rattle.sv_system.proofs.Histories.{kept-is}
-use Rattle.sv_system.proofs.Window.{client-some, submit-named}
+use Rattle.sv_system.proofs.Own.{accepted-new}
 use Rattle.law_journal.specs.Brought.{IsMadeBy}
 use Rattle.law_journal.proofs.Staying.{added}
 
 -- ---- Accepted actions and more
-
-authored-front : (A more : List Authored) (p : ℕ) → p ≤ length A → authored_at (A ++ more) p ≡ authored_at A p
-authored-front A more zero last = refl
-authored-front A more (suc n) last = get_or_append_left A more (record { client = 0; seq = 0; action = blank }) n (omega arith)
 
 pub authored-last : (A : List Authored) (x : Authored) → authored_at (A ++ x ∷ []) (suc (length A)) ≡ x
 authored-last A x = get_or_push A x (record { client = 0; seq = 0; action = blank }) (length A) refl
@@ -31,7 +29,7 @@ pub made-more : (A more : List Authored) (client number p : ℕ) → IsMadeBy A 
 made-more A more client number p m =
     let last : p ≤ length A = m.within in
     let count : length (A ++ more) ≡ length A + length more = length-append A more in
-    let same : authored_at (A ++ more) p ≡ authored_at A p = authored-front A more p last in
+    let same : authored_at (A ++ more) p ≡ authored_at A p = authored_stays A more p last in
     record {
       some = m.some;
       within = omega arith;
@@ -41,7 +39,7 @@ made-more A more client number p m =
 
 pub made-less : (A more : List Authored) (client number p : ℕ) → p ≤ length A → IsMadeBy (A ++ more) client number p → IsMadeBy A client number p
 made-less A more client number p last m =
-    let same : authored_at A p ≡ authored_at (A ++ more) p = sym (authored-front A more p last) in
+    let same : authored_at A p ≡ authored_at (A ++ more) p = sym (authored_stays A more p last) in
     record {
       some = m.some;
       within = last;
@@ -61,17 +59,6 @@ made-last A B x is =
     subst (λ (C : List Authored). IsMadeBy C x.client x.seq (suc (length A))) (sym is) here
 
 -- ---- A new action
-
--- A Submit with its client's next number that a relay answers is accepted.
-accepted-new : (e : Entry) (h : List Entry) (k n : ℕ) (a : Action) → client_of h e.session ≡ Some k → e.request ≡ requests.Submit n a → n ≡ next_seq h k → is_relay e.reply ≡ true →
-    accepted (e ∷ h) ≡ accepted h ++ record { client = k; seq = n; action = a } ∷ []
-accepted-new e h k n a client asked number relayed =
-    let next : ℕ → ℕ = λ j. suc (length (outcomes_of h j)) in
-    ap (λ (l : List Authored). accepted h ++ l)
-    (cond-true (is_relay e.reply) (new_action (client_of h e.session) next e.request) [] relayed
-    ∙ ap (λ (o : Option ℕ). new_action o next e.request) client
-    ∙ ap (new_action (Some k) next) asked
-    ∙ cond-true (n == next_seq h k) (record { client = k; seq = n; action = a } ∷ []) [] (eq-eqb n (next_seq h k) number))
 
 -- It is the last one.
 pub action-new : (e : Entry) (h : List Entry) (k n : ℕ) (a : Action) → client_of h e.session ≡ Some k → e.request ≡ requests.Submit n a → n ≡ next_seq h k → is_relay e.reply ≡ true →
@@ -128,8 +115,8 @@ tells-own (d ∷ h) k n o e =
         | inr x ↦ absurd (none-some o (sym (ap (λ (l : List Outcome). slice_get l f.0) (cond-false test more [] x)) ∙ f.1.1))
         | inl x ↦
             (let parts = and_parts (is_client (client_of h d.session) k) (is_submit_of d.request (suc (length (outcomes_of h k)))) x in
-            let submit = submit-named d.request (next_seq h k) parts.1 in
-            let now = tells-new d h k submit.0 (client-some (client_of h d.session) k parts.0) submit.1 d.reply refl f.0 o
+            let submit = submit_is d.request (next_seq h k) parts.1 in
+            let now = tells-new d h k submit.0 (client_is (client_of h d.session) k parts.0) submit.1 d.reply refl f.0 o
             (sym (ap (λ (l : List Outcome). slice_get l f.0) (cond-true test more [] x)) ∙ f.1.1) in
             let place : n ≡ length (outcomes_of h k) + f.0 = f.1.0 in
             let none : f.0 ≡ 0 = now.0 in

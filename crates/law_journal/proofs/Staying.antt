@@ -1,5 +1,5 @@
 -- What a history has stays in a longer one.
-use Rattle.std.proofs.Common.{◌≡◌, ℕ, zero, suc, ◌+◌, ◌<◌, ◌≤◌, true, ℤ, List, [], ◌∷◌, ◌++◌, map, length, Option, Some, None, is_some, refl, sym, ap, ◌∙◌, arith, append_assoc, append-nil, true≢false, length-append}
+use Rattle.std.proofs.Common.{◌≡◌, ℕ, zero, suc, ◌+◌, ◌<◌, ◌≤◌, true, ℤ, List, [], ◌∷◌, ◌++◌, map, length, Option, Some, None, is_some, refl, sym, ap, ◌∙◌, arith, true≢false, length-append}
 use Rattle.std.specs.Prelude.{if◌then◌else◌, unwrap_or}
 use Rattle.std.proofs.lemmas.List.{get_or_append_left, length-map, map-append}
 use Rattle.sv_world.specs.declared.action.Action.{Action}
@@ -8,18 +8,13 @@ use Rattle.sv_world.specs.Sets.{write_set}
 use Rattle.sv_eval.specs.Serial.{put_all}
 use Rattle.sv_journal.specs.declared.entry.Entry.{Entry}
 use Rattle.sv_journal.specs.History.{either, is_relay, is_noted, client_of, outcomes_of, Authored, new_action, accepted, actions_of, reports, result_at, commit_of, installed}
+use Rattle.sv_journal.proofs.Stays.{accepted_grows}
 use Rattle.law_journal.specs.Committed.{AllHaveResults, JournalsKeepWhatTheyHave}
 use Rattle.law_journal.proofs.Greatest.{all-to-commit, commit-greatest}
 
 -- What an entry adds to the accepted actions.
 abbrev pub added : Entry → List Entry → List Authored
 added e h = if is_relay e.reply then new_action (client_of h e.session) (λ k. suc (length (outcomes_of h k))) e.request else []
-
-pub accepted-stays : (later earlier : List Entry) → (more : List Authored) × (accepted (later ++ earlier) ≡ accepted earlier ++ more)
-accepted-stays [] h = ([], sym (append-nil (accepted h)))
-accepted-stays (e ∷ later) h =
-    let rest = accepted-stays later h in
-    (rest.0 ++ added e (later ++ h), ap (λ (A : List Authored). A ++ added e (later ++ h)) rest.1 ∙ append_assoc (accepted h) rest.0 (added e (later ++ h)))
 
 result-stays : (later earlier : List Entry) (p : ℕ) (values : List (List ℤ)) → result_at earlier p ≡ Some values → result_at (later ++ earlier) p ≡ Some values
 result-stays [] h p values is = is
@@ -36,7 +31,7 @@ result-same later h p some = go (result_at h p) refl some
 
 count-stays : (later earlier : List Entry) → length (accepted earlier) ≤ length (accepted (later ++ earlier))
 count-stays later h =
-    let more = accepted-stays later h in
+    let more = accepted_grows later h in
     let all : length (accepted (later ++ h)) ≡ length (accepted h) + length more.0 =
     ap (λ (A : List Authored). length A) more.1 ∙ length-append (accepted h) more.0 in
     omega arith
@@ -55,7 +50,7 @@ acts A = map (λ (a : Authored). a.action) A
 
 action-stays : (later earlier : List Entry) (n : ℕ) → n < length (accepted earlier) → action_at (actions_of (later ++ earlier)) (suc n) ≡ action_at (actions_of earlier) (suc n)
 action-stays later h n low =
-    let more = accepted-stays later h in
+    let more = accepted_grows later h in
     let count : length (actions_of h) ≡ length (accepted h) = length-map (accepted h) (λ (a : Authored). a.action) in
     ap (λ (A : List Action). action_at A (suc n)) (ap acts more.1 ∙ map-append (λ (a : Authored). a.action) (accepted h) more.0)
     ∙ get_or_append_left (actions_of h) (acts more.0) blank n (omega arith)
@@ -75,7 +70,7 @@ values-stay later h opening (suc p) low =
 
 pub journals_keep : JournalsKeepWhatTheyHave
 journals_keep later h = record {
-  actions = accepted-stays later h;
+  actions = accepted_grows later h;
   results = result-stays later h;
   commit = commit-greatest (later ++ h) (commit_of h) (results-stay later h);
   values = values-stay later h;

@@ -15,7 +15,7 @@ use Rattle.sv_client.proofs.Sessions.{no_got, some_current}
 use Rattle.sv_client.proofs.Outstanding.{outstanding_in, got_within}
 use Rattle.sv_scenario.specs.declared.scenario.Step.{Step}
 use Rattle.sv_scenario.specs.Sessions.{cuts_in}
-use Rattle.sv_script.specs.Following.{FollowsTo, must_join, is_welcomed, is_finished}
+use Rattle.sv_script.specs.Following.{FollowsTo, must_join, is_welcomed}
 use Rattle.sv_script.proofs.Beginnings.{step-less, event-less}
 use Rattle.sv_script.proofs.Due.{due, due-joined, due-made, due-polled, due-left, due-got, due-cut, due-quit, due-shown, due-some}
 use Rattle.sv_script.proofs.Cuts.{cuts-synced, cuts-done}
@@ -221,17 +221,6 @@ low-joined who first (events.Quit ∷ t) s p a b = low-joined who first t s p.1 
 low-joined who first (events.Show objects ∷ t) s p a b = low-joined who first t s p.1 a b
 
 -- ---- Finished clients
-
-pub finished-joined : (t : List Event) → is_finished t ≡ true → must_join t ≡ false
-finished-joined [] h = cc
-finished-joined (events.Join s ∷ t) h = refl
-finished-joined (events.Got s reply ∷ t) h = refl
-finished-joined (events.Make action ∷ t) h = refl
-finished-joined (events.Poll ∷ t) h = refl
-finished-joined (events.Leave ∷ t) h = refl
-finished-joined (events.Cut ∷ t) h = cc
-finished-joined (events.Quit ∷ t) h = refl
-finished-joined (events.Show objects ∷ t) h = refl
 
 -- A client whose steps are all done began all of its sessions.
 pub all-joined : (who : Identity) (script : List Step) (t : List Event) (left : List Step) → FollowsTo who script t left → must_join t ≡ false → left ≡ [] →

@@ -15,6 +15,7 @@ use Rattle.sv_scenario.specs.declared.scenario.Scenario.{Scenario}
 use Rattle.sv_scenario.specs.Limits.{IsGoodPlan, IsGoodScenario}
 use Rattle.sv_scenario.specs.Sessions.{sessions_of_plan, sessions_in, session_count}
 use Rattle.sv_script.proofs.Ends.{none-left}
+use Rattle.sv_script.proofs.Places.{finished-first}
 use Rattle.sv_system.specs.Fits.{IsEndLast, is_join_of}
 use Rattle.sv_system.specs.Laws.{NeverRefused}
 use Rattle.law_schedule.specs.Players.{Player, open_session, has_closed, player_turn, take_turns, repeated}
@@ -30,7 +31,7 @@ use Rattle.law_schedule.proofs.DoneLists.{repeated-sum, repeated-still, any-ther
 use Rattle.law_schedule.proofs.DoneSessions.{quiet-round}
 use Rattle.law_schedule.proofs.DoneStill.{round-still}
 use Rattle.law_schedule.proofs.DoneFacts.{following}
-use Rattle.law_schedule.proofs.DoneCounts.{low-joined, finished-joined, all-joined}
+use Rattle.law_schedule.proofs.DoneCounts.{low-joined, all-joined}
 use Rattle.law_schedule.proofs.DoneShut.{open-closed, turn-closed, stays-closed}
 use Rattle.law_schedule.proofs.DoneRounds.{IsGoing, going-clients, going-round, going-rounds, falling-first, falling-rounds, fallen-closed}
 
@@ -93,7 +94,7 @@ was-joined scenario good run sound closed s l =
     let plan = each-at (IsGoodPlan scenario.world.shape) scenario.clients o.place o.plan good.plans o.there in
     let finished = o.playing.closed (closed o.place p o.at) in
     let none = none-left p.who p.first o.plan.steps p.events o.playing.before f.proper plan.quit o.playing.follows finished in
-    let all = all-joined p.who o.plan.steps p.events o.playing.before o.playing.follows (finished-joined p.events finished) none in
+    let all = all-joined p.who o.plan.steps p.events o.playing.before o.playing.follows (finished-first p.events finished) none in
     let low = o.low in
     let high = o.high in
     let first = o.playing.first in

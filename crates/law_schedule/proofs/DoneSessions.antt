@@ -12,6 +12,7 @@ use Rattle.sv_journal.specs.declared.entry.Entry.{Entry}
 use Rattle.sv_journal.specs.Sessions.{is_end, is_ended}
 use Rattle.sv_journal.specs.Answer.{Rules}
 use Rattle.sv_system.specs.Fits.{requests_in}
+use Rattle.sv_system.proofs.Places.{drop-none}
 use Rattle.law_schedule.specs.Players.{Player, asked_in_run, has_closed, repeated}
 use Rattle.law_schedule.specs.Serving.{is_stop, is_stopped}
 use Rattle.law_schedule.specs.Schedule.{plainly_served, steps_next, session_turn, session_turns, sessions_turned}
@@ -86,9 +87,6 @@ other-turn r ps s t h n = same-turned r ps s t h (session_turn r ps h t) n (turn
 abbrev pub IsQuiet : List Player → List Entry → ℕ → Type 0
 IsQuiet ps h s = (is_ended h s ≡ true)
     ⊎ ((is_stopped h s ≡ false) × ((length (asked_in_run ps s) ≤ length (requests_in h s)) × (list_any (has_closed s) ps ≡ false)))
-
-drop-none : {X : Type 0} (n : ℕ) (xs : List X) → drop n xs ≡ [] → length xs ≤ n
-drop-none n xs e = let l = length-drop n xs in let z = ap length e in omega (arith, l, z)
 
 drop-some : {X : Type 0} (n : ℕ) (xs : List X) (x : X) (ys : List X) → drop n xs ≡ x ∷ ys → n < length xs
 drop-some n xs x ys e = let l = length-drop n xs in let z = ap length e in omega (arith, l, z)

@@ -1,5 +1,5 @@
 -- An entry more of the history, and the players that fit it.
-use Rattle.std.proofs.Common.{◌≡◌, ℕ, zero, suc, Bool, true, false, ◌==◌, ◌&&◌, not, inl, inr, List, [], ◌∷◌, ◌++◌, drop, length, Some, slice_get, refl, sym, ap, subst, ◌∙◌, eqb-true, true≢false}
+use Rattle.std.proofs.Common.{◌≡◌, ℕ, zero, suc, Bool, true, false, ◌==◌, ◌&&◌, not, inl, inr, List, [], ◌∷◌, drop, length, Some, slice_get, refl, sym, ap, subst, ◌∙◌, eqb-true, true≢false}
 use Rattle.std.specs.List.{list_any, AllByRecursion}
 use Rattle.std.proofs.lemmas.Bool.{or_cases, or_parts, or_left, or_right, and_parts, not-true, ne_eqb}
 use Rattle.sv_wire.specs.declared.message.Request.{Request}
@@ -7,6 +7,7 @@ use Rattle.sv_journal.specs.declared.entry.Entry.{Entry}
 use Rattle.sv_journal.specs.History.{accepted}
 use Rattle.sv_journal.specs.Sessions.{is_end, is_ended}
 use Rattle.sv_client.specs.Traces.{asked, got}
+use Rattle.sv_client.proofs.Sessions.{both_empty}
 use Rattle.sv_system.specs.Fits.{requests_in, replies_in}
 use Rattle.sv_system.proofs.Fronts.{front-then}
 use Rattle.law_schedule.specs.Players.{Player, asked_in_run, has_closed}
@@ -60,14 +61,11 @@ module _ (server : Server) (keeps : KeepsSound server) (h : List Entry) (named :
 abbrev pub begun_by : List Player → ℕ → Bool
 begun_by ps n = list_any (λ (p : Player). has_joined p n) ps
 
-pub both-empty : {X : Type 0} (xs ys : List X) → xs ≡ [] → ys ≡ [] → xs ++ ys ≡ []
-both-empty xs ys e f = rw (e, f) refl
-
 pub none-asked_in : (server : Server) (h : List Entry) (ps : List Player) (n : ℕ) → AllByRecursion (IsFitting server h) ps → begun_by ps n ≡ false → asked_in_run ps n ≡ []
 none-asked_in server h [] n f b = refl
 none-asked_in server h (p ∷ ps) n f b =
     let parts = or_parts (has_joined p n) (begun_by ps n) b in
-    both-empty (asked p.who.client p.who.interest p.events n) (asked_in_run ps n) (none-asked p.who p.first p.events n f.0.proper parts.0) (none-asked_in server h ps n f.1 parts.1)
+    both_empty (asked p.who.client p.who.interest p.events n) (asked_in_run ps n) (none-asked p.who p.first p.events n f.0.proper parts.0) (none-asked_in server h ps n f.1 parts.1)
 
 pub closed-begun : (ps : List Player) (n : ℕ) → list_any (has_closed n) ps ≡ true → begun_by ps n ≡ true
 closed-begun [] n c = c

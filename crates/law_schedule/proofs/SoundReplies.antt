@@ -1,22 +1,22 @@
 -- The whole replies of a history stay the same with an entry more, where they name accepted actions alone; and so do those of a legal one.
-use Rattle.std.proofs.Common.{◌≡◌, ℕ, zero, suc, ◌+◌, ◌≤◌, true, List, [], ◌∷◌, ◌++◌, map, length, refl, ap, ap₂, subst, ◌∙◌, arith}
+use Rattle.std.proofs.Common.{◌≡◌, ℕ, suc, ◌+◌, ◌≤◌, true, List, [], ◌∷◌, ◌++◌, length, refl, ap, subst, ◌∙◌, arith}
 use Rattle.std.specs.Prelude.{if◌then◌else◌}
 use Rattle.std.specs.List.{AllByRecursion}
 use Rattle.std.proofs.lemmas.Bool.{cond-true}
-use Rattle.std.proofs.lemmas.List.{length-append, length-map, get_or_append_left}
-use Rattle.std.proofs.lemmas.List.Elements.{recursion_from_All, All-from_recursion}
-use Rattle.sv_world.specs.Control.{is_in, blank}
+use Rattle.std.proofs.lemmas.List.{length-append, length-map}
+use Rattle.std.proofs.lemmas.List.Elements.{All-from_recursion}
+use Rattle.sv_world.specs.Control.{is_in}
 use Rattle.sv_world.proofs.Needs.{needed-bounds}
-use Rattle.sv_wire.specs.declared.message.Item.{Item}
 use Rattle.sv_wire.specs.declared.message.Reply.{Reply}
-use Rattle.sv_wire.specs.declared.message.Reply.TheVariants as replies
 use Rattle.sv_journal.specs.declared.entry.Entry.{Entry}
 use Rattle.sv_journal.specs.declared.entry.Logged.{Logged}
 use Rattle.sv_journal.specs.declared.entry.Logged.TheVariants as logged
-use Rattle.sv_journal.specs.History.{Authored, client_of, outcomes_of, new_action, accepted, actions_of, commit_of, is_relay, authored_at, item_at, full_reply}
+use Rattle.sv_journal.specs.History.{Authored, client_of, outcomes_of, new_action, accepted, actions_of, commit_of, is_relay}
 use Rattle.sv_journal.specs.Sessions.{sent_to}
 use Rattle.sv_journal.specs.Answer.{Rules, Legal}
 use Rattle.sv_journal.specs.Text.{NamesAccepted}
+use Rattle.sv_journal.proofs.Stays.{over_more}
+use Rattle.sv_journal.proofs.Named.{all_names_later}
 use Rattle.sv_system.specs.Fronts.{IsFront}
 use Rattle.sv_system.specs.Fits.{replies_in}
 use Rattle.sv_system.proofs.Entered.{replies-one}
@@ -26,20 +26,6 @@ use Rattle.sv_system.proofs.Replies.{Tells, new_of, legal-tells}
 use Rattle.law_schedule.specs.Served.{RepliesNameAccepted}
 
 -- ---- Positions that a reply names
-
-names-more : (m n : ℕ) (reply : Logged) → m ≤ n → NamesAccepted m reply → NamesAccepted n reply
-names-more m n (logged.Relay seq commit head positions) l f = λ k d low. let at = f k d low in (at.0, omega (arith, l, at.1))
-names-more m n (logged.Welcome commit head) l f = tt
-names-more m n (logged.Dropped seq chain far) l f = tt
-names-more m n (logged.Settled seq pos) l f = tt
-names-more m n (logged.Noted commit) l f = tt
-names-more m n logged.Idle l f = tt
-names-more m n (logged.Refused code detail) l f = tt
-names-more m n logged.Bye l f = tt
-
-all-names_more : (m n : ℕ) (h : List Entry) → m ≤ n → AllByRecursion (λ (e : Entry). NamesAccepted m e.reply) h → AllByRecursion (λ (e : Entry). NamesAccepted n e.reply) h
-all-names_more m n [] l f = tt
-all-names_more m n (e ∷ h) l f = (names-more m n e.reply l f.0, all-names_more m n h l f.1)
 
 abbrev new_at : Entry → List Entry → List Authored
 new_at e h = new_action (client_of h e.session) (λ k. suc (length (outcomes_of h k))) e.request
@@ -73,38 +59,14 @@ pub all-names : (r : Rules) (h : List Entry) → Legal r h → RepliesNameAccept
 all-names r [] l = tt
 all-names r (e ∷ h) l = (
   names-here r e h l,
-  all-names_more (length (accepted h)) (length (accepted (e ∷ h))) h (accepted-grows h (e ∷ h) (after e same)) (all-names r h l.1),
+  all_names_later (length (accepted h)) (length (accepted (e ∷ h))) h (accepted-grows h (e ∷ h) (after e same)) (all-names r h l.1),
 )
 
 -- ---- More accepted actions
 
-authored-stays : (A more : List Authored) (p : ℕ) → p ≤ length A → authored_at (A ++ more) p ≡ authored_at A p
-authored-stays A more zero l = refl
-authored-stays A more (suc n) l = get_or_append_left A more (record { client = 0; seq = 0; action = blank }) n (omega (arith, l))
-
-item-stays : (A more : List Authored) (p : ℕ) → p ≤ length A → item_at (A ++ more) p ≡ item_at A p
-item-stays A more p l =
-    ap (λ (a : Authored). record { pos = p; client = record { 0 = a.client }; seq = a.seq; action = a.action }) (authored-stays A more p l)
-
-items-stay : (A more : List Authored) (ps : List ℕ) → AllByRecursion (λ p. (1 ≤ p) × (p ≤ length A)) ps → map (item_at (A ++ more)) ps ≡ map (item_at A) ps
-items-stay A more [] f = refl
-items-stay A more (p ∷ ps) f =
-    ap₂ (λ (item : Item) (items : List Item). item ∷ items) (item-stays A more p f.0.1) (items-stay A more ps f.1)
-
-whole-stays : (A more : List Authored) (reply : Logged) → NamesAccepted (length A) reply → full_reply (A ++ more) reply ≡ full_reply A reply
-whole-stays A more (logged.Relay seq commit head positions) f =
-    ap (replies.Relay seq commit head) (items-stay A more positions (recursion_from_All (λ p. (1 ≤ p) × (p ≤ length A)) positions f))
-whole-stays A more (logged.Welcome commit head) f = refl
-whole-stays A more (logged.Dropped seq chain far) f = refl
-whole-stays A more (logged.Settled seq pos) f = refl
-whole-stays A more (logged.Noted commit) f = refl
-whole-stays A more logged.Idle f = refl
-whole-stays A more (logged.Refused code detail) f = refl
-whole-stays A more logged.Bye f = refl
-
 replies-stay : (A more : List Authored) (h : List Entry) (s : ℕ) → AllByRecursion (λ (e : Entry). NamesAccepted (length A) e.reply) h → replies_in (A ++ more) h s ≡ replies_in A h s
 replies-stay A more [] s f = refl
-replies-stay A more (e ∷ h) s f = rw (whole-stays A more e.reply f.0, replies-stay A more h s f.1) refl
+replies-stay A more (e ∷ h) s f = rw (over_more A more e.reply f.0, replies-stay A more h s f.1) refl
 
 -- The replies of a session with an entry more begin as they were.
 pub replies-grow : (e : Entry) (h : List Entry) (s : ℕ) → RepliesNameAccepted h → IsFront (replies_in (accepted h) h s) (replies_in (accepted (e ∷ h)) (e ∷ h) s)

@@ -28,10 +28,11 @@ use Rattle.sv_journal.proofs.Plain.{plain-keeping, plain-legal}
 use Rattle.sv_client.specs.declared.trace.Event.{Event}
 use Rattle.sv_client.specs.declared.trace.Event.TheVariants as events
 use Rattle.sv_client.specs.declared.trace.Trace.{Trace}
-use Rattle.sv_client.specs.Traces.{joins, makes, held_of, requests_of}
+use Rattle.sv_client.specs.Traces.{joins, held_of, requests_of}
 use Rattle.sv_client.specs.Taking.{Identity}
 use Rattle.sv_client.specs.Proper.{AreProper, IsGoodIdentity, identity_of}
 use Rattle.sv_client.proofs.Sendable.{wire_action}
+use Rattle.sv_client.proofs.Sessions.{few_makes}
 use Rattle.sv_system.specs.Fits.{FitsOne}
 use Rattle.sv_system.specs.Served.{FitsButValues}
 use Rattle.sv_system.specs.Laws.{ReplicasAreSerial}
@@ -60,17 +61,6 @@ few-joins who first (events.Got s reply ∷ t) p = few-joins who first t p.1
 few-joins who first (events.Cut ∷ t) p = few-joins who first t p.1
 few-joins who first (events.Quit ∷ t) p = few-joins who first t p.1
 few-joins who first (events.Show objects ∷ t) p = few-joins who first t p.1
-
-few-makes : (who : Identity) (first : ℕ) (t : List Event) → AreProper who first t → makes t ≤ 65536
-few-makes who first [] p = omega arith
-few-makes who first (events.Make a ∷ t) p = omega (arith, p.0.few)
-few-makes who first (events.Join s ∷ t) p = few-makes who first t p.1
-few-makes who first (events.Poll ∷ t) p = few-makes who first t p.1
-few-makes who first (events.Leave ∷ t) p = few-makes who first t p.1
-few-makes who first (events.Got s reply ∷ t) p = few-makes who first t p.1
-few-makes who first (events.Cut ∷ t) p = few-makes who first t p.1
-few-makes who first (events.Quit ∷ t) p = few-makes who first t p.1
-few-makes who first (events.Show objects ∷ t) p = few-makes who first t p.1
 
 -- ---- Actions
 
@@ -149,7 +139,7 @@ module _ (r : Rules) (H : List Entry) (L : Trace) (s : ℕ) (limits : AreWithinL
       subst (λ (c : ClientId). IsRequest (requests.Join c life interest)) (sym j.client_is) (subst (λ (o : List ObjectId). IsRequest (requests.Join who.client life o)) (sym j.interest_is) is)
   each n (requests.Submit seq a) there =
       let most = submit-most who L.first whole one.proper.events s n seq a there in
-      submit-is r.world.shape seq a (omega (arith, most, few-makes who L.first whole one.proper.events)) (asks n (requests.Submit seq a) there)
+      submit-is r.world.shape seq a (omega (arith, most, few_makes who L.first whole one.proper.events)) (asks n (requests.Submit seq a) there)
   each n (requests.Done results) there =
       let d = done-when who L.first whole s n results there in
       let items = relay-items r H L one limits.bound numbers.positions named small (All-from_recursion (λ (a : Authored). IsGoodAction r.world.shape a.action) (accepted H) good-actions) s d.seq d.commit d.head d.items d.before d.part in

@@ -18,7 +18,7 @@ use Rattle.sv_wire.specs.declared.message.Reply.TheVariants as replies
 use Rattle.sv_journal.specs.declared.entry.Entry.{Entry}
 use Rattle.sv_journal.specs.declared.entry.Logged.{Logged}
 use Rattle.sv_journal.specs.declared.entry.Logged.TheVariants as logged
-use Rattle.sv_journal.specs.History.{Authored, accepted, authored_at, item_at, full_reply}
+use Rattle.sv_journal.specs.History.{Authored, accepted, authored_at, item_at}
 use Rattle.sv_journal.specs.Sessions.{positions_in}
 use Rattle.sv_journal.specs.Text.{NamesAccepted}
 use Rattle.sv_journal.specs.Answer.{Rules}
@@ -34,6 +34,7 @@ use Rattle.sv_system.proofs.Fronts.{get-last}
 use Rattle.sv_system.proofs.Entered.{entered}
 use Rattle.sv_system.proofs.Asked.{IsPart, part-rest, proper-part, got-part, got-when, got-answers, may-answer, current-joined, any-part, any-reverse}
 use Rattle.sv_system.proofs.Every.{each-get, each-map, each-more}
+use Rattle.sv_system.proofs.Allowed.{items-logged}
 use Rattle.sv_asked.proofs.Owned.{entry-at}
 use Rattle.sv_asked.proofs.Reported.{IsFineItem}
 
@@ -45,16 +46,6 @@ some-items who ps q seq commit head [] e = absurd (go (is_bad_head who.shape hea
     go : (b : Bool) → (b || true) ≡ false → ⊥
     go true f = true≢false f
     go false f = true≢false f
-
-full-items : (A : List Authored) (w : Logged) → items_of (full_reply A w) ≡ map (item_at A) (positions_in w)
-full-items A (logged.Relay seq commit head positions) = refl
-full-items A (logged.Welcome commit head) = refl
-full-items A (logged.Dropped seq chain far) = refl
-full-items A (logged.Settled seq pos) = refl
-full-items A (logged.Noted commit) = refl
-full-items A logged.Idle = refl
-full-items A (logged.Refused code detail) = refl
-full-items A logged.Bye = refl
 
 -- An action with few reads, among so many objects.
 abbrev IsPlainAction : ℕ → Action → Type 0
@@ -126,7 +117,7 @@ module _ (r : Rules) (H : List Entry) (L : Trace) (fits : FitsButValues r.world.
       ap (λ (l : List Reply). slice_get l n) (cond-true (s == s) (got before s ++ reply ∷ []) (got before s) (eq-eqb s s refl)) ∙ get-last (got before s) reply in
       let there : slice_get (got whole s) n ≡ Some reply = got-part who L.first t whole part s n reply last in
       let x = entered (accepted H) H s n reply ((fits.sessions s (got-has s n reply there)).got n reply there) in
-      let is : items ≡ map (item_at (accepted H)) (positions_in x.entry.reply) = ap items_of x.replied ∙ full-items (accepted H) x.entry.reply in
+      let is : items ≡ map (item_at (accepted H)) (positions_in x.entry.reply) = ap items_of x.replied ∙ items-logged (accepted H) x.entry.reply in
       let a = may-answer who L.first before s reply (proper-part who L.first t whole part fits.proper.events).0 in
       let count : length items ≡ length (positions_in x.entry.reply) = ap length is ∙ length-map (positions_in x.entry.reply) (item_at (accepted H)) in
       let among = entry-at (λ (e : Entry). NamesAccepted (length (accepted H)) e.reply) x.entry x.before H x.earlier (recursion_from_All (λ (e : Entry). NamesAccepted (length (accepted H)) e.reply) H named) in

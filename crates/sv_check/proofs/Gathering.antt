@@ -22,10 +22,11 @@ use Rattle.sv_scenario.specs.Limits.{IsGoodScenario, IsGoodPlan, quits_last}
 use Rattle.sv_scenario.specs.Sessions.{cuts_by, cuts_in, sessions_of_plan, sessions_in, session_count}
 use Rattle.sv_script.specs.Following.{FollowsTo, FollowsToEnd, IsCarriedOut, steps_done, events_of, event_of, led_by, must_join, is_finished}
 use Rattle.sv_script.specs.Laws.{StepsAreDoneInOrder, EndsDoAllSteps}
+use Rattle.sv_script.proofs.Places.{finished-first}
 use Rattle.sv_system.specs.Fits.{is_join_of, has_session, is_owned, FitsIn, FitsOne, Fits, AreApart, AreAllApart}
 use Rattle.sv_system.specs.Records.{AreTracesOf, EachTrace, IsRecordOf, ScriptsAreFollowed, rules_of, ends_in}
 use Rattle.sv_system.proofs.Asked.{any-reverse}
-use Rattle.law_schedule.proofs.DoneCounts.{joins-counted, joins-few, low-joined, finished-joined, one_if}
+use Rattle.law_schedule.proofs.DoneCounts.{joins-counted, joins-few, low-joined, one_if}
 use Rattle.law_schedule.proofs.DoneFacts.{any-turned}
 use Rattle.law_schedule.proofs.SoundTraces.{joined-within}
 use Rattle.sv_check.specs.Parts.{IsWholeTrace, AreFirstTraces, IsOf}
@@ -57,7 +58,7 @@ all_joined begun whole shape plan L p q f =
     let order = begun (identity_of shape L) plan.steps (reverse L.events) f.follows.left follows in
     let none = no_cuts f.follows.left (same_left (steps_done (reverse L.events)) (events_of f.follows.left) (order ∙ sym done.steps)) in
     let counted = joins-counted (identity_of shape L) plan.steps (reverse L.events) f.follows.left follows in
-    let no = ap one_if (finished-joined (reverse L.events) f.finished) in
+    let no = ap one_if (finished-first (reverse L.events) f.finished) in
     omega (arith, none, counted, no)
 
 -- The sessions that it has are those from its first one on.

@@ -7,6 +7,7 @@ use Rattle.sv_world.specs.declared.world.Shape.{Shape}
 use Rattle.sv_journal.specs.declared.entry.Entry.{Entry}
 use Rattle.sv_journal.specs.History.{commit_of, committed_of}
 use Rattle.sv_journal.specs.Text.{journal_text}
+use Rattle.sv_journal.proofs.Results.{committed_count}
 use Rattle.sv_client.specs.declared.trace.Trace.{Trace}
 use Rattle.sv_scenario.specs.declared.scenario.Plan.{Plan}
 use Rattle.sv_scenario.specs.declared.scenario.Scenario.{Scenario}
@@ -15,7 +16,6 @@ use Rattle.sv_script.specs.Laws.{StepsAreDoneInOrder}
 use Rattle.sv_system.specs.Records.{EachTrace}
 use Rattle.sv_asked.specs.Asked.{RequestsAreMessages, AcceptedAreFew}
 use Rattle.sv_asked.specs.Numbers.{ScenarioFits}
-use Rattle.sv_replay.proofs.Committed.{committed_length}
 use Rattle.sv_report.specs.Report.{trace_text, value_lines, world_text, report_text}
 use Rattle.sv_check.specs.Parts.{IsWholeJournal, IsWholeTrace, AreFirstTraces, IsWorldPart}
 use Rattle.sv_check.specs.Consistent.{IsConsistent, IsReportOfPair, IsReport}
@@ -36,7 +36,7 @@ front_apart X commit lines =
 
 pub all_values : (scenario : Scenario) (h : List Entry) → IsGoodScenario scenario → take scenario.world.shape.objects (committed_of scenario.world.values h) ≡ committed_of scenario.world.values h
 all_values scenario h good =
-    let count = committed_length scenario.world.values h in
+    let count = committed_count scenario.world.values h in
     let objects = good.world.objects in
     take_all scenario.world.shape.objects (committed_of scenario.world.values h) (omega (arith, count, objects))
 

@@ -8,6 +8,7 @@ use Rattle.sv_journal.specs.declared.entry.Entry.{Entry}
 use Rattle.sv_journal.specs.History.{commit_of, committed_of}
 use Rattle.sv_journal.specs.Laws.{FullRepliesStay, LegalRelaysNameAccepted}
 use Rattle.sv_journal.specs.Text.{journal_text}
+use Rattle.sv_journal.proofs.Results.{committed_count}
 use Rattle.sv_client.specs.declared.trace.Trace.{Trace}
 use Rattle.sv_scenario.specs.declared.scenario.Plan.{Plan}
 use Rattle.sv_scenario.specs.declared.scenario.Scenario.{Scenario}
@@ -19,7 +20,6 @@ use Rattle.sv_system.proofs.Histories.{commit-most}
 use Rattle.sv_asked.specs.Asked.{RequestsAreMessages, AcceptedAreFew}
 use Rattle.sv_asked.specs.Numbers.{ScenarioFits}
 use Rattle.sv_asked.proofs.Facts.{RequestsFit, committed-fits}
-use Rattle.sv_replay.proofs.Committed.{committed_length}
 use Rattle.sv_report.specs.Report.{trace_text, value_lines, world_text}
 use Rattle.sv_lines.specs.Lines.{line_width, after_lines, Differs}
 use Rattle.sv_check.specs.Parts.{AreEntries, IsWholeJournal, IsWholeTrace, AreFirstTraces, IsReportPart}
@@ -64,7 +64,7 @@ module _ (stay : FullRepliesStay) (names : LegalRelaysNameAccepted) (order : Ste
       omega (arith, most, accepts, sessions)
 
   size : length values ≡ scenario.world.shape.objects
-  size = committed_length scenario.world.values h ∙ good.world.objects
+  size = committed_count scenario.world.values h ∙ good.world.objects
 
   few_values : length values < 2 ^ 32
   few_values = let objects = good.world.shape.few_objects in let is = size in omega (arith, objects, is)

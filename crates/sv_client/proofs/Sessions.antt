@@ -1,10 +1,10 @@
--- The sessions of a proper trace: which one is the last, and that nothing is asked or got in one that was not begun.
+-- The sessions of a proper trace: which one is the last, and that nothing is asked or got in one that was not begun. How few actions it makes.
 use Rattle.std.proofs.Common.{◌≡◌, ℕ, zero, suc, ◌+◌, ◌<◌, ◌≤◌, Bool, true, false, eqb, List, [], ◌∷◌, ◌++◌, Option, Some, None, refl, sym, ap, ◌∙◌, arith}
 use Rattle.std.specs.Prelude.{if◌then◌else◌}
 use Rattle.std.proofs.lemmas.Bool.{ne_eqb}
 use Rattle.sv_client.specs.declared.trace.Event.{Event}
 use Rattle.sv_client.specs.declared.trace.Event.TheVariants as events
-use Rattle.sv_client.specs.Traces.{joins, current_session, is_session, asked, got}
+use Rattle.sv_client.specs.Traces.{joins, makes, current_session, is_session, asked, got}
 use Rattle.sv_client.specs.Taking.{Identity}
 use Rattle.sv_client.specs.Proper.{AreProper, in_session}
 
@@ -47,7 +47,7 @@ no_ask : {X : Type 0} (b : Bool) (xs : List X) → b ≡ false → (if b then xs
 no_ask true xs e = cc
 no_ask false xs e = refl
 
-both_empty : {X : Type 0} (xs ys : List X) → xs ≡ [] → ys ≡ [] → xs ++ ys ≡ []
+pub both_empty : {X : Type 0} (xs ys : List X) → xs ≡ [] → ys ≡ [] → xs ++ ys ≡ []
 both_empty xs ys e h = rw (e, h) refl
 
 -- Nothing was got in a session that was not begun.
@@ -90,3 +90,15 @@ some_current (events.Got s reply ∷ t) h = some_current t h
 some_current (events.Cut ∷ t) h = some_current t h
 some_current (events.Quit ∷ t) h = some_current t h
 some_current (events.Show os ∷ t) h = some_current t h
+
+-- A client makes at most 65,536.
+pub few_makes : (who : Identity) (first : ℕ) (t : List Event) → AreProper who first t → makes t ≤ 65536
+few_makes who first [] p = omega arith
+few_makes who first (events.Join s ∷ t) p = few_makes who first t p.1
+few_makes who first (events.Make a ∷ t) p = omega (arith, p.0.few)
+few_makes who first (events.Poll ∷ t) p = few_makes who first t p.1
+few_makes who first (events.Leave ∷ t) p = few_makes who first t p.1
+few_makes who first (events.Got s reply ∷ t) p = few_makes who first t p.1
+few_makes who first (events.Cut ∷ t) p = few_makes who first t p.1
+few_makes who first (events.Quit ∷ t) p = few_makes who first t p.1
+few_makes who first (events.Show os ∷ t) p = few_makes who first t p.1

@@ -12,6 +12,6 @@ mod Places
 pub mod Plain
 pub mod Replies
 pub mod Results
-mod Sizes
+pub mod Sizes
 pub mod Stays
 mod Worked

@@ -74,7 +74,7 @@ pub client_is : (o : Option ℕ) (k : ℕ) → is_client o k ≡ true → o ≡ 
 client_is None k e = cc
 client_is (Some j) k e = ap (λ (m : ℕ). Some m) (eqb-true j k e)
 
-submit_is : (q : Request) (n : ℕ) → is_submit_of q n ≡ true → (a : Action) × (q ≡ requests.Submit n a)
+pub submit_is : (q : Request) (n : ℕ) → is_submit_of q n ≡ true → (a : Action) × (q ≡ requests.Submit n a)
 submit_is (requests.Submit seq action) n e = (action, ap (λ (m : ℕ). requests.Submit m action) (eqb-true seq n e))
 submit_is (requests.Join client life interest) n e = cc
 submit_is (requests.Done results) n e = cc
@@ -169,7 +169,7 @@ named_here needed k law r h s q = each_reply k law r h s (Named h s q) q (record
       (omega (arith, law.within h s p due, accepted_grow (entry_of s q (relay_of r (k.kept h) (actions_of h) s 0 p)) h));
 })
 
-names_later : (m n : ℕ) (w : Logged) → m ≤ n → NamesAccepted m w → NamesAccepted n w
+pub names_later : (m n : ℕ) (w : Logged) → m ≤ n → NamesAccepted m w → NamesAccepted n w
 names_later m n (logged.Relay seq commit head positions) le f = λ k d low. let at = f k d low in (at.0, omega (arith, le, at.1))
 names_later m n (logged.Welcome commit head) le f = tt
 names_later m n (logged.Dropped seq chain far) le f = tt
@@ -179,7 +179,7 @@ names_later m n logged.Idle le f = tt
 names_later m n (logged.Refused code detail) le f = tt
 names_later m n logged.Bye le f = tt
 
-all_names_later : (m n : ℕ) (h : List Entry) → m ≤ n → AllByRecursion (λ (e : Entry). NamesAccepted m e.reply) h → AllByRecursion (λ (e : Entry). NamesAccepted n e.reply) h
+pub all_names_later : (m n : ℕ) (h : List Entry) → m ≤ n → AllByRecursion (λ (e : Entry). NamesAccepted m e.reply) h → AllByRecursion (λ (e : Entry). NamesAccepted n e.reply) h
 all_names_later m n [] le f = tt
 all_names_later m n (e ∷ h) le f = (names_later m n e.reply le f.0, all_names_later m n h le f.1)
 

@@ -27,15 +27,19 @@ pub authored_stays : (A more : List Authored) (p : ℕ) → p ≤ length A → a
 authored_stays A more zero last = refl
 authored_stays A more (suc n) last = get_or_append_left A more (record { client = 0; seq = 0; action = blank }) n (omega (arith, last))
 
+pub positions-back : (A : List Authored) (ks : List ℕ) → map (λ (i : Item). i.pos) (map (item_at A) ks) ≡ ks
+positions-back A [] = refl
+positions-back A (k ∷ ks) = ap (λ (l : List ℕ). k ∷ l) (positions-back A ks)
+
 pub item_stays : (A more : List Authored) (p : ℕ) → p ≤ length A → item_at (A ++ more) p ≡ item_at A p
 item_stays A more p last =
     ap (λ (a : Authored). record { pos = p; client = record { 0 = a.client }; seq = a.seq; action = a.action }) (authored_stays A more p last)
 
-items_stay : (A more : List Authored) (ps : List ℕ) → AllByRecursion (λ p. (1 ≤ p) × (p ≤ length A)) ps → map (item_at (A ++ more)) ps ≡ map (item_at A) ps
+pub items_stay : (A more : List Authored) (ps : List ℕ) → AllByRecursion (λ p. (1 ≤ p) × (p ≤ length A)) ps → map (item_at (A ++ more)) ps ≡ map (item_at A) ps
 items_stay A more [] h = refl
 items_stay A more (p ∷ ps) h = rw (item_stays A more p h.0.1, items_stay A more ps h.1) refl
 
-over_more : (A more : List Authored) (reply : Logged) → NamesAccepted (length A) reply → full_reply (A ++ more) reply ≡ full_reply A reply
+pub over_more : (A more : List Authored) (reply : Logged) → NamesAccepted (length A) reply → full_reply (A ++ more) reply ≡ full_reply A reply
 over_more A more (logged.Welcome commit head) h = refl
 over_more A more (logged.Relay seq commit head positions) h =
     ap (λ (items : List Item). replies.Relay seq commit head items) (items_stay A more positions (recursion_from_All _ positions h))

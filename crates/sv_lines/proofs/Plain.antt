@@ -1,5 +1,5 @@
 -- The canonical text of an action ends no line, and has no arrow.
-use Rattle.std.proofs.Common.{◌≡◌, ℕ, zero, suc, ◌/◌, ◌%◌, ◌^◌, ◌<◌, eqb, Bool, true, false, ◌&&◌, cond, ℤ, pos, negsuc, int_le, List, [], ◌∷◌, ◌++◌, map, refl, sym, subst, ◌∙◌, arith, decimal}
+use Rattle.std.proofs.Common.{◌≡◌, ℕ, zero, suc, ◌^◌, ◌<◌, Bool, true, false, ◌&&◌, cond, ℤ, pos, negsuc, int_le, List, [], ◌∷◌, ◌++◌, map, refl, sym, subst, ◌∙◌, arith, decimal}
 use Rattle.std.specs.Prelude.{codes}
 use Rattle.std.specs.Fmt.{signed_decimal}
 use Rattle.std.specs.Char.{is_ascii_digit}
@@ -29,6 +29,7 @@ use Rattle.sv_world.proofs.TreeInduction.{each_expr, each_cond, all_stmts}
 use Rattle.sv_text.specs.Canonical.{object_in, ref_text, between, op_text, comparison_text, joint_text, expr_text, cond_text, spaced, block_text, else_text, stmt_text, object_text, spaced_objects, written, origin_text, body_text, canonical}
 use Rattle.sv_text.specs.Printable.{IsPrintable}
 use Rattle.sv_text.proofs.Layers.{pair_text_is, lit_text, attr_text, test_text_is, joint_text_is, not_text, set_text_is, if_text}
+use Rattle.sv_text.proofs.StandingAction.{written_fits}
 use Rattle.sv_lines.specs.Asking.{is_plain}
 use Rattle.sv_lines.proofs.Splitting.{all_pass, pass_append, decimal_passes}
 
@@ -176,14 +177,6 @@ pub plain_objects : (os : List ObjectId) → AllByRecursion ObjectFits os → Is
 plain_objects [] f = refl
 plain_objects (o ∷ os) f = then_plain (object_text o) (spaced_objects os) (then_plain (32 ∷ []) (decimal o.0) refl (plain_decimal o.0 (omega (arith, f.0)))) (plain_objects os f.1)
 
-kept_small : (r : ObjectId) (rest : List ObjectId) (b : Bool) → ObjectFits r → AllByRecursion ObjectFits rest → AllByRecursion ObjectFits (cond b (r ∷ rest) rest)
-kept_small r rest true f g = (f, g)
-kept_small r rest false f g = g
-
-pub written_small : (reads : List ObjectId) (mask : ℕ) → AllByRecursion ObjectFits reads → AllByRecursion ObjectFits (written reads mask)
-written_small [] mask f = tt
-written_small (r ∷ rs) mask f = kept_small r (written rs (mask / 2)) (eqb (mask % 2) 1) f.0 (written_small rs (mask / 2) f.1)
-
 plane_long : (z : ℤ) → is_in_plane z ≡ true → IsPlain (signed_decimal z)
 plane_long (pos n) f = plain_decimal n (omega (arith, leb-true n 1000000 f))
 plane_long (negsuc n) f =
@@ -213,7 +206,7 @@ plain_action a p =
     (then_plain three (origin_text a.origin)
     (then_plain two (spaced_objects (written a.reads a.mask))
     (then_plain one (codes " writes") (then_plain (codes "reads") (spaced_objects a.reads) refl (plain_objects a.reads p.objects)) refl)
-    (plain_objects (written a.reads a.mask) (written_small a.reads a.mask p.objects)))
+    (plain_objects (written a.reads a.mask) (written_fits a.reads a.mask p.objects)))
     (plain_origin a.origin plane.0 plane.1))
     refl)
     (body_plain a.reads (object_small a.reads p.objects) a.body p.numbers)

@@ -31,7 +31,8 @@ use Rattle.sv_world.proofs.TreeMeasures.{pair_nodes, lit_nodes, attr_nodes, test
 use Rattle.sv_text.specs.Canonical.{object_in, ref_text, between, op_text, comparison_text, joint_text, expr_text, cond_text, spaced, block_part, block_text, else_text, stmt_text, object_text, spaced_objects, written, origin_text, body_text, canonical}
 use Rattle.sv_text.specs.Printable.{IsPrintable}
 use Rattle.sv_text.proofs.Layers.{pair_text_is, lit_text, attr_text, test_text_is, joint_text_is, not_text, set_text_is, if_text}
-use Rattle.sv_lines.proofs.Plain.{object_small, written_small}
+use Rattle.sv_text.proofs.StandingAction.{written_fits}
+use Rattle.sv_lines.proofs.Plain.{object_small}
 
 number_short : (n : ℕ) → n < 2 ^ 64 → length (decimal n) ≤ 20
 number_short n f = length-decimal-le 20 n (omega arith) (omega (arith, f)) f
@@ -232,7 +233,7 @@ short_action a p =
       length-append one (codes " writes"),
       length-append (codes "reads") (spaced_objects a.reads),
       objects_short a.reads p.objects,
-      objects_short (written a.reads a.mask) (written_small a.reads a.mask p.objects),
+      objects_short (written a.reads a.mask) (written_fits a.reads a.mask p.objects),
       written_few a.reads a.mask,
       origin_short a.origin plane.0 plane.1,
       block_short a.reads (object_small a.reads p.objects) a.body (all_short a.reads (object_small a.reads p.objects) a.body) p.numbers,

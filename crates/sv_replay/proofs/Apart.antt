@@ -13,13 +13,13 @@ use Rattle.sv_client.specs.declared.trace.Trace.{Trace}
 use Rattle.sv_client.specs.Traces.{current_session, is_session, asked, got, done_for, held_of}
 use Rattle.sv_client.specs.Taking.{Identity}
 use Rattle.sv_client.specs.Proper.{AreProper, Proper, identity_of}
+use Rattle.sv_client.proofs.Sessions.{both_empty}
 use Rattle.sv_scenario.specs.declared.scenario.Scenario.{Scenario}
 use Rattle.sv_system.specs.Fits.{is_join_of, has_session, AreApart, AreAllApart}
 use Rattle.sv_system.proofs.Asked.{current-joined, any-reverse}
 use Rattle.law_schedule.specs.Players.{Player, trace_of_player, asked_in_run, has_closed}
 use Rattle.law_schedule.specs.Serving.{Run, Server, traces_of}
 use Rattle.law_schedule.specs.Served.{FitsServer, IsSoundOver}
-use Rattle.law_schedule.proofs.SoundEntries.{both-empty}
 use Rattle.law_schedule.proofs.SoundTraces.{not-current}
 use Rattle.sv_replay.specs.Players.{asked_by_player, got_in_run}
 
@@ -41,14 +41,14 @@ join_parts n s t e = elim (cases_Bool (eqb s n)) [
 pub none_asked : (who : Identity) (first : ℕ) (t : List Event) → AreProper who first t → (n : ℕ) → list_any (is_join_of n) t ≡ false → asked who.client who.interest t n ≡ []
 none_asked who first [] p n e = refl
 none_asked who first (events.Join s ∷ t) p n e =
-    both-empty _ _ (none_asked who first t p.1 n (join_parts n s t e).1) (cond-false (eqb s n) _ [] (join_parts n s t e).0)
-none_asked who first (events.Make a ∷ t) p n e = both-empty _ _ (none_asked who first t p.1 n e) (cond-false (is_session (current_session t) n) _ [] (not-current t n e))
-none_asked who first (events.Poll ∷ t) p n e = both-empty _ _ (none_asked who first t p.1 n e) (cond-false (is_session (current_session t) n) _ [] (not-current t n e))
-none_asked who first (events.Leave ∷ t) p n e = both-empty _ _ (none_asked who first t p.1 n e) (cond-false (is_session (current_session t) n) _ [] (not-current t n e))
-none_asked who first (events.Got s reply ∷ t) p n e = both-empty _ _ (none_asked who first t p.1 n e) (cond-false (eqb s n) (done_for (held_of t) reply) [] (not_joined t n s e p.0.current))
-none_asked who first (events.Cut ∷ t) p n e = both-empty _ _ (none_asked who first t p.1 n e) refl
-none_asked who first (events.Quit ∷ t) p n e = both-empty _ _ (none_asked who first t p.1 n e) refl
-none_asked who first (events.Show os ∷ t) p n e = both-empty _ _ (none_asked who first t p.1 n e) refl
+    both_empty _ _ (none_asked who first t p.1 n (join_parts n s t e).1) (cond-false (eqb s n) _ [] (join_parts n s t e).0)
+none_asked who first (events.Make a ∷ t) p n e = both_empty _ _ (none_asked who first t p.1 n e) (cond-false (is_session (current_session t) n) _ [] (not-current t n e))
+none_asked who first (events.Poll ∷ t) p n e = both_empty _ _ (none_asked who first t p.1 n e) (cond-false (is_session (current_session t) n) _ [] (not-current t n e))
+none_asked who first (events.Leave ∷ t) p n e = both_empty _ _ (none_asked who first t p.1 n e) (cond-false (is_session (current_session t) n) _ [] (not-current t n e))
+none_asked who first (events.Got s reply ∷ t) p n e = both_empty _ _ (none_asked who first t p.1 n e) (cond-false (eqb s n) (done_for (held_of t) reply) [] (not_joined t n s e p.0.current))
+none_asked who first (events.Cut ∷ t) p n e = both_empty _ _ (none_asked who first t p.1 n e) refl
+none_asked who first (events.Quit ∷ t) p n e = both_empty _ _ (none_asked who first t p.1 n e) refl
+none_asked who first (events.Show os ∷ t) p n e = both_empty _ _ (none_asked who first t p.1 n e) refl
 
 pub none_got : (who : Identity) (first : ℕ) (t : List Event) → AreProper who first t → (n : ℕ) → list_any (is_join_of n) t ≡ false → got t n ≡ []
 none_got who first [] p n e = refl
@@ -123,11 +123,11 @@ sound_silent server scenario run n k q sound at has =
 
 pub all_ask_nothing : (n : ℕ) (ps : List Player) → AllByRecursion (IsSilent n) ps → asked_in_run ps n ≡ []
 all_ask_nothing n [] h = refl
-all_ask_nothing n (p ∷ ps) h = both-empty _ _ h.0.asks (all_ask_nothing n ps h.1)
+all_ask_nothing n (p ∷ ps) h = both_empty _ _ h.0.asks (all_ask_nothing n ps h.1)
 
 pub all_get_nothing : (n : ℕ) (ps : List Player) → AllByRecursion (IsSilent n) ps → got_in_run ps n ≡ []
 all_get_nothing n [] h = refl
-all_get_nothing n (p ∷ ps) h = both-empty _ _ h.0.gets (all_get_nothing n ps h.1)
+all_get_nothing n (p ∷ ps) h = both_empty _ _ h.0.gets (all_get_nothing n ps h.1)
 
 -- What all got in a session is what its player got.
 pub got_by_one : (n k : ℕ) (ps : List Player) (q : Player) → OthersSilent n k ps → slice_get ps k ≡ Some q → got_in_run ps n ≡ got q.events n

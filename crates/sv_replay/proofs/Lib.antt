@@ -15,5 +15,4 @@ pub mod Lengths
 pub mod Scripts
 pub mod Messages
 pub mod Opened
-pub mod Committed
 pub mod Ended

@@ -9,11 +9,11 @@ use Rattle.sv_journal.specs.Laws.{LegalRelaysNameAccepted}
 use Rattle.sv_journal.specs.Text.{RelaysNameAccepted}
 use Rattle.sv_client.specs.declared.trace.Trace.{Trace}
 use Rattle.sv_client.specs.Traces.{makes}
+use Rattle.sv_client.proofs.Sessions.{few_makes}
 use Rattle.sv_scenario.specs.declared.scenario.Plan.{Plan}
 use Rattle.sv_scenario.specs.Sessions.{sessions_of_plan}
 use Rattle.sv_system.specs.Fits.{Fits}
 use Rattle.sv_system.specs.Records.{AreTracesOf}
-use Rattle.sv_report.proofs.Counting.{few_makes}
 
 -- There are as many traces as clients.
 pub traces_long : (k s : ℕ) (plans : List Plan) (Ls : List Trace) → AreTracesOf k s plans Ls → length Ls ≡ length plans

@@ -56,7 +56,7 @@ syncs-wait who t ss e left h m = (let d = does-step who t (steps.Sync ∷ ss) e 
     go [] step n g = refl
     go (o ∷ os) step n g = absurd (no-sync step e (ap (first-step step) n) g)
 
-finished-first : (t : List Event) → is_finished t ≡ true → must_join t ≡ false
+pub finished-first : (t : List Event) → is_finished t ≡ true → must_join t ≡ false
 finished-first [] h = cc
 finished-first (events.Quit ∷ t) h = refl
 finished-first (events.Got s reply ∷ t) h = refl

@@ -14,6 +14,7 @@ use Rattle.sv_queue.specs.declared.queued.Queued.{Queued}
 use Rattle.sv_queue.specs.Queue.{QueueView, entry_at, no_entry, with_action}
 use Rattle.sv_queue.proofs.Members.{filter-ext}
 use Rattle.sv_journal.specs.History.{Authored, authored_at}
+use Rattle.sv_journal.proofs.Stays.{authored_stays}
 use Rattle.sv_sequencer.specs.Fits.{actions_in, values_after, was_given, IsEntry, QueueFits}
 
 abbrev pub no_author : Authored
@@ -22,10 +23,6 @@ no_author = record { client = 0; seq = 0; action = blank }
 pub authored-action : (A : List Authored) (p : ℕ) → (authored_at A p).action ≡ action_at (actions_in A) p
 authored-action A zero = refl
 authored-action A (suc n) = sym (get_or-map (λ (a : Authored). a.action) A n no_author)
-
-pub authored-append : (A B : List Authored) (p : ℕ) → p ≤ length A → authored_at (A ++ B) p ≡ authored_at A p
-authored-append A B zero low = refl
-authored-append A B (suc n) low = get_or_append_left A B no_author n (omega arith)
 
 pub authored-last : (A : List Authored) (a : Authored) → authored_at (A ++ a ∷ []) (suc (length A)) ≡ a
 authored-last A a = get_or_push A a no_author (length A) refl
@@ -86,9 +83,9 @@ fits-pushed w A R S N v author seq action none within f = record {
 
     old_entry : (p : ℕ) (q : Queued) → p ≤ length A → IsEntry A R S p q → IsEntry (A ++ a ∷ []) R S p q
     old_entry p q low h = record {
-      author = h.author ∙ ap (λ (b : Authored). b.client) (sym (authored-append A (a ∷ []) p low));
-      seq = h.seq ∙ ap (λ (b : Authored). b.seq) (sym (authored-append A (a ∷ []) p low));
-      action = h.action ∙ ap (λ (b : Authored). b.action) (sym (authored-append A (a ∷ []) p low));
+      author = h.author ∙ ap (λ (b : Authored). b.client) (sym (authored_stays A (a ∷ []) p low));
+      seq = h.seq ∙ ap (λ (b : Authored). b.seq) (sym (authored_stays A (a ∷ []) p low));
+      action = h.action ∙ ap (λ (b : Authored). b.action) (sym (authored_stays A (a ∷ []) p low));
       result = h.result;
       marks = h.marks;
     }

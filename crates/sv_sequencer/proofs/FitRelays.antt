@@ -1,5 +1,5 @@
 -- What a fitting queue says of relays, influence and reported results.
-use Rattle.std.proofs.Common.{◌≡◌, ℕ, zero, suc, ◌-◌, ◌<◌, ◌≤◌, true, inl, inr, List, [], ◌∷◌, map, filter, length, get_or, replicate, Option, ℤ, refl, sym, ◌∙◌, ap, arith}
+use Rattle.std.proofs.Common.{◌≡◌, ℕ, zero, suc, ◌-◌, ◌<◌, ◌≤◌, true, inl, inr, List, map, filter, length, get_or, replicate, Option, ℤ, refl, sym, ◌∙◌, ap, arith}
 use Rattle.std.proofs.lemmas.Bool.{cases_lt, false_from_ne_true}
 use Rattle.std.proofs.lemmas.List.{get_or-append_right, length-replicate, get_or_past}
 use Rattle.std.proofs.Math.ListN.{get_or-map}
@@ -8,10 +8,9 @@ use Rattle.sv_world.specs.declared.world.Shape.{Shape}
 use Rattle.sv_world.specs.declared.world.World.{World}
 use Rattle.sv_world.specs.Control.{is_in, below, blank, action_at, needed_for, head_for, influence, influence_distance, distance}
 use Rattle.sv_world.specs.Trees.{greatest}
-use Rattle.sv_world.proofs.Members.{is_in-head, is_in-tail}
 use Rattle.sv_world.proofs.Needs.{needed-agree}
 use Rattle.sv_world.proofs.Bases.{head_for-agree, below-is_in}
-use Rattle.sv_world.proofs.Influences.{influence-agree, influence-bounds}
+use Rattle.sv_world.proofs.Influences.{influence-agree, influence-bounds, map_same}
 use Rattle.sv_queue.specs.declared.queued.Queued.{Queued}
 use Rattle.sv_queue.specs.Pairs.{is_pair}
 use Rattle.sv_queue.specs.Queue.{QueueView, entry_at, no_entry, entry_actions, queue_actions, sent_positions, given_objects}
@@ -80,10 +79,6 @@ module _ (w : World) (A : List Authored) (R : ℕ → Option (List (List ℤ))) 
 
   pub influence-is : (a : Action) → influence (queue_actions v) v.commit a ≡ influence (actions_in A) v.commit a
   influence-is a = influence-agree (queue_actions v) (actions_in A) v.commit a same_length (omega (arith, queue_length v)) far_action
-
-  map_same : {X : Type 0} (g h : ℕ → X) (xs : List ℕ) → ((j : ℕ) → is_in j xs ≡ true → g j ≡ h j) → map g xs ≡ map h xs
-  map_same g h [] same = refl
-  map_same g h (x ∷ xs) same = rw (same x (is_in-head x xs), map_same g h xs (λ j m. same j (is_in-tail j x xs m))) refl
 
   pub distance-is : (a : Action) → influence_distance (queue_actions v) v.commit a ≡ influence_distance (actions_in A) v.commit a
   distance-is a =

@@ -1,24 +1,20 @@
 -- The sequencer's step in the words of a shared object.
-use Rattle.std.proofs.Common.{◌≡◌, ℕ, Bool, false, true, ◌==◌, ◌&&◌, if◌then◌else◌, List, [], ◌∷◌, ◌++◌, map, reverse, All, Result, Ok, Err, IfOk, refl, sym, ◌∙◌, ap, subst}
+use Rattle.std.proofs.Common.{◌≡◌, ℕ, Bool, false, true, ◌==◌, ◌&&◌, if◌then◌else◌, List, [], ◌∷◌, ◌++◌, reverse, All, Result, Ok, Err, IfOk, refl, sym, ◌∙◌, ap, subst}
 use Rattle.std.proofs.lemmas.Bool.{or_parts, or_from}
 use Rattle.std.proofs.lemmas.List.{reverse-append}
 use Rattle.std.proofs.lemmas.List.Elements.{All-head, All-tail}
-use Rattle.sv_wire.specs.declared.message.Item.{Item}
 use Rattle.sv_wire.specs.declared.message.Reply.{Reply}
 use Rattle.sv_wire.specs.declared.message.Request.{Request}
 use Rattle.sv_journal.specs.declared.entry.Entry.{Entry}
 use Rattle.sv_journal.specs.declared.entry.Logged.{Logged}
 use Rattle.sv_journal.specs.declared.entry.Logged.TheVariants as logged
-use Rattle.sv_journal.specs.History.{Authored, accepted, item_at, full_reply}
+use Rattle.sv_journal.specs.History.{Authored, accepted, full_reply}
 use Rattle.sv_journal.specs.Sessions.{is_end, is_ended}
 use Rattle.sv_journal.specs.Answer.{reply_to}
+use Rattle.sv_journal.proofs.Stays.{positions-back}
 use Rattle.sv_lock.specs.Histories.{entries_of}
 use Rattle.sv_sequencer.specs.Step.{SequencerView, history, entry_of, Answered}
 use Rattle.sv_sequencer.specs.Shared.{logged_of, IsFullReply, IsWhole}
-
-positions-back : (A : List Authored) (ps : List ℕ) → map (λ (i : Item). i.pos) (map (item_at A) ps) ≡ ps
-positions-back A [] = refl
-positions-back A (p ∷ ps) = ap (λ xs. p ∷ xs) (positions-back A ps)
 
 -- What a reply in full is kept as is the reply again.
 pub logged-back : (A : List Authored) (l : Logged) → logged_of (full_reply A l) ≡ l

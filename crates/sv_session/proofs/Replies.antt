@@ -1,6 +1,6 @@
 -- Replies in full stay the same while the history goes on.
-use Rattle.std.proofs.Common.{◌≡◌, List, [], ◌∷◌, ◌++◌, map, length, refl, sym, ap, subst, ◌∙◌, append_assoc, append-nil, length-append, get_or, arith}
-use Rattle.std.specs.Prelude.{reverse, suc, if◌then◌else◌}
+use Rattle.std.proofs.Common.{◌≡◌, List, [], ◌∷◌, ◌++◌, map, length, refl, sym, ap, subst, ◌∙◌, append-nil, length-append, get_or, arith}
+use Rattle.std.specs.Prelude.{reverse}
 use Rattle.std.specs.List.{flat_map, AllByRecursion}
 use Rattle.std.proofs.lemmas.Grind.{flat_map-append}
 use Rattle.std.proofs.lemmas.List.{map-append, reverse-append}
@@ -11,9 +11,10 @@ use Rattle.sv_wire.specs.Spelling.{reply_bytes}
 use Rattle.sv_journal.specs.declared.entry.Entry.{Entry}
 use Rattle.sv_journal.specs.declared.entry.Logged.{Logged}
 use Rattle.sv_journal.specs.declared.entry.Logged.TheVariants as logged
-use Rattle.sv_journal.specs.History.{Authored, is_relay, client_of, outcomes_of, new_action, accepted, full_reply}
+use Rattle.sv_journal.specs.History.{Authored, accepted, full_reply}
 use Rattle.sv_journal.specs.Text.{NamesAccepted}
 use Rattle.sv_journal.specs.Laws.{FullRepliesStay}
+use Rattle.sv_journal.proofs.Stays.{accepted_grows}
 use Rattle.sv_session.specs.Requests.{reply_payload, due_frames}
 use Rattle.sv_session.specs.Rounds.{AllNameAccepted}
 
@@ -33,19 +34,10 @@ frames_of_none seen = refl
 
 -- ---- The history goes on
 
-abbrev added : Entry → List Entry → List Authored
-added e h = if is_relay e.reply then new_action (client_of h e.session) (λ k. suc (length (outcomes_of h k))) e.request else []
-
-accepted_more : (later earlier : List Entry) → (more : List Authored) × (accepted (later ++ earlier) ≡ accepted earlier ++ more)
-accepted_more [] earlier = ([], sym (append-nil (accepted earlier)))
-accepted_more (e ∷ later) earlier =
-    let rest = accepted_more later earlier in
-    (rest.0 ++ added e (later ++ earlier), ap (λ (A : List Authored). A ++ added e (later ++ earlier)) rest.1 ∙ append_assoc (accepted earlier) rest.0 (added e (later ++ earlier)))
-
 -- what was accepted so far is accepted still
 accepted_on : (before after : List Entry) → IsPrefix before after → (more : List Authored) × (accepted (reverse after) ≡ accepted (reverse before) ++ more)
 accepted_on before after p =
-    let grown = accepted_more (reverse p.0) (reverse before) in
+    let grown = accepted_grows (reverse p.0) (reverse before) in
     (grown.0, ap (λ (h : List Entry). accepted (reverse h)) (sym p.1) ∙ (ap accepted (reverse-append before p.0) ∙ grown.1))
 
 names_more : (A more : List Authored) (l : Logged) → NamesAccepted (length A) l → NamesAccepted (length (A ++ more)) l

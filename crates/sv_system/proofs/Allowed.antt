@@ -139,7 +139,7 @@ pub polled : (K : Keeping) (r : Rules) (h : List Entry) (s : ℕ) (ps : List ℕ
 polled K r h s [] = refl
 polled K r h s (p ∷ ps) = refl
 
-items-logged : (A : List Authored) (reply : Logged) → items_of (full_reply A reply) ≡ map (item_at A) (positions_in reply)
+pub items-logged : (A : List Authored) (reply : Logged) → items_of (full_reply A reply) ≡ map (item_at A) (positions_in reply)
 items-logged A (logged.Relay seq commit head positions) = refl
 items-logged A (logged.Welcome commit head) = refl
 items-logged A (logged.Dropped seq chain far) = refl

@@ -26,9 +26,10 @@ use Rattle.sv_system.proofs.Asking.{request-other}
 use Rattle.sv_system.proofs.Commits.{commit-grows}
 use Rattle.sv_system.proofs.Entered.{earlier-cases, of-parts, replies-earlier, IsEntered, entered, over-stays}
 use Rattle.sv_system.proofs.Asked.{IsPart, part-rest, asked-part, got-part, got-when, got-answers, begun-or_not, current-last}
-use Rattle.sv_system.proofs.Order.{get-some, got-replied, IsWelcomed, welcomed-at, older-over, earlier-strict, got-not_over}
+use Rattle.sv_system.proofs.Order.{got-replied, IsWelcomed, welcomed-at, older-over, earlier-strict, got-not_over}
 use Rattle.sv_system.proofs.Opened.{asks}
 use Rattle.sv_system.proofs.Begun.{join-welcomed}
+use Rattle.sv_system.proofs.Places.{at_place}
 
 -- The commit that a Noted tells is that after its entry.
 pub noted-commit : (K : Keeping) → IsKeeping K → (d : Entry) (h : List Entry) (commit : ℕ) → d.reply ≡ logged.Noted commit → commit_after K h d.session d.request ≡ commit_of (K.kept (d ∷ h))
@@ -111,7 +112,7 @@ module _ (awaited : Awaited) where
 
   later-welcomed : 0 < length (got whole s) → IsWelcomed K r H L served (e ∷ g) s
   later-welcomed l =
-      let f = get-some (got whole s) 0 l in
+      let f = at_place (got whole s) 0 l in
       let w = welcomed-at K r H L served g earlier s f.0 f.1 (ap (λ (rs : List Reply). slice_get rs 0) (sym got-same) ∙ f.1) in
       record {
         entry = w.entry;
@@ -153,7 +154,7 @@ module _ (awaited : Awaited) where
       too-late : (o n : ℕ) (reply : Reply) → (o ≡ s → ⊥) → slice_get (got whole o) n ≡ Some reply → (x : IsEntered A H o n reply) → IsEarlier (e ∷ g) x.before → ⊥
       too-late o n reply other is x d =
           let w = welcomed-now in
-          let zero' = get-some (got whole o) 0 (let l : n < length (got whole o) = slice_get_within (got whole o) n reply is in omega arith) in
+          let zero' = at_place (got whole o) 0 (let l : n < length (got whole o) = slice_get_within (got whole o) n reply is in omega arith) in
           let v = welcomed-at K r H L served H same o zero'.0 zero'.1 (got-replied K r H L served o 0 zero'.0 zero'.1) in
           let gw = got-when who L.first whole o n reply is in
           let ans = got-answers who L.first whole this_one.proper.events o n reply gw in

@@ -1,5 +1,5 @@
 -- A client's Join is answered Welcome, and what it got in older sessions was answered before its next request.
-use Rattle.std.proofs.Common.{◌≡◌, ℕ, suc, ◌+◌, ◌<◌, ◌≤◌, max, true, false, ◌&&◌, not, nat_le, nat_lt, inl, inr, List, [], ◌∷◌, map, reverse, length, Option, Some, None, is_some, refl, sym, ap, ap₂, ◌∙◌, arith, eqb-true, true≢false, lt-ltb, le-leb, subst}
+use Rattle.std.proofs.Common.{◌≡◌, ℕ, suc, ◌+◌, ◌<◌, ◌≤◌, max, true, false, ◌&&◌, not, nat_le, nat_lt, inl, inr, List, [], ◌∷◌, map, reverse, length, Option, Some, None, is_some, refl, sym, ap, ap₂, ◌∙◌, arith, true≢false, lt-ltb, le-leb, subst}
 use Rattle.std.specs.List.{list_all, AllByRecursion}
 use Rattle.std.proofs.lemmas.Bool.{cond-true, cond-false, cases_Bool, cases_lt, and_parts, and_from, and_left, lt-leb}
 use Rattle.std.proofs.lemmas.List.{length-append, length-map}
@@ -17,6 +17,7 @@ use Rattle.sv_journal.specs.Sessions.{is_end, welcomes, is_joined, is_over, is_l
 use Rattle.sv_journal.specs.Answer.{Rules, committed_held, is_good_interest, reply_to_join, reply_to_open, reply_to_request, reply_to, refused}
 use Rattle.sv_journal.specs.Serving.{with_last_rows, reply_for}
 use Rattle.sv_journal.proofs.Kept.{over-kept, asked-kept, life-kept, live-kept}
+use Rattle.sv_journal.proofs.Named.{client_is as client_some}
 use Rattle.sv_client.specs.declared.trace.Event.{Event}
 use Rattle.sv_client.specs.Traces.{joins, asked, got}
 use Rattle.sv_client.specs.Proper.{identity_of}
@@ -67,10 +68,6 @@ lived-by (e ∷ h) k n low high =
 all-below : (objects : ℕ) (xs : List ObjectId) → AllByRecursion (λ (o : ObjectId). o.0 < objects) xs → list_all (λ x. nat_lt x objects) (map (λ (o : ObjectId). o.0) xs) ≡ true
 all-below objects [] h = refl
 all-below objects (x ∷ xs) h = and_from (nat_lt x.0 objects) (list_all (λ y. nat_lt y objects) (map (λ (o : ObjectId). o.0) xs)) (lt-ltb x.0 objects h.0) (all-below objects xs h.1)
-
-client-some : (o : Option ℕ) (k : ℕ) → is_client o k ≡ true → o ≡ Some k
-client-some None k e = absurd (true≢false (sym e))
-client-some (Some n) k e = ap Some (eqb-true n k e)
 
 join-parts : (q : Request) (k : ℕ) → joining q ≡ Some k → (client : ClientId) × ((interest : List ObjectId) × ((q ≡ requests.Join client (life_in q) interest) × (client.0 ≡ k)))
 join-parts (requests.Join client life interest) k e = (client, (interest, (refl, same_Some client.0 k e)))
@@ -149,7 +146,7 @@ module _ (awaited : Awaited) where
         | inr l ↦
             (let v = lived-by g k life low l in
             let p = and_parts (is_welcome v.entry.reply) (is_client (joining v.entry.request) k) v.welcome in
-            let q = join-parts v.entry.request k (client-some (joining v.entry.request) k p.1) in
+            let q = join-parts v.entry.request k (client_some (joining v.entry.request) k p.1) in
             let y = welcome-of v.entry.reply p.0 in
             let welcome : IsWelcome v.entry q.0 (life_in v.entry.request) = record { interest = q.1.0; commit = y.0; head = y.1.0; request = q.1.1.0; reply = y.1.1 } in
             let j = own-join owner v.entry v.before (earlier-then (v.entry ∷ v.before) g H v.earlier earlier) q.0 (life_in v.entry.request) welcome q.1.1.1 in

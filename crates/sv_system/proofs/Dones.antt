@@ -21,6 +21,7 @@ use Rattle.sv_journal.specs.declared.entry.Entry.{Entry}
 use Rattle.sv_journal.specs.History.{Authored, accepted, actions_of, item_at, commit_of}
 use Rattle.sv_journal.specs.Sessions.{positions_in, sent_to}
 use Rattle.sv_journal.specs.Answer.{Rules, is_bad_result, is_bad_done}
+use Rattle.sv_journal.proofs.Stays.{positions-back}
 use Rattle.sv_client.specs.Traces.{item_result, item_held, results_of}
 use Rattle.sv_client.proofs.Items.{results_count}
 use Rattle.sv_system.specs.Journals.{serial_result}
@@ -28,7 +29,6 @@ use Rattle.sv_system.proofs.Tests.{three-false, four-false}
 use Rattle.sv_system.proofs.Items.{IsPlain, item-action}
 use Rattle.sv_system.specs.Journals.{IsSerialResult}
 use Rattle.sv_system.proofs.Histories.{IsEarlier, same, after}
-use Rattle.sv_system.proofs.Ordered.{positions-back}
 
 -- What a journal's relay to a session sends it, of which it is a part later on.
 sent-one : (d : Entry) (h : List Entry) (s p : ℕ) → is_in p (sent_to h s) ≡ true → is_in p (sent_to (d ∷ h) s) ≡ true

@@ -4,7 +4,7 @@ use Rattle.std.specs.Prelude.{if◌then◌else◌}
 use Rattle.std.specs.List.{AllByRecursion}
 use Rattle.std.proofs.lemmas.Bool.{cond_both, cond-true, cond-false, cases_Bool, cases_eq, and_parts}
 use Rattle.std.proofs.lemmas.List.{length-append, map-append, length-map}
-use Rattle.std.proofs.lemmas.Option.{none-some, slice_get_within}
+use Rattle.std.proofs.lemmas.Option.{none-some}
 use Rattle.sv_world.specs.Control.{action_at}
 use Rattle.sv_world.specs.declared.action.Action.{Action}
 use Rattle.sv_world.proofs.Writers.{action_at-append}
@@ -17,6 +17,7 @@ use Rattle.sv_journal.specs.History.{Authored, Outcome, Accepted, Dropped, clien
 use Rattle.sv_journal.specs.Sessions.{outcome_at, kept_count, kept_outcome}
 use Rattle.sv_journal.specs.Answer.{Rules, Legal}
 use Rattle.sv_journal.specs.Serving.{Keeping, LegalFor, with_results, IsKeeping}
+use Rattle.sv_journal.proofs.Sizes.{kept_known}
 use Rattle.sv_system.proofs.Every.{each-append, each-at}
 
 -- A history is an earlier part of another one, or the whole.
@@ -151,16 +152,9 @@ kept-is h k seq o e = some_if (nat_le (next_seq h k) (seq + kept_count)) (outcom
 pub kept-within : (h : List Entry) (k seq p : ℕ) → kept_outcome h k seq ≡ Some (Accepted p) → (0 < p) × (p ≤ length (accepted h))
 kept-within h k seq p e = at-within h k seq p (kept-is h k seq (Accepted p) e)
 
-at-below : (h : List Entry) (k seq : ℕ) (o : Outcome) → outcome_at (outcomes_of h k) seq ≡ Some o → seq < next_seq h k
-at-below h k zero o e = omega arith
-at-below h k (suc n) o e = let l : n < length (outcomes_of h k) = slice_get_within (outcomes_of h k) n o e in omega arith
-
-pub kept-old : (h : List Entry) (k seq : ℕ) (o : Outcome) → kept_outcome h k seq ≡ Some o → seq < next_seq h k
-kept-old h k seq o e = at-below h k seq o (kept-is h k seq o e)
-
 -- A kept number is below the next one.
 pub kept-below : (h : List Entry) (k seq p : ℕ) → kept_outcome h k seq ≡ Some (Accepted p) → seq < next_seq h k
-kept-below h k seq p e = kept-old h k seq (Accepted p) e
+kept-below h k seq p e = kept_known h k seq (Accepted p) e
 
 -- ---- The commit
 

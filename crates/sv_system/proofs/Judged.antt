@@ -16,9 +16,9 @@ use Rattle.sv_journal.specs.declared.entry.Logged.TheVariants as logged
 use Rattle.sv_journal.specs.History.{Authored, Outcome, is_client, is_relay, is_submit_of, new_action, outcome_in, outcomes_of, client_of, accepted, actions_of, next_seq, commit_of}
 use Rattle.sv_journal.specs.Sessions.{is_over, asked_in, kept_outcome}
 use Rattle.sv_journal.specs.Answer.{Rules, is_over_reach, reply_to_good, reply_to_checked, reply_to_submit, reply_to_client, reply_to_member, reply_to_open, reply_to, Legal}
+use Rattle.sv_journal.proofs.Sizes.{kept_known}
 use Rattle.sv_system.specs.Outcomes.{AreAcceptedOnce, IsDropped, IsWithinLimits, IsOutcome, HasRightOutcome, HaveRightOutcomes}
 use Rattle.sv_system.proofs.Fronts.{get-push_cases}
-use Rattle.sv_system.proofs.Histories.{kept-old}
 
 not-below : (m n : ℕ) → nat_lt m n ≡ false → n ≤ m
 not-below m n f = elim (cases_lt m n) [ inr g ↦ g | inl l ↦ absurd (true≢false (sym (lt-ltb m n l) ∙ f)) ]
@@ -47,7 +47,7 @@ module _ (r : Rules) (h : List Entry) (s k seq : ℕ) (a : Action) where
   checked-judged None = good-judged
 
   submit-judged : seq ≡ next_seq h k → (kept : Option Outcome) → kept_outcome h k seq ≡ kept → IsOutcome r h a (reply_to_submit r h s k seq a kept)
-  submit-judged n (Some o) e = let l : seq < next_seq h k = kept-old h k seq o e in absurd (omega arith)
+  submit-judged n (Some o) e = let l : seq < next_seq h k = kept_known h k seq o e in absurd (omega arith)
   submit-judged n None e =
       cond_both (seq == next_seq h k) _ _ (IsOutcome r h a) (λ f. checked-judged (first_fault_of_action r.world.shape a)) (λ f. tt)
 
@@ -75,8 +75,8 @@ record IsNew (e : Entry) (h : List Entry) (x : Authored) : Type 0 where
 abbrev Fresh : Entry → List Entry → List Authored → Type 0
 Fresh e h new = (new ≡ []) ⊎ ((x : Authored) × ((new ≡ x ∷ []) × IsNew e h x))
 
-grows : (e : Entry) (h : List Entry) (k : ℕ) → next_seq h k ≤ next_seq (e ∷ h) k
-grows e h k =
+pub next-grows_here : (e : Entry) (h : List Entry) (k : ℕ) → next_seq h k ≤ next_seq (e ∷ h) k
+next-grows_here e h k =
     let more = if is_client (client_of h e.session) k && is_submit_of e.request (suc (length (outcomes_of h k))) then outcome_in (suc (length (accepted h))) e.reply else [] in
     let l : length (outcomes_of h k ++ more) ≡ length (outcomes_of h k) + length more = length-append (outcomes_of h k) more in
     omega arith
@@ -133,13 +133,13 @@ below-next (e ∷ h) i x g =
     elim (fresh e h) [
       | inl none ↦
           (let l : x.seq < next_seq h x.client = below-next h i x (sym (ap (λ (new : List Authored). slice_get (accepted h ++ new) i) none ∙ ap (λ (A : List Authored). slice_get A i) (append-nil (accepted h))) ∙ g) in
-          let m : next_seq h x.client ≤ next_seq (e ∷ h) x.client = grows e h x.client in
+          let m : next_seq h x.client ≤ next_seq (e ∷ h) x.client = next-grows_here e h x.client in
           omega arith)
       | inr new ↦
           elim (get-push_cases (accepted h) new.0 i x (sym (ap (λ (l : List Authored). slice_get (accepted h ++ l) i) new.1.0) ∙ g)) [
             | inl old ↦
                 (let l : x.seq < next_seq h x.client = below-next h i x old in
-                let m : next_seq h x.client ≤ next_seq (e ∷ h) x.client = grows e h x.client in
+                let m : next_seq h x.client ≤ next_seq (e ∷ h) x.client = next-grows_here e h x.client in
                 omega arith)
             | inr last ↦ subst (λ (y : Authored). y.seq < next_seq (e ∷ h) y.client) (sym last.1) (let n = new.1.1 in
                 let a : new.0.seq ≡ next_seq h new.0.client = n.number in

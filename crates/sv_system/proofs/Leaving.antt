@@ -18,6 +18,7 @@ use Rattle.sv_client.specs.Traces.{joins, makes, current_session, is_session, he
 use Rattle.sv_client.specs.Taking.{Identity, allows, unanswered}
 use Rattle.sv_client.specs.Proper.{MayFollow, MayJoin, AreProper, in_session}
 use Rattle.sv_system.proofs.Asked.{get-append_cases, may-answer, IsBegun, begun-or_not}
+use Rattle.sv_system.proofs.Places.{drop-none}
 
 -- A Join that a trace asks is the first request of its session, and its life is told by the session's number.
 pub record IsJoinAsked (who : Identity) (first : ℕ) (t : List Event) (s i : ℕ) (client : ClientId) (life : ℕ) (interest : List ObjectId) : Type 0 where
@@ -164,12 +165,6 @@ module _ (who : Identity) (first : ℕ) where
   begun-of : (t : List Event) → AreProper who first t → (s i : ℕ) (q : Request) → slice_get (here t s) i ≡ Some q → IsBegun who first t s
   begun-of t p s i q e =
       elim (begun-or_not who first t p s) [ inr b ↦ b | inl b ↦ absurd (none-some q (sym (ap (λ (qs : List Request). slice_get qs i) b.0) ∙ e)) ]
-
-  drop-none : {X : Type 0} (n : ℕ) (xs : List X) → drop n xs ≡ [] → length xs ≤ n
-  drop-none zero [] e = omega arith
-  drop-none zero (x ∷ xs) e = cc
-  drop-none (suc n) [] e = omega arith
-  drop-none (suc n) (x ∷ xs) e = (let l : length xs ≤ n = drop-none n xs e in omega arith)
 
   leave-now : (t : List Event) (s : ℕ) → AreProper who first (events.Leave ∷ t) → current_session t ≡ Some s → (j : ℕ) → j ≡ 0 →
       slice_get (here (events.Leave ∷ t) s) (length (here t s) + j) ≡ Some requests.Leave → IsLeaveLast (events.Leave ∷ t) s (length (here t s) + j)

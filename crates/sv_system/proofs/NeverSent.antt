@@ -16,6 +16,7 @@ use Rattle.sv_journal.specs.declared.entry.Logged.TheVariants as logged
 use Rattle.sv_journal.specs.History.{Authored, Outcome, Accepted, accepted, actions_of, client_of, is_client, is_relay, is_submit_of, outcome_in, new_action, outcomes_of, next_seq, full_reply, commit_of}
 use Rattle.sv_journal.specs.Sessions.{is_end, kept_outcome, outcome_at, positions_in, sent_to}
 use Rattle.sv_journal.specs.Serving.{LegalFor}
+use Rattle.sv_journal.proofs.Named.{client_is, submit_is}
 use Rattle.sv_client.specs.declared.trace.Event.{Event}
 use Rattle.sv_client.specs.Traces.{asked, got}
 use Rattle.sv_client.specs.Taking.{Identity}
@@ -29,7 +30,7 @@ use Rattle.sv_system.proofs.Commits.{next-grows, outcome-at}
 use Rattle.sv_system.proofs.Order.{earlier-strict}
 use Rattle.sv_system.proofs.Opened.{has, asks-other, was-got, own-session, session-client}
 use Rattle.sv_system.proofs.Pendings.{settled}
-use Rattle.sv_system.proofs.Window.{next-front, submit-named, client-some}
+use Rattle.sv_system.proofs.Window.{next-front}
 use Rattle.sv_system.proofs.Resent.{answered-settled, older-made, after-poll, joined_makes}
 use Rattle.sv_system.proofs.Entered.{earlier-cases, is_of, of-from, as-many, request-there}
 
@@ -194,9 +195,9 @@ module _ (awaited : Awaited) where
         after-poll who L.first whole this_one.proper.events s (length (replies_in A h s)) (length (got whole s)) n a current before.1 before.0 asking in
         let o = x.entry.session in
         let bx : IsEarlier (x.entry ∷ x.before) H = earlier-then (x.entry ∷ x.before) g H x.there earlier in
-        let q = submit-named x.entry.request n x.submit in
+        let q = submit_is x.entry.request n x.submit in
         let has_o : has_session L o ≡ true =
-        own-session owner x.before (earlier-rest x.before x.entry H bx) o (client-some (client_of x.before o) k x.client) in
+        own-session owner x.before (earlier-rest x.before x.entry H bx) o (client_is (client_of x.before o) k x.client) in
         elim (cases_eq o s) [
           | inl z ↦
               (let own = asked-before x.entry x.before x.there (of-from x.entry s z (ap is_end q.1)) (requests.Submit n q.0) q.1 refl in

@@ -13,10 +13,10 @@ use Rattle.sv_system.proofs.Awaited.{Awaited}
 use Rattle.sv_system.proofs.Histories.{earlier-rest}
 use Rattle.sv_system.proofs.Asked.{all}
 use Rattle.sv_system.proofs.Pendings.{Numbered, keys, settled, counted}
-use Rattle.sv_system.proofs.Order.{get-some}
 use Rattle.sv_system.proofs.Opened.{asks-other}
 use Rattle.sv_system.proofs.Before.{got-at}
 use Rattle.sv_system.proofs.Window.{next-front, settled-next, outcomes-made}
+use Rattle.sv_system.proofs.Places.{at_place}
 
 get-none : {X : Type 0} (xs : List X) (i : ℕ) → length xs ≤ i → slice_get xs i ≡ None
 get-none [] i l = refl
@@ -58,7 +58,7 @@ module _ (awaited : Awaited) where
         rest = front.0;
         front = front.1.0;
         outcome = elim (cases_lt (settled whole) (length (outcomes_of g k))) [
-          | inl l ↦ (let f = get-some (outcomes_of g k) (settled whole) l in inl (f.0, kept ∙ f.1))
+          | inl l ↦ (let f = at_place (outcomes_of g k) (settled whole) l in inl (f.0, kept ∙ f.1))
           | inr l ↦ inr (omega arith, kept ∙ get-none (outcomes_of g k) (settled whole) l)
         ];
       }

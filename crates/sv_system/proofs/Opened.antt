@@ -31,7 +31,8 @@ use Rattle.sv_system.proofs.Entered.{is_of, of-parts, of-from, as-many, replies-
 use Rattle.sv_system.proofs.Asking.{is_done, asked-there}
 use Rattle.sv_system.proofs.Asked.{all, part-rest, asked-part, got-when, got-answers, current-last, current-joined}
 use Rattle.sv_system.proofs.Leaving.{IsJoinAsked, join-asked, leave-last}
-use Rattle.sv_system.proofs.Order.{get-some, never-refused, got-replied, joined-has, welcome-legal, leave-only}
+use Rattle.sv_system.proofs.Order.{never-refused, got-replied, joined-has, welcome-legal, leave-only}
+use Rattle.sv_system.proofs.Places.{at_place}
 
 -- ---- Where a session's client comes from
 
@@ -232,7 +233,7 @@ module _ (awaited : Awaited) where
       let longer : length (replies_in A (d ∷ h) s) ≡ length (replies_in A h s) + 1 = ap length (cond-true (is_of d s) _ _ t) ∙ length-append (replies_in A h s) (full_reply A d.reply ∷ []) in
       let short : length (replies_in A (d ∷ h) s) ≤ length (replies_in A g s) = front-length (replies_in A (d ∷ h) s) (replies_in A g s) (replies-earlier A (d ∷ h) g c s) in
       let m = length (replies_in A h s) in
-      let found = get-some (got whole s) m (omega (arith, next)) in
+      let found = at_place (got whole s) m (omega (arith, next)) in
       let there : slice_get (replies_in A (d ∷ h) s) m ≡ Some (full_reply A d.reply) =
       ap (λ (l : List Reply). slice_get l m) (cond-true (is_of d s) _ _ t) ∙ get-last (replies_in A h s) (full_reply A d.reply) in
       let full : slice_get (replies_in A H s) m ≡ Some (full_reply A d.reply) = replies-earlier A (d ∷ h) H (earlier-then (d ∷ h) g H c earlier) s m (full_reply A d.reply) there in

@@ -1,6 +1,6 @@
 -- All that a client got up to a relay was answered before the relay's results were reported, over all of its sessions: a session that a
 -- client left behind is over once a later one is welcomed, and a refusal is never got.
-use Rattle.std.proofs.Common.{◌≡◌, ℕ, zero, suc, ◌+◌, ◌<◌, ◌≤◌, true, false, ◌==◌, ◌⊎◌, inl, inr, List, [], ◌∷◌, reverse, length, Some, None, slice_get, refl, sym, ap, ◌∙◌, subst, arith, eq-eqb, true≢false}
+use Rattle.std.proofs.Common.{◌≡◌, ℕ, ◌+◌, ◌<◌, ◌≤◌, true, false, ◌==◌, ◌⊎◌, inl, inr, List, [], ◌∷◌, reverse, length, Some, None, slice_get, refl, sym, ap, ◌∙◌, subst, arith, eq-eqb, true≢false}
 use Rattle.std.specs.List.{list_any}
 use Rattle.std.proofs.lemmas.Bool.{cond-true, cases_lt, cases_eq}
 use Rattle.std.proofs.lemmas.List.{length-append}
@@ -34,11 +34,7 @@ use Rattle.sv_system.proofs.Replied.{front-shorter}
 use Rattle.sv_system.proofs.Entered.{earlier-cases, is_of, of-parts, as-many, replies-earlier, front-length, request-there, entered, client-stays, over-stays, life-grows, IsWelcome, welcome-life, welcome-over, welcome-client}
 use Rattle.sv_system.proofs.Asking.{IsServed, entered-as}
 use Rattle.sv_system.proofs.Asked.{IsPart, part-rest, asked-part, proper-part, got-part, got-when, got-answers, may-answer, IsBegun, begun-or_not, current-last, current-joined, any-part, any-reverse}
-
-pub get-some : {X : Type 0} (xs : List X) (i : ℕ) → i < length xs → (x : X) × (slice_get xs i ≡ Some x)
-get-some [] i l = absurd (omega arith)
-get-some (x ∷ xs) zero l = (x, refl)
-get-some (x ∷ xs) (suc i) l = get-some xs i (omega arith)
+use Rattle.sv_system.proofs.Places.{at_place}
 
 pub earlier-strict : (h : List Entry) (e : Entry) (g : List Entry) → IsEarlier h (e ∷ g) → (h ≡ e ∷ g) ⊎ IsEarlier h g
 earlier-strict h e g same = inl refl
@@ -225,13 +221,13 @@ module _ (K : Keeping) (r : Rules) (H : List Entry) (L : Trace) (served : IsServ
       too-late h b s reply t part front o e l proper full =
           let v : List Event = events.Got s reply ∷ t in
           let m = length (replies_in A h o) in
-          let late = get-some (got v o) m l in
+          let late = at_place (got v o) m l in
           let late_whole : slice_get (got whole o) m ≡ Some late.0 = got-part who L.first v whole part o m late.0 late.1 in
           let i = entered A H o m late.0 (full m late.0 late.1) in
-          let at_zero = get-some (got v o) 0 (omega arith) in
+          let at_zero = at_place (got v o) 0 (omega arith) in
           let old = welcomed-at H same o at_zero.0 (got-part who L.first v whole part o 0 at_zero.0 at_zero.1) (full 0 at_zero.0 at_zero.1) in
           let mine_length : length (got v s) ≡ length (got t s) + 1 = ap length (cond-true (s == s) _ _ (eq-eqb s s refl)) ∙ length-append (got t s) (reply ∷ []) in
-          let first_mine = get-some (got v s) 0 (omega arith) in
+          let first_mine = at_place (got v s) 0 (omega arith) in
           let new = welcomed-at h b s first_mine.0 (got-part who L.first v whole part s 0 first_mine.0 first_mine.1) (front 0 first_mine.0 first_mine.1) in
           let begun = begun-at v proper o 0 at_zero.0 at_zero.1 in
           let current : s + 1 ≡ L.first + joins t = current-last who L.first t proper.1 s (may-answer who L.first t s reply proper.0).current in

@@ -23,6 +23,7 @@ use Rattle.sv_journal.specs.Sessions.{sent_to, already_given}
 use Rattle.sv_journal.specs.Answer.{committed_held}
 use Rattle.sv_journal.specs.Serving.{LegalFor}
 use Rattle.sv_journal.proofs.Kept.{commit_grows-kept}
+use Rattle.sv_journal.proofs.Stays.{positions-back}
 use Rattle.sv_client.specs.declared.trace.Event.{Event}
 use Rattle.sv_client.specs.declared.trace.Event.TheVariants as events
 use Rattle.sv_client.specs.Traces.{held_of, head_held, item_held, got}
@@ -44,10 +45,6 @@ use Rattle.sv_system.proofs.Order.{got-replied}
 use Rattle.sv_system.proofs.Induction.{well-after}
 use Rattle.sv_system.proofs.Begun.{join-welcomed}
 use Rattle.sv_system.proofs.Before.{noted-commit, got-same, told-before}
-
-pub positions-back : (A : List Authored) (ks : List ℕ) → map (λ (i : Item). i.pos) (map (item_at A) ks) ≡ ks
-positions-back A [] = refl
-positions-back A (k ∷ ks) = ap (λ (l : List ℕ). k ∷ l) (positions-back A ks)
 
 begins-high : (A : List Authored) (c : ℕ) (ks : List ℕ) → ((k : ℕ) → is_in k ks ≡ true → c < k) → begins_by c (map (item_at A) ks) ≡ false
 begins-high A c [] f = refl

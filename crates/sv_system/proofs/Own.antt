@@ -11,6 +11,7 @@ use Rattle.sv_journal.specs.declared.entry.Entry.{Entry}
 use Rattle.sv_journal.specs.declared.entry.Logged.TheVariants as logged
 use Rattle.sv_journal.specs.History.{Authored, Accepted, is_relay, new_action, client_of, outcomes_of, accepted, actions_of, next_seq, authored_at, item_at, commit_of}
 use Rattle.sv_journal.specs.Sessions.{is_end, kept_outcome, sent_to}
+use Rattle.sv_journal.proofs.Named.{client_is, submit_is}
 use Rattle.sv_client.specs.Same.{is_same_action}
 use Rattle.sv_client.proofs.Equal.{action_own}
 use Rattle.sv_client.specs.declared.trace.Event.{Event}
@@ -26,7 +27,7 @@ use Rattle.sv_system.proofs.Pendings.{Numbered, keys}
 use Rattle.sv_system.proofs.Aligned.{is_submit}
 use Rattle.sv_system.proofs.Asking.{is_done, asked-there}
 use Rattle.sv_system.proofs.Opened.{has, asks-other, own-session, session-client}
-use Rattle.sv_system.proofs.Window.{submit-named, client-some, submit_number}
+use Rattle.sv_system.proofs.Window.{submit_number}
 use Rattle.sv_system.proofs.NeverSent.{IsAcceptance, acceptance-of}
 use Rattle.sv_system.proofs.NonEmpty.{positions-some}
 use Rattle.sv_system.proofs.Made.{IsMade, made-same, submit-made}
@@ -63,7 +64,7 @@ authored-next [] x more = refl
 authored-next (y ∷ A) x more = authored-next A x more
 
 -- A new Submit that a relay answers is accepted with its client and number.
-accepted-new : (d : Entry) (h : List Entry) (k n : ℕ) (a : Action) → client_of h d.session ≡ Some k → d.request ≡ requests.Submit n a → n ≡ next_seq h k → is_relay d.reply ≡ true →
+pub accepted-new : (d : Entry) (h : List Entry) (k n : ℕ) (a : Action) → client_of h d.session ≡ Some k → d.request ≡ requests.Submit n a → n ≡ next_seq h k → is_relay d.reply ≡ true →
     accepted (d ∷ h) ≡ accepted h ++ record { client = k; seq = n; action = a } ∷ []
 accepted-new d h k n a c q e y =
     let next : ℕ → ℕ = λ j. suc (length (outcomes_of h j)) in
@@ -122,8 +123,8 @@ module _ (awaited : Awaited) where
   kept-own n p a is x =
       let bx : IsEarlier (x.entry ∷ x.before) H = earlier-then (x.entry ∷ x.before) g H x.there earlier in
       let o = x.entry.session in
-      let q = submit-named x.entry.request n x.submit in
-      let c : client_of x.before o ≡ Some k = client-some (client_of x.before o) k x.client in
+      let q = submit_is x.entry.request n x.submit in
+      let c : client_of x.before o ≡ Some k = client_is (client_of x.before o) k x.client in
       let has_o : has_session L o ≡ true = own-session owner x.before (earlier-rest x.before x.entry H bx) o c in
       let there = asked-there H L o (this_one.sessions o has_o) (length (requests_in x.before o)) x.entry.request (ap is_done q.1)
       (request-there x.entry x.before H o bx (of-from x.entry o refl (ap is_end q.1))) in

@@ -1,5 +1,5 @@
 -- Lists by their places.
-use Rattle.std.proofs.Common.{◌≡◌, ℕ, zero, suc, ◌<◌, List, [], ◌∷◌, ◌++◌, map, length, slice_get, Some, option_map, refl, ap, subst, ◌∙◌, arith}
+use Rattle.std.proofs.Common.{◌≡◌, ℕ, zero, suc, ◌<◌, ◌≤◌, List, [], ◌∷◌, ◌++◌, map, drop, length, slice_get, Some, option_map, refl, ap, subst, ◌∙◌, arith}
 use Rattle.std.specs.List.{AllByRecursion}
 use Rattle.std.proofs.lemmas.Option.{none-some, same_Some, slice_get-map}
 use Rattle.sv_system.specs.Places.{EachPlace}
@@ -27,3 +27,9 @@ pub unmap_at : {X Y : Type 0} (f : X → Y) (xs : List X) (k : ℕ) (y : Y) → 
 unmap_at f [] k y e = absurd (none-some y e)
 unmap_at f (x ∷ xs) zero y e = (x, refl, same_Some (f x) y e)
 unmap_at f (x ∷ xs) (suc k) y e = unmap_at f xs k y e
+
+pub drop-none : {X : Type 0} (n : ℕ) (xs : List X) → drop n xs ≡ [] → length xs ≤ n
+drop-none zero [] e = omega arith
+drop-none zero (x ∷ xs) e = cc
+drop-none (suc n) [] e = omega arith
+drop-none (suc n) (x ∷ xs) e = (let l : length xs ≤ n = drop-none n xs e in omega arith)

@@ -1,5 +1,5 @@
 -- The number of a client's next Submit is its next one for the server, or one whose outcome is kept.
-use Rattle.std.proofs.Common.{◌≡◌, ℕ, zero, suc, ◌+◌, ◌<◌, ◌≤◌, Bool, true, false, ◌&&◌, ◌==◌, inl, inr, List, [], ◌∷◌, ◌++◌, map, drop, reverse, length, Option, Some, None, slice_get, refl, sym, ap, ◌∙◌, subst, arith, eqb-true, eq-eqb, true≢false}
+use Rattle.std.proofs.Common.{◌≡◌, ℕ, zero, suc, ◌+◌, ◌<◌, ◌≤◌, Bool, true, false, ◌&&◌, ◌==◌, inl, inr, List, [], ◌∷◌, ◌++◌, map, drop, reverse, length, Option, Some, slice_get, refl, sym, ap, ◌∙◌, subst, arith, eq-eqb, true≢false}
 use Rattle.std.specs.Prelude.{if◌then◌else◌}
 use Rattle.std.proofs.lemmas.Bool.{cond-true, cond-false, cases_Bool, and_from}
 use Rattle.std.proofs.lemmas.List.{length-append}
@@ -17,6 +17,8 @@ use Rattle.sv_journal.specs.History.{Authored, Outcome, Accepted, accepted, clie
 use Rattle.sv_journal.specs.Sessions.{is_end}
 use Rattle.sv_journal.specs.Answer.{Rules}
 use Rattle.sv_journal.specs.Serving.{Keeping, LegalFor, IsKeeping}
+use Rattle.sv_journal.proofs.Named.{client_is, submit_is}
+use Rattle.sv_journal.proofs.Sizes.{kept_known}
 use Rattle.sv_client.specs.declared.trace.Event.{Event}
 use Rattle.sv_client.specs.declared.trace.Event.TheVariants as events
 use Rattle.sv_client.specs.Traces.{joins, makes, current_session, is_session, held_of, with_reply, done_for, pending_of, submit_of, asked_by_event, asked, got}
@@ -25,7 +27,7 @@ use Rattle.sv_client.specs.Proper.{AreProper, identity_of}
 use Rattle.sv_system.specs.Fits.{requests_in, has_session}
 use Rattle.sv_system.proofs.Awaited.{Owner}
 use Rattle.sv_system.proofs.Fronts.{get-last}
-use Rattle.sv_system.proofs.Histories.{IsEarlier, same, after, earlier-then, earlier-rest, earlier-served, kept-old}
+use Rattle.sv_system.proofs.Histories.{IsEarlier, same, after, earlier-then, earlier-rest, earlier-served}
 use Rattle.sv_system.proofs.Replies.{AnswersSubmit, AnswersKept, TellsFor, IsRelayReply, served-tells}
 use Rattle.sv_system.proofs.Asking.{is_done, asked-there, entered-as}
 use Rattle.sv_system.proofs.Commits.{next-grows, outcome-when}
@@ -33,8 +35,9 @@ use Rattle.sv_system.proofs.Entered.{of-parts, of-from, as-many, request-there, 
 use Rattle.sv_system.proofs.Asked.{get-append_cases, IsPart, part-rest, asked-part, got-part, proper-part, may-answer, current-joined}
 use Rattle.sv_system.proofs.Pendings.{Numbered, keys, without_first, settles, keys-with, keys-made, AreFrom, settled, IsCounted, counted, submits}
 use Rattle.sv_system.proofs.Aligned.{is_submit, settles-submit, drop-one, aligned}
-use Rattle.sv_system.proofs.Order.{get-some, joined-has}
+use Rattle.sv_system.proofs.Order.{joined-has}
 use Rattle.sv_system.proofs.Opened.{own-session, session-client}
+use Rattle.sv_system.proofs.Places.{at_place}
 
 -- ---- The Submits of a trace are of actions that it made
 
@@ -149,15 +152,6 @@ submit-of requests.Leave e = absurd (true≢false (sym e))
 submit-of requests.Bad e = absurd (true≢false (sym e))
 submit-of requests.End e = absurd (true≢false (sym e))
 
-pub submit-named : (q : Request) (n : ℕ) → is_submit_of q n ≡ true → (a : Action) × (q ≡ requests.Submit n a)
-submit-named (requests.Submit m a) n e = (a, ap (λ (k : ℕ). requests.Submit k a) (eqb-true m n e))
-submit-named (requests.Join client life interest) n e = absurd (true≢false (sym e))
-submit-named (requests.Done results) n e = absurd (true≢false (sym e))
-submit-named requests.Poll n e = absurd (true≢false (sym e))
-submit-named requests.Leave n e = absurd (true≢false (sym e))
-submit-named requests.Bad n e = absurd (true≢false (sym e))
-submit-named requests.End n e = absurd (true≢false (sym e))
-
 -- A new Submit that has an outcome makes its client's next number one greater.
 next-new : (d : Entry) (h : List Entry) (k n : ℕ) (a : Action) → client_of h d.session ≡ Some k → d.request ≡ requests.Submit n a → n ≡ next_seq h k →
     length (outcome_in (suc (length (accepted h))) d.reply) ≡ 1 → n < next_seq (d ∷ h) k
@@ -186,7 +180,7 @@ answered-next K keeps r A d h l n a q (logged.Relay seq commit head positions) i
             (
               t.joined,
               elim p.1.1.1 [
-                | inl kept ↦ (let old : p.0 < next_seq h t.client = kept-old h t.client p.0 (Accepted t.target) kept in omega arith)
+                | inl kept ↦ (let old : p.0 < next_seq h t.client = kept_known h t.client p.0 (Accepted t.target) kept in omega arith)
                 | inr fresh ↦ next-new d h t.client n a t.joined q (sym number ∙ fresh.0) (ap (λ (y : Logged). length (outcome_in (suc (length (accepted h))) y)) is)
               ],
             ),
@@ -201,7 +195,7 @@ answered-next K keeps r A d h l n a q (logged.Dropped seq chain far) is s =
       (
         t.1.0,
         elim t.1.1.1.1 [
-          | inl o ↦ (let old : seq < next_seq h k = kept-old h k seq o.0 o.1 in omega arith)
+          | inl o ↦ (let old : seq < next_seq h k = kept_known h k seq o.0 o.1 in omega arith)
           | inr fresh ↦ next-new d h k n a t.1.0 q (sym number ∙ fresh) (ap (λ (y : Logged). length (outcome_in (suc (length (accepted h))) y)) is)
         ],
       ),
@@ -211,17 +205,13 @@ answered-next K keeps r A d h l n a q (logged.Settled seq pos) is s =
     let k = t.0 in
     let number : seq ≡ n = ap submit_number (sym t.1.1.1.0 ∙ q) in
     let grows : next_seq h k ≤ next_seq (d ∷ h) k = next-grows h (d ∷ h) (after d same) k in
-    let old : seq < next_seq h k = kept-old h k seq t.1.1.1.1.0 t.1.1.1.1.1 in
+    let old : seq < next_seq h k = kept_known h k seq t.1.1.1.1.0 t.1.1.1.1.1 in
     (k, (t.1.0, omega arith))
 answered-next K keeps r A d h l n a q (logged.Welcome commit head) is s = absurd (true≢false (sym s))
 answered-next K keeps r A d h l n a q (logged.Noted commit) is s = absurd (true≢false (sym s))
 answered-next K keeps r A d h l n a q logged.Idle is s = absurd (true≢false (sym s))
 answered-next K keeps r A d h l n a q (logged.Refused code detail) is s = absurd (true≢false (sym s))
 answered-next K keeps r A d h l n a q logged.Bye is s = absurd (true≢false (sym s))
-
-pub client-some : (o : Option ℕ) (j : ℕ) → is_client o j ≡ true → o ≡ Some j
-client-some None j x = absurd (true≢false (sym x))
-client-some (Some m) j x = ap Some (eqb-true m j x)
 
 -- ---- A part of the journal that has answered all that the client got
 
@@ -306,11 +296,11 @@ module _ (owner : Owner) (g : List Entry) (earlier : IsEarlier g owner.journal)
       go : (n : ℕ) → length (outcomes_of g k) ≡ n → length (outcomes_of g k) ≤ makes whole
       go zero z = omega arith
       go (suc m) z =
-          let f = get-some (outcomes_of g k) m (omega arith) in
+          let f = at_place (outcomes_of g k) m (omega arith) in
           let x = outcome-when g k m f.0 f.1 in
           let bx : IsEarlier (x.entry ∷ x.before) H = earlier-then (x.entry ∷ x.before) g H x.earlier earlier in
-          let q = submit-named x.entry.request (suc m) x.submit in
-          let c : client_of x.before x.entry.session ≡ Some k = client-some (client_of x.before x.entry.session) k x.client in
+          let q = submit_is x.entry.request (suc m) x.submit in
+          let c : client_of x.before x.entry.session ≡ Some k = client_is (client_of x.before x.entry.session) k x.client in
           let has_o : has_session L x.entry.session ≡ true = own-session owner x.before (earlier-rest x.before x.entry H bx) x.entry.session c in
           let there = asked-there H L x.entry.session (this_one.sessions x.entry.session has_o) (length (requests_in x.before x.entry.session)) x.entry.request (ap is_done q.1)
           (request-there x.entry x.before H x.entry.session bx (of-from x.entry x.entry.session refl (ap is_end q.1))) in

@@ -85,7 +85,7 @@ written_ascends (r ∷ rs) mask least up =
       | false ↦ ascends_from (written rs (mask / 2)) least (r.0 + 1) (let a : least ≤ r.0 = up.0 in omega arith) more
     ]
 
-written_fits : (reads : List ObjectId) (mask : ℕ) → AllByRecursion ObjectFits reads → AllByRecursion ObjectFits (written reads mask)
+pub written_fits : (reads : List ObjectId) (mask : ℕ) → AllByRecursion ObjectFits reads → AllByRecursion ObjectFits (written reads mask)
 written_fits [] mask fits = tt
 written_fits (r ∷ rs) mask fits =
     let more = written_fits rs (mask / 2) fits.1 in

@@ -173,7 +173,7 @@ influence-above A c a l =
     (let e = length-above A c l in omega arith) (λ k low. action_at-above A c k low)
 
 -- A function of the actions at positions above the commit alone gives one list.
-map_same : {X : Type 0} (f g : ℕ → X) (xs : List ℕ) → ((j : ℕ) → is_in j xs ≡ true → f j ≡ g j) → map f xs ≡ map g xs
+pub map_same : {X : Type 0} (f g : ℕ → X) (xs : List ℕ) → ((j : ℕ) → is_in j xs ≡ true → f j ≡ g j) → map f xs ≡ map g xs
 map_same f g [] same = refl
 map_same f g (x ∷ xs) same =
     ap (λ z. z ∷ map f xs) (same x (is_in-head x xs)) ∙ ap (λ zs. g x ∷ zs) (map_same f g xs (λ j h. same j (is_in-tail j x xs h)))
