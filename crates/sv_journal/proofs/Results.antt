@@ -65,7 +65,7 @@ committed_count opening h = installed_count opening h (commit_of h)
 
 -- ---- One entry more
 
-either_none : {X : Type 0} (o : Option X) → either o None ≡ o
+pub either_none : {X : Type 0} (o : Option X) → either o None ≡ o
 either_none (Some x) = refl
 either_none None = refl
 

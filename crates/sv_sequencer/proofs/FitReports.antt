@@ -8,10 +8,10 @@ use Rattle.sv_wire.specs.declared.message.Done1.{Done1}
 use Rattle.sv_queue.specs.declared.queued.Queued.{Queued}
 use Rattle.sv_queue.specs.Queue.{QueueView, last_position, entry_at, with_result}
 use Rattle.sv_journal.specs.History.{Authored, either, reported}
+use Rattle.sv_journal.proofs.Results.{either_none}
 use Rattle.sv_sequencer.specs.Fits.{actions_in, IsEntry, QueueFits}
 use Rattle.sv_sequencer.specs.Relays.{with_report, with_reports, CanReport}
 use Rattle.sv_sequencer.proofs.FitMarks.{entry-same, entry-other, last-with_entry, fits-same, values-same}
-use Rattle.sv_sequencer.proofs.HistorySteps.{either-nothing}
 
 pub either-some : {X : Type 0} (o p : Option X) → is_some o ≡ true → either o p ≡ o
 either-some (Some x) p h = refl
@@ -36,7 +36,7 @@ kept-result R d known p low = go (nat_eq d.pos p) refl
     go : (b : Bool) → nat_eq d.pos p ≡ b → R p ≡ either (R p) (cond b (Some d.values) None)
     go true e = let same : d.pos ≡ p = eqb-true d.pos p e in
         sym (either-some (R p) (Some d.values) (subst (λ n. is_some (R n) ≡ true) same (known (omega arith))))
-    go false e = sym (either-nothing (R p))
+    go false e = sym (either_none (R p))
 
 pub fits-report : (w : World) (A : List Authored) (R : ℕ → Option (List (List ℤ))) (S : ℕ → List ℕ) (N : ℕ → ℕ → List ℕ) (v : QueueView) (d : Done1) →
     ((p : ℕ) → 0 < p → p ≤ v.commit → is_some (R p) ≡ true) → d.pos ≤ last_position v → QueueFits w A R S N v →
@@ -82,7 +82,7 @@ fits-report w A R S N v d done high f = go (nat_lt v.commit d.pos) refl (is_none
           seq = h.seq;
           action = h.action;
           marks = h.marks;
-          result = h.result ∙ sym (ap (either (R k)) (cond-false (nat_eq d.pos k) (Some d.values) None (ne_eqb d.pos k (λ q. ne (sym q)))) ∙ either-nothing (R k));
+          result = h.result ∙ sym (ap (either (R k)) (cond-false (nat_eq d.pos k) (Some d.values) None (ne_eqb d.pos k (λ q. ne (sym q)))) ∙ either_none (R k));
         }
 
     go : (b : Bool) → nat_lt v.commit d.pos ≡ b → (n : Bool) → is_none (entry_at v d.pos).result ≡ n →
@@ -153,7 +153,7 @@ also-some R d p h = rw (either-some (R p) (cond (nat_eq d.pos p) (Some d.values)
 pub fits-reports : (w : World) (A : List Authored) (R : ℕ → Option (List (List ℤ))) (S : ℕ → List ℕ) (N : ℕ → ℕ → List ℕ) (v : QueueView) (ds : List Done1) →
     ((p : ℕ) → 0 < p → p ≤ v.commit → is_some (R p) ≡ true) → All (λ (d : Done1). d.pos ≤ last_position v) ds → QueueFits w A R S N v →
     QueueFits w A (λ p. either (R p) (reported p ds)) S N (with_reports v ds)
-fits-reports w A R S N v [] done all f = fits-same w A R (λ p. either (R p) None) S S N N v (λ p low. sym (either-nothing (R p))) (λ s. refl) (λ s x. refl) f
+fits-reports w A R S N v [] done all f = fits-same w A R (λ p. either (R p) None) S S N N v (λ p low. sym (either_none (R p))) (λ s. refl) (λ s x. refl) f
 fits-reports w A R S N v (d ∷ ds) done all f =
     fits-same w A (λ p. either (result_also d R p) (reported p ds)) (λ p. either (R p) (reported p (d ∷ ds))) S S N N (with_reports (with_report v d) ds)
     (λ p low. also-more R d ds p) (λ s. refl) (λ s x. refl)

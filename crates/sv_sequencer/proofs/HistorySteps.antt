@@ -1,10 +1,11 @@
 -- What one more entry makes of what a history says.
-use Rattle.std.proofs.Common.{◌≡◌, ℕ, zero, suc, ◌<◌, ◌≤◌, Bool, true, false, ◌&&◌, cond, nat_eq, ◌⊎◌, inl, inr, List, [], ◌∷◌, ◌++◌, length, Option, ℤ, Some, None, refl, sym, ◌∙◌, ap, subst, arith, append-nil}
+use Rattle.std.proofs.Common.{◌≡◌, ℕ, zero, suc, ◌<◌, ◌≤◌, Bool, true, false, ◌&&◌, cond, nat_eq, ◌⊎◌, inl, inr, List, [], ◌∷◌, ◌++◌, length, ℤ, Some, None, refl, sym, ◌∙◌, ap, subst, arith, append-nil}
 use Rattle.std.proofs.lemmas.Bool.{cases_eq, eq-eqb, eqb-true, ne_eqb, cond-true, cond-false, and_right, both_ways}
 use Rattle.sv_wire.specs.declared.message.Request.{Request}
 use Rattle.sv_journal.specs.declared.entry.Entry.{Entry}
 use Rattle.sv_journal.specs.History.{Authored, either, is_relay, is_noted, is_client, is_submit_of, outcome_in, new_action, client_of, outcomes_of, accepted, next_seq, result_at, run_length, installed, actions_of, reports}
 use Rattle.sv_journal.proofs.Commits.{run_within}
+use Rattle.sv_journal.proofs.Results.{either_none}
 use Rattle.sv_sequencer.specs.Decisions.{IsOld, IsNextSubmit, action_in}
 use Rattle.sv_sequencer.specs.Fits.{actions_in, values_after}
 
@@ -72,12 +73,8 @@ outcomes-next e h k seq j is =
 
 -- ---- Results, and the commit
 
-pub either-nothing : {X : Type 0} (o : Option X) → either o None ≡ o
-either-nothing (Some x) = refl
-either-nothing None = refl
-
 pub result-quiet : (e : Entry) (h : List Entry) (p : ℕ) → is_noted e.reply ≡ false → result_at (e ∷ h) p ≡ result_at h p
-result-quiet e h p q = ap (λ b. either (result_at h p) (cond b (reports p e.request) None)) q ∙ either-nothing (result_at h p)
+result-quiet e h p q = ap (λ b. either (result_at h p) (cond b (reports p e.request) None)) q ∙ either_none (result_at h p)
 
 -- Tests that agree pass as far.
 pub run_length-ext : (f g : ℕ → Bool) (n : ℕ) → ((p : ℕ) → f p ≡ g p) → run_length f n ≡ run_length g n

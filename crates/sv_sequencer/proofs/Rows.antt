@@ -6,17 +6,17 @@ use Rattle.sv_journal.specs.declared.entry.Entry.{Entry}
 use Rattle.sv_journal.specs.declared.entry.Logged.{Logged}
 use Rattle.sv_journal.specs.History.{is_welcome}
 use Rattle.sv_journal.specs.Sessions.{welcomes}
+use Rattle.sv_journal.proofs.Results.{either_none}
 use Rattle.sv_sequencer.specs.declared.sessions.SessionRow.{SessionRow}
 use Rattle.sv_sequencer.specs.Rows.{session_after}
 use Rattle.sv_sequencer.specs.Step.{entry_of}
-use Rattle.sv_sequencer.proofs.HistorySteps.{either-nothing}
 
 welcomes-none : (e : Entry) (c : Option ℕ) → is_welcome e.reply ≡ false → welcomes e c ≡ false
 welcomes-none e None h = refl
 welcomes-none e (Some k) h = rw h refl
 
 row-stays : (e : Entry) (s : ℕ) (r : SessionRow) → is_welcome e.reply ≡ false → nat_eq e.session s ≡ false → session_after e s r ≡ r
-row-stays e s r h q = rw (q, welcomes-none e r.client h, either-nothing r.client, or-false r.over) refl
+row-stays e s r h q = rw (q, welcomes-none e r.client h, either_none r.client, or-false r.over) refl
 
 pub other_row_stays : (asker : ℕ) (request : Request) (reply : Logged) (s : ℕ) (r : SessionRow) → is_welcome reply ≡ false → nat_eq asker s ≡ false →
     session_after (entry_of asker request reply) s r ≡ r

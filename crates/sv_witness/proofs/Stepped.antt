@@ -9,9 +9,10 @@ use Rattle.sv_journal.specs.declared.entry.Entry.{Entry}
 use Rattle.sv_journal.specs.declared.entry.Logged.{Logged}
 use Rattle.sv_journal.specs.declared.entry.Logged.TheVariants as logged
 use Rattle.sv_journal.specs.History.{is_noted, client_of, accepted, reported, commit_of, full_reply}
-use Rattle.sv_journal.specs.Sessions.{is_end, is_ended}
+use Rattle.sv_journal.specs.Sessions.{is_ended}
 use Rattle.sv_journal.specs.View.{JournalView}
 use Rattle.sv_journal.specs.Answer.{Rules, is_bad_done}
+use Rattle.sv_journal.proofs.Kept.{end-same}
 use Rattle.sv_sequencer.specs.declared.decision.Decision.{Decision}
 use Rattle.sv_sequencer.specs.declared.decision.Decision.TheVariants as decisions
 use Rattle.sv_sequencer.specs.declared.server_core.Core.{Core}
@@ -22,7 +23,7 @@ use Rattle.sv_sequencer.specs.Step.{SequencerView, history, entry_of, end_entry}
 use Rattle.sv_witness.specs.declared.report.Dispute.{Dispute}
 use Rattle.sv_witness.specs.declared.witness.Witness.TheInside.{Inside}
 use Rattle.sv_witness.specs.Reports.{agreed_history, agreed_commit}
-use Rattle.sv_journal.specs.Serving.{with_results, noted_after}
+use Rattle.sv_journal.specs.Serving.{noted_after}
 use Rattle.sv_witness.specs.Witnessed.{agreed, witnessed_reply}
 use Rattle.sv_witness.specs.Disputes.{with_disputes}
 use Rattle.sv_witness.specs.Kept.{RowView, kept_at, counted_results, with_values, agreed_results, new_disputes, KeepsBeside}
@@ -117,18 +118,9 @@ after-end old core rows ds h s is same keeps = record {
 
 -- ---- Ends
 
-end-with : (test : Done1 → Bool) (q : Request) → is_end (with_results test q) ≡ is_end q
-end-with test (requests.Join client life interest) = refl
-end-with test (requests.Submit seq a) = refl
-end-with test (requests.Done results) = refl
-end-with test requests.Poll = refl
-end-with test requests.Leave = refl
-end-with test requests.Bad = refl
-end-with test requests.End = refl
-
 pub ended-agreed : (h : List Entry) (s : ℕ) → is_ended (agreed_history h) s ≡ is_ended h s
 ended-agreed [] s = refl
-ended-agreed (e ∷ h) s = ap₂ (λ (a b : Bool). (e.session == s && a) || b) (end-with _ e.request) (ended-agreed h s)
+ended-agreed (e ∷ h) s = ap₂ (λ (a b : Bool). (e.session == s && a) || b) (end-same _ e.request) (ended-agreed h s)
 
 -- ---- The fields
 

@@ -1,8 +1,7 @@
 -- What an entry makes of all that a witnessing server keeps: of its journal, its reports, its disputes and the history of what was agreed.
-use Rattle.std.proofs.Common.{◌≡◌, ℕ, suc, ◌<◌, ◌≤◌, Bool, true, false, ◌||◌, not, ◌==◌, nat_lt, All, List, [], ◌∷◌, map, filter, length, Some, refl, sym, ap, ◌∙◌, subst, arith}
-use Rattle.std.specs.Prelude.{if◌then◌else◌}
+use Rattle.std.proofs.Common.{◌≡◌, ℕ, suc, ◌<◌, ◌≤◌, false, ◌||◌, not, ◌==◌, nat_lt, All, List, [], ◌∷◌, map, length, Some, refl, sym, ap, ◌∙◌, subst, arith}
 use Rattle.std.specs.List.{list_any, AllByRecursion}
-use Rattle.std.proofs.lemmas.Bool.{or_parts, or_from, ltb-false, not-false}
+use Rattle.std.proofs.lemmas.Bool.{or_parts, ltb-false, not-false}
 use Rattle.std.proofs.lemmas.List.Elements.{All-from_recursion}
 use Rattle.sv_world.specs.Faults.{is_ascending}
 use Rattle.sv_wire.specs.declared.message.Done1.{Done1}
@@ -15,6 +14,7 @@ use Rattle.sv_journal.specs.declared.entry.Logged.TheVariants as logged
 use Rattle.sv_journal.specs.History.{Authored, is_noted, client_of, accepted, actions_of, reported, result_at, commit_of, full_reply}
 use Rattle.sv_journal.specs.Sessions.{sent_to, named_to}
 use Rattle.sv_journal.specs.Answer.{Rules, is_bad_result, is_bad_done, commit_with, relay_of, reply_to_poll}
+use Rattle.sv_journal.proofs.Results.{some_good}
 use Rattle.sv_sequencer.specs.Fits.{QueueFits}
 use Rattle.sv_sequencer.specs.Step.{entry_of}
 use Rattle.sv_witness.specs.declared.report.Dispute.{Dispute}
@@ -57,17 +57,6 @@ pub poll-some : (r : Rules) (h : List Entry) (s p : ℕ) (rest : List ℕ) → d
 poll-some r h s p rest is = ap (reply_to_poll r (agreed_history h) s) is
 
 -- ---- Results that are not bad
-
-pub none-filter : (bad test : Done1 → Bool) (ds : List Done1) → list_any bad ds ≡ false → list_any bad (filter test ds) ≡ false
-none-filter bad test [] none = refl
-none-filter bad test (d ∷ ds) none = go (test d) (none-filter bad test ds parts.1)
-  where
-    parts : (bad d ≡ false) × (list_any bad ds ≡ false)
-    parts = or_parts (bad d) (list_any bad ds) none
-
-    go : (b : Bool) → list_any bad (filter test ds) ≡ false → list_any bad (if b then d ∷ filter test ds else filter test ds) ≡ false
-    go true rest = or_from (bad d) (list_any bad (filter test ds)) parts.0 rest
-    go false rest = rest
 
 module _ (r : Rules) (h : List Entry) (s k : ℕ) (results : List Done1) (joined : client_of h s ≡ Some k) (good : is_bad_done r (agreed_history h) s results ≡ false) where
   abbrev tests : ((length results == 0 || nat_lt 33 (length results) || not (is_ascending (map (λ (d : Done1). d.pos) results))) ≡ false)
@@ -143,4 +132,4 @@ module _ (r : Rules) (h : List Entry) (s k : ℕ) (results : List Done1) (joined
 
   -- None of the results that bring agreement is bad.
   pub agreed-good : (rows : List RowView) (v : QueueView) → list_any (is_bad_result r (agreed_history h) s) (agreed_results v rows (counted_results (agreed_commit h) rows k results)) ≡ false
-  agreed-good rows v = none-filter _ _ (counted_results (agreed_commit h) rows k results) (none-filter _ _ results none-bad)
+  agreed-good rows v = some_good _ _ (counted_results (agreed_commit h) rows k results) (some_good _ _ results none-bad)
