@@ -11,19 +11,19 @@ use Rattle.sv_door.specs.declared.pipe_door.PipeDoor.{PipeDoor}
 
 -- The numbers of the calls that fail, of the door and of each end; how many calls of the door were made; and how many bytes a call of an end
 -- moves at most.
-pub record Plans : Type 0 where
+pub record DoorPlans : Type 0 where
   pub calls : List ℕ
   pub ends : List ℕ
   pub calls_made : ℕ
   pub step : ℕ
 
 -- nothing fails
-pub record HasNoPlan (plans : Plans) : Type 0 where
+pub record HasNoDoorPlan (plans : DoorPlans) : Type 0 where
   pub calls : plans.calls ≡ []
   pub ends : plans.ends ≡ []
 
 module _ {R : Type 0} where
-  abbrev pub plans_of : PipeDoor R → Plans
+  abbrev pub plans_of : PipeDoor R → DoorPlans
   plans_of door =
       record {
         calls = door.calls.failing.items;
@@ -42,7 +42,7 @@ module _ {R : Type 0} where
   -- the door is at this port, and nothing fails there
   pub record IsSureOf (door : PipeDoor R) (port : ℕ) : Type 0 where
     pub here : port_of door ≡ port
-    pub plans : HasNoPlan (plans_of door)
+    pub plans : HasNoDoorPlan (plans_of door)
 
   -- no end was made, no call was counted, nothing fails at this port, and ends move as much as they can
   pub record IsNewDoor (port : ℕ) (door : PipeDoor R) : Type 0 where
