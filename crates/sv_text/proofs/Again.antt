@@ -21,7 +21,7 @@ use Rattle.sv_world.specs.declared.node.Comparison.{Comparison}
 use Rattle.sv_world.specs.declared.node.Comparison.TheVariants as comparisons
 use Rattle.sv_world.specs.declared.node.Connective.{Connective}
 use Rattle.sv_world.specs.declared.node.Connective.TheVariants as joints
-use Rattle.sv_text.specs.Reading.{◌>>=◌, Read, mark_code, is_same, is_mark, is_at, mark_of, front_of, front, rest_of, fault, unexpected, expect, slot_from, slot_or, slot_at, start, part_or, marked, op_of, op_at, leaf_by, leaf_at, closed_by, bracketed_by, pair_by, expr_by, expr_at, comparison_of, comparison_at, joint_of, joint_at, compare_by, join_by, not_by, cond_by, cond_at}
+use Rattle.sv_text.specs.Reading.{◌>>=◌, Read, mark_code, is_same, is_mark, is_at, mark_of, front_of, front, rest_of, fault, unexpected, expect, slot_from, slot_at, start, part_or, marked, op_of, op_at, leaf_by, leaf_at, closed_by, bracketed_by, pair_by, expr_by, expr_at, comparison_of, comparison_at, joint_of, joint_at, compare_by, join_by, not_by, cond_by, cond_at}
 use Rattle.sv_text.specs.Grammar.{Place, Form, IsMark, IsNode, IsNumber, IsRef, op_mark, comparison_mark, joint_mark, AreTwoParts, IsPair, IsExpr, IsTest, IsJoined, IsNot, IsCond}
 
 -- a step that does not fail
@@ -84,7 +84,7 @@ op_again o ts h = ap (λ (f : Option Mark). part_or (unexpected ts) (marked op_o
 
 pub slot_again : (reads : List ObjectId) (o : ℕ) (ts : List Lexeme) (k : ℕ) → slot_from 0 reads o ≡ Some k → slot_at reads o ts ≡ Ok k
 unfolding slot_at
-slot_again reads o ts k h = ap (slot_or (fault ts causes.NotRead)) h
+slot_again reads o ts k h = ap (part_or (fault ts causes.NotRead)) h
 
 pub front_number : (z : ℤ) (ts rest : List Lexeme) → IsNumber z ts rest → (front ts ≡ None) × (rest_of ts ≡ rest)
 unfolding front

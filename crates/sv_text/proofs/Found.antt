@@ -15,7 +15,7 @@ use Rattle.sv_text.specs.declared.token.Token.TheVariants as tokens
 use Rattle.sv_text.specs.declared.token.Lexeme.{Lexeme}
 use Rattle.sv_world.specs.declared.node.Operator.{Operator}
 use Rattle.sv_world.specs.declared.node.Operator.TheVariants as ops
-use Rattle.sv_text.specs.Reading.{◌>>=◌, Read, mark_code, is_same, is_mark, is_at, front, rest_of, fault, unexpected, expect, slot_from, slot_or, slot_at, start, part_or, marked, op_of, op_at, leaf_by, leaf_at, closed_by, bracketed_by, pair_by, expr_by, nowhere, expr_at}
+use Rattle.sv_text.specs.Reading.{◌>>=◌, Read, mark_code, is_same, is_mark, is_at, front, rest_of, fault, unexpected, expect, slot_from, slot_at, start, part_or, marked, op_of, op_at, leaf_by, leaf_at, closed_by, bracketed_by, pair_by, expr_by, nowhere, expr_at}
 use Rattle.sv_text.specs.Grammar.{Place, Form, IsMark, IsNode, IsNumber, IsRef, op_mark, IsBracketed, IsPair, IsLiteral, IsAttr, IsExpr}
 
 -- the value of a step that did not fail
@@ -135,13 +135,9 @@ start_is depth nodes ts n e = elim (chosen (ltb nodes 64) (cond (ltb 0 depth) (O
   | inr h ↦ no_err (fault ts causes.TooLarge) n h.1
 ]
 
-slot_or_is : (f : TextFault) (o : Option ℕ) (k : ℕ) → slot_or f o ≡ Ok k → o ≡ Some k
-slot_or_is f None k e = no_err f k e
-slot_or_is f (Some j) k e = ap Some (ok_is j k e)
-
 pub slot_at_is : (reads : List ObjectId) (o : ℕ) (ts : List Lexeme) (k : ℕ) → slot_at reads o ts ≡ Ok k → slot_from 0 reads o ≡ Some k
 unfolding slot_at
-slot_at_is reads o ts k e = slot_or_is (fault ts causes.NotRead) (slot_from 0 reads o) k e
+slot_at_is reads o ts k e = part_is (fault ts causes.NotRead) (slot_from 0 reads o) k e
 
 abbrev LiteralHere : Expr → List Lexeme → Type 0
 LiteralHere e ts = (z : ℤ) × (expr.Lit z ≡ e) × IsNumber z ts (rest_of ts)

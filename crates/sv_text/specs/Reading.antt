@@ -179,12 +179,13 @@ abbrev pub slot_from : ℕ → List ObjectId → ℕ → Option ℕ
 slot_from k [] o = None
 slot_from k (r ∷ rs) o = cond (r.0 == o) (Some k) (slot_from (k + 1) rs o)
 
-abbrev pub slot_or : TextFault → Option ℕ → Result ℕ TextFault
-slot_or f None = Err f
-slot_or f (Some k) = Ok k
+-- what is there, else the fault
+abbrev pub part_or : {A : Type 0} → TextFault → Option A → Result A TextFault
+part_or f None = Err f
+part_or f (Some x) = Ok x
 
 unfoldable pub slot_at : List ObjectId → ℕ → List Lexeme → Result ℕ TextFault
-slot_at reads o ts = slot_or (fault ts causes.NotRead) (slot_from 0 reads o)
+slot_at reads o ts = part_or (fault ts causes.NotRead) (slot_from 0 reads o)
 
 -- a written object and its slot
 unfoldable pub write_at : List ObjectId → ℕ → List Lexeme → Result (ℕ × ℕ) TextFault
@@ -238,10 +239,6 @@ op_of marks.Remainder = Some ops.Rem
 op_of marks.Min = Some ops.Min
 op_of marks.Max = Some ops.Max
 op_of _ = None
-
-abbrev pub part_or : {A : Type 0} → TextFault → Option A → Result A TextFault
-part_or f None = Err f
-part_or f (Some x) = Ok x
 
 abbrev pub marked : {A : Type 0} → (Mark → Option A) → Option Mark → Option A
 marked f None = None
