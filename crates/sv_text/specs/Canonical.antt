@@ -60,27 +60,44 @@ abbrev pub joint_text : Connective → List ℕ
 joint_text joints.And = codes " and "
 joint_text joints.Or = codes " or "
 
+-- a condition, a statement and a block by their parts' texts
+abbrev pub not_part : List ℕ → List ℕ
+not_part test = codes "not " ++ test
+
+abbrev pub set_part : List ObjectId → ℕ → ℕ → List ℕ → List ℕ
+set_part reads slot attr value = codes "set " ++ ref_text reads slot attr ++ codes " " ++ value ++ codes ";"
+
+abbrev pub if_part : List ℕ → List ℕ → List ℕ → List ℕ
+if_part test body other = codes "if " ++ test ++ codes " " ++ body ++ other
+
+abbrev pub block_part : List ℕ → List ℕ
+block_part run = codes "{" ++ run ++ codes " }"
+
+-- a block behind the first of an `if`
+abbrev pub other_part : List ℕ → List ℕ
+other_part run = codes " else " ++ block_part run
+
 abbrev pub expr_text_step : List ObjectId → Expr-F (List ℕ) → List ℕ
 expr_text_step reads (Expr-F.Lit z) = signed_decimal z
 expr_text_step reads (Expr-F.Attr slot attr) = ref_text reads slot attr
-expr_text_step reads (Expr-F.Add a b) = pair_text a (codes " + ") b
-expr_text_step reads (Expr-F.Sub a b) = pair_text a (codes " - ") b
-expr_text_step reads (Expr-F.Mul a b) = pair_text a (codes " * ") b
-expr_text_step reads (Expr-F.Div a b) = pair_text a (codes " / ") b
-expr_text_step reads (Expr-F.Rem a b) = pair_text a (codes " % ") b
-expr_text_step reads (Expr-F.Min a b) = pair_text a (codes " min ") b
-expr_text_step reads (Expr-F.Max a b) = pair_text a (codes " max ") b
+expr_text_step reads (Expr-F.Add a b) = pair_text a (op_text ops.Add) b
+expr_text_step reads (Expr-F.Sub a b) = pair_text a (op_text ops.Sub) b
+expr_text_step reads (Expr-F.Mul a b) = pair_text a (op_text ops.Mul) b
+expr_text_step reads (Expr-F.Div a b) = pair_text a (op_text ops.Div) b
+expr_text_step reads (Expr-F.Rem a b) = pair_text a (op_text ops.Rem) b
+expr_text_step reads (Expr-F.Min a b) = pair_text a (op_text ops.Min) b
+expr_text_step reads (Expr-F.Max a b) = pair_text a (op_text ops.Max) b
 
 abbrev pub expr_text : List ObjectId → Expr → List ℕ
 expr_text reads = fold-Expr (List ℕ) (expr_text_step reads)
 
 abbrev pub cond_text_step : List ObjectId → Cond-F (List ℕ) → List ℕ
-cond_text_step reads (Cond-F.Eq a b) = test_text (expr_text reads a) (codes " == ") (expr_text reads b)
-cond_text_step reads (Cond-F.Lt a b) = test_text (expr_text reads a) (codes " < ") (expr_text reads b)
-cond_text_step reads (Cond-F.Le a b) = test_text (expr_text reads a) (codes " <= ") (expr_text reads b)
-cond_text_step reads (Cond-F.And a b) = pair_text a (codes " and ") b
-cond_text_step reads (Cond-F.Or a b) = pair_text a (codes " or ") b
-cond_text_step reads (Cond-F.Not a) = codes "not " ++ a
+cond_text_step reads (Cond-F.Eq a b) = test_text (expr_text reads a) (comparison_text comparisons.Eq) (expr_text reads b)
+cond_text_step reads (Cond-F.Lt a b) = test_text (expr_text reads a) (comparison_text comparisons.Lt) (expr_text reads b)
+cond_text_step reads (Cond-F.Le a b) = test_text (expr_text reads a) (comparison_text comparisons.Le) (expr_text reads b)
+cond_text_step reads (Cond-F.And a b) = pair_text a (joint_text joints.And) b
+cond_text_step reads (Cond-F.Or a b) = pair_text a (joint_text joints.Or) b
+cond_text_step reads (Cond-F.Not a) = not_part a
 
 abbrev pub cond_text : List ObjectId → Cond → List ℕ
 cond_text reads = fold-Cond (List ℕ) (cond_text_step reads)
@@ -91,19 +108,19 @@ spaced texts = flat_map (λ text. 32 ∷ text) texts
 
 -- the block of these statements; an empty one is `{ }`
 abbrev pub block_text : List (List ℕ) → List ℕ
-block_text stmts = codes "{" ++ spaced stmts ++ codes " }"
+block_text stmts = block_part (spaced stmts)
 
 -- An empty block has no `else`.
 abbrev pub else_text : List (List ℕ) → List ℕ
 else_text [] = []
-else_text (s ∷ ss) = codes " else " ++ block_text (s ∷ ss)
+else_text (s ∷ ss) = other_part (spaced (s ∷ ss))
 
 abbrev pub set_text : List ObjectId → ℕ → ℕ → Expr → List ℕ
-set_text reads slot attr e = codes "set " ++ ref_text reads slot attr ++ codes " " ++ expr_text reads e ++ codes ";"
+set_text reads slot attr e = set_part reads slot attr (expr_text reads e)
 
 abbrev pub stmt_text_step : List ObjectId → Stmt-F (List ℕ) → List ℕ
 stmt_text_step reads (Stmt-F.Set slot attr e) = set_text reads slot attr e
-stmt_text_step reads (Stmt-F.If c a b) = codes "if " ++ cond_text reads c ++ codes " " ++ block_text a ++ else_text b
+stmt_text_step reads (Stmt-F.If c a b) = if_part (cond_text reads c) (block_text a) (else_text b)
 
 abbrev pub stmt_text : List ObjectId → Stmt → List ℕ
 stmt_text reads = fold-Stmt (List ℕ) (stmt_text_step reads)
@@ -124,27 +141,10 @@ abbrev pub else_part : List ObjectId → Part → List ℕ
 else_part reads (Block xs) = else_text (map (stmt_text reads) xs)
 else_part reads p = []
 
--- a statement by its parts' texts
-abbrev pub set_part : List ObjectId → ℕ → ℕ → List ℕ → List ℕ
-set_part reads slot attr value = codes "set " ++ ref_text reads slot attr ++ codes " " ++ value ++ codes ";"
-
-abbrev pub not_part : List ℕ → List ℕ
-not_part test = codes "not " ++ test
-
 -- the statements' texts, each behind a space
 abbrev pub run_text : List ObjectId → Part → List ℕ
 run_text reads (Block xs) = spaced (map (stmt_text reads) xs)
 run_text reads p = []
-
--- a block, and one behind the first of an `if`, by its statements' texts
-abbrev pub block_part : List ℕ → List ℕ
-block_part run = codes "{" ++ run ++ codes " }"
-
-abbrev pub other_part : List ℕ → List ℕ
-other_part run = codes " else " ++ block_part run
-
-abbrev pub if_part : List ℕ → List ℕ → List ℕ → List ℕ
-if_part test body other = codes "if " ++ test ++ codes " " ++ body ++ other
 
 abbrev pub object_text : ObjectId → List ℕ
 object_text o = 32 ∷ decimal o.0
