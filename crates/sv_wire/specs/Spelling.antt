@@ -51,27 +51,46 @@ head_bytes head = big_bytes 2 (length head) ++ flat_map held_bytes head
 abbrev pub result_bytes : Done1 → List ℕ
 result_bytes r = big_bytes 4 r.pos ++ length r.values ∷ flat_map value_bytes r.values
 
+-- The byte of a node that joins two parts.
+abbrev pub operator_byte : Operator → ℕ
+operator_byte Add = 0x22
+operator_byte Sub = 0x23
+operator_byte Mul = 0x24
+operator_byte Div = 0x25
+operator_byte Rem = 0x26
+operator_byte Min = 0x27
+operator_byte Max = 0x28
+
+abbrev pub comparison_byte : Comparison → ℕ
+comparison_byte Eq = 0x30
+comparison_byte Lt = 0x31
+comparison_byte Le = 0x32
+
+abbrev pub connective_byte : Connective → ℕ
+connective_byte And = 0x33
+connective_byte Or = 0x34
+
 -- A node is its own byte, and the bytes of its parts.
 abbrev pub expr_bytes_step : Expr-F (List ℕ) → List ℕ
 expr_bytes_step (Expr-F.Lit n) = 0x20 ∷ int_bytes w64 n
 expr_bytes_step (Expr-F.Attr slot attr) = 0x21 ∷ slot ∷ attr ∷ []
-expr_bytes_step (Expr-F.Add a b) = 0x22 ∷ (a ++ b)
-expr_bytes_step (Expr-F.Sub a b) = 0x23 ∷ (a ++ b)
-expr_bytes_step (Expr-F.Mul a b) = 0x24 ∷ (a ++ b)
-expr_bytes_step (Expr-F.Div a b) = 0x25 ∷ (a ++ b)
-expr_bytes_step (Expr-F.Rem a b) = 0x26 ∷ (a ++ b)
-expr_bytes_step (Expr-F.Min a b) = 0x27 ∷ (a ++ b)
-expr_bytes_step (Expr-F.Max a b) = 0x28 ∷ (a ++ b)
+expr_bytes_step (Expr-F.Add a b) = operator_byte Add ∷ (a ++ b)
+expr_bytes_step (Expr-F.Sub a b) = operator_byte Sub ∷ (a ++ b)
+expr_bytes_step (Expr-F.Mul a b) = operator_byte Mul ∷ (a ++ b)
+expr_bytes_step (Expr-F.Div a b) = operator_byte Div ∷ (a ++ b)
+expr_bytes_step (Expr-F.Rem a b) = operator_byte Rem ∷ (a ++ b)
+expr_bytes_step (Expr-F.Min a b) = operator_byte Min ∷ (a ++ b)
+expr_bytes_step (Expr-F.Max a b) = operator_byte Max ∷ (a ++ b)
 
 abbrev pub expr_bytes : Expr → List ℕ
 expr_bytes = fold-Expr (List ℕ) expr_bytes_step
 
 abbrev pub cond_bytes_step : Cond-F (List ℕ) → List ℕ
-cond_bytes_step (Cond-F.Eq a b) = 0x30 ∷ (expr_bytes a ++ expr_bytes b)
-cond_bytes_step (Cond-F.Lt a b) = 0x31 ∷ (expr_bytes a ++ expr_bytes b)
-cond_bytes_step (Cond-F.Le a b) = 0x32 ∷ (expr_bytes a ++ expr_bytes b)
-cond_bytes_step (Cond-F.And a b) = 0x33 ∷ (a ++ b)
-cond_bytes_step (Cond-F.Or a b) = 0x34 ∷ (a ++ b)
+cond_bytes_step (Cond-F.Eq a b) = comparison_byte Eq ∷ (expr_bytes a ++ expr_bytes b)
+cond_bytes_step (Cond-F.Lt a b) = comparison_byte Lt ∷ (expr_bytes a ++ expr_bytes b)
+cond_bytes_step (Cond-F.Le a b) = comparison_byte Le ∷ (expr_bytes a ++ expr_bytes b)
+cond_bytes_step (Cond-F.And a b) = connective_byte And ∷ (a ++ b)
+cond_bytes_step (Cond-F.Or a b) = connective_byte Or ∷ (a ++ b)
 cond_bytes_step (Cond-F.Not a) = 0x35 ∷ a
 
 abbrev pub cond_bytes : Cond → List ℕ
@@ -92,24 +111,6 @@ abbrev pub body_bytes : List Stmt → List ℕ
 body_bytes body = with_count (map stmt_bytes body)
 
 -- The bytes of one node of a body.
-abbrev pub operator_byte : Operator → ℕ
-operator_byte Add = 0x22
-operator_byte Sub = 0x23
-operator_byte Mul = 0x24
-operator_byte Div = 0x25
-operator_byte Rem = 0x26
-operator_byte Min = 0x27
-operator_byte Max = 0x28
-
-abbrev pub comparison_byte : Comparison → ℕ
-comparison_byte Eq = 0x30
-comparison_byte Lt = 0x31
-comparison_byte Le = 0x32
-
-abbrev pub connective_byte : Connective → ℕ
-connective_byte And = 0x33
-connective_byte Or = 0x34
-
 abbrev pub node_bytes : Node → List ℕ
 node_bytes (node.Lit n) = 0x20 ∷ int_bytes w64 n
 node_bytes (node.Attr slot attr) = 0x21 ∷ slot ∷ attr ∷ []
