@@ -11,10 +11,11 @@ use Rattle.sv_world.proofs.Influences.{influence-ascending, influence-bounds, la
 use Rattle.sv_world.proofs.Members.{is_in-head, is_in-append_left, is_in-append_right, is_in-append_cases, is_in-filter, is_in-filter_parts, is_in-map, is_in-map_from, same_test}
 use Rattle.sv_world.proofs.Sweeps.{sweep-same, sweep-has}
 use Rattle.sv_world.proofs.Writers.{action_at-append, action_at-last, last_writer-below, missing_writers-parts, missing_writers-has, missing_writers-lower}
+use Rattle.sv_queue.proofs.Members.{is_in-append}
 use Rattle.sv_influence.specs.Writers.{writers_of}
 use Rattle.sv_influence.proofs.Counts.{ascending-few}
 use Rattle.sv_influence.proofs.Growth.{ascending-last, sweep-pop, whole-nil}
-use Rattle.sv_influence.proofs.Looks.{is_in-append, members-move}
+use Rattle.sv_influence.proofs.Looks.{members-move}
 use Rattle.sv_influence.proofs.Takes.{is_in-swap}
 
 -- What each position makes wanted.

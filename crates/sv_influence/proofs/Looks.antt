@@ -1,7 +1,7 @@
 -- What one look-up of an object's last writer adds.
-use Rattle.std.proofs.Common.{◌≡◌, ℕ, zero, suc, ◌<◌, ◌≤◌, inl, inr, Bool, true, false, ◌||◌, ◌&&◌, not, List, [], ◌∷◌, ◌++◌, map, length, replicate, refl, sym, ◌∙◌, ap, subst, nat_eq, nat_lt, nat_le, arith, length-append, le-leb, lt-ltb}
+use Rattle.std.proofs.Common.{◌≡◌, ℕ, ◌<◌, ◌≤◌, inl, inr, Bool, true, false, ◌||◌, ◌&&◌, not, List, [], ◌∷◌, ◌++◌, map, length, replicate, sym, ◌∙◌, ap, subst, nat_lt, nat_le, arith, length-append, le-leb, lt-ltb}
 use Rattle.std.proofs.lemmas.Bool.{cond-true, cond-false, and_from, and_left, and_right, not_from_false, not_from_true, lt-leb, cases_lt}
-use Rattle.std.proofs.lemmas.List.{get_or_append_left, get_or-replicate, length-replicate, length-map}
+use Rattle.std.proofs.lemmas.List.{length-replicate, length-map}
 use Rattle.std.proofs.lemmas.List.Elements.{filter-append}
 use Rattle.sv_world.specs.declared.action.Action.{Action}
 use Rattle.sv_world.specs.Sets.{write_set}
@@ -12,6 +12,8 @@ use Rattle.sv_world.proofs.Writers.{last_writer-below, last_writer-writes}
 use Rattle.sv_queue.specs.declared.queued.Queued.{Queued}
 use Rattle.sv_queue.specs.Pairs.{is_pair}
 use Rattle.sv_queue.specs.Queue.{QueueView, IsUncommitted, last_position, queue_actions, entry_actions, sent_positions, given_objects}
+use Rattle.sv_queue.proofs.Members.{is_in-append}
+use Rattle.sv_queue.proofs.SourceLists.{committed_blank}
 use Rattle.sv_influence.specs.Lacking.{lacking_writers, committed_reads}
 use Rattle.sv_influence.proofs.ReadSets.{or_move}
 
@@ -19,11 +21,6 @@ pub queue_length : (v : QueueView) → length (queue_actions v) ≡ last_positio
 queue_length v =
     length-append (replicate v.commit blank) (entry_actions v.entries)
     ∙ (let a = length-replicate v.commit blank in let b = length-map v.entries (λ (e : Queued). e.action) in omega arith)
-
-committed_blank : (c k : ℕ) (es : List Action) → k ≤ c → action_at (replicate c blank ++ es) k ≡ blank
-committed_blank c zero es l = refl
-committed_blank c (suc k) es l =
-    get_or_append_left (replicate c blank) es blank k (let n = length-replicate c blank in omega arith) ∙ get_or-replicate c k blank blank (omega arith)
 
 -- A last writer in a queue is above the commit, where there is one.
 pub writer-above : (v : QueueView) (x i : ℕ) → 0 < last_writer (queue_actions v) x i → v.commit < last_writer (queue_actions v) x i
@@ -90,15 +87,6 @@ look-unsent v s pos o w old new' is late unsent h x =
     (and_from (nat_lt v.commit j) (not (is_in j (sent_positions v s)))
     (lt-ltb v.commit j (subst (λ (n : ℕ). v.commit < n) is late))
     (not_from_false (is_in j (sent_positions v s)) (subst (λ (n : ℕ). is_in n (sent_positions v s) ≡ false) is unsent)))))
-
-or_three : (a b c : Bool) → ((a || b) || c) ≡ (a || (b || c))
-or_three true b c = refl
-or_three false b c = refl
-
-pub is_in-append : (k : ℕ) (xs ys : List ℕ) → is_in k (xs ++ ys) ≡ (is_in k xs || is_in k ys)
-is_in-append k [] ys = refl
-is_in-append k (x ∷ xs) ys =
-    ap (λ (b : Bool). nat_eq k x || b) (is_in-append k xs ys) ∙ sym (or_three (nat_eq k x) (is_in k xs) (is_in k ys))
 
 -- The first part of what is left to add goes over to what was added.
 pub members-move : (j : ℕ) (first rest old new' : List ℕ) → is_in j new' ≡ is_in j (first ++ old) → is_in j (rest ++ new') ≡ is_in j ((first ++ rest) ++ old)

@@ -1,41 +1,26 @@
 -- A number that is put into an ascending list below its last ones, which are taken off and put back.
-use Rattle.std.proofs.Common.{◌≡◌, ℕ, ◌<◌, inl, inr, Bool, true, false, ◌||◌, List, [], ◌∷◌, ◌++◌, nat_eq, refl, sym, ◌∙◌, ap, subst, arith}
+use Rattle.std.proofs.Common.{◌≡◌, ℕ, ◌<◌, inl, inr, Bool, true, ◌||◌, List, [], ◌∷◌, ◌++◌, nat_eq, sym, ◌∙◌, ap, subst, arith}
 use Rattle.sv_world.specs.Control.{is_in}
 use Rattle.sv_world.specs.Faults.{is_ascending}
-use Rattle.sv_world.proofs.Ascending.{ascending-head, ascending-tail}
 use Rattle.sv_world.proofs.Members.{is_in-head, is_in-append_right, is_in-append_cases, is_in-cons_cases, is_in-one}
-use Rattle.sv_influence.proofs.Places.{is_in-known}
+use Rattle.sv_influence.proofs.Growth.{ascending-last}
+use Rattle.sv_influence.proofs.Places.{is_in-known, or_swap}
 use Rattle.sv_influence.proofs.Takes.{is_in-swap}
-
--- All others are below the last.
-pub under-last : (xs : List ℕ) (x : ℕ) → is_ascending (xs ++ x ∷ []) ≡ true → (j : ℕ) → is_in j xs ≡ true → j < x
-under-last [] x h j m = cc
-under-last (y ∷ ys) x h j m =
-    elim (is_in-cons_cases j y ys m) [
-      | inl e ↦ subst (λ (k : ℕ). k < x) (sym e) (ascending-head y (ys ++ x ∷ []) h x (is_in-append_right x ys (x ∷ []) (is_in-head x [])))
-      | inr r ↦ under-last ys x (ascending-tail y (ys ++ x ∷ []) h) j r
-    ]
 
 pub under-placed : (rest placed : List ℕ) (top pos : ℕ) → is_ascending (rest ++ top ∷ []) ≡ true → pos < top → ((j : ℕ) → is_in j placed ≡ is_in j (pos ∷ rest)) →
     (j : ℕ) → is_in j placed ≡ true → j < top
 under-placed rest placed top pos h l is j m =
     elim (is_in-cons_cases j pos rest (sym (is j) ∙ m)) [
       | inl e ↦ subst (λ (k : ℕ). k < top) (sym e) l
-      | inr r ↦ under-last rest top h j r
+      | inr r ↦ ascending-last rest top h j r
     ]
 
 pub under-all : (rest : List ℕ) (top pos : ℕ) → is_ascending (rest ++ top ∷ []) ≡ true → top < pos → (j : ℕ) → is_in j (rest ++ top ∷ []) ≡ true → j < pos
 under-all rest top pos h l j m =
     elim (is_in-append_cases j rest (top ∷ []) m) [
-      | inl r ↦ (let b = under-last rest top h j r in omega arith)
+      | inl r ↦ (let b = ascending-last rest top h j r in omega arith)
       | inr e ↦ (let same = is_in-one j top e in omega arith)
     ]
-
-or_swap : (a b c : Bool) → (a || (b || c)) ≡ (b || (a || c))
-or_swap true true c = refl
-or_swap true false c = refl
-or_swap false true c = refl
-or_swap false false c = refl
 
 -- It was placed below the last one.
 pub placed-under : (rest placed : List ℕ) (top pos : ℕ) → ((j : ℕ) → is_in j placed ≡ is_in j (pos ∷ rest)) →

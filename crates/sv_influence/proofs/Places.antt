@@ -38,7 +38,7 @@ ascending-front [] ys h = refl
 ascending-front (x ∷ xs) ys h =
     ascending-cons x xs (λ j m. ascending-head x (xs ++ ys) h j (is_in-append_left j xs ys m)) (ascending-front xs ys (ascending-tail x (xs ++ ys) h))
 
-or_swap : (a b c : Bool) → (a || (b || c)) ≡ (b || (a || c))
+pub or_swap : (a b c : Bool) → (a || (b || c)) ≡ (b || (a || c))
 or_swap true true c = refl
 or_swap true false c = refl
 or_swap false true c = refl

@@ -11,7 +11,7 @@ use Rattle.sv_world.proofs.Needs.{needed-sent, needed-unsent}
 use Rattle.sv_queue.specs.Queue.{QueueView, IsUncommitted, queue_actions, sent_positions}
 use Rattle.sv_influence.specs.Lacking.{lacking}
 use Rattle.sv_influence.proofs.Growth.{ascending-last, whole-pop, whole-nil}
-use Rattle.sv_influence.proofs.Looks.{is_in-append}
+use Rattle.sv_queue.proofs.Members.{is_in-append}
 
 or_comm : (a b : Bool) → (a || b) ≡ (b || a)
 or_comm true true = refl

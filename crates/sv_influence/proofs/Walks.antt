@@ -9,6 +9,7 @@ use Rattle.sv_world.proofs.Members.{is_in-head, is_in-tail, is_in-cons_cases, sa
 use Rattle.sv_world.proofs.Writers.{last_writer-below, last_writer-writes, last_writer-unwritten}
 use Rattle.sv_world.proofs.Influences.{influence-iff, influence-bounds, influence-direct, influence-closed, influence-ascending}
 use Rattle.sv_influence.proofs.Counts.{above, above-in, above-parts, above-ascending, above-none, above-all, above-miss, ascending-few}
+use Rattle.sv_influence.proofs.Places.{or_swap}
 
 -- Some of these positions reads the object.
 abbrev pub are_read : List Action → ℕ → List ℕ → Bool
@@ -126,12 +127,6 @@ walk-meets A c a n f low high is =
     (λ h.
     let p = reader_of A c a n low ((influence-iff A c a n).0 h).1 in
     any_from f p.0 (write_set (action_at A n)) p.1.0 (is p.0 ∙ p.1.1))
-
-or_swap : (a b c : Bool) → (a || (b || c)) ≡ (b || (a || c))
-or_swap true true c = refl
-or_swap true false c = refl
-or_swap false true c = refl
-or_swap false false c = refl
 
 -- With the objects of the position too, the set is that of the position below.
 pub walk-objects : (A : List Action) (c : ℕ) (a b : Action) (p : ℕ) (f g : ℕ → Bool) → b ≡ action_at A p →

@@ -1,13 +1,14 @@
 -- What a queue's fields keep, and how it stays through each change.
 use Rattle.std.proofs.Common.{◌≡◌, ℕ, zero, suc, ◌+◌, ◌^◌, ◌<◌, ◌≤◌, Bool, true, false, cond, List, [], ◌∷◌, ◌++◌, length, drop, set, All, get_or, replicate, ◌⊎◌, inl, inr, ℤ, Option, Some, IfSome, refl, sym, ◌∙◌, ap, subst, lit<, arith, add-one, length-append, append-nil}
-use Rattle.std.proofs.lemmas.Bool.{cases_eq, cases_lt}
-use Rattle.std.proofs.lemmas.List.{get_or-set_same, get_or-set_other, get_or_append_left, get_or_push, length-set, length-replicate, get_or-replicate}
+use Rattle.std.proofs.lemmas.Bool.{cases_lt}
+use Rattle.std.proofs.lemmas.List.{get_or_append_left, get_or_push, length-set, length-replicate, get_or-replicate}
 use Rattle.sv_world.specs.declared.action.Action.{Action}
 use Rattle.sv_world.specs.declared.world.Shape.{Shape}
 use Rattle.sv_world.specs.Control.{is_in}
 use Rattle.sv_world.specs.Faults.{IsGoodAction}
 use Rattle.sv_world.specs.Sets.{write_set}
 use Rattle.sv_eval.specs.Serial.{put_all}
+use Rattle.sv_eval.proofs.Lists.{all_set}
 use Rattle.sv_queue.specs.declared.queued.Queued.{Queued}
 use Rattle.sv_queue.specs.Invariant.{AgreeOn, IsGoodEntry, writers_above}
 use Rattle.sv_queue.specs.Queue.{no_entry}
@@ -18,16 +19,6 @@ use Rattle.sv_queue.proofs.WrittenObjects.{front_of-push, length-put_all}
 
 pub can_write : (shape : Shape) (a : Action) → IsGoodAction shape a → CanWrite shape.objects a
 can_write shape a g = record { few_reads = g.few_reads; ascending = g.ascending; objects = g.objects }
-
-All-set : {X : Type 0} (P : X → Type 0) (xs : List X) (i : ℕ) (y : X) → All P xs → P y → All P (set xs i y)
-All-set P xs i y h p k d low = go (cases_eq k i)
-  where
-    small : k < length xs
-    small = omega (arith, length-set xs i y)
-
-    go : (k ≡ i) ⊎ (k ≡ i → ⊥) → P (get_or (set xs i y) k d)
-    go (inl e) = let within : i < length xs = omega (arith, small) in rw (e, get_or-set_same xs i y d within) p
-    go (inr ne) = rw (get_or-set_other xs i k y d ne) (h k d small)
 
 All-push : {X : Type 0} (P : X → Type 0) (xs : List X) (y : X) → All P xs → P y → All P (xs ++ y ∷ [])
 All-push P xs y h p k d low = go (cases_lt k (length xs))
@@ -52,7 +43,7 @@ module _ (shape : Shape) (commit : ℕ) (committed : List (List ℤ)) where
     limits = h.limits;
     objects = h.objects;
     attrs = h.attrs;
-    good = All-set (IsGoodEntry shape) es i e h.good good;
+    good = all_set (IsGoodEntry shape) es i e h.good good;
     last = omega (arith, h.last, length-set es i e);
     lists = h.lists;
     indexed = λ x low. h.indexed x low ∙ sym (writers_above-set commit es i e x same);
@@ -155,7 +146,7 @@ HaveAttrs-put : (shape : Shape) (committed : List (List ℤ)) (xs : List ℕ) (v
 HaveAttrs-put shape committed [] values h g = h
 HaveAttrs-put shape committed (x ∷ xs) [] h g = h
 HaveAttrs-put shape committed (x ∷ xs) (v ∷ values) h g =
-    HaveAttrs-put shape (set committed x v) xs values (All-set (λ value. length value ≡ shape.attrs) committed x v h (g 0 [] (omega arith))) (λ k d low. g (suc k) d (omega arith))
+    HaveAttrs-put shape (set committed x v) xs values (all_set (λ value. length value ≡ shape.attrs) committed x v h (g 0 [] (omega arith))) (λ k d low. g (suc k) d (omega arith))
 
 -- With the first entry committed.
 agree_rest : (shape : Shape) (commit : ℕ) (committed values : List (List ℤ)) (e : Queued) (es : List Queued) (writers now rows next : List (List ℕ)) →

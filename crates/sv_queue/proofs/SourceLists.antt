@@ -13,7 +13,7 @@ use Rattle.sv_queue.specs.Invariant.{HaveSources, IsGoodEntry, uncommitted}
 use Rattle.sv_queue.specs.Queue.{entry_actions, no_entry}
 use Rattle.sv_queue.proofs.Entries.{action_past}
 
-committed_blank : (c k : ℕ) (bs : List Action) → k ≤ c → action_at (replicate c blank ++ bs) k ≡ blank
+pub committed_blank : (c k : ℕ) (bs : List Action) → k ≤ c → action_at (replicate c blank ++ bs) k ≡ blank
 committed_blank c zero bs l = refl
 committed_blank c (suc k) bs l =
     get_or_append_left (replicate c blank) bs blank k (let n = length-replicate c blank in omega arith) ∙ get_or-replicate c k blank blank (omega arith)

@@ -7,6 +7,7 @@ use Rattle.sv_world.specs.declared.world.ObjectId.{ObjectId}
 use Rattle.sv_world.specs.Control.{is_in}
 use Rattle.sv_world.specs.Faults.{is_ascending}
 use Rattle.sv_world.specs.Sets.{is_in_mask, at_mask, read_set, write_set}
+use Rattle.sv_world.proofs.Ascending.{ascending-tail}
 use Rattle.sv_eval.specs.Serial.{put_all}
 use Rattle.sv_queue.specs.Written.{CanWrite, IsChangedAt, writes_before, front_of}
 use Rattle.sv_queue.proofs.Members.{is_in-append}
@@ -63,16 +64,12 @@ head_lower x (y ∷ ys) (suc k) h low =
     let rest : is_ascending (y ∷ ys) ≡ true = (and_parts (nat_lt x y) (is_ascending (y ∷ ys)) h).1 in
     let q : y < get_or ys k 0 = head_lower y ys k rest (omega arith) in omega arith
 
-tail_ascends : (x : ℕ) (xs : List ℕ) → is_ascending (x ∷ xs) ≡ true → is_ascending xs ≡ true
-tail_ascends x [] h = refl
-tail_ascends x (y ∷ ys) h = (and_parts _ _ h).1
-
 not_before : (n : ℕ) (xs : List ℕ) → is_ascending xs ≡ true → n < length xs → is_in (get_or xs n 0) (take n xs) ≡ false
 not_before zero xs h low = refl
 not_before (suc n) [] h low = absurd (omega arith)
 not_before (suc n) (x ∷ xs) h low =
     let p : x < get_or xs n 0 = head_lower x xs n h (omega arith) in
-    or_from _ _ (ne_eqb (get_or xs n 0) x (λ e. omega arith)) (not_before n xs (tail_ascends x xs h) (omega arith))
+    or_from _ _ (ne_eqb (get_or xs n 0) x (λ e. omega arith)) (not_before n xs (ascending-tail x xs h) (omega arith))
 
 -- A read is not among the objects written at earlier slots.
 pub fresh_read : (a : Action) (n : ℕ) → is_ascending (read_set a) ≡ true → n < length a.reads →

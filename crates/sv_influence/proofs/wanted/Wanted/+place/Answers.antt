@@ -2,7 +2,8 @@
 use Rattle.std.proofs.Common.{◌≡◌, ◌∷◌, ◌++◌, ℕ, true, List, [], sym, ◌∙◌, ap, subst, arith}
 use Rattle.sv_world.specs.Control.{is_in}
 use Rattle.sv_world.specs.Faults.{is_ascending}
-use Rattle.sv_influence.proofs.Placed.{under-last, under-placed, under-all, placed-under, placed-known, placed-over}
+use Rattle.sv_influence.proofs.Growth.{ascending-last}
+use Rattle.sv_influence.proofs.Placed.{under-placed, under-all, placed-under, placed-known, placed-over}
 use Rattle.sv_influence.proofs.wanted.Wanted.+place.Goals as goal
 
 pub push-requires-then-top-pos-clause-above : goal.push-requires-then-top-pos-clause-above
@@ -18,7 +19,7 @@ returns-then-top-pos-clause-added t c = λ j.
 
 pub push-requires-2-clause-above : goal.push-requires-2-clause-above
 push-requires-2-clause-above t c =
-    under-last c.pop.new.self c.in-Some.top (subst (λ (xs : List ℕ). is_ascending xs ≡ true) c.in-Some.ensures.greatest c.in-Some.ensures.ascending)
+    ascending-last c.pop.new.self c.in-Some.top (subst (λ (xs : List ℕ). is_ascending xs ≡ true) c.in-Some.ensures.greatest c.in-Some.ensures.ascending)
 
 pub push-requires-then-top-pos-2-clause-above : goal.push-requires-then-top-pos-2-clause-above
 push-requires-then-top-pos-2-clause-above t c = λ j m.
