@@ -9,9 +9,10 @@ use Rattle.sv_journal.specs.declared.entry.Entry.{Entry}
 use Rattle.sv_journal.specs.declared.entry.Logged.{Logged}
 use Rattle.sv_journal.specs.declared.entry.Logged.TheVariants as logged
 use Rattle.sv_journal.specs.History.{is_relay, client_of, is_client, is_submit_of, Outcome, outcome_in, outcomes_of, Authored, new_action, accepted, next_seq, authored_at}
+use Rattle.sv_journal.proofs.Stays.{authored_last}
 use Rattle.law_journal.specs.Brought.{IsMadeBy}
 use Rattle.law_journal.proofs.Staying.{added}
-use Rattle.law_journal.proofs.Makers.{authored-last, made-less}
+use Rattle.law_journal.proofs.Makers.{made-less}
 
 -- ---- What an entry adds
 
@@ -93,7 +94,7 @@ made-here A x k n p new m =
     let within : p ≤ length (A ++ x ∷ []) = m.within in
     let count : length (A ++ x ∷ []) ≡ length A + 1 = length-append A (x ∷ []) in
     let place : p ≡ suc (length A) = omega arith in
-    let here : x ≡ authored_at (A ++ x ∷ []) p = sym (ap (authored_at (A ++ x ∷ [])) place ∙ authored-last A x) in
+    let here : x ≡ authored_at (A ++ x ∷ []) p = sym (ap (authored_at (A ++ x ∷ [])) place ∙ authored_last A x) in
     (ap (λ (y : Authored). y.client) here ∙ m.maker, ap (λ (y : Authored). y.seq) here ∙ m.numbered)
 
 newly-made : (e : Entry) (h : List Entry) (k n p : ℕ) → length (accepted h) < p → IsMadeBy (accepted (e ∷ h)) k n p → IsNewlyMade e h k n

@@ -3,7 +3,7 @@ use Rattle.std.proofs.Common.{◌≡◌, ℕ, zero, suc, ◌<◌, ◌≤◌, Boo
 use Rattle.std.proofs.lemmas.Bool.{cases_eq}
 use Rattle.sv_journal.specs.declared.entry.Entry.{Entry}
 use Rattle.sv_journal.specs.History.{accepted, result_at, commit_of}
-use Rattle.sv_system.proofs.Histories.{commit-most, committed-has}
+use Rattle.sv_journal.proofs.Commits.{committed_has, commit_within}
 use Rattle.sv_system.proofs.Commits.{run-least}
 use Rattle.law_journal.specs.Committed.{AllHaveResults, CommitIsTheGreatest, NextHasNoResult}
 
@@ -14,8 +14,8 @@ has_result h p = is_some (result_at h p)
 
 pub all-to-commit : (h : List Entry) → AllHaveResults h (commit_of h)
 all-to-commit h p low high =
-    let most : commit_of h ≤ length (accepted h) = commit-most h in
-    (omega arith, committed-has h p (omega arith) high)
+    let most : commit_of h ≤ length (accepted h) = commit_within h in
+    (omega arith, committed_has h p (omega arith) high)
 
 within : (h : List Entry) (n : ℕ) → AllHaveResults h n → n ≤ length (accepted h)
 within h zero all = omega arith
@@ -34,7 +34,7 @@ one-more : (h : List Entry) → commit_of h < length (accepted h) → is_some (r
 one-more h more here p low high =
     elim (cases_eq p (suc (commit_of h))) [
       | inl same ↦ (omega arith, subst (λ (i : ℕ). is_some (result_at h i) ≡ true) (sym same) here)
-      | inr other ↦ (omega arith, committed-has h p (omega arith) (omega arith))
+      | inr other ↦ (omega arith, committed_has h p (omega arith) (omega arith))
     ]
 
 pub next_has_no_result : NextHasNoResult

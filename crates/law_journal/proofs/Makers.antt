@@ -2,17 +2,15 @@
 use Rattle.std.proofs.Common.{◌≡◌, ℕ, zero, suc, ◌+◌, ◌≤◌, Bool, true, ◌&&◌, inl, inr, List, [], ◌∷◌, ◌++◌, length, Some, slice_get, refl, sym, ap, ◌∙◌, subst, arith, length-append}
 use Rattle.std.specs.Prelude.{if◌then◌else◌}
 use Rattle.std.proofs.lemmas.Bool.{cond-true, cond-false, cases_Bool, and_parts}
-use Rattle.std.proofs.lemmas.List.{get_or_push}
 use Rattle.std.proofs.lemmas.Option.{none-some, same_Some}
 use Rattle.sv_world.specs.declared.action.Action.{Action}
-use Rattle.sv_world.specs.Control.{blank}
 use Rattle.sv_wire.specs.declared.message.Request.TheVariants as requests
 use Rattle.sv_journal.specs.declared.entry.Entry.{Entry}
 use Rattle.sv_journal.specs.declared.entry.Logged.{Logged}
 use Rattle.sv_journal.specs.declared.entry.Logged.TheVariants as logged
 use Rattle.sv_journal.specs.History.{is_relay, client_of, is_client, is_submit_of, Outcome, Accepted, Dropped, outcome_in, outcomes_of, Authored, accepted, next_seq, authored_at}
 use Rattle.sv_journal.specs.Sessions.{outcome_at, kept_outcome}
-use Rattle.sv_journal.proofs.Stays.{authored_stays}
+use Rattle.sv_journal.proofs.Stays.{authored_stays, authored_last}
 use Rattle.sv_journal.proofs.Named.{client_is, submit_is}
 use Rattle.sv_system.proofs.Asked.{get-append_cases}
 use Rattle.sv_system.proofs.Histories.{kept-is}
@@ -21,9 +19,6 @@ use Rattle.law_journal.specs.Brought.{IsMadeBy}
 use Rattle.law_journal.proofs.Staying.{added}
 
 -- ---- Accepted actions and more
-
-pub authored-last : (A : List Authored) (x : Authored) → authored_at (A ++ x ∷ []) (suc (length A)) ≡ x
-authored-last A x = get_or_push A x (record { client = 0; seq = 0; action = blank }) (length A) refl
 
 pub made-more : (A more : List Authored) (client number p : ℕ) → IsMadeBy A client number p → IsMadeBy (A ++ more) client number p
 made-more A more client number p m =
@@ -53,8 +48,8 @@ made-last A B x is =
     let here : IsMadeBy (A ++ x ∷ []) x.client x.seq (suc (length A)) = record {
       some = omega arith;
       within = omega arith;
-      maker = ap (λ (y : Authored). y.client) (authored-last A x);
-      numbered = ap (λ (y : Authored). y.seq) (authored-last A x);
+      maker = ap (λ (y : Authored). y.client) (authored_last A x);
+      numbered = ap (λ (y : Authored). y.seq) (authored_last A x);
     } in
     subst (λ (C : List Authored). IsMadeBy C x.client x.seq (suc (length A))) (sym is) here
 
@@ -66,7 +61,7 @@ pub action-new : (e : Entry) (h : List Entry) (k n : ℕ) (a : Action) → clien
 action-new e h k n a client asked number relayed =
     let x : Authored = record { client = k; seq = n; action = a } in
     ap (λ (A : List Authored). (authored_at A (suc (length (accepted h)))).action) (accepted-new e h k n a client asked number relayed)
-    ∙ ap (λ (y : Authored). y.action) (authored-last (accepted h) x)
+    ∙ ap (λ (y : Authored). y.action) (authored_last (accepted h) x)
 
 pub made-new : (e : Entry) (h : List Entry) (k n : ℕ) (a : Action) → client_of h e.session ≡ Some k → e.request ≡ requests.Submit n a → n ≡ next_seq h k → is_relay e.reply ≡ true →
     IsMadeBy (accepted (e ∷ h)) k n (suc (length (accepted h)))

@@ -18,11 +18,11 @@ use Rattle.sv_scenario.specs.Limits.{IsGoodPlan, IsGoodScenario}
 use Rattle.sv_scenario.specs.Sessions.{sessions_of_plan, sessions_in, session_count}
 use Rattle.sv_script.specs.Following.{must_join, is_welcomed}
 use Rattle.sv_script.proofs.Counts.{events-few}
+use Rattle.sv_script.proofs.Places.{joined_once}
 use Rattle.law_schedule.specs.Players.{Player, is_calm, is_settled, player_turn, take_turn}
 use Rattle.law_schedule.specs.Serving.{Run, Server}
 use Rattle.law_schedule.specs.Sound.{IsPlaying, ArePlaying, has_joined}
 use Rattle.law_schedule.specs.Served.{IsSoundOver}
-use Rattle.law_schedule.proofs.SoundTraces.{joined-once}
 use Rattle.law_schedule.proofs.SoundPlayers.{IsFitting, IsKept, IsUnused, may-join, may-make, may-poll, may-leave, turn-kept, take-kept}
 use Rattle.law_schedule.proofs.SoundEntries.{begun_by, unused-unless_begun}
 use Rattle.law_schedule.proofs.SoundRuns.{AreOwn, all-own}
@@ -82,7 +82,7 @@ module _ (server : Server) (shape : Shape) (sessions : ℕ) (h : List Entry) (p 
   pub session-last : must_join p.events ≡ false → (1 ≤ joins p.events) × (p.first + joins p.events ≤ sessions)
   session-last m =
       let most = joins-counted p.who a.plan.steps p.events a.playing.before a.playing.follows in
-      (joined-once p.who a.plan.steps p.events a.playing.before a.playing.follows m, omega (arith, most, ap one_if m, a.playing.first, a.within))
+      (joined_once p.who a.plan.steps p.events a.playing.before a.playing.follows m, omega (arith, most, ap one_if m, a.playing.first, a.within))
 
   -- ---- Each call
 

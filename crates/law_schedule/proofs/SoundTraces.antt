@@ -140,18 +140,6 @@ makes-within who script (events.Cut ∷ t) left f = omega (arith, makes-within w
 makes-within who script (events.Quit ∷ t) left f = omega (arith, makes-within who script t f.0 f.1.0, event-less who t f.0 events.Quit left f.1.1)
 makes-within who script (events.Show objects ∷ t) left f = omega (arith, makes-within who script t f.0 f.1.0, event-less who t f.0 (events.Show objects) left f.1.1)
 
--- A client that has not to join has joined.
-pub joined-once : (who : Identity) (script : List Step) (t : List Event) (left : List Step) → FollowsTo who script t left → must_join t ≡ false → 1 ≤ joins t
-joined-once who script [] left f m = absurd (true≢false m)
-joined-once who script (events.Join s ∷ t) left f m = omega arith
-joined-once who script (events.Got s reply ∷ t) left f m = joined-once who script t f.0 f.1.0 f.1.1.joined
-joined-once who script (events.Leave ∷ t) left f m = joined-once who script t f.0 f.1.0 f.1.1.joined
-joined-once who script (events.Cut ∷ t) left f m = absurd (true≢false m)
-joined-once who script (events.Make action ∷ t) left f m = joined-once who script t f.0 f.1.0 f.1.1.joined
-joined-once who script (events.Poll ∷ t) left f m = joined-once who script t f.0 f.1.0 f.1.1.joined
-joined-once who script (events.Quit ∷ t) left f m = joined-once who script t f.0 f.1.0 f.1.1.joined
-joined-once who script (events.Show objects ∷ t) left f m = joined-once who script t f.0 f.1.0 f.1.1.joined
-
 -- What holds of each step of a script holds of those that are left.
 pub all-left : (P : Step → Type 0) (who : Identity) (script : List Step) (t : List Event) (left : List Step) → FollowsTo who script t left →
     AllByRecursion P script → AllByRecursion P left

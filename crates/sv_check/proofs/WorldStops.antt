@@ -9,6 +9,7 @@ use Rattle.sv_journal.specs.History.{commit_of, committed_of}
 use Rattle.sv_journal.specs.Laws.{FullRepliesStay, LegalRelaysNameAccepted}
 use Rattle.sv_journal.specs.Text.{journal_text}
 use Rattle.sv_journal.proofs.Results.{committed_count}
+use Rattle.sv_journal.proofs.Commits.{commit_within}
 use Rattle.sv_client.specs.declared.trace.Trace.{Trace}
 use Rattle.sv_scenario.specs.declared.scenario.Plan.{Plan}
 use Rattle.sv_scenario.specs.declared.scenario.Scenario.{Scenario}
@@ -16,7 +17,6 @@ use Rattle.sv_scenario.specs.Limits.{IsGoodScenario}
 use Rattle.sv_scenario.specs.Sessions.{sessions_in, session_count}
 use Rattle.sv_script.specs.Laws.{StepsAreDoneInOrder}
 use Rattle.sv_system.specs.Records.{rules_of}
-use Rattle.sv_system.proofs.Histories.{commit-most}
 use Rattle.sv_asked.specs.Asked.{RequestsAreMessages, AcceptedAreFew}
 use Rattle.sv_asked.specs.Numbers.{ScenarioFits}
 use Rattle.sv_asked.proofs.Facts.{RequestsFit, committed-fits}
@@ -58,7 +58,7 @@ module _ (stay : FullRepliesStay) (names : LegalRelaysNameAccepted) (order : Ste
 
   small : commit_of h < 2 ^ 64
   small =
-      let most = commit-most h in
+      let most = commit_within h in
       let accepts = few (rules_of scenario) h (session_count scenario) c.traffic.legal c.traffic.sessions in
       let sessions = good.sessions in
       omega (arith, most, accepts, sessions)

@@ -8,6 +8,7 @@ use Rattle.sv_world.specs.declared.world.ObjectId.{ObjectId}
 use Rattle.sv_world.specs.Sets.{read_set, write_set}
 use Rattle.sv_eval.proofs.Masks.{at_mask_all}
 use Rattle.sv_versions.specs.Held.{Held, versions_of, newest, latest, count_up_to, AnswersAbove}
+use Rattle.sv_versions.proofs.Laws.{greatest_none}
 use Rattle.sv_pending.specs.Made.{ReadsWithin}
 use Rattle.sv_wire.specs.declared.message.ObjectValue.{ObjectValue}
 use Rattle.sv_wire.specs.declared.message.Item.{Item}
@@ -81,11 +82,7 @@ none_held who first (events.Show os ∷ t) p x l = none_held who first t p.1 x l
 pub none_latest : (who : Identity) (first : ℕ) (t : List Event) → AreProper who first t → (x : ℕ) → who.shape.objects ≤ x → latest (held_of t) x ≡ None
 none_latest who first t p x l = ap (λ (hs : List Held). option_map (λ (h : Held). h.value) (newest hs)) (none_held who first t p x l)
 
-no_greatest : (hs : List Held) → newest hs ≡ None → hs ≡ []
-no_greatest [] e = refl
-no_greatest (h ∷ hs) e = cc
-
 pub none_old : (who : Identity) (first : ℕ) (t : List Event) (kept : List Held) (commit : ℕ) → AreProper who first t → AnswersAbove commit kept (held_of t) → (x pos : ℕ) → who.shape.objects ≤ x → count_up_to kept x pos ≡ 0
 none_old who first t kept commit p a x pos l =
     let none : newest (versions_of x kept) ≡ None = a.last x ∙ ap newest (none_held who first t p x l) in
-    ap (λ (hs : List Held). count_by (λ (h : Held). nat_le h.pos pos) hs) (no_greatest (versions_of x kept) none)
+    ap (λ (hs : List Held). count_by (λ (h : Held). nat_le h.pos pos) hs) (greatest_none (versions_of x kept) none)

@@ -1,21 +1,14 @@
 -- The test that two actions are the same is passed just by equal ones.
-use Rattle.std.proofs.Common.{◌≡◌, ℕ, true, ◌&&◌, eqb, ℤ, List, [], ◌∷◌, refl, ap}
+use Rattle.std.proofs.Common.{◌≡◌, ℕ, true, ◌&&◌, eqb, List, [], ◌∷◌, refl, ap}
 use Rattle.std.specs.Ordering.{int_eq}
 use Rattle.std.proofs.lemmas.Bool.{and_parts, and_from, eqb-true, eq-eqb}
-use Rattle.std.proofs.lemmas.Bool.Decides.{Decides-int_eq}
 use lib.Pointwise.{pointwise}
 use Rattle.sv_world.specs.declared.action.Action.{Action}
 use Rattle.sv_world.specs.declared.action.Point.{Point}
 use Rattle.sv_world.specs.declared.world.ObjectId.{ObjectId}
-use Rattle.sv_world.proofs.Same.{body_same, body_own}
+use Rattle.sv_world.proofs.Same.{body_same, body_own, int_same, int_own}
 use Rattle.sv_world.specs.Same.{is_same_body}
 use Rattle.sv_client.specs.Same.{are_same_reads, is_same_point, is_same_action}
-
-int_same : (m n : ℤ) → int_eq m n ≡ true → m ≡ n
-int_same m n h = (Decides-int_eq m n).0 h
-
-int_own : (n : ℤ) → int_eq n n ≡ true
-int_own n = (Decides-int_eq n n).1 refl
 
 reads_same : (xs ys : List ObjectId) → pointwise (λ (x : ObjectId) (y : ObjectId). eqb x.0 y.0) xs ys ≡ true → xs ≡ ys
 reads_same [] [] h = refl

@@ -1,11 +1,12 @@
 -- Serial worlds have as many objects as the opening world, with as many numbers each, and change only where an action writes.
-use Rattle.std.proofs.Common.{◌≡◌, ℕ, zero, suc, ◌<◌, Bool, true, false, ◌||◌, nat_eq, List, [], ◌∷◌, length, get_or, set, ℤ, Option, Some, None, refl, sym, ◌∙◌, subst, arith, length-set}
+use Rattle.std.proofs.Common.{◌≡◌, ℕ, zero, suc, ◌<◌, false, nat_eq, List, [], ◌∷◌, length, get_or, set, ℤ, Option, Some, None, refl, sym, ◌∙◌, subst, arith, length-set}
 use Rattle.std.specs.Prelude.{All, IfSome, slice_get}
 use Rattle.std.proofs.lemmas.Bool.Decides.{nat_tests}
 use Rattle.std.proofs.lemmas.Grind.{common_steps}
 use Rattle.sv_world.specs.Control.{is_in}
 use Rattle.sv_world.specs.Sets.{read_set, write_set}
 use Rattle.sv_world.specs.declared.action.Action.{Action}
+use Rattle.sv_world.proofs.Good.{left_false, right_false}
 use Rattle.sv_eval.specs.Evaluation.{Slots, effect_of}
 use Rattle.sv_eval.specs.Serial.{values_at, put_all, world_after_some, serial_world}
 use Rattle.sv_eval.proofs.Lists.{all_head, all_tail, all_cons, all_set, all_at}
@@ -57,18 +58,10 @@ serial_shaped attrs opening actions (suc p) h below =
 set_elsewhere : (world : Slots) (x y : ℕ) (value : List ℤ) → nat_eq x y ≡ false → get_or (set world y value) x [] ≡ get_or world x []
 set_elsewhere world x y value e = grind (arith, nat_tests, common_steps)
 
-not_first : (p q : Bool) → (p || q) ≡ false → p ≡ false
-not_first true q e = cc
-not_first false q e = refl
-
-not_later : (p q : Bool) → (p || q) ≡ false → q ≡ false
-not_later true q e = cc
-not_later false q e = e
-
 pub put_all_elsewhere : (world : Slots) (objects : List ℕ) (values : Slots) (x : ℕ) → is_in x objects ≡ false
     → get_or (put_all world objects values) x [] ≡ get_or world x []
 put_all_elsewhere world [] values x e = refl
 put_all_elsewhere world (y ∷ ys) [] x e = refl
 put_all_elsewhere world (y ∷ ys) (v ∷ vs) x e =
-    put_all_elsewhere (set world y v) ys vs x (not_later (nat_eq x y) (is_in x ys) e)
-    ∙ set_elsewhere world x y v (not_first (nat_eq x y) (is_in x ys) e)
+    put_all_elsewhere (set world y v) ys vs x (right_false (nat_eq x y) (is_in x ys) e)
+    ∙ set_elsewhere world x y v (left_false (nat_eq x y) (is_in x ys) e)

@@ -1,7 +1,7 @@
 -- The commit is that of an accepted action, and never falls.
-use Rattle.std.proofs.Common.{◌≡◌, ℕ, zero, suc, ◌<◌, ◌≤◌, Bool, true, false, ◌&&◌, List, [], ◌∷◌, length, Option, Some, None, ◌⊎◌, inl, inr, refl, ap, arith, length-append}
+use Rattle.std.proofs.Common.{◌≡◌, ℕ, zero, suc, ◌<◌, ◌≤◌, Bool, true, false, ◌&&◌, List, [], ◌∷◌, length, Option, Some, None, ◌⊎◌, inl, inr, refl, sym, ap, subst, arith, length-append}
 use Rattle.std.specs.Prelude.{if◌then◌else◌, ◌==◌, is_some}
-use Rattle.std.proofs.lemmas.Bool.{cond_both, cases_lt, cases_Bool, cond-true, eq-eqb, eqb-true, and_parts, and_from}
+use Rattle.std.proofs.lemmas.Bool.{cond_both, cases_eq, cases_lt, cases_Bool, cond-true, eq-eqb, eqb-true, and_parts, and_from}
 use Rattle.sv_journal.specs.declared.entry.Entry.{Entry}
 use Rattle.sv_journal.specs.History.{either, is_relay, is_noted, reports, client_of, outcomes_of, Authored, new_action, accepted, result_at, run_length, commit_of}
 
@@ -12,6 +12,25 @@ run_within test (suc n) = cond_both ((run_length test n == n) && test (suc n)) (
 
 pub commit_within : (h : List Entry) → commit_of h ≤ length (accepted h)
 commit_within h = run_within (λ p. is_some (result_at h p)) (length (accepted h))
+
+pub run_passes : (test : ℕ → Bool) (n p : ℕ) → 0 < p → p ≤ run_length test n → test p ≡ true
+run_passes test zero p l u = absurd (omega arith)
+run_passes test (suc n) p l u =
+    let less = run_passes test n p l in
+    cond_both ((run_length test n == n) && test (suc n)) (suc n) (run_length test n) (λ (m : ℕ). p ≤ m → test p ≡ true)
+    (λ e v.
+    let q = and_parts (run_length test n == n) (test (suc n)) e in
+    let all : run_length test n ≡ n = eqb-true (run_length test n) n q.0 in
+    elim (cases_eq p (suc n)) [
+      | inl s ↦ subst (λ (i : ℕ). test i ≡ true) (sym s) q.1
+      | inr s ↦ less (omega arith)
+    ])
+    (λ e v. less v)
+    u
+
+-- All up to the commit have results.
+pub committed_has : (h : List Entry) (p : ℕ) → 0 < p → p ≤ commit_of h → is_some (result_at h p) ≡ true
+committed_has h p l u = run_passes (λ p. is_some (result_at h p)) (length (accepted h)) p l u
 
 -- how many actions an entry adds
 pub accepted_grow : (e : Entry) (h : List Entry) → length (accepted h) ≤ length (accepted (e ∷ h))

@@ -2,7 +2,7 @@
 use Rattle.std.proofs.Common.{◌≡◌, ℕ, zero, suc, ◌≤◌, List, [], ◌∷◌, ◌++◌, map, length, refl, sym, ap, ◌∙◌, arith, append_assoc, append-nil}
 use Rattle.std.specs.Prelude.{if◌then◌else◌}
 use Rattle.std.specs.List.{AllByRecursion}
-use Rattle.std.proofs.lemmas.List.{get_or_append_left}
+use Rattle.std.proofs.lemmas.List.{get_or_append_left, get_or_push}
 use Rattle.std.proofs.lemmas.List.Elements.{recursion_from_All}
 use Rattle.sv_world.specs.Control.{blank}
 use Rattle.sv_wire.specs.declared.message.Item.{Item}
@@ -26,6 +26,9 @@ accepted_grows (e ∷ later) earlier =
 pub authored_stays : (A more : List Authored) (p : ℕ) → p ≤ length A → authored_at (A ++ more) p ≡ authored_at A p
 authored_stays A more zero last = refl
 authored_stays A more (suc n) last = get_or_append_left A more (record { client = 0; seq = 0; action = blank }) n (omega (arith, last))
+
+pub authored_last : (A : List Authored) (x : Authored) → authored_at (A ++ x ∷ []) (suc (length A)) ≡ x
+authored_last A x = get_or_push A x (record { client = 0; seq = 0; action = blank }) (length A) refl
 
 pub positions-back : (A : List Authored) (ks : List ℕ) → map (λ (i : Item). i.pos) (map (item_at A) ks) ≡ ks
 positions-back A [] = refl

@@ -1,6 +1,6 @@
 -- What is in a list of numbers.
 use Rattle.std.proofs.Common.{◌≡◌, ℕ, zero, suc, Bool, true, false, ◌&&◌, ◌||◌, cond, nat_lt, nat_eq, List, [], ◌∷◌, ◌++◌, filter, refl, ◌∙◌, ap, arith}
-use Rattle.std.proofs.lemmas.Bool.{eqb-true, eq-eqb}
+use Rattle.std.proofs.lemmas.Bool.{eqb-true}
 use Rattle.std.proofs.lemmas.Bool.Decides.{nat_tests}
 use Rattle.sv_world.specs.Control.{is_in, below}
 
@@ -20,9 +20,9 @@ and-false : (b : Bool) → (b && false) ≡ false
 and-false true = refl
 and-false false = refl
 
-pub is_in-filter : (p : ℕ → Bool) (k : ℕ) (xs : List ℕ) → is_in k (filter p xs) ≡ (is_in k xs && p k)
-is_in-filter p k [] = refl
-is_in-filter p k (x ∷ xs) = go (p x) refl (nat_eq k x) refl (is_in-filter p k xs)
+pub is_in-filtered : (p : ℕ → Bool) (k : ℕ) (xs : List ℕ) → is_in k (filter p xs) ≡ (is_in k xs && p k)
+is_in-filtered p k [] = refl
+is_in-filtered p k (x ∷ xs) = go (p x) refl (nat_eq k x) refl (is_in-filtered p k xs)
   where
     go : (b : Bool) → p x ≡ b → (e : Bool) → nat_eq k x ≡ e → is_in k (filter p xs) ≡ (is_in k xs && p k) →
         is_in k (cond b (x ∷ filter p xs) (filter p xs)) ≡ ((e || is_in k xs) && p k)
@@ -30,15 +30,3 @@ is_in-filter p k (x ∷ xs) = go (p x) refl (nat_eq k x) refl (is_in-filter p k 
     go true pb false eb h = rw eb h
     go false pb true eb h = let same : k ≡ x = eqb-true k x eb in let none : p k ≡ false = ap p same ∙ pb in h ∙ rw none (and-false (is_in k xs))
     go false pb false eb h = h
-
-pub filter-ext : (p q : ℕ → Bool) (xs : List ℕ) → ((k : ℕ) → is_in k xs ≡ true → p k ≡ q k) → filter p xs ≡ filter q xs
-filter-ext p q [] h = refl
-filter-ext p q (x ∷ xs) h = rw (h x (go (nat_eq x x) (eq-eqb x x refl))) (ap (λ ys. cond (q x) (x ∷ ys) ys) (filter-ext p q xs (λ k e. h k (later k (nat_eq k x) e))))
-  where
-    go : (b : Bool) → b ≡ true → (b || is_in x xs) ≡ true
-    go true e = refl
-    go false e = cc
-
-    later : (k : ℕ) (b : Bool) → is_in k xs ≡ true → (b || is_in k xs) ≡ true
-    later k true e = refl
-    later k false e = e

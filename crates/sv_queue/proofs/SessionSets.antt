@@ -5,16 +5,17 @@ use Rattle.std.proofs.lemmas.Nat.Bits.{bit_at_set_same, bit_at_set_other}
 use Rattle.std.specs.Int.{bit_at, w64}
 use Rattle.std.specs.Int.RustNames.{bit_or}
 use Rattle.sv_world.specs.Control.{is_in, below}
+use Rattle.sv_world.proofs.Members.{filter-ext}
 use Rattle.sv_queue.specs.Sessions.{sessions_where, sessions_of, with_session}
-use Rattle.sv_queue.proofs.Members.{is_in-filter, is_in-below, filter-ext}
+use Rattle.sv_queue.proofs.Members.{is_in-filtered, is_in-below}
 
 pub in_sessions : (p : ℕ → Bool) (s : ℕ) → s < 64 → is_in s (sessions_where p) ≡ p s
 unfolding sessions_where
-in_sessions p s low = is_in-filter p s (below 64) ∙ rw (is_in-below s 64, lt-ltb s 64 low) refl
+in_sessions p s low = is_in-filtered p s (below 64) ∙ rw (is_in-below s 64, lt-ltb s 64 low) refl
 
 pub out_of_sessions : (p : ℕ → Bool) (s : ℕ) → 64 ≤ s → is_in s (sessions_where p) ≡ false
 unfolding sessions_where
-out_of_sessions p s high = is_in-filter p s (below 64) ∙ rw (is_in-below s 64, le-ltb s 64 high) refl
+out_of_sessions p s high = is_in-filtered p s (below 64) ∙ rw (is_in-below s 64, le-ltb s 64 high) refl
 
 pub sessions_where-ext : (p q : ℕ → Bool) → ((s : ℕ) → s < 64 → p s ≡ q s) → sessions_where p ≡ sessions_where q
 unfolding sessions_where

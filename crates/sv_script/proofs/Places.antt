@@ -1,11 +1,11 @@
 -- Where the events of a trace that follows a script stand.
-use Rattle.std.proofs.Common.{◌≡◌, ℕ, true, false, List, [], ◌∷◌, Some, refl, sym, ap, ◌∙◌, true≢false}
+use Rattle.std.proofs.Common.{◌≡◌, ℕ, ◌+◌, ◌≤◌, true, false, List, [], ◌∷◌, Some, refl, sym, ap, ◌∙◌, arith, true≢false}
 use Rattle.std.proofs.lemmas.Option.{none-some}
 use Rattle.sv_wire.specs.declared.message.Request.{Request}
 use Rattle.sv_wire.specs.declared.message.Reply.TheVariants as replies
 use Rattle.sv_client.specs.declared.trace.Event.{Event}
 use Rattle.sv_client.specs.declared.trace.Event.TheVariants as events
-use Rattle.sv_client.specs.Traces.{is_join}
+use Rattle.sv_client.specs.Traces.{is_join, joins}
 use Rattle.sv_script.specs.Laws.{is_got}
 use Rattle.sv_client.specs.Taking.{Identity, outstanding}
 use Rattle.sv_scenario.specs.declared.scenario.Step.{Step}
@@ -101,3 +101,15 @@ nothing-after_quit who script e t left f = nothing-follows who script e (events.
 
 pub nothing-after_bye : (who : Identity) (script : List Step) (e : Event) (s : ℕ) (t : List Event) (left : List Step) → FollowsTo who script (e ∷ events.Got s replies.Bye ∷ t) left → ⊥
 nothing-after_bye who script e s t left f = nothing-follows who script e (events.Got s replies.Bye ∷ t) left refl f
+
+-- A client that has not to join has joined.
+pub joined_once : (who : Identity) (script : List Step) (t : List Event) (left : List Step) → FollowsTo who script t left → must_join t ≡ false → 1 ≤ joins t
+joined_once who script [] left f m = absurd (true≢false m)
+joined_once who script (events.Join s ∷ t) left f m = omega arith
+joined_once who script (events.Got s reply ∷ t) left f m = joined_once who script t f.0 f.1.0 f.1.1.joined
+joined_once who script (events.Leave ∷ t) left f m = joined_once who script t f.0 f.1.0 f.1.1.joined
+joined_once who script (events.Make a ∷ t) left f m = joined_once who script t f.0 f.1.0 f.1.1.joined
+joined_once who script (events.Poll ∷ t) left f m = joined_once who script t f.0 f.1.0 f.1.1.joined
+joined_once who script (events.Quit ∷ t) left f m = joined_once who script t f.0 f.1.0 f.1.1.joined
+joined_once who script (events.Cut ∷ t) left f m = absurd (true≢false m)
+joined_once who script (events.Show objects ∷ t) left f m = joined_once who script t f.0 f.1.0 f.1.1.joined

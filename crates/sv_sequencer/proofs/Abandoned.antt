@@ -6,13 +6,12 @@ use Rattle.std.proofs.lemmas.List.Folds.{list_all-append}
 use Rattle.std.specs.List.{list_all}
 use Rattle.sv_world.specs.Control.{is_in, below}
 use Rattle.sv_world.proofs.Bases.{below-is_in}
-use Rattle.sv_world.proofs.Members.{is_in-append_cases, is_in-append_left, is_in-append_right, same_test}
+use Rattle.sv_world.proofs.Members.{is_in-append_cases, is_in-append_left, is_in-append_right, same_test, filter-ext}
 use Rattle.sv_journal.specs.declared.entry.Entry.{Entry}
 use Rattle.sv_journal.specs.History.{accepted, result_at, commit_of}
 use Rattle.sv_journal.specs.Sessions.{is_over, positions_in, sent_to, named_to}
 use Rattle.sv_journal.specs.Answer.{Rules, is_abandoned, orphans}
 use Rattle.sv_queue.specs.Queue.{QueueView, entry_at, sent_positions}
-use Rattle.sv_queue.proofs.Members.{filter-ext}
 use Rattle.sv_sequencer.specs.declared.sessions.SessionRow.{SessionRow}
 use Rattle.sv_sequencer.specs.Fits.{QueueFits}
 use Rattle.sv_sequencer.specs.Orphans.{is_abandoned_in, is_orphan_in, orphans_in}

@@ -10,6 +10,7 @@ use Rattle.sv_journal.specs.declared.entry.Logged.TheVariants as logged
 use Rattle.sv_journal.specs.History.{either, is_relay, reported, reports, accepted, result_at, run_length, commit_of}
 use Rattle.sv_journal.specs.Sessions.{is_end, positions_in, named_in, sent_to, named_to}
 use Rattle.sv_journal.specs.Answer.{Rules}
+use Rattle.sv_journal.proofs.Commits.{committed_has}
 use Rattle.sv_queue.specs.Queue.{QueueView, last_position, ready_installed}
 use Rattle.sv_sequencer.specs.declared.clients.Clients.{Clients}
 use Rattle.sv_sequencer.specs.declared.sessions.SessionRow.{SessionRow}
@@ -21,7 +22,7 @@ use Rattle.sv_sequencer.proofs.AgreeSteps.{sent-quiet, named-quiet, life-quiet, 
 use Rattle.sv_sequencer.proofs.FitInstalls.{fits-installed, installed-commit}
 use Rattle.sv_sequencer.proofs.FitMarks.{fits-same}
 use Rattle.sv_sequencer.proofs.FitReports.{fits-reports, commit-reports}
-use Rattle.sv_sequencer.proofs.HistorySteps.{accepted-quiet, outcomes-quiet, run_length-is, run_length-passes, run_length-ext}
+use Rattle.sv_sequencer.proofs.HistorySteps.{accepted-quiet, outcomes-quiet, run_length-is, run_length-ext}
 use Rattle.sv_sequencer.proofs.SoundSteps.{all_left-falls, owed-same, sound-next}
 
 -- Of results at positions up to a number, none is for a later one.
@@ -29,10 +30,6 @@ pub reported-none : (ds : List Done1) (m p : ℕ) → All (λ (d : Done1). d.pos
 reported-none [] m p low high = refl
 reported-none (d ∷ ds) m p low high =
     rw (ne_eqb d.pos p (λ q. (let l : d.pos ≤ m = low 0 d (omega arith) in omega arith))) (reported-none ds m p (λ i o l. low (suc i) o (omega arith)) high)
-
--- All up to the commit have results.
-pub commit-done : (h : List Entry) (p : ℕ) → 0 < p → p ≤ commit_of h → is_some (result_at h p) ≡ true
-commit-done h p low high = run_length-passes (λ q. is_some (result_at h q)) (length (accepted h)) p low high
 
 -- The queue once results were kept and installed, and its commit, against a history in which they are noted.
 pub noted : (r : Rules) (h : List Entry) (v : QueueView) (e : Entry) (c : ℕ) (ds : List Done1) → e.reply ≡ logged.Noted c → e.request ≡ requests.Done ds →
@@ -55,13 +52,13 @@ noted r h v e c ds is asks low at sound f = (fitted, (commit, rises))
     results p = sym (rw (is, asks) refl)
 
     kept : QueueFits r.world (accepted h) R (sent_to h) (named_to h) w
-    kept = fits-reports r.world (accepted h) (result_at h) (sent_to h) (named_to h) v ds (λ p some most. commit-done h p some (omega (arith, most, at))) low f
+    kept = fits-reports r.world (accepted h) (result_at h) (sent_to h) (named_to h) v ds (λ p some most. committed_has h p some (omega (arith, most, at))) low f
 
     early : (t x q : ℕ) → is_in q (named_to h t x) ≡ true → q ≤ w.commit
     early t x q m = omega (arith, sound.named t x q m, at, commit-reports v ds)
 
     done : (p : ℕ) → 0 < p → p ≤ w.commit → is_some (R p) ≡ true
-    done p some most = go (result_at h p) (commit-done h p some (omega (arith, most, at, commit-reports v ds)))
+    done p some most = go (result_at h p) (committed_has h p some (omega (arith, most, at, commit-reports v ds)))
       where
         go : (o : Option (List (List ℤ))) → is_some o ≡ true → is_some (either o (reported p ds)) ≡ true
         go (Some x) q = refl

@@ -13,7 +13,7 @@ use Rattle.sv_queue.specs.declared.queued.Queued.{Queued}
 use Rattle.sv_queue.specs.Pairs.{is_pair}
 use Rattle.sv_queue.specs.Queue.{QueueView, entry_at, no_entry, given_by, ready, ready_installed, first_installed}
 use Rattle.sv_queue.proofs.Installs.{installed-first, installed-none}
-use Rattle.sv_queue.proofs.Members.{is_in-append, is_in-filter}
+use Rattle.sv_queue.proofs.Members.{is_in-append, is_in-filtered}
 use Rattle.sv_queue.proofs.PairSets.{is_pair-where}
 use Rattle.sv_journal.specs.History.{Authored}
 use Rattle.sv_sequencer.specs.Fits.{actions_in, values_after, was_given, IsEntry, QueueFits}
@@ -73,7 +73,7 @@ was_given-next acts sent named x c early = go (W (suc c)) refl
     unlike : (q : ℕ) → W (suc c) ≡ false → is_in q (named ++ filter W sent) ≡ true → q ≡ suc c → ⊥
     unlike q unwritten h same = elim (or_cases (is_in q named) (is_in q (filter W sent)) (sym (is_in-append q named (filter W sent)) ∙ h)) [
       | inl a ↦ (let low : q ≤ c = early q a in omega arith)
-      | inr a ↦ (let both = and_parts (is_in q sent) (W q) (sym (is_in-filter W q sent) ∙ a) in
+      | inr a ↦ (let both = and_parts (is_in q sent) (W q) (sym (is_in-filtered W q sent) ∙ a) in
           let at : W q ≡ true = both.1 in let not' : W q ≡ false = ap W same ∙ unwritten in cc)
     ]
 

@@ -10,11 +10,11 @@ use Rattle.sv_world.specs.declared.world.World.{World}
 use Rattle.sv_world.specs.Control.{is_in, blank, action_at, last_writer}
 use Rattle.sv_world.specs.Sets.{write_set}
 use Rattle.sv_world.proofs.Writers.{action_at-append, last_writer-same}
+use Rattle.sv_world.proofs.Members.{filter-ext}
 use Rattle.sv_queue.specs.declared.queued.Queued.{Queued}
 use Rattle.sv_queue.specs.Queue.{QueueView, entry_at, no_entry, with_action}
-use Rattle.sv_queue.proofs.Members.{filter-ext}
 use Rattle.sv_journal.specs.History.{Authored, authored_at}
-use Rattle.sv_journal.proofs.Stays.{authored_stays}
+use Rattle.sv_journal.proofs.Stays.{authored_stays, authored_last}
 use Rattle.sv_sequencer.specs.Fits.{actions_in, values_after, was_given, IsEntry, QueueFits}
 
 abbrev pub no_author : Authored
@@ -23,9 +23,6 @@ no_author = record { client = 0; seq = 0; action = blank }
 pub authored-action : (A : List Authored) (p : ℕ) → (authored_at A p).action ≡ action_at (actions_in A) p
 authored-action A zero = refl
 authored-action A (suc n) = sym (get_or-map (λ (a : Authored). a.action) A n no_author)
-
-pub authored-last : (A : List Authored) (a : Authored) → authored_at (A ++ a ∷ []) (suc (length A)) ≡ a
-authored-last A a = get_or_push A a no_author (length A) refl
 
 pub length-actions : (A : List Authored) → length (actions_in A) ≡ length A
 length-actions A = length-map A (λ (a : Authored). a.action)
@@ -74,9 +71,9 @@ fits-pushed w A R S N v author seq action none within f = record {
 
     new_entry : IsEntry (A ++ a ∷ []) R S (suc (length A)) e
     new_entry = record {
-      author = ap (λ (b : Authored). b.client) (sym (authored-last A a));
-      seq = ap (λ (b : Authored). b.seq) (sym (authored-last A a));
-      action = ap (λ (b : Authored). b.action) (sym (authored-last A a));
+      author = ap (λ (b : Authored). b.client) (sym (authored_last A a));
+      seq = ap (λ (b : Authored). b.seq) (sym (authored_last A a));
+      action = ap (λ (b : Authored). b.action) (sym (authored_last A a));
       result = sym none;
       marks = λ s small. sym (unsent s);
     }

@@ -11,11 +11,11 @@ use Rattle.sv_world.specs.Trees.{greatest}
 use Rattle.sv_world.proofs.Needs.{needed-agree}
 use Rattle.sv_world.proofs.Bases.{head_for-agree, below-is_in}
 use Rattle.sv_world.proofs.Influences.{influence-agree, influence-bounds, map_same}
+use Rattle.sv_world.proofs.Members.{filter-ext}
 use Rattle.sv_queue.specs.declared.queued.Queued.{Queued}
 use Rattle.sv_queue.specs.Pairs.{is_pair}
 use Rattle.sv_queue.specs.Queue.{QueueView, entry_at, no_entry, entry_actions, queue_actions, sent_positions, given_objects}
 use Rattle.sv_queue.proofs.Entries.{in_marked}
-use Rattle.sv_queue.proofs.Members.{filter-ext}
 use Rattle.sv_influence.specs.Lacking.{lacking, base_objects}
 use Rattle.sv_influence.proofs.Looks.{queue_length}
 use Rattle.sv_journal.specs.History.{Authored}

@@ -96,16 +96,6 @@ run_length-is test (suc n) c low pass stop = elim (cases_eq c (suc n)) [
     stopped (inl at) before = and_right (nat_eq (run_length test n) n) (test (suc n)) (subst (λ m. test (suc m) ≡ false) at (stop (omega arith)))
     stopped (inr not') before = ap (λ b. b && test (suc n)) (ne_eqb (run_length test n) n (λ q. not' (sym before ∙ q)))
 
-pub run_length-passes : (test : ℕ → Bool) (n p : ℕ) → 0 < p → p ≤ run_length test n → test p ≡ true
-run_length-passes test zero p low high = absurd (omega arith)
-run_length-passes test (suc n) p low high = go (nat_eq (run_length test n) n) refl (test (suc n)) refl high (run_length-passes test n p low)
-  where
-    go : (b : Bool) → nat_eq (run_length test n) n ≡ b → (d : Bool) → test (suc n) ≡ d → p ≤ cond (b && d) (suc n) (run_length test n) →
-        (p ≤ run_length test n → test p ≡ true) → test p ≡ true
-    go true q true r l ih = elim (cases_eq p (suc n)) [ inl same ↦ ap test same ∙ r | inr ne ↦ (let full : run_length test n ≡ n = eqb-true (run_length test n) n q in ih (omega arith)) ]
-    go true q false r l ih = ih l
-    go false q d r l ih = ih l
-
 pub run_length-stops : (test : ℕ → Bool) (n : ℕ) → run_length test n < n → test (suc (run_length test n)) ≡ false
 run_length-stops test zero low = absurd (omega arith)
 run_length-stops test (suc n) low = go (nat_eq (run_length test n) n) refl (test (suc n)) refl low (run_length-stops test n) (run_within test n)

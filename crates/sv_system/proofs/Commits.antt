@@ -9,7 +9,8 @@ use Rattle.sv_journal.specs.declared.entry.Logged.{Logged}
 use Rattle.sv_journal.specs.declared.entry.Logged.TheVariants as logged
 use Rattle.sv_journal.specs.History.{Outcome, Accepted, Dropped, client_of, is_client, is_noted, is_submit_of, outcome_in, outcomes_of, accepted, next_seq, result_at, reports, run_length, commit_of, either}
 use Rattle.sv_journal.specs.Sessions.{outcome_at}
-use Rattle.sv_system.proofs.Histories.{IsEarlier, same, after, accepted-grows, commit-most, committed-has, run-most}
+use Rattle.sv_journal.proofs.Commits.{committed_has, run_within, commit_within}
+use Rattle.sv_system.proofs.Histories.{IsEarlier, same, after, accepted-grows}
 use Rattle.sv_system.proofs.Asked.{get-append_cases}
 
 -- ---- The commit grows
@@ -24,7 +25,7 @@ run-least test (suc n) m l f =
       | inr d ↦ less (omega arith) f
       | inl d ↦
           (let most : n ≤ run_length test n = run-least test n n (omega arith) (λ p a b. f p a (omega arith)) in
-          let top : run_length test n ≤ n = run-most test n in
+          let top : run_length test n ≤ n = run_within test n in
           let both : ((run_length test n == n) && test (suc n)) ≡ true =
           and_from (run_length test n == n) (test (suc n)) (eq-eqb (run_length test n) n (omega arith)) (f (suc n) (omega arith) (omega arith)) in
           absurd (true≢false (sym both ∙ e)))
@@ -40,9 +41,9 @@ result-kept h whole (after {g} d b) p e = some-stays (result_at g p) (if is_note
 
 pub commit-grows : (h g : List Entry) → IsEarlier h g → commit_of h ≤ commit_of g
 commit-grows h g b =
-    let most : commit_of h ≤ length (accepted h) = commit-most h in
+    let most : commit_of h ≤ length (accepted h) = commit_within h in
     let grows : length (accepted h) ≤ length (accepted g) = accepted-grows h g b in
-    run-least (λ p. is_some (result_at g p)) (length (accepted g)) (commit_of h) (omega arith) (λ p low high. result-kept h g b p (committed-has h p low high))
+    run-least (λ p. is_some (result_at g p)) (length (accepted g)) (commit_of h) (omega arith) (λ p low high. result-kept h g b p (committed_has h p low high))
 
 -- ---- The next number grows
 

@@ -1,8 +1,8 @@
 -- Histories and their earlier parts: what was accepted stays, and each kept position was accepted.
-use Rattle.std.proofs.Common.{◌≡◌, ℕ, zero, suc, ◌+◌, ◌<◌, ◌≤◌, Bool, true, false, ◌&&◌, ◌==◌, inl, inr, List, [], ◌∷◌, ◌++◌, map, length, Option, Some, None, is_some, nat_le, sym, ap, ◌∙◌, subst, arith, append_assoc, append-nil, eqb-true, true≢false}
+use Rattle.std.proofs.Common.{◌≡◌, ℕ, zero, suc, ◌+◌, ◌<◌, ◌≤◌, Bool, true, false, ◌&&◌, ◌==◌, inl, inr, List, [], ◌∷◌, ◌++◌, map, length, Option, Some, None, nat_le, sym, ap, ◌∙◌, subst, arith, append_assoc, append-nil, eqb-true, true≢false}
 use Rattle.std.specs.Prelude.{if◌then◌else◌}
 use Rattle.std.specs.List.{AllByRecursion}
-use Rattle.std.proofs.lemmas.Bool.{cond_both, cond-true, cond-false, cases_Bool, cases_eq, and_parts}
+use Rattle.std.proofs.lemmas.Bool.{cond-true, cond-false, cases_Bool, and_parts}
 use Rattle.std.proofs.lemmas.List.{length-append, map-append, length-map}
 use Rattle.std.proofs.lemmas.Option.{none-some}
 use Rattle.sv_world.specs.Control.{action_at}
@@ -13,7 +13,7 @@ use Rattle.sv_wire.specs.declared.message.Request.TheVariants as requests
 use Rattle.sv_journal.specs.declared.entry.Entry.{Entry}
 use Rattle.sv_journal.specs.declared.entry.Logged.{Logged}
 use Rattle.sv_journal.specs.declared.entry.Logged.TheVariants as logged
-use Rattle.sv_journal.specs.History.{Authored, Outcome, Accepted, Dropped, client_of, is_client, is_relay, is_submit_of, outcome_in, new_action, outcomes_of, accepted, actions_of, result_at, run_length, commit_of, next_seq}
+use Rattle.sv_journal.specs.History.{Authored, Outcome, Accepted, Dropped, client_of, is_client, is_relay, is_submit_of, outcome_in, new_action, outcomes_of, accepted, actions_of, next_seq}
 use Rattle.sv_journal.specs.Sessions.{outcome_at, kept_count, kept_outcome}
 use Rattle.sv_journal.specs.Answer.{Rules, Legal}
 use Rattle.sv_journal.specs.Serving.{Keeping, LegalFor, with_results, IsKeeping}
@@ -157,30 +157,3 @@ pub kept-below : (h : List Entry) (k seq p : ℕ) → kept_outcome h k seq ≡ S
 kept-below h k seq p e = kept_known h k seq (Accepted p) e
 
 -- ---- The commit
-
-pub run-most : (test : ℕ → Bool) (n : ℕ) → run_length test n ≤ n
-run-most test zero = omega arith
-run-most test (suc n) =
-    let less = run-most test n in
-    cond_both ((run_length test n == n) && test (suc n)) (suc n) (run_length test n) (λ (m : ℕ). m ≤ suc n) (λ e. omega arith) (λ e. omega arith)
-
-pub run-passes : (test : ℕ → Bool) (n p : ℕ) → 0 < p → p ≤ run_length test n → test p ≡ true
-run-passes test zero p l u = absurd (omega arith)
-run-passes test (suc n) p l u =
-    let less = run-passes test n p l in
-    cond_both ((run_length test n == n) && test (suc n)) (suc n) (run_length test n) (λ (m : ℕ). p ≤ m → test p ≡ true)
-    (λ e v.
-    let q = and_parts (run_length test n == n) (test (suc n)) e in
-    let all : run_length test n ≡ n = eqb-true (run_length test n) n q.0 in
-    elim (cases_eq p (suc n)) [
-      | inl s ↦ subst (λ (i : ℕ). test i ≡ true) (sym s) q.1
-      | inr s ↦ less (omega arith)
-    ])
-    (λ e v. less v)
-    u
-
-pub commit-most : (h : List Entry) → commit_of h ≤ length (accepted h)
-commit-most h = run-most (λ p. is_some (result_at h p)) (length (accepted h))
-
-pub committed-has : (h : List Entry) (p : ℕ) → 0 < p → p ≤ commit_of h → is_some (result_at h p) ≡ true
-committed-has h p l u = run-passes (λ p. is_some (result_at h p)) (length (accepted h)) p l u

@@ -9,7 +9,7 @@ use Rattle.sv_world.specs.Control.{is_in, below, action_at, last_writer, needed_
 use Rattle.sv_world.specs.Sets.{write_set}
 use Rattle.sv_world.specs.declared.action.Action.{Action}
 use Rattle.sv_world.specs.declared.world.ObjectId.{ObjectId}
-use Rattle.sv_world.proofs.Members.{is_in-head, is_in-tail, is_in-append_cases}
+use Rattle.sv_world.proofs.Members.{is_in-append_cases, filter-ext}
 use Rattle.sv_world.proofs.Writers.{last_writer-same}
 use Rattle.sv_world.proofs.Needs.{needed-sent, needed-bounds}
 use Rattle.sv_eval.specs.Serial.{put_all, serial_world}
@@ -22,12 +22,13 @@ use Rattle.sv_journal.specs.Sessions.{positions_in, sent_to, named_in, named_to,
 use Rattle.sv_journal.specs.Answer.{Rules, committed_held}
 use Rattle.sv_journal.specs.Serving.{Keeping, LegalFor, with_results, IsKeeping}
 use Rattle.sv_journal.proofs.Kept.{actions-kept, given-kept, commit_within-kept}
+use Rattle.sv_journal.proofs.Commits.{committed_has}
 use Rattle.sv_client.specs.Traces.{head_held}
 use Rattle.sv_system.specs.Serial.{AreSerial}
 use Rattle.sv_system.specs.Delivery.{Delivery, told_positions, head_objects, told_commits, known_at, known_values, IsLawful, AreLawful}
 use Rattle.sv_system.specs.Journals.{delivery_by, deliveries_of, serial_result, ResultsAreSerial}
 use Rattle.sv_system.proofs.Serials.{serial-step}
-use Rattle.sv_system.proofs.Histories.{IsEarlier, same, after, earlier-rest, actions-earlier, actions-count, accepted-grows, action_at-earlier, committed-has}
+use Rattle.sv_system.proofs.Histories.{IsEarlier, same, after, earlier-rest, actions-earlier, actions-count, accepted-grows, action_at-earlier}
 use Rattle.sv_system.proofs.Replies.{new_of, TellsFor, IsRelayReply, IsWelcomeReply, served-tells}
 use Rattle.sv_system.proofs.Replied.{no_more}
 
@@ -169,7 +170,7 @@ module _ (K : Keeping) (keeps : IsKeeping K) (r : Rules) (H : List Entry) where
       let most : commit_of (K.kept h) ≤ length (accepted h) = commit_within-kept K keeps h in
       let a : action_at (actions_of (K.kept h)) (suc p) ≡ action_at acts (suc p) = sym (kept-action h b (suc p) (omega arith)) in
       let result : unwrap_or (result_at (K.kept h) (suc p)) [] ≡ serial_result opening acts (suc p) =
-      of_some (result_at (K.kept h) (suc p)) (serial_result opening acts (suc p)) (committed-has (K.kept h) (suc p) (omega arith) l) (λ vs e. serial (suc p) vs (omega arith) e) in
+      of_some (result_at (K.kept h) (suc p)) (serial_result opening acts (suc p)) (committed_has (K.kept h) (suc p) (omega arith) l) (λ vs e. serial (suc p) vs (omega arith) e) in
       ap (λ (c : Action). put_all (installed opening (K.kept h) p) (write_set c) (unwrap_or (result_at (K.kept h) (suc p)) [])) a
       ∙ ap (put_all (installed opening (K.kept h) p) (write_set (action_at acts (suc p)))) result
       ∙ ap (λ (w : List (List ℤ)). put_all w (write_set (action_at acts (suc p))) (serial_result opening acts (suc p))) (installed-serial h b serial p (omega arith))
@@ -191,16 +192,11 @@ module _ (K : Keeping) (keeps : IsKeeping K) (r : Rules) (H : List Entry) where
 
   -- ---- Known values
 
-  filter-members : (p q : ℕ → Bool) (xs : List ℕ) → ((x : ℕ) → is_in x xs ≡ true → p x ≡ q x) → filter p xs ≡ filter q xs
-  filter-members p q [] f = refl
-  filter-members p q (x ∷ xs) f =
-      ap₂ (λ (b : Bool) (l : List ℕ). if b then x ∷ l else l) (f x (is_in-head x xs)) (filter-members p q xs (λ y m. f y (is_in-tail y x xs m)))
-
   known-given : (h : List Entry) → IsEarlier h H → LegalFor K r h → (s x : ℕ) → known_at acts (deliveries_of h) s x ≡ given_at (K.kept h) s x
   known-given h b l s x =
       ap₂ (λ (cs ps : List ℕ). cs ++ filter (λ p. is_in x (write_set (action_at acts p))) ps) (told-named h s x) (told-sent h s)
       ∙ ap (λ (ps : List ℕ). named_to h s x ++ ps)
-      (filter-members (λ p. is_in x (write_set (action_at acts p))) (λ p. is_in x (write_set (action_at (actions_of h) p))) (sent_to h s)
+      (filter-ext (λ p. is_in x (write_set (action_at acts p))) (λ p. is_in x (write_set (action_at (actions_of h) p))) (sent_to h s)
       (λ p m. ap (λ (a : Action). is_in x (write_set a)) (action_at-earlier h H b p (sent-within K keeps r h l s p m))))
       ∙ sym (given-kept K keeps h s x)
 

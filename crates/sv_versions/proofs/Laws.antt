@@ -88,7 +88,7 @@ first_of_all : (h : Held) (o : Option Held) → IsBelow o h.pos → later_of h o
 first_of_all h None l = refl
 first_of_all h (Some k) l = first_later h k l
 
-greatest_none : (hs : List Held) → newest hs ≡ None → hs ≡ []
+pub greatest_none : (hs : List Held) → newest hs ≡ None → hs ≡ []
 greatest_none [] e = refl
 greatest_none (h ∷ hs) e = absurd (none-some _ (sym e))
 

@@ -4,8 +4,8 @@ use Rattle.std.specs.List.{list_any}
 use Rattle.std.proofs.lemmas.Bool.{ltb-true}
 use Rattle.sv_world.specs.Control.{is_in, below}
 use Rattle.sv_world.proofs.Bases.{below-is_in}
+use Rattle.sv_world.proofs.Members.{filter-ext}
 use Rattle.sv_queue.specs.Queue.{QueueView, entry_at, sent_positions}
-use Rattle.sv_queue.proofs.Members.{filter-ext}
 use Rattle.sv_journal.specs.declared.entry.Entry.{Entry}
 use Rattle.sv_journal.specs.History.{Authored, client_of, accepted, result_at}
 use Rattle.sv_journal.specs.Sessions.{sent_to, named_to}

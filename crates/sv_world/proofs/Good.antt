@@ -45,11 +45,11 @@ not_true : (b : Bool) → b ≡ true → not b ≡ false
 not_true true e = refl
 not_true false e = cc
 
-left_false : (p q : Bool) → (p || q) ≡ false → p ≡ false
+pub left_false : (p q : Bool) → (p || q) ≡ false → p ≡ false
 left_false true q e = cc
 left_false false q e = refl
 
-right_false : (p q : Bool) → (p || q) ≡ false → q ≡ false
+pub right_false : (p q : Bool) → (p || q) ≡ false → q ≡ false
 right_false true q e = cc
 right_false false q e = e
 

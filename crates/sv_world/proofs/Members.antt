@@ -1,6 +1,6 @@
 -- Which numbers are in a list.
-use Rattle.std.proofs.Common.{◌≡◌, ℕ, zero, suc, Bool, true, false, ◌⊎◌, inl, inr, List, [], ◌∷◌, ◌++◌, map, filter, refl, sym, ◌∙◌, ap, subst, nat_eq, arith, eq-eqb, eqb-true}
-use Rattle.std.specs.Prelude.{All}
+use Rattle.std.proofs.Common.{◌≡◌, ℕ, zero, suc, Bool, true, false, ◌⊎◌, inl, inr, List, [], ◌∷◌, ◌++◌, map, filter, refl, sym, ◌∙◌, ap, ap₂, subst, nat_eq, arith, eq-eqb, eqb-true}
+use Rattle.std.specs.Prelude.{if◌then◌else◌, All}
 use Rattle.std.specs.List.{list_any}
 use Rattle.std.proofs.lemmas.Bool.{cond_both, or_cases, or_left, or_right}
 use Rattle.sv_world.specs.Control.{is_in}
@@ -88,6 +88,12 @@ any_parts f (y ∷ ys) h =
       | inl e ↦ (y, (is_in-head y ys, e))
       | inr r ↦ (let p = any_parts f ys r in (p.0, (is_in-tail p.0 y ys p.1.0, p.1.1)))
     ]
+
+-- A filter looks at the test of the members alone.
+pub filter-ext : (p q : ℕ → Bool) (xs : List ℕ) → ((x : ℕ) → is_in x xs ≡ true → p x ≡ q x) → filter p xs ≡ filter q xs
+filter-ext p q [] f = refl
+filter-ext p q (x ∷ xs) f =
+    ap₂ (λ (b : Bool) (l : List ℕ). if b then x ∷ l else l) (f x (is_in-head x xs)) (filter-ext p q xs (λ y m. f y (is_in-tail y x xs m)))
 
 -- A fact of each member is one of each place.
 pub all-members : (P : ℕ → Type 0) (xs : List ℕ) → ((j : ℕ) → is_in j xs ≡ true → P j) → All P xs

@@ -18,10 +18,10 @@ use Rattle.sv_world.specs.Spelled.{body_spelled}
 use Rattle.sv_world.proofs.Back.{body_back}
 use Rattle.sv_world.proofs.Spells.{body_view}
 
-int_same : (m n : ℤ) → int_eq m n ≡ true → m ≡ n
+pub int_same : (m n : ℤ) → int_eq m n ≡ true → m ≡ n
 int_same m n h = (Decides-int_eq m n).0 h
 
-int_own : (n : ℤ) → int_eq n n ≡ true
+pub int_own : (n : ℤ) → int_eq n n ≡ true
 int_own n = (Decides-int_eq n n).1 refl
 
 num_own : (n : ℕ) → nat_eq n n ≡ true
