@@ -1,5 +1,6 @@
 -- Repetition, the places of a list, and tests of its elements.
-use Rattle.std.proofs.Common.{◌≡◌, ℕ, zero, suc, ◌+◌, ◌≤◌, Bool, true, inl, inr, List, [], ◌∷◌, map, length, Some, slice_get, refl, sym, ap, ◌∙◌, arith, true≢false}
+use Rattle.std.proofs.Common.{◌≡◌, ℕ, zero, suc, ◌+◌, ◌≤◌, Bool, true, false, ◌||◌, inl, inr, List, [], ◌∷◌, map, length, Option, Some, None, slice_get, refl, sym, ap, ◌∙◌, arith, true≢false}
+use Rattle.std.specs.Prelude.{if◌then◌else◌}
 use Rattle.std.specs.List.{list_any, flat_map}
 use Rattle.std.proofs.lemmas.Bool.{or_cases, or_left, or_right}
 use Rattle.std.proofs.lemmas.List.{length-append}
@@ -80,3 +81,9 @@ piece-shorter f (y ∷ ys) (suc k) x e =
     let whole = ap length (flat_map-cons f y ys) ∙ length-append (f y) (flat_map f ys) in
     let less = piece-shorter f ys k x e in
     omega (arith, whole, less)
+
+-- What stands behind two tests stands where both fail.
+pub open-by : (a b : Bool) (o : Option ℕ) (s : ℕ) → (if a || b then None else o) ≡ Some s → (a ≡ false) × ((b ≡ false) × (o ≡ Some s))
+open-by true b o s e = absurd (none-some s e)
+open-by false true o s e = absurd (none-some s e)
+open-by false false o s e = (refl, (refl, e))

@@ -33,7 +33,7 @@ use Rattle.law_schedule.specs.Serving.{Run}
 use Rattle.law_schedule.specs.Schedule.{turned, rules_of}
 use Rattle.law_schedule.specs.Sound.{IsSound}
 use Rattle.law_schedule.proofs.DoneGiven.{StaySound}
-use Rattle.law_schedule.proofs.DoneLists.{repeated-still, at-here}
+use Rattle.law_schedule.proofs.DoneLists.{repeated-still, at-here, open-by}
 use Rattle.law_schedule.proofs.DoneFacts.{following, next-taken, playing-there}
 use Rattle.law_schedule.proofs.DoneCounts.{asked-few}
 
@@ -99,11 +99,6 @@ pub record IsOpen (p : Player) (s : ℕ) : Type 0 where
   pub linked : p.closed ≡ false
   pub joined : must_join p.events ≡ false
   pub current : current_session p.events ≡ Some s
-
-open-by : (a b : Bool) (o : Option ℕ) (s : ℕ) → (if a || b then None else o) ≡ Some s → (a ≡ false) × ((b ≡ false) × (o ≡ Some s))
-open-by true b o s e = absurd (none-some s e)
-open-by false true o s e = absurd (none-some s e)
-open-by false false o s e = (refl, (refl, e))
 
 pub open-parts : (p : Player) (s : ℕ) → open_session p ≡ Some s → IsOpen p s
 open-parts p s e = let o = open-by p.closed (must_join p.events) (current_session p.events) s e in record { linked = o.0; joined = o.1.0; current = o.1.1 }

@@ -1,5 +1,5 @@
 -- A player's turn, and its taking of a reply, keep what is true of it.
-use Rattle.std.proofs.Common.{◌≡◌, ℕ, zero, suc, ◌+◌, ◌<◌, ◌≤◌, Bool, true, false, ◌==◌, ◌&&◌, ◌||◌, not, nat_lt, inl, inr, List, [], ◌∷◌, ◌++◌, length, Option, Some, None, slice_get, refl, sym, ap, subst, ◌∙◌, arith, eqb-true, eq-eqb, true≢false, ltb-true}
+use Rattle.std.proofs.Common.{◌≡◌, ℕ, zero, suc, ◌+◌, ◌<◌, ◌≤◌, Bool, true, false, ◌==◌, ◌&&◌, not, nat_lt, inl, inr, List, [], ◌∷◌, ◌++◌, length, Option, Some, None, slice_get, refl, sym, ap, subst, ◌∙◌, arith, eqb-true, eq-eqb, true≢false, ltb-true}
 use Rattle.std.specs.Prelude.{if◌then◌else◌}
 use Rattle.std.specs.List.{list_any, AllByRecursion}
 use Rattle.std.proofs.lemmas.Bool.{or_cases, or_right, cases_Bool, cond_both, and_parts, not-false, false_from_ne_true}
@@ -36,6 +36,7 @@ use Rattle.law_schedule.specs.Sound.{ArePassed, none, sync, IsPlaying, has_joine
 use Rattle.law_schedule.specs.Served.{AreHeard}
 use Rattle.law_schedule.proofs.SoundTraces.{IsNoQuit, nothing-left, left-or_finished, finished-settled, makes-within, all-left, joined-within}
 use Rattle.law_schedule.proofs.DoneCounts.{joins-counted, one_if}
+use Rattle.law_schedule.proofs.DoneLists.{open-by}
 
 -- ---- What is true of a player beside the history
 
@@ -112,11 +113,6 @@ passed-same (o ∷ os) ss e = refl
 abbrev ends_with_quit : List Event → Bool
 ends_with_quit (events.Quit ∷ t) = true
 ends_with_quit _ = false
-
-open-parts : (c m : Bool) (o : Option ℕ) (s : ℕ) → (if c || m then None else o) ≡ Some s → (c ≡ false) × ((m ≡ false) × (o ≡ Some s))
-open-parts true m o s e = absurd (none-some s e)
-open-parts false true o s e = absurd (none-some s e)
-open-parts false false o s e = (refl, (refl, e))
 
 -- ---- An event more
 
@@ -453,7 +449,7 @@ module _ (server : Server) (shape : Shape) (h : List Entry) (k s : ℕ) (plan : 
       go : (s : Option ℕ) → open_session p ≡ s → Kept (take_in h p s)
       go None e = stays
       go (Some n) e =
-          let parts = open-parts p.closed (must_join p.events) (current_session p.events) n e in
+          let parts = open-by p.closed (must_join p.events) (current_session p.events) n e in
           takes-kept n (slice_get (replies_in (accepted h) h n) (length (got p.events n))) parts.0 parts.1.0 parts.1.1 refl
 
   -- A client's turn, where the history has no entry of its sessions that it did not join yet.

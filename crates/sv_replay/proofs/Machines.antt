@@ -26,6 +26,7 @@ use Rattle.law_schedule.specs.Sound.{ArePlaying}
 use Rattle.law_schedule.specs.Served.{RepliesNameAccepted, IsSoundOver}
 use Rattle.law_schedule.proofs.SoundLaws.{turns-sound}
 use Rattle.law_schedule.proofs.SoundCalls.{IsPlayer, player-at, session-next, session-last, turn-player}
+use Rattle.law_schedule.proofs.DoneShut.{open-is, open-closed}
 use Rattle.sv_replay.specs.declared.playing.Playing.{Playing}
 use Rattle.sv_exchange.specs.View.{ExchangeView, new_exchange}
 use Rattle.sv_system.proofs.Every.{each-at}
@@ -274,12 +275,6 @@ module _ (m : Stage) (k : ℕ) (p : Playing) (is : IsMachine m) (l : k < length 
 
 -- ---- What a player takes
 
-pub open_is : (p : Player) → p.closed ≡ false → must_join p.events ≡ false → open_session p ≡ current_session p.events
-open_is p l j = rw (l, j) refl
-
-pub open_shut : (p : Player) → p.closed ≡ true → open_session p ≡ None
-open_shut p l = rw l refl
-
 pub open_between : (p : Player) → p.closed ≡ false → must_join p.events ≡ true → open_session p ≡ None
 open_between p l j = rw (l, j) refl
 
@@ -316,12 +311,12 @@ module _ (m : Stage) (k : ℕ) (p : Player) (is : IsMachine m) (at : slice_get (
   waits_first = ap (λ (rs : List Reply). slice_get rs 0) waits_all ∙ first_left (length (got p.events place_of)) (replies_in (accepted entries) entries place_of)
 
   pub open_here : open_session p ≡ Some place_of
-  open_here = open_is p linked joined ∙ current_here
+  open_here = open-is p linked joined ∙ current_here
 
 pub taken_is : (m : Stage) (k : ℕ) (p : Player) → IsMachine m → slice_get (run_of m).players k ≡ Some p →
     taken_from (get_or m.channels (session_of p) new_exchange).replies p ≡ take_turn (run_of m).history p
 taken_is m k p is at = elim (cases_Bool p.closed) [
-  | inl shut ↦ take_shut p _ shut ∙ sym (ap (take_in (run_of m).history p) (open_shut p shut))
+  | inl shut ↦ take_shut p _ shut ∙ sym (ap (take_in (run_of m).history p) (open-closed p shut))
   | inr linked ↦ elim (cases_Bool (must_join p.events)) [
     | inl between ↦ take_between p _ linked between ∙ sym (ap (take_in (run_of m).history p) (open_between p linked between))
     | inr joined ↦

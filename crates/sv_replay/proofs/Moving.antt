@@ -27,6 +27,7 @@ use Rattle.sv_script.specs.Laws.{is_got}
 use Rattle.sv_script.specs.Following.{must_join, is_welcomed}
 use Rattle.sv_system.specs.Outcomes.{is_quit}
 use Rattle.law_schedule.specs.Players.{Player, player_turn, next_step, last_steps, if_free, is_calm, is_settled, does, takes, takes_if}
+use Rattle.law_schedule.proofs.DoneShut.{turn-joins}
 use Rattle.sv_replay.specs.declared.playing.Playing.{Playing}
 use Rattle.sv_exchange.specs.View.{ExchangeView, TakesReply}
 use Rattle.sv_replay.specs.Messages.{AsksMessages}
@@ -82,23 +83,17 @@ still_moved p c flags = record {
 
 -- ---- Which turn it is
 
-pub turn_closed : (p : Player) → p.closed ≡ true → player_turn p ≡ p
-turn_closed p c = rw c refl
-
 pub turn_waits : (p : Player) → p.closed ≡ false → must_join p.events ≡ false → is_welcomed p.events ≡ false → player_turn p ≡ p
 turn_waits p c m w = rw (c, m, w) refl
 
 pub turn_steps : (p : Player) → p.closed ≡ false → must_join p.events ≡ false → is_welcomed p.events ≡ true → player_turn p ≡ next_step p p.left
 turn_steps p c m w = rw (c, m, w) refl
 
-turn_joins : (p : Player) → p.closed ≡ false → must_join p.events ≡ true → player_turn p ≡ does p (events.Join (p.first + joins p.events)) p.left
-turn_joins p c m = rw (c, m) refl
-
 pub joins_player : (p : Playing) → p.closed ≡ false → must_join p.client.events ≡ true →
     player_turn (player_of p) ≡ next_player p (events.Join (joins p.client.events)) p.left.now
 joins_player p c m =
     let count : p.first + joins (Up p.first p.client.events) ≡ joins p.client.events + p.first = (let same : joins (Up p.first p.client.events) ≡ joins p.client.events = up_joins p.first p.client.events in omega arith) in
-    turn_joins (player_of p) c (up_must p.first p.client.events ∙ m)
+    turn-joins (player_of p) c (up_must p.first p.client.events ∙ m)
     ∙ ap (λ (n : ℕ). does (player_of p) (events.Join n) p.left.now) count
     ∙ ap (λ (b : Bool). does (player p.client.who p.first p.client.events p.left.now b) (events.Join (joins p.client.events + p.first)) p.left.now) c
 

@@ -21,6 +21,7 @@ use Rattle.law_schedule.specs.Players.{Player, at_player, player_turn, take_turn
 use Rattle.law_schedule.specs.Serving.{Run, Server, served, session_served, turn_served}
 use Rattle.law_schedule.specs.Served.{IsSoundOver}
 use Rattle.law_schedule.proofs.SoundLaws.{turns-sound}
+use Rattle.law_schedule.proofs.DoneShut.{open-is}
 use Rattle.sv_exchange.specs.View.{ExchangeView, new_exchange}
 use Rattle.sv_system.proofs.Places.{map_at}
 use Rattle.sv_replay.specs.Players.{session_of, IsFit, IsNextFine}
@@ -36,7 +37,7 @@ use Rattle.sv_replay.proofs.Doing.{session_current}
 use Rattle.sv_replay.proofs.Turns.{place-is}
 use Rattle.sv_replay.proofs.Served.{next_asked}
 use Rattle.sv_replay.proofs.Answering.{run_at, session_turn_is}
-use Rattle.sv_replay.proofs.Machines.{get_set, fit_at, open_is, waits_first}
+use Rattle.sv_replay.proofs.Machines.{get_set, fit_at, waits_first}
 use Rattle.sv_replay.proofs.Working.{turn_found, take_found}
 
 place_turned : (f : Player → Player) (ps : List Player) (k : ℕ) (p : Player) → slice_get ps k ≡ Some p → slice_get (at_player ps k f) k ≡ Some (f p)
@@ -92,7 +93,7 @@ module _ (m : Stage) (k : ℕ) (p : Player) (is : IsMachine m) (l : k < length m
 
   own_in : p.closed ≡ false → must_join p.events ≡ false → has_closed n p ≡ false
   own_in linked joined =
-      let opened : open_session p ≡ Some n = open_is p linked joined ∙ session_current p fit.proper joined (fit.begun joined) in
+      let opened : open_session p ≡ Some n = open-is p linked joined ∙ session_current p fit.proper joined (fit.begun joined) in
       ap (λ o. list_any (is_join_of n) p.events && not (is_session o n)) opened
       ∙ ap (λ (b : Bool). list_any (is_join_of n) p.events && not b) (eq-eqb n n refl)
       ∙ and-false (list_any (is_join_of n) p.events)

@@ -20,7 +20,7 @@ use Rattle.sv_system.proofs.Entered.{is_of}
 use Rattle.law_schedule.specs.Players.{Player, asked_in_run, has_closed, open_session, takes, takes_if, take_in, take_turn, at_player, repeated, does, take_turns}
 use Rattle.law_schedule.specs.Serving.{Run, Server, served, is_stopped, session_served}
 use Rattle.law_schedule.specs.Served.{KeepsSound}
-use Rattle.law_schedule.proofs.DoneLists.{repeated-still}
+use Rattle.law_schedule.proofs.DoneLists.{repeated-still, open-by}
 use Rattle.sv_replay.specs.Machine.{after_session, after_take}
 use Rattle.sv_replay.specs.Serving.{one_if}
 use Rattle.sv_replay.specs.Work.{work_left, work_in, work_for, work_of_session, work_of_client, Found}
@@ -147,16 +147,11 @@ serve_still server s run e =
 
 -- ---- Replies that wait for a player
 
-open_parts : (c m : Bool) (o : Option ℕ) (s : ℕ) → (if c || m then None else o) ≡ Some s → (c ≡ false) × ((m ≡ false) × (o ≡ Some s))
-open_parts true m o s e = cc
-open_parts false true o s e = cc
-open_parts false false o s e = (refl, (refl, e))
-
 -- A reply that is got is one fewer that waits, and the link stays open.
 got_lessens : (h : List Entry) (p : Player) (s : ℕ) (reply : Reply) → open_session p ≡ Some s → slice_get (replies_in (accepted h) h s) (length (got p.events s)) ≡ Some reply →
     work_in h (does p (events.Got s reply) p.left) (open_session (does p (events.Got s reply) p.left)) < work_in h p (open_session p)
 got_lessens h p s reply o e =
-    let parts = open_parts p.closed (must_join p.events) (current_session p.events) s o in
+    let parts = open-by p.closed (must_join p.events) (current_session p.events) s o in
     let next : open_session (does p (events.Got s reply) p.left) ≡ Some s = ap (λ (b : Bool). if b || false then None else current_session p.events) parts.0 ∙ parts.1.1 in
     let grown : got (events.Got s reply ∷ p.events) s ≡ got p.events s ++ reply ∷ [] = rw (eq-eqb s s refl) refl in
     let long : length (got p.events s ++ reply ∷ []) ≡ length (got p.events s) + 1 = length-append (got p.events s) (reply ∷ []) in

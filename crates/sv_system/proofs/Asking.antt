@@ -46,7 +46,7 @@ same-form : (xs : List Done1) → HaveSameForm xs xs
 same-form [] = tt
 same-form (x ∷ xs) = (refl, (refl, same-form xs))
 
-same-request : (q : Request) → AreSameButValues q q
+pub same-request : (q : Request) → AreSameButValues q q
 same-request (requests.Done results) = (results, (refl, same-form results))
 same-request (requests.Join client life interest) = refl
 same-request (requests.Submit seq a) = refl

@@ -6,7 +6,6 @@ use Rattle.std.proofs.lemmas.Bool.{cond_both, cond-true, cond-false, or_cases, o
 use Rattle.std.proofs.lemmas.List.Elements.{All-from_recursion, recursion_from_All}
 use Rattle.std.proofs.lemmas.Option.{none-some}
 use Rattle.sv_world.specs.declared.world.Shape.{Shape}
-use Rattle.sv_wire.specs.declared.message.Done1.{Done1}
 use Rattle.sv_wire.specs.declared.message.Request.{Request}
 use Rattle.sv_wire.specs.declared.message.Request.TheVariants as requests
 use Rattle.sv_journal.specs.declared.entry.Entry.{Entry}
@@ -23,10 +22,11 @@ use Rattle.sv_scenario.specs.declared.scenario.Scenario.{Scenario}
 use Rattle.sv_scenario.specs.Limits.{IsGoodScenario}
 use Rattle.sv_system.specs.Fronts.{IsFront}
 use Rattle.sv_system.specs.Fits.{requests_in, is_join_of, has_session, FitsOne, AreApart, AreAllApart}
-use Rattle.sv_system.specs.Served.{is_session_of, FitsBut, HaveSameForm, AreSameButValues, FitsButValues}
+use Rattle.sv_system.specs.Served.{is_session_of, FitsBut, AreSameButValues, FitsButValues}
 use Rattle.sv_system.proofs.Fronts.{get-push_cases}
 use Rattle.sv_system.proofs.Entered.{is_of}
 use Rattle.sv_system.proofs.Places.{map_at}
+use Rattle.sv_system.proofs.Asking.{same-request}
 use Rattle.law_schedule.specs.Players.{Player, trace_of_player}
 use Rattle.law_schedule.specs.Serving.{Run, Server, traces_of}
 use Rattle.law_schedule.specs.Schedule.{rules_of}
@@ -63,20 +63,6 @@ lied-joins requests.Leave = refl
 lied-joins requests.Bad = refl
 lied-joins requests.End = refl
 
-same-form : (ds : List Done1) → HaveSameForm ds ds
-same-form [] = tt
-same-form (d ∷ ds) = (refl, (refl, same-form ds))
-
--- A request is the same as itself.
-same-same : (q : Request) → AreSameButValues q q
-same-same (requests.Join client life interest) = refl
-same-same (requests.Submit seq action) = refl
-same-same (requests.Done results) = (results, (refl, same-form results))
-same-same requests.Poll = refl
-same-same requests.Leave = refl
-same-same requests.Bad = refl
-same-same requests.End = refl
-
 -- ---- What the server hears
 
 -- What holds of what is asked, and of a lie in place of it, holds of what is heard.
@@ -91,7 +77,7 @@ pub heard-joins : (r : Rules) (liar : Option ℕ) → HearsJoins (witness_of r l
 heard-joins r liar h s q = heard-by (λ (x : Request). joining x ≡ joining q) liar h s q refl (lied-joins q)
 
 heard-same : (liar : Option ℕ) (h : List Entry) (s : ℕ) (q : Request) → AreSameButValues q (heard_of liar h s q)
-heard-same liar h s q = heard-by (AreSameButValues q) liar h s q (same-same q) (lied-same q)
+heard-same liar h s q = heard-by (AreSameButValues q) liar h s q (same-request q) (lied-same q)
 
 -- It hears what is asked where the liar did not join the session.
 heard-plain : (liar : Option ℕ) (h : List Entry) (s : ℕ) (q : Request) → ((k : ℕ) → liar ≡ Some k → is_client (client_of h s) k ≡ false) → heard_of liar h s q ≡ q

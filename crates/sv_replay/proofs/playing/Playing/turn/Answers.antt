@@ -2,16 +2,17 @@
 use Rattle.std.proofs.Common.{sym, ◌∙◌, subst}
 use Rattle.std.proofs.lemmas.Result.{on_ok_weaker}
 use Rattle.law_schedule.specs.Players.{Player}
+use Rattle.law_schedule.proofs.DoneShut.{turn-closed}
 use Rattle.sv_replay.specs.Messages.{IsAfterTurn}
 use Rattle.sv_replay.specs.Machine.{player_of, MovedPlayer}
 use Rattle.sv_replay.proofs.Events.{up_must, up_welcomed}
-use Rattle.sv_replay.proofs.Moving.{turn_closed, turn_waits, turn_steps, may_join, asks_join, joined_moved, still_at}
+use Rattle.sv_replay.proofs.Moving.{turn_waits, turn_steps, may_join, asks_join, joined_moved, still_at}
 use Rattle.sv_replay.proofs.playing.Playing.turn.Goals as goal
 
 pub returns-then-self : goal.returns-then-self
 returns-then-self c =
     let p = c.args.self.now in
-    still_at _ p c.args.channel.now (turn_closed (player_of p) c.if-self.true) c.requires.flags
+    still_at _ p c.args.channel.now (turn-closed (player_of p) c.if-self.true) c.requires.flags
 
 pub join-requires-clause-few : goal.join-requires-clause-few
 join-requires-clause-few c = may_join c.args.self.now c.if-self.false (sym c.requires.flags.between ∙ c.if-self-2.true) c.requires.after.fit
