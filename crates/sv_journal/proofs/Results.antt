@@ -2,21 +2,22 @@
 use Rattle.std.proofs.Common.{◌≡◌, ℕ, zero, suc, ◌<◌, ◌≤◌, Bool, true, false, not, ◌&&◌, ◌||◌, ◌⊎◌, inl, inr, ℤ, List, [], ◌∷◌, filter, length, Option, Some, None, refl, sym, ap, ap₂, subst, ◌∙◌, arith}
 use Rattle.std.specs.Prelude.{if◌then◌else◌, nat_lt, ◌==◌, is_some, slice_set, unwrap_or}
 use Rattle.std.specs.List.{AllByRecursion, list_any, list_all}
-use Rattle.std.proofs.lemmas.Bool.{cases_eq, cases_lt, lt-ltb, eqb-true, and_parts, or_parts}
-use Rattle.std.proofs.lemmas.List.{length-set}
+use Rattle.std.proofs.lemmas.Bool.{cases_lt, lt-ltb, eqb-true, and_parts, or_parts}
 use Rattle.sv_world.specs.Control.{is_in, action_at}
 use Rattle.sv_world.specs.Sets.{write_set}
 use Rattle.sv_eval.specs.Serial.{put_all}
+use Rattle.sv_eval.proofs.Serials.{put_all_length}
 use Rattle.sv_wire.specs.declared.message.Done1.{Done1}
 use Rattle.sv_wire.specs.declared.message.Request.{Request}
 use Rattle.sv_wire.specs.declared.message.Request.TheVariants as requests
 use Rattle.sv_journal.specs.declared.entry.Entry.{Entry}
 use Rattle.sv_journal.specs.declared.entry.Logged.{Logged}
 use Rattle.sv_journal.specs.declared.entry.Logged.TheVariants as logged
-use Rattle.sv_journal.specs.History.{either, is_noted, reported, reports, accepted, actions_of, result_at, run_length, commit_of, installed, committed_of}
+use Rattle.sv_journal.specs.History.{either, is_noted, reported, reports, accepted, actions_of, result_at, commit_of, installed, committed_of}
 use Rattle.sv_journal.specs.Sessions.{sent_to}
 use Rattle.sv_journal.specs.Answer.{Rules, is_bad_result}
 use Rattle.sv_journal.proofs.Sizes.{entry_of}
+use Rattle.sv_journal.proofs.Commits.{committed_has}
 
 abbrev pub HaveNumbers : ℕ → List (List ℤ) → Type 0
 HaveNumbers n values = AllByRecursion (λ (v : List ℤ). length v ≡ n) values
@@ -32,11 +33,6 @@ put_kept : (n : ℕ) (world : List (List ℤ)) (xs : List ℕ) (values : List (L
 put_kept n world [] values all new = all
 put_kept n world (x ∷ xs) [] all new = all
 put_kept n world (x ∷ xs) (v ∷ vs) all new = put_kept n (slice_set world x v) xs vs (set_kept n world x v all new.0) new.1
-
-put_count : (world : List (List ℤ)) (xs : List ℕ) (values : List (List ℤ)) → length (put_all world xs values) ≡ length world
-put_count world [] values = refl
-put_count world (x ∷ xs) [] = refl
-put_count world (x ∷ xs) (v ∷ vs) = put_count (slice_set world x v) xs vs ∙ length-set world x v
 
 -- Each result has values of n numbers.
 abbrev pub AreResults : ℕ → List Entry → Type 0
@@ -55,7 +51,7 @@ installed_kept n opening h (suc p) results all =
 installed_count : (opening : List (List ℤ)) (h : List Entry) (p : ℕ) → length (installed opening h p) ≡ length opening
 installed_count opening h zero = refl
 installed_count opening h (suc p) =
-    put_count (installed opening h p) (write_set (action_at (actions_of h) (suc p))) (unwrap_or (result_at h (suc p)) []) ∙ installed_count opening h p
+    put_all_length (installed opening h p) (write_set (action_at (actions_of h) (suc p))) (unwrap_or (result_at h (suc p)) []) ∙ installed_count opening h p
 
 pub committed_kept : (n : ℕ) (opening : List (List ℤ)) (h : List Entry) → AreResults n h → HaveNumbers n opening → HaveNumbers n (committed_of opening h)
 committed_kept n opening h results all = installed_kept n opening h (commit_of h) results all
@@ -72,23 +68,6 @@ either_none None = refl
 pub results_quiet : (n : ℕ) (h : List Entry) (s : ℕ) (q : Request) (w : Logged) → is_noted w ≡ false → AreResults n h → AreResults n (entry_of s q w ∷ h)
 results_quiet n h s q w quiet results p values is =
     results p values (sym (ap (λ b. either (result_at h p) (if b then reports p q else None)) quiet ∙ either_none (result_at h p)) ∙ is)
-
-passes : (test : ℕ → Bool) (n p : ℕ) → 1 ≤ p → p ≤ run_length test n → test p ≡ true
-passes test zero p low high = absurd (omega (arith, low, high))
-passes test (suc n) p low high = go (run_length test n == n) refl (test (suc n)) refl high (passes test n p low)
-  where
-    go : (b : Bool) → (run_length test n == n) ≡ b → (d : Bool) → test (suc n) ≡ d → p ≤ (if b && d then suc n else run_length test n) →
-        (p ≤ run_length test n → test p ≡ true) → test p ≡ true
-    go true full true last l ih = at (cases_eq p (suc n))
-      where
-        at : (p ≡ suc n) ⊎ (p ≡ suc n → ⊥) → test p ≡ true
-        at (inl same) = ap test same ∙ last
-        at (inr other) = ih (omega (arith, l, other, eqb-true (run_length test n) n full))
-    go true full false last l ih = ih l
-    go false full d last l ih = ih l
-
-pub has_result : (h : List Entry) (p : ℕ) → 1 ≤ p → p ≤ commit_of h → is_some (result_at h p) ≡ true
-has_result h p low high = passes (λ k. is_some (result_at h k)) (length (accepted h)) p low high
 
 not_false : (b : Bool) → not b ≡ false → b ≡ true
 not_false true e = refl
@@ -124,9 +103,9 @@ good_result r h s d good open_still =
     above : (d.pos == 0) ≡ false → (commit_of h < d.pos) ⊎ (d.pos ≤ commit_of h) → commit_of h < d.pos
     above some (inl l) = l
     above some (inr le) =
-        absurd (none_is (result_at h d.pos) open_still (has_result h d.pos (positive d.pos some) le))
+        absurd (none_is (result_at h d.pos) open_still (committed_has h d.pos (positive d.pos some) le))
       where
-        positive : (n : ℕ) → (n == 0) ≡ false → 1 ≤ n
+        positive : (n : ℕ) → (n == 0) ≡ false → 0 < n
         positive zero e = cc
         positive (suc n) e = omega arith
 

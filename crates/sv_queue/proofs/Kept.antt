@@ -9,13 +9,14 @@ use Rattle.sv_world.specs.Faults.{IsGoodAction}
 use Rattle.sv_world.specs.Sets.{write_set}
 use Rattle.sv_eval.specs.Serial.{put_all}
 use Rattle.sv_eval.proofs.Lists.{all_set}
+use Rattle.sv_eval.proofs.Serials.{put_all_length}
 use Rattle.sv_queue.specs.declared.queued.Queued.{Queued}
 use Rattle.sv_queue.specs.Invariant.{AgreeOn, IsGoodEntry, writers_above}
 use Rattle.sv_queue.specs.Queue.{no_entry}
 use Rattle.sv_world.specs.Worlds.{HaveAttrs, IsGoodShape}
 use Rattle.sv_queue.specs.Written.{CanWrite, IsChangedAt, front_of}
 use Rattle.sv_queue.proofs.Entries.{writers_above-push}
-use Rattle.sv_queue.proofs.WrittenObjects.{front_of-push, length-put_all}
+use Rattle.sv_queue.proofs.WrittenObjects.{front_of-push}
 
 pub can_write : (shape : Shape) (a : Action) → IsGoodAction shape a → CanWrite shape.objects a
 can_write shape a g = record { few_reads = g.few_reads; ascending = g.ascending; objects = g.objects }
@@ -155,7 +156,7 @@ agree_rest : (shape : Shape) (commit : ℕ) (committed values : List (List ℤ))
     AgreeOn shape (commit + 1) (put_all committed (write_set e.action) values) es now next
 agree_rest shape commit committed values e es writers now rows next h attrs changed given = record {
   limits = h.limits;
-  objects = length-put_all committed (write_set e.action) values ∙ h.objects;
+  objects = put_all_length committed (write_set e.action) values ∙ h.objects;
   attrs = HaveAttrs-put shape committed (write_set e.action) values h.attrs attrs;
   good = λ k d low. h.good (suc k) d (omega arith);
   last = omega (arith, h.last);

@@ -162,11 +162,6 @@ put_all-next committed [] x values v rest h = rw h refl
 put_all-next committed (w ∷ xs) x [] v rest h = cc
 put_all-next committed (w ∷ xs) x (value ∷ values) v rest h = put_all-next (set committed w value) xs x values v rest h
 
-pub length-put_all : (committed : List (List ℤ)) (xs : List ℕ) (values : List (List ℤ)) → length (put_all committed xs values) ≡ length committed
-length-put_all committed [] values = refl
-length-put_all committed (x ∷ xs) [] = refl
-length-put_all committed (x ∷ xs) (v ∷ values) = length-put_all (set committed x v) xs values ∙ length-set committed x v
-
 -- Where no value is left, no more is written.
 pub put_values_end : (committed : List (List ℤ)) (xs : List ℕ) (x : ℕ) (values : List (List ℤ)) →
     drop (length xs) values ≡ [] → put_all committed (xs ++ x ∷ []) values ≡ put_all committed xs values
