@@ -19,7 +19,7 @@ ghost use Rattle.sv_sequencer.specs.declared.clients.Outcome.TheVariants as rows
 ghost use Rattle.sv_sequencer.specs.Clients.{client_row};
 ghost use Rattle.sv_sequencer.specs.Cores.{core_rules, Keeps, CarriedOut, Remained};
 ghost use Rattle.sv_sequencer.specs.Decisions.{IsJoin, IsNextSubmit, IsOld, interest_in, action_in, results_in};
-ghost use Rattle.sv_sequencer.specs.Relays.{held_in, item_in, marked_all, given_all, with_reports, CanReport};
+ghost use Rattle.sv_sequencer.specs.Relays.{held_in, item_in, marked_all, given_all};
 
 use crate::answer::Answer;
 use crate::clients::{Clients, Outcome};
