@@ -55,7 +55,7 @@ made-last A B x is =
 
 -- ---- A new action
 
--- It is the last one.
+-- The action of a Submit with its client's next number that a relay answers is the last accepted one.
 pub action-new : (e : Entry) (h : List Entry) (k n : ℕ) (a : Action) → client_of h e.session ≡ Some k → e.request ≡ requests.Submit n a → n ≡ next_seq h k → is_relay e.reply ≡ true →
     (authored_at (accepted (e ∷ h)) (suc (length (accepted h)))).action ≡ a
 action-new e h k n a client asked number relayed =

@@ -155,5 +155,3 @@ kept-within h k seq p e = at-within h k seq p (kept-is h k seq (Accepted p) e)
 -- A kept number is below the next one.
 pub kept-below : (h : List Entry) (k seq p : ℕ) → kept_outcome h k seq ≡ Some (Accepted p) → seq < next_seq h k
 kept-below h k seq p e = kept_known h k seq (Accepted p) e
-
--- ---- The commit
