@@ -121,7 +121,7 @@ module _ (first : ℕ) where
   is_up None k = refl
   is_up (Some s) k = shifted s k first
 
-  up_is : (t : List Event) (k : ℕ) → is_session (current_session (Up t)) (k + first) ≡ is_session (current_session t) k
+  pub up_is : (t : List Event) (k : ℕ) → is_session (current_session (Up t)) (k + first) ≡ is_session (current_session t) k
   up_is t k = ap (λ (o : Option ℕ). is_session o (k + first)) (up_current t) ∙ is_up (current_session t) k
 
   pub up_asked : (who : Identity) (t : List Event) (k : ℕ) → asked who.client who.interest (Up t) (k + first) ≡ asked who.client who.interest t k

@@ -1,10 +1,8 @@
 -- What a client did, where its first session has another number.
-use Rattle.std.proofs.Common.{◌≡◌, ◌≢◌, ◌⊎◌, inl, inr, ℕ, suc, ◌+◌, Bool, true, false, ◌||◌, eqb, ℤ, List, [], ◌∷◌, ◌++◌, length, Option, Some, None, option_map, refl, sym, ap, ap₂, subst, ◌∙◌, arith}
+use Rattle.std.proofs.Common.{◌≡◌, ℕ, suc, ◌+◌, Bool, ◌||◌, ℤ, List, [], ◌∷◌, ◌++◌, length, Option, Some, option_map, refl, sym, ap, ap₂, subst, ◌∙◌}
 use Rattle.std.specs.Prelude.{IfSome, if◌then◌else◌}
 use Rattle.std.specs.List.{flat_map}
 use mathlib.Core.Path.{fun_ext}
-use Rattle.std.proofs.lemmas.Bool.{ne_eqb, eq-eqb}
-use Rattle.std.proofs.lemmas.Bool.Decides.{eqb_tells}
 use Rattle.std.proofs.lemmas.List.{length-map}
 use Rattle.sv_world.specs.declared.world.ClientId.{ClientId}
 use Rattle.sv_world.specs.declared.world.ObjectId.{ObjectId}
@@ -18,11 +16,11 @@ use Rattle.sv_link.specs.Ends.{Told}
 use Rattle.sv_client.specs.declared.fault.TakeFault.{TakeFault}
 use Rattle.sv_client.specs.declared.trace.Event.{Event}
 use Rattle.sv_client.specs.declared.trace.Event.TheVariants as events
-use Rattle.sv_client.specs.Traces.{current_session, is_session, view_of}
+use Rattle.sv_client.specs.Traces.{view_of}
 use Rattle.sv_client.specs.Taking.{Identity, Fault}
 use Rattle.sv_client.specs.Answers.{IsTakeFault}
 use Rattle.sv_client.specs.Seen.{raised, fault_named}
-use Rattle.sv_client.proofs.Shifts.{Up, up_held, up_pending, up_current, up_got, up_asked, up_outstanding, up_fault}
+use Rattle.sv_client.proofs.Shifts.{Up, up_held, up_pending, up_current, up_got, up_asked, up_outstanding, up_fault, up_is}
 use Rattle.sv_scenario.specs.declared.scenario.Step.{Step}
 use Rattle.sv_script.specs.Following.{DoesStep, MayCome, FollowsTo, must_join, is_welcomed, is_finished, passed_syncs, is_bye}
 use Rattle.sv_script.specs.Telling.{same_view, change_of, changes_of}
@@ -49,20 +47,6 @@ abbrev change_at : ClientId → ObjectId → ℕ → Option (List ℤ) → Optio
 change_at client object n old new = if same_view old new then [] else record { client = client; object = object; event = n; old = old; new = new } ∷ []
 
 module _ (first : ℕ) where
-  same_number : (n k : ℕ) → eqb (n + first) (k + first) ≡ eqb n k
-  same_number n k = go (eqb_tells n k)
-    where
-      go : ((eqb n k ≡ true) × (n ≡ k)) ⊎ ((eqb n k ≡ false) × (n ≢ k)) → eqb (n + first) (k + first) ≡ eqb n k
-      go (inl y) = eq-eqb (n + first) (k + first) (ap (λ (m : ℕ). m + first) y.1) ∙ sym y.0
-      go (inr m) = ne_eqb (n + first) (k + first) (λ e. m.1 (omega (arith, e))) ∙ sym m.0
-
-  is_up : (o : Option ℕ) (k : ℕ) → is_session (option_map (λ s. s + first) o) (k + first) ≡ is_session o k
-  is_up None k = refl
-  is_up (Some s) k = same_number s k
-
-  up_is : (t : List Event) (k : ℕ) → is_session (current_session (Up first t)) (k + first) ≡ is_session (current_session t) k
-  up_is t k = ap (λ (o : Option ℕ). is_session o (k + first)) (up_current first t) ∙ is_up (current_session t) k
-
   pub up_cut : (t : List Event) (k : ℕ) → is_cut (Up first t) (k + first) ≡ is_cut t k
   up_cut [] k = refl
   up_cut (events.Join s ∷ t) k = up_cut t k
@@ -70,8 +54,8 @@ module _ (first : ℕ) where
   up_cut (events.Poll ∷ t) k = up_cut t k
   up_cut (events.Leave ∷ t) k = up_cut t k
   up_cut (events.Got s reply ∷ t) k = up_cut t k
-  up_cut (events.Cut ∷ t) k = ap₂ (λ (a b : Bool). a || b) (up_is t k) (up_cut t k)
-  up_cut (events.Quit ∷ t) k = ap₂ (λ (a b : Bool). a || b) (up_is t k) (up_cut t k)
+  up_cut (events.Cut ∷ t) k = ap₂ (λ (a b : Bool). a || b) (up_is first t k) (up_cut t k)
+  up_cut (events.Quit ∷ t) k = ap₂ (λ (a b : Bool). a || b) (up_is first t k) (up_cut t k)
   up_cut (events.Show objects ∷ t) k = up_cut t k
 
   pub up_must_join : (t : List Event) → must_join (Up first t) ≡ must_join t

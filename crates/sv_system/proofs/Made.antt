@@ -19,7 +19,8 @@ use Rattle.sv_system.proofs.Every.{each-append, each-more}
 use Rattle.sv_system.proofs.Asked.{get-append_cases}
 use Rattle.sv_system.proofs.Pendings.{Numbered, keys, without_first, settles, keys-with, keys-made}
 use Rattle.sv_system.proofs.Aligned.{is_submit}
-use Rattle.sv_system.proofs.Resent.{no-submit, no-submit_done}
+use Rattle.sv_system.proofs.Resent.{no-submit_done}
+use Rattle.sv_system.proofs.Window.{no-submit}
 
 -- The actions that a trace made, in order.
 abbrev pub made : List Event → List Action
@@ -112,8 +113,8 @@ module _ (who : Identity) (first : ℕ) where
   event-made (events.Join m) t s j n a e = join-made t (m == s) j n a e
   event-made (events.Make action) t s j n a e = submit-if (IsMade (events.Make action ∷ t)) (is_session (current_session t) s) (suc (makes t)) action (made-now action t) j n a e
   event-made (events.Got m r) t s j n a e = absurd (no-submit_done who first (m == s) (held_of t) r j n a e)
-  event-made events.Poll t s j n a e = absurd (no-submit who first (is_session (current_session t) s) requests.Poll j n a refl e)
-  event-made events.Leave t s j n a e = absurd (no-submit who first (is_session (current_session t) s) requests.Leave j n a refl e)
+  event-made events.Poll t s j n a e = absurd (no-submit (is_session (current_session t) s) requests.Poll j n a refl e)
+  event-made events.Leave t s j n a e = absurd (no-submit (is_session (current_session t) s) requests.Leave j n a refl e)
   event-made events.Cut t s j n a e = absurd (none-some (requests.Submit n a) e)
   event-made events.Quit t s j n a e = absurd (none-some (requests.Submit n a) e)
   event-made (events.Show objects) t s j n a e = absurd (none-some (requests.Submit n a) e)

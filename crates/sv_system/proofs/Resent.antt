@@ -20,7 +20,7 @@ use Rattle.sv_client.specs.Proper.{AreProper}
 use Rattle.sv_system.proofs.Asked.{get-append_cases, may-answer, begun-or_not}
 use Rattle.sv_system.proofs.Pendings.{Numbered, keys, without_first, settles, keys-with, settled, counted, got-fewer, keys-made}
 use Rattle.sv_system.proofs.Aligned.{is_submit, settles-submit}
-use Rattle.sv_system.proofs.Window.{next-front, submit-most}
+use Rattle.sv_system.proofs.Window.{next-front, submit-most, no-submit}
 
 get-left : {X : Type 0} (xs ys : List X) (i : ℕ) (x : X) → i < length xs → slice_get (xs ++ ys) i ≡ Some x → slice_get xs i ≡ Some x
 get-left xs ys i x l e =
@@ -147,11 +147,6 @@ module _ (who : Identity) (first : ℕ) where
   older-made (events.Cut ∷ t) p s n j k a c f e = older-made t p.1 s n j k a c f (asked-as_before t events.Cut n j k a refl e)
   older-made (events.Quit ∷ t) p s n j k a c f e = older-made t p.1 s n j k a c f (asked-as_before t events.Quit n j k a refl e)
   older-made (events.Show objects ∷ t) p s n j k a c f e = older-made t p.1 s n j k a c f (asked-as_before t (events.Show objects) n j k a refl e)
-
-  pub no-submit : (b : Bool) (q : Request) (j k : ℕ) (a : Action) → is_submit q ≡ false → slice_get (if b then q ∷ [] else []) j ≡ Some (requests.Submit k a) → ⊥
-  no-submit true q zero k a f e = true≢false (sym (ap is_submit (same_Some q (requests.Submit k a) e)) ∙ f)
-  no-submit true q (suc j) k a f e = none-some (requests.Submit k a) e
-  no-submit false q j k a f e = none-some (requests.Submit k a) e
 
   pub no-submit_done : (b : Bool) (held : List Held) (r : Reply) (j k : ℕ) (a : Action) → slice_get (if b then done_for held r else []) j ≡ Some (requests.Submit k a) → ⊥
   no-submit_done false held r j k a e = none-some (requests.Submit k a) e

@@ -41,10 +41,10 @@ use Rattle.sv_system.proofs.Places.{at_place}
 
 -- ---- The Submits of a trace are of actions that it made
 
-no-submit_if : (b : Bool) (p : Request) (j n : ℕ) (a : Action) → is_submit p ≡ false → slice_get (if b then p ∷ [] else []) j ≡ Some (requests.Submit n a) → ⊥
-no-submit_if true p zero n a f e = true≢false (sym (ap is_submit (same_Some p (requests.Submit n a) e)) ∙ f)
-no-submit_if true p (suc j) n a f e = none-some (requests.Submit n a) e
-no-submit_if false p j n a f e = none-some (requests.Submit n a) e
+pub no-submit : (b : Bool) (p : Request) (j n : ℕ) (a : Action) → is_submit p ≡ false → slice_get (if b then p ∷ [] else []) j ≡ Some (requests.Submit n a) → ⊥
+no-submit true p zero n a f e = true≢false (sym (ap is_submit (same_Some p (requests.Submit n a) e)) ∙ f)
+no-submit true p (suc j) n a f e = none-some (requests.Submit n a) e
+no-submit false p j n a f e = none-some (requests.Submit n a) e
 
 abbrev pub submit_number : Request → ℕ
 submit_number (requests.Submit n a) = n
@@ -114,8 +114,8 @@ module _ (who : Identity) (first : ℕ) where
       now (events.Join m) j g = join-now (m == s) j g
       now (events.Got m r) j g = absurd (done-now (m == s) r j g)
       now (events.Make action) j g = make-now (is_session (current_session t) s) action j g
-      now events.Poll j g = absurd (no-submit_if (is_session (current_session t) s) requests.Poll j n a refl g)
-      now events.Leave j g = absurd (no-submit_if (is_session (current_session t) s) requests.Leave j n a refl g)
+      now events.Poll j g = absurd (no-submit (is_session (current_session t) s) requests.Poll j n a refl g)
+      now events.Leave j g = absurd (no-submit (is_session (current_session t) s) requests.Leave j n a refl g)
       now events.Cut j g = absurd (none-some (requests.Submit n a) g)
       now events.Quit j g = absurd (none-some (requests.Submit n a) g)
       now (events.Show objects) j g = absurd (none-some (requests.Submit n a) g)
