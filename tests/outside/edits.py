@@ -9,8 +9,6 @@ stands, and runs `rt ci` there on these crates. So it takes what the gate has ke
 take an hour of one processor and more. Where all were refused, it records for each crate the sum of its code, its definitions and its edits
 in edits/refused.txt. With --recorded it tries nothing, and fails where a crate is another one than was recorded: then its edits must be tried
 again. What stands below a crate is not part of its sum.
-
-Where the time for it was not there, a crate stands in edits/waiting.txt with its sum: --recorded names it, and does not fail for it.
 """
 
 import hashlib
@@ -23,7 +21,6 @@ import tempfile
 ROOT = os.path.normpath(os.path.join(os.path.dirname(os.path.abspath(__file__)), "..", ".."))
 EDITS = os.path.join(ROOT, "tests", "outside", "edits")
 RECORD = os.path.join(EDITS, "refused.txt")
-WAITING = os.path.join(EDITS, "waiting.txt")
 
 
 def files_below(folder):
@@ -42,11 +39,11 @@ def sum_of(root, crate):
     return total.hexdigest()
 
 
-def recorded(path=RECORD):
-    """The sum of each crate at which its edits were refused, or at which they wait to be tried."""
-    if not os.path.exists(path):
+def recorded():
+    """The sum of each crate at which its edits were refused."""
+    if not os.path.exists(RECORD):
         return {}
-    with open(path, encoding="ascii") as file:
+    with open(RECORD, encoding="ascii") as file:
         return dict(line.split() for line in file)
 
 
@@ -81,15 +78,10 @@ def main(words):
     known = sorted(name for name in os.listdir(EDITS) if os.path.isdir(os.path.join(EDITS, name)))
     if words == ["--recorded"]:
         sums = recorded()
-        waits = recorded(WAITING)
-        changed = [name for name in known if sums.get(name) != sum_of(ROOT, name)]
-        others = [name for name in changed if waits.get(name) != sum_of(ROOT, name)]
-        for name in changed:
-            if name not in others:
-                print(f"NOT TRIED since it changed, as waiting.txt says: the edits of {name}")
+        others = [name for name in known if sums.get(name) != sum_of(ROOT, name)]
         for name in others:
             print(f"the edits of {name} were not tried since it changed: python3 tests/outside/edits.py {name}")
-        print(f"{len(known) - len(changed)} passed, {len(others)} failed")
+        print(f"{len(known) - len(others)} passed, {len(others)} failed")
         return 1 if others else 0
     unknown = [name for name in words if name not in known]
     if unknown:
