@@ -1,0 +1,75 @@
+#!/usr/bin/env python3
+"""Looks whether the programs of bench/ still name what stands in the crates, since the gate does not build them.
+
+    python3 tests/outside/test_bench.py
+
+Each name that such a program takes from a crate is searched there: a name of Rust in `src/lib.rt`, a definition or a lemma in the file of
+`specs` or `proofs` that its path tells, and a declared type in `src`. Whether the program is proved, only `bench/build.sh NAME` tells.
+"""
+
+import os
+import re
+import sys
+
+ROOT = os.path.normpath(os.path.join(os.path.dirname(os.path.abspath(__file__)), "..", ".."))
+PROGRAMS = os.path.join(ROOT, "bench", "programs")
+CONTRACTS = re.compile(r"Rattle\.(\w+)\.(specs|proofs)\.([\w.+-]+?)\.\{([^}]*)\}")
+RUST = re.compile(r"^\s*use ((?:sv|law)_\w+)::(?:\{([^}]*)\}|(\w+);)", re.MULTILINE)
+TYPE = r"\b(?:struct|enum|type|trait)\s+%s\b"
+
+
+def text_of(path):
+    """A file's text, and none where there is no such file."""
+    if not os.path.isfile(path):
+        return ""
+    with open(path, encoding="utf-8") as file:
+        return file.read()
+
+
+def files_below(folder, ending):
+    """The paths of the files below a folder whose names have this ending."""
+    return sorted(os.path.join(at, name) for at, _, names in os.walk(folder) for name in names if name.endswith(ending))
+
+
+def words(listed):
+    """The names of a list, without those that they get here."""
+    return [name.split(" as ")[0].strip() for name in listed.split(",") if name.strip()]
+
+
+def stands(word, text):
+    """Whether a text has the word."""
+    return re.search(rf"(?<!\w){re.escape(word)}(?!\w)", text) is not None
+
+
+def cited(text):
+    """Each name that a program's file takes from a crate of the repository: the crate, the name, and whether it stands there."""
+    for crate, part, path, listed in CONTRACTS.findall(text):
+        folder = os.path.join(ROOT, "crates", crate)
+        if not os.path.isdir(folder):
+            continue
+        if path.startswith("declared."):
+            sources = "".join(map(text_of, files_below(os.path.join(folder, "src"), ".rt")))
+            kinds = [word for word in path.split(".") if word[0].isupper() and not word.startswith("The")]
+            yield from ((crate, kind, re.search(TYPE % kind, sources) is not None) for kind in kinds)
+        else:
+            there = text_of(os.path.join(folder, part, *path.split(".")) + ".antt")
+            yield from ((crate, word, stands(word, there)) for word in words(listed))
+    for crate, listed, single in RUST.findall(text):
+        there = text_of(os.path.join(ROOT, "crates", crate, "src", "lib.rt"))
+        yield from ((crate, word, stands(word.split("::")[0], there)) for word in words(listed or single))
+
+
+def main():
+    """The status: 0 where each name stands."""
+    passed = failed = 0
+    for path in files_below(PROGRAMS, ".in"):
+        for crate, word, there in cited(text_of(path)):
+            passed, failed = passed + there, failed + (not there)
+            if not there:
+                print(f"{os.path.relpath(path, ROOT)}: {crate} has no {word} there")
+    print(f"{passed} passed, {failed} failed")
+    return 1 if failed or not passed else 0
+
+
+if __name__ == "__main__":
+    sys.exit(main())
