@@ -19,10 +19,18 @@ PAGE = os.path.join(TOP, "docs", "GUARANTEES.md")
 BEGIN, END = "<!-- calls: begin -->", "<!-- calls: end -->"
 WAITS = re.compile(r"\bR: [^,>{]*\bWait\b|impl Wait")
 SYSTEM = {"End", "Net", "Crew", "Door"}
+# A type of an impl's head by which its methods may wait; what they hold of it; and a call that only puts it into a new value.
+HANDLE = re.compile(r"[<,] ?([A-Z][A-Za-z]*): (?:[^,<>]*\+ )?(?:Wait|End|Net|Door)\b")
+HELD = re.compile(r"\bself\.(?:rt|connection)\b")
+STORED = re.compile(r"\b[A-Z][A-Za-z]*::(?:new|at)\([^()]*\)")
 REFUSES = re.compile(r"^(Result|Option)<|^(io::Result|Begun|Read|Wrote|EndRead|EndWrote|Pair|Settle|Ran|EndMade|Sent|Next|Filled|Incoming|View|Overlay|"
                      r"Views|SessionOut|PlayerOut|Posted|Put|Played)\b")
 REFUSED = re.compile(r"\b(OnErr|IfErr|IsErr|Err|None|IsNone|Memory|Failed|Match\w*|IsOk|IsSome|Rose|faults|Is\w*Cause|option_\w+|Refus\w*|"
                      r"refus\w*|fault\w*|\w*Cause\w*)\b")
+# Clauses that say more of the refusals, or of what is left, than their words show: of the calls that answer a status, and of these.
+OF_STATUSES = ("left", "faulty", "sure", "sure_file", "sure_door", "certain", "calm")
+MORE_REFUSED = {"serve_session": ("served",), "play_client": ("exact",), "takes_room": ("room",)}
+MORE_LEFT = {"play_all": ("lines",)}
 
 
 def names_exported(text):
@@ -51,6 +59,46 @@ def signatures(lines, start):
         place += 1
 
 
+def body_of(lines, start):
+    """The body of a function whose head ends here."""
+    depth = depth_of(lines[start])
+    end = start
+    while lines[end].rstrip() not in (" " * 4 * depth + "}", " " * 4 * depth + "{}") and end + 1 < len(lines):
+        end += 1
+    return " ".join(line.strip() for line in lines[start + 1:end])
+
+
+def head_of_block(lines, start):
+    """The head of an impl or a trait."""
+    end = start
+    while "{" not in lines[end]:
+        end += 1
+    return " ".join(line.strip() for line in lines[start:end + 1])
+
+
+def waiting_methods(lines, start):
+    """The methods of a block that may wait by what its head's types hold: they use it, take one, or let theirs go."""
+    handles = HANDLE.findall(head_of_block(lines, start))
+    if not handles:
+        return set()
+    bodies, waiting = {}, set()
+    for place in range(start + 1, len(lines)):
+        if lines[place].rstrip() == "}":
+            break
+        if not re.match(r"    (?:pub(?:\([a-z]+\))? )?(?:const )?fn ", lines[place]):
+            continue
+        head, end = signatures(lines, place)
+        name, front, _, _ = parsed(head)
+        bodies[name] = STORED.sub("", body_of(lines, end))
+        if HELD.search(bodies[name]) or re.search(r"\((?:mut )?self\b", front) or any(re.search(rf": {one}\b", front) for one in handles) \
+                or ".into_log()" in bodies[name]:
+            waiting.add(name)
+    while more := {name for name, body in bodies.items() if name not in waiting
+                   and any(re.search(rf"\bself\.{one}\(", body) for one in waiting)}:
+        waiting |= more
+    return waiting
+
+
 def parsed(head):
     """Name, arguments, result and clause names of a function's head."""
     name = re.search(r"fn ([A-Za-z_0-9]+)", head)[1]
@@ -64,7 +112,7 @@ def parsed(head):
 
 
 def calls_of(crate):
-    """The public calls of a crate: owner, name, front, result, clauses, file."""
+    """The public calls of a crate: owner, name, front, result, clauses, and whether they may wait by the head of their impl."""
     source = os.path.join(TOP, "crates", crate, "src")
     files = {}
     for folder, _, names in os.walk(source):
@@ -75,7 +123,7 @@ def calls_of(crate):
     exported = names_exported(files.get("lib.rt", ""))
     for name in sorted(files):
         lines = files[name].split("\n")
-        owner, is_trait = None, False
+        owner, is_trait, waiting = None, False, set()
         for place, line in enumerate(lines):
             if line.startswith("#[cfg(test)]"):
                 break
@@ -83,6 +131,7 @@ def calls_of(crate):
                 text = re.sub(r"<[^<>]*>", "", re.sub(r"<[^<>]*>", "", re.sub(r"<[^<>]*>", "", line)))
                 found = re.match(r"(?:pub )?(?:unsafe )?(impl|trait) (?:([A-Za-z_0-9]+) for )?([A-Za-z_0-9]+)", text)
                 is_trait = bool(found) and found[1] == "trait"
+                waiting = set() if is_trait else waiting_methods(lines, place)
                 owner = found[3] if found and not found[2] else None
                 if found and found[2]:
                     owner = ""
@@ -96,7 +145,7 @@ def calls_of(crate):
             function, front, result, clauses = parsed(head)
             if (mine or function) not in exported and not (name == "lib.rt" and mine is None):
                 continue
-            yield mine, function, front, result, clauses, name
+            yield mine, function, front, result, clauses, bool(mine) and function in waiting
 
 
 def list_of(labels):
@@ -104,19 +153,23 @@ def list_of(labels):
     return ", ".join(f"`{one}`" for one in dict.fromkeys(labels))
 
 
-def columns(owner, function, front, result, clauses):
+def columns(owner, function, front, result, clauses, waiting):
     """The three answers: whether it ends, which clauses carry its refusals, and which the state afterwards."""
     ensured = [(label, text) for kind, label, text in clauses if kind == "ensures"]
-    waits = bool(WAITS.search(front)) or owner in SYSTEM or bool(re.search(r"[<,] ?[A-Z]: (?:\S+ \+ )?(End|Net|Crew|Door)\b", front))
-    named = [label for label, text in ensured if REFUSED.search(text) or label in ("err", "cause", "refused", "certain", "complete")]
-    is_status = owner is None and function.startswith("run")
-    if not (REFUSES.search(result) or is_status or named and result == "bool"):
+    waits = waiting or bool(WAITS.search(front)) or owner in SYSTEM or bool(re.search(r"[<,] ?[A-Z]: (?:\S+ \+ )?(End|Net|Crew|Door)\b", front))
+    is_status = owner is None and function.startswith("run_") or function == "run" and result == "u8"
+    more = MORE_REFUSED.get(function, ()) + (OF_STATUSES if is_status else ())
+    named = [label for label, text in ensured if label != "same" and REFUSED.search(text) or label in more
+             or label in ("err", "cause", "refused", "certain", "complete")]
+    if result.startswith("Option<") and not ensured:
+        refusals = "no refusal; no clause says what it answers"
+    elif not (REFUSES.search(result) or is_status or named and result == "bool"):
         refusals = "no refusal"
     elif "AllocError" in result and not [label for label in named if label != "err"]:
         refusals = "memory alone" + (f": {list_of(named)}" if named else "")
     else:
         refusals = list_of(named or [label for label, _ in ensured]) or ("no clause" if "io::Result" in result else "memory alone")
-    kept = [label for label, text in ensured if re.search(r"[.\s]new\b|\.entry\b", text)]
+    kept = [label for label, text in ensured if re.search(r"[.\s]new\b|\.entry\b", text) or label in MORE_LEFT.get(function, ())]
     if "&mut" not in front:
         state = "nothing is changed"
     else:
@@ -131,10 +184,10 @@ def table():
     parts = []
     for crate in crates:
         rows = []
-        for owner, function, front, result, clauses, name in calls_of(crate):
+        for owner, function, front, result, clauses, waiting in calls_of(crate):
             if not re.search(r"[&A-Za-z]", re.sub(r".*?\(", "", front, count=1).split(")")[0]) and not result:
                 continue
-            ends, named, kept = columns(owner, function, front, result, clauses)
+            ends, named, kept = columns(owner, function, front, result, clauses, waiting)
             call = f"{owner}::{function}" if owner else function
             rows.append(f"| `{call}` | {ends} | {named} | {kept} |")
         if rows:
