@@ -63,7 +63,7 @@ ScriptsAreDone shape plans Ls = EachTrace (λ plan L. IsCarriedOut shape plan.st
 -- ---- The whole
 
 -- The record of a run: its traffic, each value at a position the serial execution's, the committed world too, each relay sufficient, each
--- script carried out, and one outcome for each action.
+-- script carried out, and one outcome for each action of a client that did not quit.
 pub record IsFullRecord (scenario : Scenario) (h : List Entry) (Ls : List Trace) : Type 0 where
   pub traffic : IsRecordOf scenario h Ls
   pub values : ValuesAreSerial scenario.world.values h Ls
