@@ -7,7 +7,7 @@ PARTS is the program bench/programs/sv_hostile, which bench/build.sh builds. In 
 loop and each player of the examples `conflict` and `bound` are alone: what comes to them stands in a file. Every single
 allocation fails in turn (by failing_memory.c), and for the smaller example every pair of two. The sequencer's and the
 client's calls are made again where memory ran out, and every answer must then be that of the run in which nothing failed;
-a loop and a player stop, and what they sent must be a beginning of it. A program that could not begin for want of memory
+a loop and a player stop, and what they sent must be a beginning of it. A program that could not begin for lack of memory
 prints nothing, and says so. The run in which nothing fails is compared with the models of simulate.py, which were written
 from the documents alone.
 
