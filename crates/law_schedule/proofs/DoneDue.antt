@@ -1,6 +1,6 @@
 -- A session had its End only where its loop had stopped before, or its client's end was closed.
 use Rattle.std.proofs.Common.{◌≡◌, ℕ, zero, suc, Bool, true, false, ◌&&◌, ◌||◌, ◌==◌, not, ◌⊎◌, inl, inr, List, [], ◌∷◌, map, length, drop, refl, sym, ap, ◌∙◌, subst, eqb-true, true≢false}
-use Rattle.std.specs.Prelude.{if◌then◌else◌}
+use Rattle.std.specs.Prelude.{is_some}
 use Rattle.std.specs.List.{list_any, AllByRecursion}
 use Rattle.std.proofs.lemmas.Bool.{cases_Bool, and_parts, and_from, or_cases, or_left, or_right, not_from_false, or_parts}
 use Rattle.std.proofs.lemmas.List.Concat.{flat_map-cons}
@@ -15,13 +15,14 @@ use Rattle.sv_wire.specs.declared.message.Reply.TheVariants as replies
 use Rattle.sv_journal.specs.declared.entry.Entry.{Entry}
 use Rattle.sv_journal.specs.Sessions.{is_end, is_ended}
 use Rattle.sv_journal.specs.Answer.{Rules}
+use Rattle.sv_session.specs.Requests.{stop_of}
 use Rattle.sv_client.specs.declared.trace.Event.{Event}
 use Rattle.sv_client.specs.declared.trace.Event.TheVariants as events
 use Rattle.sv_client.specs.Traces.{submit_of, pending_of, held_of, done_for, is_session, current_session, makes, joins, asked_by_event, asked}
 use Rattle.sv_system.specs.Fits.{requests_in}
 use Rattle.sv_system.proofs.Every.{each-append, each-if}
 use Rattle.law_schedule.specs.Players.{Player, asked_in_run, has_closed}
-use Rattle.law_schedule.specs.Serving.{is_stop, is_stopped}
+use Rattle.law_schedule.specs.Serving.{is_stopped}
 use Rattle.law_schedule.specs.Schedule.{plainly_served, session_turn, session_turns, sessions_turned}
 use Rattle.law_schedule.proofs.DoneLists.{repeated-keeps}
 use Rattle.law_schedule.proofs.DoneSessions.{is_spent, IsTurn, over, stops, steps, closes, waits, turn-is, other-turn}
@@ -85,13 +86,13 @@ pub spent-first : (h : List Entry) (s : ℕ) → is_ended h s ≡ false → is_s
 spent-first [] s n c = cc
 spent-first (e ∷ h) s n c =
     let later = spent-first h s in
-    let here = (e.session == s && not (is_end e.request)) && is_stop e.reply in
+    let here = (e.session == s && not (is_end e.request)) && is_some (stop_of e.reply) in
     let none = or_parts (e.session == s && is_end e.request) (is_ended h s) n in
-    elim (or_cases (e.session == s && is_stop e.reply) (is_stopped h s) c) [
+    elim (or_cases (e.session == s && is_some (stop_of e.reply)) (is_stopped h s) c) [
       | inr x ↦ or_right here (is_spent h s) (later none.1 x)
       | inl x ↦
-          (let p = and_parts (e.session == s) (is_stop e.reply) x in
-          or_left here (is_spent h s) (and_from (e.session == s && not (is_end e.request)) (is_stop e.reply)
+          (let p = and_parts (e.session == s) (is_some (stop_of e.reply)) x in
+          or_left here (is_spent h s) (and_from (e.session == s && not (is_end e.request)) (is_some (stop_of e.reply))
           (and_from (e.session == s) (not (is_end e.request)) p.0 (not_from_false (is_end e.request) (other-false (e.session == s) (is_end e.request) p.0 none.0))) p.1))
     ]
   where

@@ -1,6 +1,6 @@
 -- What a session's turn does, and that a session has nothing left to do after its turns of a round.
 use Rattle.std.proofs.Common.{◌≡◌, ℕ, zero, suc, ◌+◌, ◌≤◌, ◌<◌, Bool, true, false, ◌&&◌, ◌||◌, ◌==◌, not, ◌⊎◌, inl, inr, List, [], ◌∷◌, ◌++◌, length, drop, refl, sym, ap, ◌∙◌, subst, arith, eqb-true, eq-eqb, true≢false}
-use Rattle.std.specs.Prelude.{if◌then◌else◌}
+use Rattle.std.specs.Prelude.{is_some, if◌then◌else◌}
 use Rattle.std.specs.List.{list_any}
 use Rattle.std.proofs.lemmas.Bool.{cond-true, cases_Bool, and_from, or_left, not_from_false}
 use Rattle.std.proofs.lemmas.List.{length-append, length-drop}
@@ -11,16 +11,17 @@ use Rattle.sv_wire.specs.declared.message.Request.TheVariants as requests
 use Rattle.sv_journal.specs.declared.entry.Entry.{Entry}
 use Rattle.sv_journal.specs.Sessions.{is_end, is_ended}
 use Rattle.sv_journal.specs.Answer.{Rules}
+use Rattle.sv_session.specs.Requests.{stop_of}
 use Rattle.sv_system.specs.Fits.{requests_in}
 use Rattle.sv_system.proofs.Places.{drop-none}
 use Rattle.law_schedule.specs.Players.{Player, asked_in_run, has_closed, repeated}
-use Rattle.law_schedule.specs.Serving.{is_stop, is_stopped}
+use Rattle.law_schedule.specs.Serving.{is_stopped}
 use Rattle.law_schedule.specs.Schedule.{plainly_served, steps_next, session_turn, session_turns, sessions_turned}
 use Rattle.law_schedule.proofs.DoneLists.{repeated-keeps}
 
 -- The session was answered a reply that stops its loop, to a request that is no End.
 abbrev pub is_spent : List Entry → ℕ → Bool
-is_spent h s = list_any (λ (e : Entry). (e.session == s && not (is_end e.request)) && is_stop e.reply) h
+is_spent h s = list_any (λ (e : Entry). (e.session == s && not (is_end e.request)) && is_some (stop_of e.reply)) h
 
 -- ---- Other sessions
 
@@ -43,8 +44,8 @@ same-other : (t s : ℕ) (e : Entry) (h : List Entry) → (e.session == s) ≡ f
 same-other t s e h n = record {
   asked = ap (λ (b : Bool). if b && not (is_end e.request) then requests_in h s ++ e.request ∷ [] else requests_in h s) n;
   ended = ap (λ (b : Bool). (b && is_end e.request) || is_ended h s) n;
-  stopped = ap (λ (b : Bool). (b && is_stop e.reply) || is_stopped h s) n;
-  spent = ap (λ (b : Bool). ((b && not (is_end e.request)) && is_stop e.reply) || is_spent h s) n;
+  stopped = ap (λ (b : Bool). (b && is_some (stop_of e.reply)) || is_stopped h s) n;
+  spent = ap (λ (b : Bool). ((b && not (is_end e.request)) && is_some (stop_of e.reply)) || is_spent h s) n;
 }
 
 -- ---- A turn

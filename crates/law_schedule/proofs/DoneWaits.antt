@@ -1,5 +1,6 @@
 -- After a round a client whose session is open waits for nothing but the answers to the Dones that it asked in that round.
 use Rattle.std.proofs.Common.{◌≡◌, ℕ, zero, suc, ◌≤◌, ◌<◌, true, false, ◌&&◌, not, inl, inr, List, [], ◌∷◌, ◌++◌, length, drop, Option, Some, slice_get, refl, sym, ap, ◌∙◌, subst, arith, eq-eqb, true≢false}
+use Rattle.std.specs.Prelude.{is_some}
 use Rattle.std.specs.List.{list_any}
 use Rattle.std.proofs.lemmas.Bool.{cond-true, and_parts, or_cases}
 use Rattle.std.proofs.lemmas.List.{length-append}
@@ -9,11 +10,14 @@ use Rattle.sv_world.proofs.Bases.{is_in-below}
 use Rattle.sv_wire.specs.declared.message.Request.{Request}
 use Rattle.sv_wire.specs.declared.message.Request.TheVariants as requests
 use Rattle.sv_wire.specs.declared.message.Reply.{Reply}
+use Rattle.sv_wire.specs.declared.message.Reply.TheVariants as replies
 use Rattle.sv_journal.specs.declared.entry.Entry.{Entry}
 use Rattle.sv_journal.specs.declared.entry.Logged.{Logged}
-use Rattle.sv_journal.specs.declared.entry.Logged.TheVariants as logged
-use Rattle.sv_journal.specs.History.{Authored, accepted, full_reply}
+use Rattle.sv_journal.specs.History.{accepted, full_reply}
 use Rattle.sv_journal.specs.Answer.{Rules}
+use Rattle.sv_sequencer.specs.Shared.{logged_of}
+use Rattle.sv_sequencer.proofs.Shared.{logged-back}
+use Rattle.sv_session.specs.Requests.{stop_of}
 use Rattle.sv_client.specs.declared.trace.Event.{Event}
 use Rattle.sv_client.specs.declared.trace.Event.TheVariants as events
 use Rattle.sv_client.specs.Traces.{current_session, is_session, asked, got}
@@ -35,7 +39,7 @@ use Rattle.sv_system.specs.Laws.{NeverRefused}
 use Rattle.sv_system.proofs.Order.{leave-only, never-refused}
 use Rattle.sv_system.proofs.Places.{map_at, at_place}
 use Rattle.law_schedule.specs.Players.{Player, open_session, has_closed, take_turns}
-use Rattle.law_schedule.specs.Serving.{Run, is_stop, after_takes}
+use Rattle.law_schedule.specs.Serving.{Run, after_takes}
 use Rattle.law_schedule.specs.Schedule.{rules_of, after_sessions}
 use Rattle.law_schedule.specs.Sound.{IsSound}
 use Rattle.law_schedule.proofs.DoneGiven.{StaySound}
@@ -66,27 +70,27 @@ pub record IsSpentBy (h : List Entry) (s : ℕ) : Type 0 where
   pub before : List Entry
   pub earlier : IsEarlier (entry ∷ before) h
   pub of_it : is_of entry s ≡ true
-  pub stop : is_stop entry.reply ≡ true
+  pub stop : is_some (stop_of entry.reply) ≡ true
 
 spent-by : (h : List Entry) (s : ℕ) → is_spent h s ≡ true → IsSpentBy h s
 spent-by [] s x = cc
 spent-by (e ∷ h) s x =
     let later = spent-by h s in
-    elim (or_cases (is_of e s && is_stop e.reply) (is_spent h s) x) [
-      | inl y ↦ (let p = and_parts (is_of e s) (is_stop e.reply) y in record { entry = e; before = h; earlier = same; of_it = p.0; stop = p.1 })
+    elim (or_cases (is_of e s && is_some (stop_of e.reply)) (is_spent h s) x) [
+      | inl y ↦ (let p = and_parts (is_of e s) (is_some (stop_of e.reply)) y in record { entry = e; before = h; earlier = same; of_it = p.0; stop = p.1 })
       | inr y ↦ (let w = later y in record { entry = w.entry; before = w.before; earlier = after e w.earlier; of_it = w.of_it; stop = w.stop })
     ]
 
--- A reply that a client took and that stops its session answers a Leave.
-stops-leave : (q : Request) (A : List Authored) (reply : Logged) → is_stop reply ≡ true → allows q (full_reply A reply) ≡ true → q ≡ requests.Leave
-stops-leave q A logged.Bye l a = leave-only q a
-stops-leave q A (logged.Refused code detail) l a = absurd (true≢false (sym a ∙ never-refused q code detail))
-stops-leave q A (logged.Welcome commit head) l a = absurd (true≢false (sym l))
-stops-leave q A (logged.Relay seq commit head positions) l a = absurd (true≢false (sym l))
-stops-leave q A (logged.Dropped seq chain far) l a = absurd (true≢false (sym l))
-stops-leave q A (logged.Settled seq pos) l a = absurd (true≢false (sym l))
-stops-leave q A (logged.Noted commit) l a = absurd (true≢false (sym l))
-stops-leave q A logged.Idle l a = absurd (true≢false (sym l))
+-- A reply that a client takes and that stops its session answers a Leave.
+pub stops-leave : (q : Request) (w : Reply) → is_some (stop_of (logged_of w)) ≡ true → allows q w ≡ true → q ≡ requests.Leave
+stops-leave q replies.Bye l a = leave-only q a
+stops-leave q (replies.Refused code detail) l a = absurd (true≢false (sym a ∙ never-refused q code detail))
+stops-leave q (replies.Welcome commit head) l a = cc
+stops-leave q (replies.Relay seq commit head items) l a = cc
+stops-leave q (replies.Dropped seq chain far) l a = cc
+stops-leave q (replies.Settled seq pos) l a = cc
+stops-leave q (replies.Noted commit) l a = cc
+stops-leave q replies.Idle l a = cc
 
 -- Where all replies of a session were taken and one of them stopped it, all that was asked in it was answered.
 spent-answered : (who : Identity) (first : ℕ) (t : List Event) (h : List Entry) (s : ℕ) → AreProper who first t → IsFront (got t s) (replies_in (accepted h) h s) →
@@ -103,7 +107,7 @@ spent-answered who first t h s proper front all w =
     let took : slice_get (got t s) n ≡ Some reply = found.1 ∙ sym (front n found.0 found.1) ∙ there in
     let g = got-when who first t s n reply took in
     let a = got-answers who first t proper s n reply g in
-    let leave : a.request ≡ requests.Leave = stops-leave a.request A w.entry.reply w.stop a.kind in
+    let leave : a.request ≡ requests.Leave = stops-leave a.request reply (ap (λ (l : Logged). is_some (stop_of l)) (logged-back A w.entry.reply) ∙ w.stop) a.kind in
     let at : slice_get (asked who.client who.interest t s) n ≡ Some requests.Leave =
     asked-part who first g.before t (part-rest g.before (events.Got s reply) t g.part) s n requests.Leave
     (ap (slice_get (asked who.client who.interest g.before s)) g.place ∙ a.asked_there ∙ ap Some leave) in

@@ -1,17 +1,19 @@
 -- An entry more of the history, and the players that fit it.
 use Rattle.std.proofs.Common.{◌≡◌, ℕ, zero, suc, Bool, true, false, ◌==◌, ◌&&◌, not, inl, inr, List, [], ◌∷◌, drop, length, Some, slice_get, refl, sym, ap, subst, ◌∙◌, eqb-true, true≢false}
+use Rattle.std.specs.Prelude.{is_some}
 use Rattle.std.specs.List.{list_any, AllByRecursion}
 use Rattle.std.proofs.lemmas.Bool.{or_cases, or_parts, or_left, or_right, and_parts, not-true, ne_eqb}
 use Rattle.sv_wire.specs.declared.message.Request.{Request}
 use Rattle.sv_journal.specs.declared.entry.Entry.{Entry}
 use Rattle.sv_journal.specs.History.{accepted}
 use Rattle.sv_journal.specs.Sessions.{is_end, is_ended}
+use Rattle.sv_session.specs.Requests.{stop_of}
 use Rattle.sv_client.specs.Traces.{asked, got}
 use Rattle.sv_client.proofs.Sessions.{both_empty}
 use Rattle.sv_system.specs.Fits.{requests_in, replies_in}
 use Rattle.sv_system.proofs.Fronts.{front-then}
 use Rattle.law_schedule.specs.Players.{Player, asked_in_run, has_closed}
-use Rattle.law_schedule.specs.Serving.{Server, entry_by, served, is_stop, is_stopped}
+use Rattle.law_schedule.specs.Serving.{Server, entry_by, served, is_stopped}
 use Rattle.law_schedule.specs.Sound.{has_joined}
 use Rattle.law_schedule.specs.Served.{IsHeard, RepliesNameAccepted, KeepsSound}
 use Rattle.law_schedule.proofs.SoundTraces.{none-asked}
@@ -78,8 +80,8 @@ closed-begun (p ∷ ps) n c =
 pub stopped-begun : (ps : List Player) (h : List Entry) (n : ℕ) → AllByRecursion (λ (e : Entry). begun_by ps e.session ≡ true) h → is_stopped h n ≡ true → begun_by ps n ≡ true
 stopped-begun ps [] n b c = absurd (true≢false (sym c))
 stopped-begun ps (e ∷ h) n b c =
-    elim (or_cases ((e.session == n) && is_stop e.reply) (is_stopped h n) c) [
-      | inl one ↦ subst (λ (i : ℕ). begun_by ps i ≡ true) (eqb-true e.session n (and_parts (e.session == n) (is_stop e.reply) one).0) b.0
+    elim (or_cases ((e.session == n) && is_some (stop_of e.reply)) (is_stopped h n) c) [
+      | inl one ↦ subst (λ (i : ℕ). begun_by ps i ≡ true) (eqb-true e.session n (and_parts (e.session == n) (is_some (stop_of e.reply)) one).0) b.0
       | inr more ↦ stopped-begun ps h n b.1 more
     ]
 

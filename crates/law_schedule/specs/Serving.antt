@@ -1,18 +1,14 @@
 -- The turns and rounds of a run, over any server: the server says what it hears of each request and what it answers, and all else is the same.
 -- A history is the list of a journal's entries with the latest first.
-use Rattle.std.specs.Prelude.{ℕ, suc, Bool, true, false, ◌==◌, ◌&&◌, ◌||◌, List, [], ◌∷◌, map, length, drop, if◌then◌else◌}
+use Rattle.std.specs.Prelude.{ℕ, suc, Bool, ◌==◌, ◌&&◌, is_some, List, [], ◌∷◌, map, length, drop, if◌then◌else◌}
 use Rattle.std.specs.List.{list_any}
 use Rattle.sv_world.specs.Control.{below}
-use Rattle.sv_wire.specs.declared.message.Reply.{Reply}
-use Rattle.sv_wire.specs.declared.message.Reply.TheVariants as replies
 use Rattle.sv_wire.specs.declared.message.Request.{Request}
 use Rattle.sv_wire.specs.declared.message.Request.TheVariants as requests
-use Rattle.sv_wire.specs.declared.refusal.Refusal.TheVariants as refusals
-use Rattle.sv_wire.specs.Refusals.{code_of}
 use Rattle.sv_journal.specs.declared.entry.Entry.{Entry}
 use Rattle.sv_journal.specs.declared.entry.Logged.{Logged}
-use Rattle.sv_journal.specs.declared.entry.Logged.TheVariants as logged
 use Rattle.sv_journal.specs.Sessions.{is_ended}
+use Rattle.sv_session.specs.Requests.{stop_of}
 use Rattle.sv_client.specs.declared.trace.Trace.{Trace}
 use Rattle.sv_scenario.specs.declared.scenario.Scenario.{Scenario}
 use Rattle.sv_scenario.specs.declared.scenario.Turn.{Turn}
@@ -39,25 +35,9 @@ served server h s request = entry_by server h s request ∷ h
 
 -- ---- A session's turn
 
--- The codes of the refusals after which a session's loop stops: for a malformed payload, an ended session and a spent one.
-abbrev pub is_stop_code : ℕ → Bool
-is_stop_code code = code == code_of refusals.Malformed || code == code_of refusals.Over || code == code_of refusals.TooManyRequests
-
--- A session's loop stops after this reply.
-abbrev pub is_stop : Logged → Bool
-is_stop logged.Bye = true
-is_stop (logged.Refused code detail) = is_stop_code code
-is_stop _ = false
-
--- The same of a reply as it is sent.
-abbrev pub is_stop_reply : Reply → Bool
-is_stop_reply replies.Bye = true
-is_stop_reply (replies.Refused code detail) = is_stop_code code
-is_stop_reply _ = false
-
--- The session's loop has stopped.
+-- The session's loop has stopped, for one of its replies.
 abbrev pub is_stopped : List Entry → ℕ → Bool
-is_stopped h s = list_any (λ (e : Entry). e.session == s && is_stop e.reply) h
+is_stopped h s = list_any (λ (e : Entry). e.session == s && is_some (stop_of e.reply)) h
 
 abbrev pub serves_next : Server → List Entry → ℕ → Bool → List Request → List Entry
 serves_next server h s closed [] = if closed then served server h s requests.End else h

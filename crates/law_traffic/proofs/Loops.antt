@@ -1,9 +1,9 @@
 -- One session that was served, against the journal.
-use Rattle.std.proofs.Common.{◌≡◌, ◌≢◌, ℕ, Bool, true, false, cond, ◌||◌, eqb, List, [], ◌∷◌, ◌++◌, map, reverse, Some, None, refl, sym, ap, subst, ◌∙◌}
+use Rattle.std.proofs.Common.{◌≡◌, ◌≢◌, ℕ, false, List, [], ◌∷◌, ◌++◌, map, reverse, refl, sym, ap, subst, ◌∙◌}
+use Rattle.std.specs.Prelude.{is_some}
 use Rattle.std.specs.List.{AllByRecursion}
 use Rattle.std.proofs.lemmas.List.{map-append}
 use Rattle.std.proofs.lemmas.List.Elements.{recursion_from_All}
-use Rattle.std.proofs.lemmas.Option.{none-some}
 use mathlib.Core.List.{IsPrefix}
 use Rattle.sv_link.specs.Ends.{Told}
 use Rattle.sv_wire.specs.declared.message.Request.TheVariants as requests
@@ -11,10 +11,11 @@ use Rattle.sv_wire.specs.declared.message.Reply.{Reply}
 use Rattle.sv_journal.specs.declared.entry.Entry.{Entry}
 use Rattle.sv_journal.specs.declared.entry.Logged.{Logged}
 use Rattle.sv_journal.specs.declared.entry.Logged.TheVariants as logged
-use Rattle.sv_journal.specs.History.{Authored, accepted, full_reply}
+use Rattle.sv_journal.specs.History.{accepted, full_reply}
 use Rattle.sv_journal.specs.Sessions.{is_end}
 use Rattle.sv_journal.specs.Laws.{FullRepliesStay, LegalRelaysNameAccepted}
 use Rattle.sv_sequencer.specs.Step.{entry_of}
+use Rattle.sv_sequencer.proofs.Shared.{logged-back}
 use Rattle.sv_lock.specs.Passes.{session_number}
 use Rattle.sv_session.specs.Requests.{stop_of, StopsFor, due_frames}
 use Rattle.sv_session.specs.Serving.{ExplainsOut, ended_by}
@@ -23,7 +24,7 @@ use Rattle.sv_session.specs.declared.outcome.SessionOut.TheVariants as outs
 use Rattle.sv_system.specs.Fits.{requests_in, replies_in}
 use Rattle.sv_system.specs.Records.{ends_in}
 use Rattle.law_traffic.specs.Sessions.{IsSessionServed}
-use Rattle.law_traffic.specs.Traffic.{reply_frames, is_stop_reply, EndsWithStop}
+use Rattle.law_traffic.specs.Traffic.{reply_frames, EndsWithStop}
 use Rattle.law_traffic.proofs.Ours.{mine, requests_are, replies_are, one_end}
 use Rattle.law_traffic.proofs.Dues.{full_over, due_is}
 
@@ -39,23 +40,6 @@ all_sent outs.Spent stream answered sent due l m e = e.1
 all_sent outs.LinkFault stream answered sent due l m e = absurd (l refl)
 all_sent outs.Memory stream answered sent due l m e = absurd (m refl)
 
-stop_code : (a b c : Bool) (x y z : SessionOut) (reason : SessionOut) → cond a (Some x) (cond b (Some y) (cond c (Some z) None)) ≡ Some reason → (a || b || c) ≡ true
-stop_code true b c x y z reason e = refl
-stop_code false true c x y z reason e = refl
-stop_code false false true x y z reason e = refl
-stop_code false false false x y z reason e = absurd (none-some reason e)
-
--- A reply for which a loop stops is one of the last replies.
-stops : (A : List Authored) (reply : Logged) (reason : SessionOut) → stop_of reply ≡ Some reason → is_stop_reply (full_reply A reply) ≡ true
-stops A logged.Bye reason e = refl
-stops A (logged.Refused code detail) reason e = stop_code (eqb code 1) (eqb code 4) (eqb code 9) outs.Malformed outs.Ended outs.Spent reason e
-stops A (logged.Welcome commit head) reason e = absurd (none-some reason e)
-stops A (logged.Relay seq commit head positions) reason e = absurd (none-some reason e)
-stops A (logged.Dropped seq chain far) reason e = absurd (none-some reason e)
-stops A (logged.Settled seq place) reason e = absurd (none-some reason e)
-stops A (logged.Noted commit) reason e = absurd (none-some reason e)
-stops A logged.Idle reason e = absurd (none-some reason e)
-
 -- The replies to entries of which the last stops a loop end with it.
 pub stopped_by : (journal answered : List Entry) (reason : SessionOut) → StopsFor reason answered → EndsWithStop (full_over journal answered)
 stopped_by journal answered reason f =
@@ -64,7 +48,7 @@ stopped_by journal answered reason f =
       before = full_over journal f.before;
       last = full_reply A f.last.reply;
       are = ap (full_over journal) f.are ∙ map-append (λ (e : Entry). full_reply A e.reply) f.before (f.last ∷ []);
-      stop = stops A f.last.reply reason f.stop;
+      stop = ap (λ (l : Logged). is_some (stop_of l)) (logged-back A f.last.reply) ∙ ap is_some f.stop;
     }
 
 -- ---- The session

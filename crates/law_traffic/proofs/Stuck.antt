@@ -1,5 +1,5 @@
 -- No client of a run that is done waits at an end that is shut, or for a reply that it does not take.
-use Rattle.std.proofs.Common.{◌≡◌, ◌≢◌, ℕ, true, false, inl, inr, List, [], ◌∷◌, ◌++◌, length, map, reverse, Some, None, slice_get, refl, sym, ap, subst, ◌∙◌, arith, append-nil, length-append, true≢false}
+use Rattle.std.proofs.Common.{◌≡◌, ◌≢◌, ℕ, true, false, inl, inr, List, [], ◌∷◌, ◌++◌, length, map, reverse, Some, None, slice_get, refl, sym, ap, subst, ◌∙◌, arith, append-nil, length-append}
 use Rattle.std.specs.List.{AllByRecursion}
 use Rattle.std.proofs.lemmas.List.{length-map, append_cancel_left}
 use Rattle.std.proofs.lemmas.Option.{none-some}
@@ -11,7 +11,6 @@ use Rattle.sv_frame.proofs.Splitting.{split-all_frames}
 use Rattle.sv_wire.specs.declared.message.Request.{Request}
 use Rattle.sv_wire.specs.declared.message.Request.TheVariants as requests
 use Rattle.sv_wire.specs.declared.message.Reply.{Reply}
-use Rattle.sv_wire.specs.declared.message.Reply.TheVariants as replies
 use Rattle.sv_wire.specs.Spelling.{request_bytes, reply_bytes}
 use Rattle.sv_wire.specs.Laws.{IsReply}
 use Rattle.sv_journal.specs.declared.entry.Entry.{Entry}
@@ -19,22 +18,22 @@ use Rattle.sv_journal.specs.History.{accepted, full_reply}
 use Rattle.sv_journal.specs.Laws.{FullRepliesStay, LegalRelaysNameAccepted}
 use Rattle.sv_client.specs.declared.trace.Trace.{Trace}
 use Rattle.sv_client.specs.Traces.{requests_of, got, asked}
-use Rattle.sv_client.specs.Taking.{allows, first_fault_of_reply}
+use Rattle.sv_client.specs.Taking.{first_fault_of_reply}
 use Rattle.sv_client.specs.Proper.{Proper, identity_of}
 use Rattle.sv_world.specs.declared.world.Shape.{Shape}
 use Rattle.sv_system.proofs.Asked.{got-when, got-answers, part-rest, asked-part}
 use Rattle.sv_system.proofs.Fronts.{get-last}
 use Rattle.sv_system.proofs.Leaving.{leave-last}
-use Rattle.sv_system.proofs.Order.{never-refused, leave-only}
 use Rattle.sv_client.specs.declared.trace.Event.TheVariants as events
 use Rattle.sv_system.proofs.Every.{each-right}
+use Rattle.law_schedule.proofs.DoneWaits.{stops-leave}
 use Rattle.sv_session.specs.declared.outcome.SessionOut.TheVariants as outs
 use Rattle.sv_exchange.proofs.Sizes.{reply_short}
 use Rattle.sv_player.specs.Carried.{BeginsWithReplies}
 use Rattle.sv_player.specs.Stops.{NoneCame, is_cut}
 use Rattle.sv_player.specs.Played.{replies_of}
 use Rattle.law_traffic.specs.Sessions.{Over, IsSessionDone}
-use Rattle.law_traffic.specs.Traffic.{reply_frames, is_stop_reply, EndsWithStop, TookAll}
+use Rattle.law_traffic.specs.Traffic.{reply_frames, EndsWithStop, TookAll}
 use Rattle.law_traffic.specs.Stuck.{IsTakeable}
 use Rattle.law_traffic.proofs.Cuts.{empty_short}
 use Rattle.law_traffic.proofs.Messages.{requests_fit, request_frames_are, reply_frames_both, AreGot, got_first}
@@ -60,16 +59,6 @@ counted_items qs = length-map (map request_bytes qs) Payload ∙ length-map qs r
 
 -- ---- The last reply
 
-stop_answers : (q : Request) (w : Reply) → is_stop_reply w ≡ true → allows q w ≡ true → q ≡ requests.Leave
-stop_answers q (replies.Refused code detail) stop kind = absurd (true≢false (sym kind ∙ never-refused q code detail))
-stop_answers q replies.Bye stop kind = leave-only q kind
-stop_answers q (replies.Welcome commit head) stop kind = cc
-stop_answers q (replies.Relay seq commit head items) stop kind = cc
-stop_answers q (replies.Dropped seq chain far) stop kind = cc
-stop_answers q (replies.Settled seq place) stop kind = cc
-stop_answers q (replies.Noted commit) stop kind = cc
-stop_answers q replies.Idle stop kind = cc
-
 -- Where the last reply that was got stops a session, nothing is awaited in it.
 none_awaited : (shape : Shape) (L : Trace) (s : ℕ) → Proper shape L → EndsWithStop (replies_of L s) → length (replies_of L s) ≡ length (requests_of L s)
 none_awaited shape L s proper stop =
@@ -79,7 +68,7 @@ none_awaited shape L s proper stop =
     let is : slice_get (got whole s) n ≡ Some stop.last = ap (λ (l : List Reply). slice_get l n) stop.are ∙ get-last stop.before stop.last in
     let g = got-when who L.first whole s n stop.last is in
     let a = got-answers who L.first whole proper.events s n stop.last g in
-    let leave : a.request ≡ requests.Leave = stop_answers a.request stop.last stop.stop a.kind in
+    let leave : a.request ≡ requests.Leave = stops-leave a.request stop.last stop.stop a.kind in
     let part = part-rest g.before (events.Got s stop.last) whole g.part in
     let there : slice_get (asked L.client L.interest g.before s) n ≡ Some requests.Leave =
     ap (slice_get (asked L.client L.interest g.before s)) g.place ∙ (a.asked_there ∙ ap Some leave) in

@@ -1,6 +1,6 @@
 -- What the two ends of a session moved, against the journal and the client's trace.
 -- A history is the list of a journal's entries with the latest first.
-use Rattle.std.specs.Prelude.{◌≡◌, ◌⊎◌, ℕ, Bool, true, false, List, [], ◌∷◌, ◌++◌, map, reverse}
+use Rattle.std.specs.Prelude.{◌≡◌, ◌⊎◌, ℕ, Bool, true, false, List, [], ◌∷◌, ◌++◌, map, reverse, IsSome}
 use mathlib.Core.List.{IsPrefix}
 use Rattle.sv_frame.specs.Frames.{frames_of}
 use Rattle.sv_frame.specs.Streams.{incoming_items}
@@ -11,10 +11,11 @@ use Rattle.sv_wire.specs.declared.message.Reply.{Reply}
 use Rattle.sv_wire.specs.Spelling.{request_bytes, reply_bytes}
 use Rattle.sv_journal.specs.declared.entry.Entry.{Entry}
 use Rattle.sv_journal.specs.History.{accepted}
+use Rattle.sv_sequencer.specs.Shared.{logged_of}
+use Rattle.sv_session.specs.Requests.{stop_of}
 use Rattle.sv_client.specs.declared.trace.Trace.{Trace}
 use Rattle.sv_client.specs.Traces.{requests_of}
 use Rattle.sv_system.specs.Fits.{requests_in, replies_in}
-pub use Rattle.law_schedule.specs.Serving.{is_stop_reply}
 use Rattle.sv_player.specs.Carried.{request_frames}
 use Rattle.sv_player.specs.Stops.{is_cut}
 use Rattle.sv_player.specs.Played.{replies_of}
@@ -28,7 +29,7 @@ pub record EndsWithStop (all : List Reply) : Type 0 where
   pub before : List Reply
   pub last : Reply
   pub are : all ≡ before ++ last ∷ []
-  pub stop : is_stop_reply last ≡ true
+  pub stop : IsSome (stop_of (logged_of last))
 
 -- The end was told that no more will come, and each payload that it received is that of one of these requests, in order.
 pub record TookAll (ended : Bool) (received : List ℕ) (requests : List Request) : Type 0 where

@@ -1,6 +1,6 @@
 -- A session's turn keeps each connection in step with the run.
 use Rattle.std.proofs.Common.{◌≡◌, ◌⊎◌, inl, inr, ℕ, ◌+◌, ◌-◌, ◌≤◌, Bool, true, false, ◌&&◌, ◌||◌, ◌==◌, List, [], ◌∷◌, ◌++◌, drop, length, refl, sym, ap, subst, ◌∙◌, arith, eq-eqb}
-use Rattle.std.specs.Prelude.{if◌then◌else◌}
+use Rattle.std.specs.Prelude.{is_some, if◌then◌else◌}
 use Rattle.std.specs.List.{list_any}
 use Rattle.std.proofs.lemmas.Bool.{cases_Bool, cond-true, cond-false}
 use Rattle.std.proofs.lemmas.List.{drop-append-le, drop-drop, length-append, length-drop}
@@ -11,10 +11,11 @@ use Rattle.sv_wire.specs.declared.message.Request.TheVariants as requests
 use Rattle.sv_journal.specs.declared.entry.Entry.{Entry}
 use Rattle.sv_journal.specs.History.{accepted}
 use Rattle.sv_journal.specs.Sessions.{is_end, is_ended}
+use Rattle.sv_session.specs.Requests.{stop_of}
 use Rattle.sv_system.specs.Fits.{requests_in, replies_in}
 use Rattle.sv_system.proofs.Entered.{is_of, of-from}
 use Rattle.law_schedule.specs.Players.{Player, asked_in_run, has_closed}
-use Rattle.law_schedule.specs.Serving.{Run, Server, entry_by, served, serves_next, is_stop, is_stopped, session_served}
+use Rattle.law_schedule.specs.Serving.{Run, Server, entry_by, served, serves_next, is_stopped, session_served}
 use Rattle.law_schedule.specs.Served.{RepliesNameAccepted, KeepsSound}
 use Rattle.sv_exchange.specs.View.{ExchangeView}
 use Rattle.law_schedule.proofs.DoneDue.{next-asked}
@@ -62,12 +63,12 @@ module _ (server : Server) (keeps : KeepsSound server) (h : List Entry) (ps : Li
   end_entry c end is =
       let here : (s == s) ≡ true = eq-eqb s s refl in
       let ends : is_end (server.hears h s q) ≡ true = keeps.ends h s q ∙ ap is_end end in
-      let stops : is_stop (server.answers h s q) ≡ true = ap (λ (x : Request). is_stop (server.answers h s x)) end ∙ ap is_stop (keeps.bye h s) in
+      let stops : is_some (stop_of (server.answers h s q)) ≡ true = ap (λ (x : Request). is_some (stop_of (server.answers h s x))) end ∙ ap (λ l. is_some (stop_of l)) (keeps.bye h s) in
       not_of_channel s c true (rw (here, ends) refl) (sym (rw (here, stops) refl)) is
 
   -- The first request that waits, with its reply.
   pub asked_entry : (c : ExchangeView) (qs : List Request) → c.requests ≡ q ∷ qs → is_stopped h s ≡ false → IsChannel (run_at h ps) s c →
-      IsChannel (run_at (e ∷ h) ps) s (record c { requests = qs; replies = c.replies ++ whole_reply server h s q ∷ []; stopped = is_stop (server.answers h s q) })
+      IsChannel (run_at (e ∷ h) ps) s (record c { requests = qs; replies = c.replies ++ whole_reply server h s q ∷ []; stopped = is_some (stop_of (server.answers h s q)) })
   asked_entry c qs waits running is =
       let left : drop (length (requests_in h s)) (asked_in_run ps s) ≡ q ∷ qs = sym is.requests ∙ waits in
       let asked : is_end q ≡ false = next-asked ps s (length (requests_in h s)) q qs left in
@@ -89,7 +90,7 @@ module _ (server : Server) (keeps : KeepsSound server) (h : List Entry) (ps : Li
             ∙ sym (drop-append-le (length (got_in_run ps s)) (replies_in (accepted h) h s) (whole_reply server h s q ∷ []) is.got)
             ∙ ap (λ (rs : List Reply). drop (length (got_in_run ps s)) rs) (sym gives);
         closed = is.closed;
-        stopped = sym (stops_here s h (is_stop (server.answers h s q)) running);
+        stopped = sym (stops_here s h (is_some (stop_of (server.answers h s q))) running);
       }
     where
       stops_here : (s : ℕ) (h : List Entry) (b : Bool) → is_stopped h s ≡ false → ((s == s && b) || is_stopped h s) ≡ b

@@ -1,42 +1,31 @@
 -- What a session's turn by its connection makes of a server, and that a sequencer answers as a server is to.
 use Rattle.std.proofs.Common.{◌≡◌, ℕ, ◌+◌, Bool, true, false, List, [], ◌∷◌, ◌++◌, length, reverse, Some, None, Result, Ok, Err, refl, sym, ap, ◌∙◌, arith}
-use Rattle.std.specs.Prelude.{IfOk}
+use Rattle.std.specs.Prelude.{IfOk, is_some}
 use Rattle.std.specs.declared.alloc.AllocError.{AllocError}
 use Rattle.std.proofs.lemmas.List.{reverse-append}
 use Rattle.sv_wire.specs.declared.message.Reply.{Reply}
 use Rattle.sv_wire.specs.declared.message.Request.{Request}
 use Rattle.sv_wire.specs.declared.message.Request.TheVariants as requests
 use Rattle.sv_journal.specs.declared.entry.Entry.{Entry}
-use Rattle.sv_journal.specs.declared.entry.Logged.{Logged}
-use Rattle.sv_journal.specs.declared.entry.Logged.TheVariants as logged
-use Rattle.sv_journal.specs.History.{Authored, accepted, full_reply}
+use Rattle.sv_journal.specs.History.{accepted, full_reply}
 use Rattle.sv_journal.specs.Sessions.{is_end, is_ended}
 use Rattle.sv_journal.specs.Answer.{reply_to}
 use Rattle.sv_system.specs.Fits.{replies_in}
 use Rattle.sv_system.proofs.Fronts.{fronts-same}
 use Rattle.sv_system.proofs.Entered.{as-many, replies-one}
-use Rattle.law_schedule.specs.Serving.{Server, is_stop, is_stop_reply, served}
+use Rattle.law_schedule.specs.Serving.{Server, served}
 use Rattle.law_schedule.specs.Schedule.{plain_server}
 use Rattle.law_schedule.specs.Served.{RepliesNameAccepted}
 use Rattle.law_schedule.proofs.SoundReplies.{replies-grow}
+use Rattle.sv_sequencer.specs.Shared.{logged_of}
 use Rattle.sv_sequencer.specs.Step.{SequencerView, history, entry_of, GrewByEntry, Answered}
+use Rattle.sv_sequencer.proofs.Shared.{logged-back}
+use Rattle.sv_session.specs.Requests.{stop_of}
 use Rattle.sv_exchange.specs.View.{ExchangeView, TakesRequest}
 use Rattle.sv_replay.specs.Serving.{ServerView, Answers, sequencer_view, whole_reply, next_history, next_channel, with_answer, Entered, HadTurn, one_if}
 
 IsAsked : Request → Type 0
 IsAsked q = is_end q ≡ false
-
--- ---- Tests
-
-pub same_stop : (A : List Authored) (l : Logged) → is_stop_reply (full_reply A l) ≡ is_stop l
-same_stop A (logged.Welcome commit head) = refl
-same_stop A (logged.Relay seq commit head positions) = refl
-same_stop A (logged.Dropped seq chain far) = refl
-same_stop A (logged.Settled seq pos) = refl
-same_stop A (logged.Noted commit) = refl
-same_stop A logged.Idle = refl
-same_stop A (logged.Refused code detail) = refl
-same_stop A logged.Bye = refl
 
 -- ---- Whole replies stay
 
@@ -65,7 +54,7 @@ module _ (server : Server) (h : List Entry) (s : ℕ) (c : ExchangeView) where
       (next_history server h s c ≡ served server h s q) × (next_channel server h s c ≡ record c {
         requests = qs;
         replies = c.replies ++ whole_reply server h s q ∷ [];
-        stopped = is_stop (server.answers h s q);
+        stopped = is_some (stop_of (server.answers h s q));
       })
   next_asked q qs e t is = (rw (e, t, is) refl, rw (e, t, is) refl)
 
@@ -108,7 +97,7 @@ serves_asked s v w c b d q e t some done =
           ∙ ap (λ (x : ExchangeView). record x {
             requests = b.requests;
             replies = x.replies ++ whole_reply v.server v.history s q ∷ [];
-            stopped = is_stop (v.server.answers v.history s q);
+            stopped = is_some (stop_of (v.server.answers v.history s q));
           }) (sym some)
           ∙ sym n.1;
     }
@@ -118,11 +107,11 @@ pub entered_longer : (s : ℕ) (q : Request) (v w : ServerView) (c d : ExchangeV
 entered_longer s q v w c d done = let long : length w.history ≡ length (served v.server v.history s q) = ap (λ (h : List Entry). length h) done.entries in omega (arith, long)
 
 -- A step entered a request with its reply.
-pub answer_entered : (v w : ServerView) (s : ℕ) (q : Request) (reply : Reply) (stops : Bool) (b d : ExchangeView) → Answers v w s q reply → stops ≡ is_stop_reply reply →
+pub answer_entered : (v w : ServerView) (s : ℕ) (q : Request) (reply : Reply) (stops : Bool) (b d : ExchangeView) → Answers v w s q reply → stops ≡ is_some (stop_of (logged_of reply)) →
     d ≡ record b { replies = b.replies ++ reply ∷ []; stopped = stops } → Entered s q v w d (with_answer v.server v.history s q b)
 answer_entered v w s q reply stops b d done stop sent =
-    let last : stops ≡ is_stop (v.server.answers v.history s q) =
-    stop ∙ ap is_stop_reply done.whole ∙ same_stop (accepted (served v.server v.history s q)) (v.server.answers v.history s q) in
+    let last : stops ≡ is_some (stop_of (v.server.answers v.history s q)) =
+    stop ∙ ap (λ l. is_some (stop_of l)) (ap logged_of done.whole ∙ logged-back (accepted (served v.server v.history s q)) (v.server.answers v.history s q)) in
     record {
       rules = done.rules;
       server = done.server;

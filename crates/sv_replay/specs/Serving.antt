@@ -1,6 +1,6 @@
 -- A server as a run sees it, and what a session's turn makes of it and of the session's connection.
 -- A history is the list of a journal's entries with the latest first.
-use Rattle.std.specs.Prelude.{◌≡◌, ℕ, ℤ, Bool, true, false, List, [], ◌∷◌, ◌++◌, if◌then◌else◌}
+use Rattle.std.specs.Prelude.{◌≡◌, ℕ, ℤ, Bool, true, false, is_some, List, [], ◌∷◌, ◌++◌, if◌then◌else◌}
 use Rattle.sv_wire.specs.declared.message.Reply.{Reply}
 use Rattle.sv_wire.specs.declared.message.Request.{Request}
 use Rattle.sv_wire.specs.declared.message.Request.TheVariants as requests
@@ -10,7 +10,8 @@ use Rattle.sv_journal.specs.History.{accepted, full_reply, committed_of}
 use Rattle.sv_journal.specs.Answer.{Rules}
 use Rattle.sv_journal.specs.Sessions.{is_ended}
 use Rattle.sv_sequencer.specs.Step.{SequencerView, history}
-use Rattle.law_schedule.specs.Serving.{Server, is_stop, served, serves_next}
+use Rattle.sv_session.specs.Requests.{stop_of}
+use Rattle.law_schedule.specs.Serving.{Server, served, serves_next}
 use Rattle.law_schedule.specs.Schedule.{plain_server}
 use Rattle.sv_exchange.specs.View.{ExchangeView}
 
@@ -55,7 +56,7 @@ answered server h s c [] = if c.closed then record c { stopped = true } else c
 answered server h s c (request ∷ waiting) = record c {
   requests = waiting;
   replies = c.replies ++ whole_reply server h s request ∷ [];
-  stopped = is_stop (server.answers h s request);
+  stopped = is_some (stop_of (server.answers h s request));
 }
 
 -- The connection after a session's turn.
@@ -68,7 +69,7 @@ next_channel server h s c = if is_ended h s then c
 abbrev pub with_answer : Server → List Entry → ℕ → Request → ExchangeView → ExchangeView
 with_answer server h s request c = record c {
   replies = c.replies ++ whole_reply server h s request ∷ [];
-  stopped = is_stop (server.answers h s request);
+  stopped = is_some (stop_of (server.answers h s request));
 }
 
 -- What the session's turn replies is a message.

@@ -4,33 +4,13 @@ ghost use Rattle.std.specs.Prelude.{◌≡◌, ◌<◌, ◌+◌, [], ◌∷◌, 
 ghost use Rattle.sv_wire.specs.declared.message.Request.TheVariants as requests;
 ghost use Rattle.sv_wire.specs.Laws.{IsReply};
 ghost use Rattle.sv_journal.specs.Sessions.{is_ended};
-ghost use Rattle.law_schedule.specs.Serving.{is_stop_code, is_stop_reply};
 ghost use Rattle.sv_replay.specs.Serving.{whole_reply, with_answer, AnswersMessage, Entered, HadTurn, one_if};
 
 use crate::server::Server;
 use std::alloc::AllocError;
 use sv_exchange::Exchange;
-use sv_wire::{Refusal, Reply, Request};
-
-/// Whether a session's loop stops after a refusal with this code.
-fn is_stop_code(code: u8) -> bool
-    ensures { result ≡ is_stop_code code }
-{
-    code == Refusal::Malformed.code()
-        || code == Refusal::Over.code()
-        || code == Refusal::TooManyRequests.code()
-}
-
-/// Whether a session's loop stops after a reply.
-fn is_stop(reply: &Reply) -> bool
-    ensures { result ≡ is_stop_reply reply.now }
-{
-    match reply {
-        Reply::Bye => true,
-        Reply::Refused { code, .. } => is_stop_code(*code),
-        _ => false,
-    }
-}
+use sv_session::stop_for;
+use sv_wire::{Reply, Request};
 
 /// A session's turn: its next waiting request, or its End, which is due once its loop has stopped, or once the client's end is closed and no
 /// request waits. Whether it found something to do.
@@ -79,7 +59,7 @@ fn answer<S: Server>(
         (with_answer (S.view server.old).server (S.view server.old).history session request.now channel.old)) }
 {
     let reply = server.step(session, request)?;
-    let stops = is_stop(&reply);
+    let stops = stop_for(&reply).is_some();
     send_answer(channel, &reply, stops)
 }
 

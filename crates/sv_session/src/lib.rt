@@ -9,4 +9,5 @@ mod session;
 mod taking;
 
 pub use outcome::SessionOut;
+pub use posting::stop_for;
 pub use session::serve_session;

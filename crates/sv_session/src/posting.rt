@@ -29,7 +29,7 @@ fn stop_for_refusal(code: u8) -> Option<SessionOut>
 }
 
 /// Why a session stops after a reply, if it does.
-fn stop_for(reply: &Reply) -> Option<SessionOut>
+pub fn stop_for(reply: &Reply) -> Option<SessionOut>
     ensures stop { result ≡ stop_of (logged_of reply.now) }
     ensures reason { IfSome result (λ out. out ≢ SessionOut.LinkFault) }
 {
