@@ -150,7 +150,11 @@ impl<'a> Player<'a> {
     }
 
     /// Takes a reply, and answers the Done of a relay.
-    pub(crate) fn take(&mut self, reply: Reply, watch: Option<&Watch>) -> Result<Option<Request>, TakeFault>
+    pub(crate) fn take(
+        &mut self,
+        reply: Reply,
+        watch: Option<&Watch>,
+    ) -> Result<Option<Request>, TakeFault>
         requires watch { IfSome watch (λ w. w.now.shape ≡ self.old.client.who.shape) }
         requires watched { self.old.watched ≡ is_some watch }
         requires going { IsGoing self.old }

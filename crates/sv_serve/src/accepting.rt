@@ -1,5 +1,5 @@
 //! Accepting the connections of a scenario's sessions.
-ghost use Rattle.std.specs.Prelude.{◌≡◌, ◌≢◌, ℕ, ◌+◌, ◌<◌, ◌≤◌, ◌++◌, length, Err, IfOk, OnOk, OnErr};
+ghost use Rattle.std.specs.Prelude.{◌≡◌, ◌≢◌, ℕ, ◌+◌, ◌<◌, ◌≤◌, ◌++◌, length, Err, IfOk, OnOk, OnErr, false};
 ghost use Rattle.std.specs.List.{AllByRecursion};
 ghost use Rattle.sv_link.specs.declared.side.Side.TheVariants.{Server};
 ghost use Rattle.sv_scenario.specs.Limits.{IsGoodScenario};

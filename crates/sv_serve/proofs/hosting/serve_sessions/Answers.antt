@@ -1,5 +1,5 @@
 -- What is left of sessions that were served, from what each of them left.
-use Rattle.std.proofs.Common.{rules, ◌+◌, ◌++◌, [], ◌∷◌, inl, sym, ap, subst, ◌∙◌, arith}
+use Rattle.std.proofs.Common.{rules, ◌+◌, ◌++◌, [], ◌∷◌, inl, sym, ap, subst, ◌∙◌, arith, false}
 use denote.Param.Send.{sendable}
 use Rattle.std.proofs.Crossing.{crosses}
 use Rattle.sv_sequencer.proofs.Sent.{lock-syncs, pass-sends}

@@ -1,5 +1,5 @@
 -- One session more, and giving all back where there is none.
-use Rattle.std.proofs.Common.{rules, ◌≡◌, ◌+◌, length, slice_get, sym, ap, ◌∙◌, arith}
+use Rattle.std.proofs.Common.{rules, ◌≡◌, ◌+◌, length, slice_get, sym, ap, ◌∙◌, arith, false}
 use Rattle.sv_link.specs.declared.side.Side.TheVariants.{Server}
 use Rattle.sv_session.specs.Serving.{SessionPass}
 use Rattle.sv_play.specs.Given.{keeper_after, pass_of, setting, IsService}

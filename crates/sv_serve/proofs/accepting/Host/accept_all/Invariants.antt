@@ -1,5 +1,5 @@
 -- The sessions whose connections were accepted so far.
-use Rattle.std.proofs.Common.{◌≡◌, ℕ, ◌+◌, ◌≤◌, length}
+use Rattle.std.proofs.Common.{◌≡◌, ℕ, ◌+◌, ◌≤◌, length, false}
 use Rattle.std.specs.Vec.{vec_capacity}
 use Rattle.sv_system.specs.Places.{EachPlace}
 use Rattle.sv_play.specs.Given.{keeper_after, setting, IsService}
