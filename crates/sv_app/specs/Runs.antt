@@ -1,6 +1,6 @@
 -- What is run, the record that it leaves, and the text that tells it.
 -- A journal `h` has its latest entry first.
-use Rattle.std.specs.Prelude.{◌≡◌, ℕ, List, ◌++◌, reverse, Option, Some, None, codes}
+use Rattle.std.specs.Prelude.{◌≡◌, ℕ, Bool, true, false, List, ◌++◌, reverse, Option, Some, None, codes}
 use Rattle.std.specs.Fmt.{decimal}
 use Rattle.std.specs.List.{flat_map}
 use Rattle.sv_link.specs.Nets.{Transcript}
@@ -9,6 +9,7 @@ use Rattle.sv_client.specs.declared.trace.Trace.{Trace}
 use Rattle.sv_scenario.specs.declared.scenario.Scenario.{Scenario}
 use Rattle.sv_gen.specs.Generated.{generated}
 use Rattle.sv_script.specs.Telling.{told_lines}
+use Rattle.sv_player.specs.Played.{lines_told}
 use Rattle.sv_system.specs.Records.{IsPlayed}
 use Rattle.law_schedule.specs.Records.{IsReplay}
 use Rattle.sv_report.specs.Report.{report_text}
@@ -70,8 +71,13 @@ abbrev pub IsTextFor : Option Asked → Option (List ℕ) → Moved Transcript �
 IsTextFor (Some asked) held m text = IsText asked held m text
 IsTextFor None held m text = ⊥
 
--- What is left of a run on threads.
-pub record IsThreaded (scenario : Scenario) (m : Moved Transcript) (threaded : Threaded) : Type 0 where
+-- Whether the changes of the clients' views are told.
+abbrev pub is_watched : Form → Bool
+is_watched forms.Watch = true
+is_watched _ = false
+
+-- What is left of a run on threads that is told in this form.
+pub record IsThreaded (scenario : Scenario) (form : Form) (m : Moved Transcript) (threaded : Threaded) : Type 0 where
   pub run : IsThreadedRun scenario (reverse threaded.played.journal.entries) threaded.played.traces m.kept_before m.kept_now m.ran_before m.ran_now
   pub played : IsPlayed scenario threaded.played
-  pub lines : threaded.lines.items ≡ flat_map told_lines threaded.played.traces
+  pub lines : threaded.lines.items ≡ flat_map (lines_told (is_watched form)) threaded.played.traces

@@ -1,11 +1,12 @@
 //! Runs on threads, and how they are told.
-ghost use Rattle.std.specs.Prelude.{◌≡◌, ◌++◌, reverse, codes, string_bytes, IfOk, Err};
+ghost use Rattle.std.specs.Prelude.{◌≡◌, ◌++◌, reverse, codes, string_bytes, is_some, IfOk, IfSome, Err};
 ghost use Rattle.std.specs.Fmt.{decimal};
 ghost use Rattle.sv_scenario.specs.Limits.{IsGoodScenario};
 ghost use Rattle.sv_play.specs.Moved.{moved};
 ghost use Rattle.sv_play.specs.Playing.{PlayCause};
 ghost use Rattle.sv_play.specs.Settling.{SomeDiffer};
-ghost use Rattle.sv_app.specs.Runs.{IsThreaded, form_text};
+ghost use Rattle.sv_app.specs.Runs.{IsThreaded, form_text, is_watched};
+ghost use Rattle.sv_world.specs.declared.world.Shape.{Shape};
 
 use crate::words::Form;
 use std::alloc::{AllocError, Global};
@@ -24,19 +25,31 @@ use sv_watch::{Change, Line, Watch, told_line};
 #[derive(Debug, Drop)]
 pub struct Threaded {
     pub played: Played,
-    /// They tell each change of a client's view, client by client.
+    /// They tell each change of a client's view, client by client, where the form of the run does.
     pub lines: Vec<Line>,
+}
+
+/// The watch, where the form tells the changes of views.
+fn watcher<'a>(form: Form, watch: &'a Watch) -> Option<&'a Watch>
+    ensures watched { is_some result ≡ is_watched form }
+    ensures fits { (s : Shape) → watch.entry.now.shape ≡ s → IfSome result (λ w. w.now.shape ≡ s) }
+{
+    match form {
+        Form::Watch => Some(watch),
+        Form::Report | Form::Brief => None,
+    }
 }
 
 /// Runs a scenario on threads: one for each session, and one for each client.
 pub(crate) fn run_on_threads<N: Net, C: Crew, G: Gate + Sync, R: Threads + Wait + Sync>(
     stage: &Stage<'_, R, G>,
     scenario: &Scenario,
+    form: Form,
     net: &mut N,
     crew: &mut C,
 ) -> Result<Threaded, PlayFault>
     requires { IsGoodScenario scenario.now }
-    ensures threaded { IfOk result (λ threaded. IsThreaded scenario.now (moved (N.settled net.old) (N.settled net.new) (C.ran crew.old) (C.ran crew.new)) threaded) }
+    ensures threaded { IfOk result (λ threaded. IsThreaded scenario.now form (moved (N.settled net.old) (N.settled net.new) (C.ran crew.old) (C.ran crew.new)) threaded) }
     ensures cause { PlayCause (C.faults crew.old) (C.faults crew.new) (N.faults net.old) (N.faults net.new) result }
     ensures calm { N.calm net.old → result ≡ Err PlayFault.Link → SomeDiffer N.E.told N.E.calm (N.made net.old) (N.made net.new) }
 {
@@ -55,7 +68,7 @@ pub(crate) fn run_on_threads<N: Net, C: Crew, G: Gate + Sync, R: Threads + Wait 
         net,
         crew,
         stage.gate,
-        &watch,
+        watcher(form, &watch),
     )?;
     let played = played_of(alloc, shape, lock.close(keeper), traces)?;
     Ok(Threaded { played, lines })
@@ -69,7 +82,7 @@ pub(crate) fn form_text(
     threaded: &Threaded,
 ) -> Result<String, AllocError>
     requires good { IsGoodScenario scenario.now }
-    requires threaded { (m : _) × IsThreaded scenario.now m threaded.now }
+    requires threaded { (m : _) × IsThreaded scenario.now form m threaded.now }
     ensures { IfOk result (λ text. string_bytes text ≡ form_text form scenario.now (reverse threaded.now.played.journal.entries) threaded.now.played.traces) }
 {
     match form {
@@ -91,7 +104,7 @@ pub(crate) fn load_text(
     threaded: &Threaded,
 ) -> Result<String, AllocError>
     requires good { IsGoodScenario scenario.now }
-    requires threaded { (m : _) × IsThreaded scenario.now m threaded.now }
+    requires threaded { (m : _) × IsThreaded scenario.now Form.Brief m threaded.now }
     ensures { IfOk result (λ text. string_bytes text ≡ codes "load " ++ decimal size ++ codes "\n"
         ++ form_text Form.Brief scenario.now (reverse threaded.now.played.journal.entries) threaded.now.played.traces) }
 {

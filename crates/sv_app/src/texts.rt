@@ -61,7 +61,7 @@ fn play<F: Files, N: Net, C: Crew, G: Gate + Sync, R: Threads + Wait + Sync>(
     ensures calm { N.calm net.old → result ≡ Err Ending.Link → SomeDiffer N.E.told N.E.calm (N.made net.old) (N.made net.new) }
 {
     let scenario = scenario_in(stage.alloc, file, files)?;
-    let threaded = match run_on_threads(stage, &scenario, net, crew) {
+    let threaded = match run_on_threads(stage, &scenario, form, net, crew) {
         Ok(threaded) => threaded,
         Err(fault) => return Err(ending_of_fault(fault)),
     };
@@ -84,7 +84,7 @@ fn load<N: Net, C: Crew, G: Gate + Sync, R: Threads + Wait + Sync>(
     ensures calm { N.calm net.old → result ≡ Err Ending.Link → SomeDiffer N.E.told N.E.calm (N.made net.old) (N.made net.new) }
 {
     let scenario = generate(stage.alloc, size)?;
-    let threaded = match run_on_threads(stage, &scenario, net, crew) {
+    let threaded = match run_on_threads(stage, &scenario, Form::Brief, net, crew) {
         Ok(threaded) => threaded,
         Err(fault) => return Err(ending_of_fault(fault)),
     };

@@ -14,7 +14,7 @@ use std::alloc::{AllocError, Global};
 use sv_asked::{read_scenario_numbers, replies_are_messages};
 use sv_client::{Client, Trace};
 use sv_door::{Door, EndMade};
-use sv_player::{PlayerCause, PlayerOut, play_client};
+use sv_player::{PlayerCause, PlayerOut, Role, play_client};
 use sv_scenario::{Plan, Scenario, sessions_of_plan};
 use sv_system::honest_clients_are_never_refused;
 use sv_watch::{Change, Line, Watch, told_line};
@@ -120,12 +120,19 @@ fn play_over<D: Door>(
         give_all_back(ends, door);
         return Err(fault);
     }
+    let role = Role {
+        alloc,
+        client,
+        script: plan.steps.as_slice(),
+        first: 0,
+        ends,
+    };
     let PlayerOut {
         cause,
         trace,
         lines,
         ends,
-    } = play_client(alloc, client, plan.steps.as_slice(), 0, ends, watch);
+    } = play_client(role, Some(watch));
     give_all_back(ends, door);
     answer(cause, trace, lines)
 }

@@ -1,7 +1,7 @@
 -- A run from its tasks to its record.
 use Rattle.std.proofs.Common.{◌≡◌, ℕ, ◌+◌, false, List, [], ◌∷◌, ◌++◌, map, length, reverse, refl, sym, ap, subst, ◌∙◌, arith}
 use Rattle.std.specs.List.{AllByRecursion, AllZip, flat_map}
-use Rattle.sv_world.specs.declared.world.Shape.{Shape}
+use Rattle.sv_play.specs.Telling.{Telling}
 use Rattle.sv_link.specs.Ends.{Told}
 use Rattle.sv_link.specs.Nets.{Transcript}
 use Rattle.sv_journal.specs.declared.entry.Entry.{Entry}
@@ -9,7 +9,7 @@ use Rattle.sv_journal.specs.Answer.{Legal}
 use Rattle.sv_lock.specs.Histories.{AreJust, AreBelow}
 use Rattle.sv_client.specs.declared.trace.Trace.{Trace}
 use Rattle.sv_scenario.specs.Sessions.{session_count}
-use Rattle.sv_script.specs.Telling.{told_lines}
+use Rattle.sv_player.specs.Played.{lines_told}
 use Rattle.sv_session.specs.Serving.{SessionPass}
 use Rattle.sv_system.specs.Records.{rules_of}
 use Rattle.sv_system.specs.Places.{EachPlace}
@@ -31,10 +31,10 @@ use Rattle.sv_play.proofs.Leaving.{services_left, parts_left, served_count, task
 use Rattle.sv_play.proofs.Whole.{overs, transcripts_are, is_run, all_end, lines_are}
 use Rattle.sv_play.proofs.Keepers.{just_of, below_of, legal_of, all_taken_in}
 
-module _ {E G W : Type 0} (told : E → Told) (faults : E → ℕ) (calm : E → Type 0) (shape_of : W → Shape) (run : Setting)
+module _ {E G W : Type 0} (told : E → Told) (faults : E → ℕ) (calm : E → Type 0) (telling_of : W → Telling) (run : Setting)
     (ts : List (Task E G W)) (os : List (TaskOut E)) (count : length (services_of ts) ≡ session_count run.scenario)
-    (services : EachPlace (IsService told faults calm run) (services_of ts)) (parts : EachClient (IsPart told faults calm shape_of run) 0 0 run.scenario.clients (parts_of ts))
-    (kept : AllZip (KeepsTask told faults calm) ts os) where
+    (services : EachPlace (IsService told faults calm run) (services_of ts)) (parts : EachClient (IsPart told faults calm telling_of run) 0 0 run.scenario.clients (parts_of ts))
+    (kept : AllZip (KeepsTask told faults calm telling_of) ts os) where
   abbrev ys : List (Serviced E)
   ys = serviced_of os
 
@@ -42,13 +42,13 @@ module _ {E G W : Type 0} (told : E → Told) (faults : E → ℕ) (calm : E →
   ps = played_of os
 
   served : EachPlace (IsServiced told faults calm run) ys
-  served = services_left told faults calm run ts os services kept
+  served = services_left told faults calm telling_of run ts os services kept
 
   played : EachClient (HasPlayed told faults calm run) 0 0 run.scenario.clients ps
-  played = parts_left told faults calm run shape_of ts os parts kept
+  played = parts_left told faults calm telling_of run ts os parts kept
 
   all_served : length ys ≡ session_count run.scenario
-  all_served = served_count told faults calm ts os kept ∙ count
+  all_served = served_count told faults calm telling_of ts os kept ∙ count
 
   pub passes : AllByRecursion (IsOfLock run.lock) ys
   passes = all_of_lock told faults calm run ys served
@@ -66,9 +66,9 @@ module _ {E G W : Type 0} (told : E → Told) (faults : E → ℕ) (calm : E →
 
   pub jobs : length ts ≡ session_count run.scenario + length run.scenario.clients
   jobs =
-      task_count told faults calm ts
+      task_count told faults calm telling_of ts
       ∙ (ap (λ n. n + length (parts_of ts)) count
-      ∙ ap (λ n. session_count run.scenario + n) (clients_count (IsPart told faults calm shape_of run) 0 0 run.scenario.clients (parts_of ts) parts))
+      ∙ ap (λ n. session_count run.scenario + n) (clients_count (IsPart told faults calm telling_of run) 0 0 run.scenario.clients (parts_of ts) parts))
 
   module _ (left : Left E) (k : SessionPass) (gathered : Gathered os left) (joined : JoinedPasses ys (keeper_after (session_count run.scenario) run.lock run.scenario) k) where
     pub are_pairs : (made : ℕ) → made ≡ run.pairs + session_count run.scenario → AllZip (ArePair told made) left.servers.items left.clients.items
@@ -144,12 +144,12 @@ module _ {E G W : Type 0} (told : E → Told) (faults : E → ℕ) (calm : E →
               ran = ran ∙ ap (λ n. ran_before ++ n ∷ []) jobs;
             })
 
-        pub told_all : flat_map (λ v. v.items) left.lines.items ≡ flat_map told_lines left.traces.items
+        pub told_all : flat_map (λ v. v.items) left.lines.items ≡ flat_map (lines_told run.watched) left.traces.items
         told_all =
             ap (flat_map (λ v. v.items)) gathered.lines
             ∙ (through ps
             ∙ (lines_are told faults calm run k.seen ys ps served all_served played (gathered.served lacked) (gathered.played lacked) agree_is joined.seen just enough
-            ∙ ap (flat_map told_lines) (sym gathered.traces)))
+            ∙ ap (flat_map (lines_told run.watched)) (sym gathered.traces)))
           where
             through : (qs : List (PlayerOut E)) → flat_map (λ v. v.items) (map (λ (y : PlayerOut E). y.lines) qs) ≡ flat_map (λ (y : PlayerOut E). y.lines.items) qs
             through [] = refl

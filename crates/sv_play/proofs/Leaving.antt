@@ -1,11 +1,11 @@
 -- What the threads of a run leave, by what they were given.
-use Rattle.std.proofs.Common.{◌≡◌, ℕ, zero, suc, ◌+◌, List, [], ◌∷◌, map, length, reverse, slice_get, Some, inl, inr, refl, sym, ap, subst, ◌∙◌, arith, zero-add, add-zero}
+use Rattle.std.proofs.Common.{◌≡◌, ℕ, zero, suc, ◌+◌, Bool, List, [], ◌∷◌, map, length, reverse, slice_get, Some, inl, inr, refl, sym, ap, subst, ◌∙◌, arith, zero-add, add-zero}
 use Rattle.std.specs.List.{AllByRecursion, AllZip, flat_map}
 use Rattle.std.proofs.lemmas.List.{length-map}
 use Rattle.std.proofs.lemmas.Option.{none-some, same_Some, slice_get_within}
 use Rattle.std.proofs.lemmas.Slice.Zip.{AllZip-long}
 use Rattle.std.specs.Prelude.{IsSome}
-use Rattle.sv_world.specs.declared.world.Shape.{Shape}
+use Rattle.sv_play.specs.Telling.{Telling}
 use Rattle.sv_link.specs.Ends.{Told}
 use Rattle.sv_link.specs.declared.side.Side.TheVariants.{Server, Client}
 use Rattle.sv_client.specs.declared.trace.Trace.{Trace}
@@ -15,7 +15,7 @@ use Rattle.sv_scenario.specs.declared.scenario.Step.{Step}
 use Rattle.sv_scenario.specs.Sessions.{sessions_of_plan, session_count}
 use Rattle.sv_session.specs.Serving.{SessionPass, Served, SessionCause}
 use Rattle.sv_player.specs.Stops.{is_cut}
-use Rattle.sv_player.specs.Played.{IsTraceOf, HasFollowed, AreDone, IsCause}
+use Rattle.sv_player.specs.Played.{IsTraceOf, HasFollowed, AreDone, IsCause, lines_told}
 use Rattle.sv_player.specs.declared.outcome.PlayerOut.{PlayerOut}
 use Rattle.sv_play.specs.declared.tasks.Service.{Service}
 use Rattle.sv_play.specs.declared.tasks.Part.{Part}
@@ -36,12 +36,12 @@ use Rattle.sv_play.proofs.Places.{each_zip, each_client_zip, each_client_all, ea
 
 -- ---- Each kind by itself
 
-module _ {E W : Type 0} (told : E → Told) (faults : E → ℕ) (calm : E → Type 0) where
+module _ {E W : Type 0} (told : E → Told) (faults : E → ℕ) (calm : E → Type 0) (telling_of : W → Telling) where
   abbrev IsTaken : Part E W → PlayerOut E → Type 0
-  IsTaken x y = TookPart told faults calm x.client x.script.now x.first x.ends.items y
+  IsTaken x y = TookPart told faults calm (telling_of x.teller.now).watched x.client x.script.now x.first x.ends.items y
 
-  part_left : (run : Setting) (k s : ℕ) (plan : Plan) (shape_of : W → Shape) (x : Part E W) (y : PlayerOut E) → IsPart told faults calm shape_of run k s plan x → TookPart told faults calm x.client x.script.now x.first x.ends.items y → HasPlayed told faults calm run k s plan y
-  part_left run k s plan shape_of x y p w =
+  part_left : (run : Setting) (k s : ℕ) (plan : Plan) (x : Part E W) (y : PlayerOut E) → IsPart told faults calm telling_of run k s plan x → IsTaken x y → HasPlayed told faults calm run k s plan y
+  part_left run k s plan x y p w =
       let shape = ap (λ (c : ClientView). c.who.shape) p.part.client in
       record {
         before = x.ends.items;
@@ -52,7 +52,7 @@ module _ {E W : Type 0} (told : E → Told) (faults : E → ℕ) (calm : E → T
             subst (λ h. HasFollowed h plan.steps y.trace y.cause) shape (subst (λ (steps : List Step). HasFollowed x.client.who.shape steps y.trace y.cause) p.part.script w.follows);
         ends = subst (λ n. AreDone told faults calm y.trace y.cause n x.ends.items y.ends.items) p.part.first w.done;
         last = p.part.last;
-        lines = w.lines;
+        lines = λ some. w.lines some ∙ ap (λ (b : Bool). lines_told b y.trace) p.part.watched_is;
         cause =
             subst (λ h. IsCause told faults calm h y.trace s x.ends.items y.ends.items y.cause) shape
             (subst (λ n. IsCause told faults calm x.client.who.shape y.trace n x.ends.items y.ends.items y.cause) p.part.first w.cause);
@@ -73,8 +73,8 @@ module _ {E G : Type 0} (told : E → Told) (faults : E → ℕ) (calm : E → T
       (s : ℕ) (y : Serviced E) → slice_get ys s ≡ Some y → IsServiced told faults calm run s y
   served_left run xs ys given all = each_zip (IsService told faults calm run) (WasServed told faults calm) (IsServiced told faults calm run) xs ys given all (service_left run)
 
-module _ {E G W : Type 0} (told : E → Told) (faults : E → ℕ) (calm : E → Type 0) where
-  pub split_served : (ts : List (Task E G W)) (os : List (TaskOut E)) → AllZip (KeepsTask told faults calm) ts os → AllZip (WasServed told faults calm) (services_of ts) (serviced_of os)
+module _ {E G W : Type 0} (told : E → Told) (faults : E → ℕ) (calm : E → Type 0) (telling_of : W → Telling) where
+  pub split_served : (ts : List (Task E G W)) (os : List (TaskOut E)) → AllZip (KeepsTask told faults calm telling_of) ts os → AllZip (WasServed told faults calm) (services_of ts) (serviced_of os)
   split_served [] [] all = tt
   split_served [] (o ∷ os) all = absurd all
   split_served (t ∷ ts) [] all = absurd all
@@ -83,7 +83,7 @@ module _ {E G W : Type 0} (told : E → Told) (faults : E → ℕ) (calm : E →
   split_served (tasks.Play x ∷ ts) (outs.Served y ∷ os) all = absurd all.0
   split_served (tasks.Play x ∷ ts) (outs.Played y ∷ os) all = split_served ts os all.1
 
-  pub split_played : (ts : List (Task E G W)) (os : List (TaskOut E)) → AllZip (KeepsTask told faults calm) ts os → AllZip (IsTaken told faults calm) (parts_of ts) (played_of os)
+  pub split_played : (ts : List (Task E G W)) (os : List (TaskOut E)) → AllZip (KeepsTask told faults calm telling_of) ts os → AllZip (IsTaken told faults calm telling_of) (parts_of ts) (played_of os)
   split_played [] [] all = tt
   split_played [] (o ∷ os) all = absurd all
   split_played (t ∷ ts) [] all = absurd all
@@ -92,17 +92,17 @@ module _ {E G W : Type 0} (told : E → Told) (faults : E → ℕ) (calm : E →
   split_played (tasks.Play x ∷ ts) (outs.Served y ∷ os) all = absurd all.0
   split_played (tasks.Play x ∷ ts) (outs.Played y ∷ os) all = (all.0, split_played ts os all.1)
 
-  pub services_left : (run : Setting) (ts : List (Task E G W)) (os : List (TaskOut E)) → EachPlace (IsService told faults calm run) (services_of ts) → AllZip (KeepsTask told faults calm) ts os →
+  pub services_left : (run : Setting) (ts : List (Task E G W)) (os : List (TaskOut E)) → EachPlace (IsService told faults calm run) (services_of ts) → AllZip (KeepsTask told faults calm telling_of) ts os →
       (s : ℕ) (y : Serviced E) → slice_get (serviced_of os) s ≡ Some y → IsServiced told faults calm run s y
   services_left run ts os given all = served_left told faults calm run (services_of ts) (serviced_of os) given (split_served ts os all)
 
-  pub parts_left : (run : Setting) (shape_of : W → Shape) (ts : List (Task E G W)) (os : List (TaskOut E)) → EachClient (IsPart told faults calm shape_of run) 0 0 run.scenario.clients (parts_of ts) → AllZip (KeepsTask told faults calm) ts os →
+  pub parts_left : (run : Setting) (ts : List (Task E G W)) (os : List (TaskOut E)) → EachClient (IsPart told faults calm telling_of run) 0 0 run.scenario.clients (parts_of ts) → AllZip (KeepsTask told faults calm telling_of) ts os →
       EachClient (HasPlayed told faults calm run) 0 0 run.scenario.clients (played_of os)
-  parts_left run shape_of ts os given all =
-      each_client_zip (IsPart told faults calm shape_of run) (IsTaken told faults calm) (HasPlayed told faults calm run) 0 0 run.scenario.clients (parts_of ts) (played_of os) given (split_played ts os all)
-      (λ k s plan x y. part_left told faults calm run k s plan shape_of x y)
+  parts_left run ts os given all =
+      each_client_zip (IsPart told faults calm telling_of run) (IsTaken told faults calm telling_of) (HasPlayed told faults calm run) 0 0 run.scenario.clients (parts_of ts) (played_of os) given (split_played ts os all)
+      (λ k s plan x y. part_left told faults calm telling_of run k s plan x y)
 
-  pub served_count : (ts : List (Task E G W)) (os : List (TaskOut E)) → AllZip (KeepsTask told faults calm) ts os → length (serviced_of os) ≡ length (services_of ts)
+  pub served_count : (ts : List (Task E G W)) (os : List (TaskOut E)) → AllZip (KeepsTask told faults calm telling_of) ts os → length (serviced_of os) ≡ length (services_of ts)
   served_count ts os all = AllZip-long (WasServed told faults calm) (services_of ts) (serviced_of os) (split_served ts os all)
 
   pub task_count : (ts : List (Task E G W)) → length ts ≡ length (services_of ts) + length (parts_of ts)

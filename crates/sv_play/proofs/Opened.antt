@@ -5,7 +5,7 @@ use Rattle.std.proofs.lemmas.List.{drop_more}
 use Rattle.sv_link.specs.Ends.{Told}
 use Rattle.sv_link.specs.declared.side.Side.{Side}
 use Rattle.sv_link.specs.declared.side.Side.TheVariants.{Client}
-use Rattle.sv_world.specs.declared.world.Shape.{Shape}
+use Rattle.sv_play.specs.Telling.{Telling}
 use Rattle.sv_scenario.specs.declared.scenario.Plan.{Plan}
 use Rattle.sv_scenario.specs.Sessions.{sessions_of_plan, sessions_in}
 use Rattle.sv_play.specs.declared.tasks.Service.{Service}
@@ -60,11 +60,11 @@ module _ {E : Type 0} (told : E → Told) (faults : E → ℕ) (calm : E → Typ
   new_end_as P Q side m n e f same new =
       subst (λ k. IsNewEnd told faults calm Q side k e) same (record { told_is = new.told_is; faultless = new.faultless; calm_is = λ q. new.calm_is (f q) })
 
-  pub parts_over : {W : Type 0} (shape_of : W → Shape) (ends : List E) (xs : List (Part E W)) → flat_map ends_given xs ≡ ends → EachPlace (IsEndOf told faults calm run Client) ends →
-      EachClient (IsPartOf shape_of run.scenario.world.shape) 0 0 run.scenario.clients xs → EachClient (IsPart told faults calm shape_of run) 0 0 run.scenario.clients xs
-  parts_over shape_of ends xs are each parts =
-      each_client_both (IsPartOf shape_of run.scenario.world.shape) (λ k s plan x. (j : ℕ) (e : E) → slice_get (ends_given x) j ≡ Some e → slice_get ends (s + j) ≡ Some e) (IsPart told faults calm shape_of run)
+  pub parts_over : {W : Type 0} (telling_of : W → Telling) (ends : List E) (xs : List (Part E W)) → flat_map ends_given xs ≡ ends → EachPlace (IsEndOf told faults calm run Client) ends →
+      EachClient (IsPartOf telling_of run.scenario.world.shape run.watched) 0 0 run.scenario.clients xs → EachClient (IsPart told faults calm telling_of run) 0 0 run.scenario.clients xs
+  parts_over telling_of ends xs are each parts =
+      each_client_both (IsPartOf telling_of run.scenario.world.shape run.watched) (λ k s plan x. (j : ℕ) (e : E) → slice_get (ends_given x) j ≡ Some e → slice_get ends (s + j) ≡ Some e) (IsPart told faults calm telling_of run)
       0 0 run.scenario.clients xs parts
       (flat_place ends_given ends 0 0 run.scenario.clients xs [] refl (sym are)
-      (each_client_map (IsPartOf shape_of run.scenario.world.shape) (λ k s plan x. length (ends_given x) ≡ sessions_of_plan plan) 0 0 run.scenario.clients xs parts (λ k s plan x p. p.count)))
+      (each_client_map (IsPartOf telling_of run.scenario.world.shape run.watched) (λ k s plan x. length (ends_given x) ≡ sessions_of_plan plan) 0 0 run.scenario.clients xs parts (λ k s plan x p. p.count)))
       (λ k s plan x p there. record { part = p; ends = λ j e at. each (s + j) e (there j e at) })

@@ -3,7 +3,7 @@ use Rattle.std.proofs.Common.{◌≡◌, ℕ, ◌+◌, ◌<◌, false, List, [],
 use Rattle.std.specs.List.{AllByRecursion}
 use Rattle.std.proofs.lemmas.List.Elements.{All-from_recursion, All-nil}
 use Rattle.sv_world.specs.declared.world.ObjectId.{ObjectId}
-use Rattle.sv_world.specs.declared.world.Shape.{Shape}
+use Rattle.sv_play.specs.Telling.{Telling}
 use Rattle.sv_link.specs.Ends.{Told}
 use Rattle.sv_link.specs.declared.side.Side.TheVariants.{Client}
 use Rattle.sv_journal.specs.declared.entry.Entry.{Entry}
@@ -30,12 +30,12 @@ use Rattle.sv_play.specs.Tasks.{services_of, parts_of, MayBeServed, MayTakePart,
 use Rattle.sv_play.specs.Given.{Setting, IsEndOf, IsPart, IsService}
 use Rattle.sv_play.proofs.Places.{each_client_all}
 
-module _ {E W : Type 0} (told : E → Told) (shape_of : W → Shape) where
+module _ {E W : Type 0} (told : E → Told) (telling_of : W → Telling) where
   abbrev IsPartReady : Part E W → Type 0
-  IsPartReady x = MayTakePart told (shape_of x.teller.now) x.client x.script.now x.first x.ends.items
+  IsPartReady x = MayTakePart told (telling_of x.teller.now).shape x.client x.script.now x.first x.ends.items
 
-module _ {E W : Type 0} (told : E → Told) (faults : E → ℕ) (calm : E → Type 0) (shape_of : W → Shape) (run : Setting) (good : IsGoodScenario run.scenario) where
-  part_ready : (k s : ℕ) (plan : Plan) (x : Part E W) → IsPart told faults calm shape_of run k s plan x → IsPartReady told shape_of x
+module _ {E W : Type 0} (told : E → Told) (faults : E → ℕ) (calm : E → Type 0) (telling_of : W → Telling) (run : Setting) (good : IsGoodScenario run.scenario) where
+  part_ready : (k s : ℕ) (plan : Plan) (x : Part E W) → IsPart told faults calm telling_of run k s plan x → IsPartReady told telling_of x
   part_ready k s plan x p =
       let who : Identity = record { client = record { 0 = k }; interest = plan.interest; shape = run.scenario.world.shape } in
       let may : MayPlay who plan.steps =
@@ -77,13 +77,13 @@ module _ {E G : Type 0} (told : E → Told) (faults : E → ℕ) (calm : E → T
   pub services_ready : (xs : List (Service E G)) → EachPlace (IsService told faults calm run) xs → AllByRecursion (MayBeServed told) xs
   services_ready xs services = each_all (IsService told faults calm run) (MayBeServed told) xs services service_ready
 
-module _ {E G W : Type 0} (told : E → Told) (faults : E → ℕ) (calm : E → Type 0) (shape_of : W → Shape) (run : Setting) (good : IsGoodScenario run.scenario) where
-  all_ready : (ts : List (Task E G W)) → AllByRecursion (MayBeServed told) (services_of ts) → AllByRecursion (IsPartReady told shape_of) (parts_of ts) → AllByRecursion (IsReady told shape_of) ts
+module _ {E G W : Type 0} (told : E → Told) (faults : E → ℕ) (calm : E → Type 0) (telling_of : W → Telling) (run : Setting) (good : IsGoodScenario run.scenario) where
+  all_ready : (ts : List (Task E G W)) → AllByRecursion (MayBeServed told) (services_of ts) → AllByRecursion (IsPartReady told telling_of) (parts_of ts) → AllByRecursion (IsReady told telling_of) ts
   all_ready [] services parts = tt
   all_ready (tasks.Serve x ∷ ts) services parts = (services.0, all_ready ts services.1 parts)
   all_ready (tasks.Play x ∷ ts) services parts = (parts.0, all_ready ts services parts.1)
 
-  pub tasks_ready : (ts : List (Task E G W)) → EachPlace (IsService told faults calm run) (services_of ts) → EachClient (IsPart told faults calm shape_of run) 0 0 run.scenario.clients (parts_of ts) → AllByRecursion (IsReady told shape_of) ts
+  pub tasks_ready : (ts : List (Task E G W)) → EachPlace (IsService told faults calm run) (services_of ts) → EachClient (IsPart told faults calm telling_of run) 0 0 run.scenario.clients (parts_of ts) → AllByRecursion (IsReady told telling_of) ts
   tasks_ready ts services parts =
       all_ready ts (services_ready told faults calm run good (services_of ts) services)
-      (each_client_all (IsPart told faults calm shape_of run) (IsPartReady told shape_of) 0 0 run.scenario.clients (parts_of ts) parts (part_ready told faults calm shape_of run good))
+      (each_client_all (IsPart told faults calm telling_of run) (IsPartReady told telling_of) 0 0 run.scenario.clients (parts_of ts) parts (part_ready told faults calm telling_of run good))

@@ -17,12 +17,11 @@ use Rattle.sv_client.specs.Proper.{Proper}
 use Rattle.sv_scenario.specs.declared.scenario.Plan.{Plan}
 use Rattle.sv_scenario.specs.Sessions.{sessions_of_plan, session_count}
 use Rattle.sv_script.specs.Following.{Follows, FollowsToEnd}
-use Rattle.sv_script.specs.Telling.{told_lines}
 use Rattle.sv_session.specs.declared.outcome.SessionOut.{SessionOut}
 use Rattle.sv_session.specs.declared.outcome.SessionOut.TheVariants as session_outs
 use Rattle.sv_system.specs.Records.{rules_of, AreTracesOf}
 use Rattle.sv_player.specs.Stops.{is_cut}
-use Rattle.sv_player.specs.Played.{SentAll, IsCause}
+use Rattle.sv_player.specs.Played.{SentAll, IsCause, lines_told}
 use Rattle.sv_player.specs.declared.outcome.PlayerOut.{PlayerOut}
 use Rattle.sv_player.specs.declared.outcome.PlayerCause.{PlayerCause}
 use Rattle.sv_player.specs.declared.outcome.PlayerCause.TheVariants as causes
@@ -293,14 +292,14 @@ module _ {E : Type 0} (told : E → Told) (faults : E → ℕ) (calm : E → Typ
         each_client_trace HasDone (λ plan L. FollowsToEnd run.scenario.world.shape plan.steps L ⊎ IsStopped run.scenario.world.shape L overs) (λ (y : PlayerOut E). y.trace) 0 0 run.scenario.clients ps all_done
         (λ k s plan y h. client_ends k s plan y h y.cause refl h.played_is.cause)
 
-    lines_of : (qs : List (PlayerOut E)) → AllByRecursion (λ (y : PlayerOut E). y.lines.items ≡ told_lines y.trace) qs →
-        flat_map (λ (y : PlayerOut E). y.lines.items) qs ≡ flat_map told_lines (map (λ (y : PlayerOut E). y.trace) qs)
+    lines_of : (qs : List (PlayerOut E)) → AllByRecursion (λ (y : PlayerOut E). y.lines.items ≡ lines_told run.watched y.trace) qs →
+        flat_map (λ (y : PlayerOut E). y.lines.items) qs ≡ flat_map (lines_told run.watched) (map (λ (y : PlayerOut E). y.trace) qs)
     lines_of [] all = refl
     lines_of (q ∷ qs) all =
-        ap (λ (l : List (List ℕ)). l ++ flat_map (λ (y : PlayerOut E). y.lines.items) qs) all.0 ∙ ap (λ (l : List (List ℕ)). told_lines q.trace ++ l) (lines_of qs all.1)
+        ap (λ (l : List (List ℕ)). l ++ flat_map (λ (y : PlayerOut E). y.lines.items) qs) all.0 ∙ ap (λ (l : List (List ℕ)). lines_told run.watched q.trace ++ l) (lines_of qs all.1)
 
-    pub lines_are : flat_map (λ (y : PlayerOut E). y.lines.items) ps ≡ flat_map told_lines Ls
+    pub lines_are : flat_map (λ (y : PlayerOut E). y.lines.items) ps ≡ flat_map (lines_told run.watched) Ls
     lines_are =
         lines_of ps
-        (each_client_all HasDone (λ (y : PlayerOut E). y.lines.items ≡ told_lines y.trace) 0 0 run.scenario.clients ps all_done
+        (each_client_all HasDone (λ (y : PlayerOut E). y.lines.items ≡ lines_told run.watched y.trace) 0 0 run.scenario.clients ps all_done
         (λ k s plan y h. h.played_is.lines (has_memory k s plan y h y.cause h.with_memory)))

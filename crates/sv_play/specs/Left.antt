@@ -15,12 +15,11 @@ use Rattle.sv_client.specs.declared.trace.Trace.{Trace}
 use Rattle.sv_client.specs.Seen.{new_client}
 use Rattle.sv_scenario.specs.declared.scenario.Plan.{Plan}
 use Rattle.sv_scenario.specs.Sessions.{sessions_of_plan}
-use Rattle.sv_script.specs.Telling.{told_lines}
 use Rattle.sv_session.specs.Serving.{SessionPass, Served, SessionCause}
 use Rattle.sv_session.specs.declared.outcome.SessionOut.{SessionOut}
 use Rattle.sv_session.specs.declared.outcome.SessionOut.TheVariants as session_outs
 use Rattle.sv_player.specs.Stops.{is_cut}
-use Rattle.sv_player.specs.Played.{IsTraceOf, HasFollowed, AreDone, IsCause}
+use Rattle.sv_player.specs.Played.{IsTraceOf, HasFollowed, AreDone, IsCause, lines_told}
 use Rattle.sv_player.specs.declared.outcome.PlayerOut.{PlayerOut}
 use Rattle.sv_player.specs.declared.outcome.PlayerCause.{PlayerCause}
 use Rattle.sv_player.specs.declared.outcome.PlayerCause.TheVariants as causes
@@ -134,5 +133,5 @@ module _ {E : Type 0} (told : E → Told) (faults : E → ℕ) (calm : E → Typ
     pub follows : HasFollowed run.scenario.world.shape plan.steps y.trace y.cause
     pub ends : AreDone told faults calm y.trace y.cause s before y.ends.items
     pub last : s + sessions_of_plan plan ≤ most_sessions
-    pub lines : y.cause ≢ causes.Memory → y.lines.items ≡ told_lines y.trace
+    pub lines : y.cause ≢ causes.Memory → y.lines.items ≡ lines_told run.watched y.trace
     pub cause : IsCause told faults calm run.scenario.world.shape y.trace s before y.ends.items y.cause

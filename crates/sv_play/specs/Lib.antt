@@ -1,3 +1,4 @@
+pub mod Telling
 pub mod Places
 pub mod Tasks
 pub mod Given

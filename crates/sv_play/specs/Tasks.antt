@@ -1,5 +1,5 @@
 -- What a session's loop and a player are given, and what they promise.
-use Rattle.std.specs.Prelude.{◌≡◌, ◌≢◌, ℕ, ◌+◌, ◌≤◌, false, List, [], ◌∷◌, length}
+use Rattle.std.specs.Prelude.{◌≡◌, ◌≢◌, ℕ, ◌+◌, ◌≤◌, Bool, false, List, [], ◌∷◌, length}
 use Rattle.std.specs.List.{AllByRecursion}
 use Rattle.sv_world.specs.declared.world.Shape.{Shape}
 use Rattle.sv_world.specs.Limits.{most_sessions}
@@ -7,11 +7,10 @@ use Rattle.sv_link.specs.Ends.{Told}
 use Rattle.sv_client.specs.Seen.{ClientView, new_client}
 use Rattle.sv_scenario.specs.declared.scenario.Step.{Step}
 use Rattle.sv_scenario.specs.Sessions.{cuts_in}
-use Rattle.sv_script.specs.Telling.{told_lines}
 use Rattle.sv_session.specs.Serving.{MayServe, Served, SessionCause}
 use Rattle.sv_player.specs.Going.{MayPlay}
 use Rattle.sv_player.specs.Sessions.{IsFresh}
-use Rattle.sv_player.specs.Played.{IsTraceOf, HasFollowed, AreDone, IsCause}
+use Rattle.sv_player.specs.Played.{IsTraceOf, HasFollowed, AreDone, IsCause, lines_told}
 use Rattle.sv_player.specs.declared.outcome.PlayerOut.{PlayerOut}
 use Rattle.sv_player.specs.declared.outcome.PlayerCause.TheVariants as causes
 use Rattle.sv_play.specs.declared.tasks.Service.{Service}
@@ -21,6 +20,7 @@ use Rattle.sv_play.specs.declared.tasks.Task.TheVariants as tasks
 use Rattle.sv_play.specs.declared.tasks.Serviced.{Serviced}
 use Rattle.sv_play.specs.declared.tasks.TaskOut.{TaskOut}
 use Rattle.sv_play.specs.declared.tasks.TaskOut.TheVariants as outs
+use Rattle.sv_play.specs.Telling.{Telling}
 
 -- ---- The tasks of each kind, in order
 
@@ -63,20 +63,20 @@ module _ {E G : Type 0} (told : E → Told) where
   abbrev pub MayBeServed : Service E G → Type 0
   MayBeServed x = MayServe x.lock.now x.pass × ((told x.end).closed ≡ false)
 
-module _ {E G W : Type 0} (told : E → Told) (shape_of : W → Shape) where
+module _ {E G W : Type 0} (told : E → Told) (telling_of : W → Telling) where
   abbrev pub IsReady : Task E G W → Type 0
   IsReady (tasks.Serve x) = MayBeServed told x
-  IsReady (tasks.Play x) = MayTakePart told (shape_of x.teller.now) x.client x.script.now x.first x.ends.items
+  IsReady (tasks.Play x) = MayTakePart told (telling_of x.teller.now).shape x.client x.script.now x.first x.ends.items
 
 -- ---- What they promise
 
 module _ {E : Type 0} (told : E → Told) (faults : E → ℕ) (calm : E → Type 0) where
-  -- the client played its script, or something stopped it
-  pub record TookPart (client : ClientView) (script : List Step) (first : ℕ) (ends : List E) (y : PlayerOut E) : Type 0 where
+  -- the client played its script, or something stopped it; its changes were told where somebody watches
+  pub record TookPart (watched : Bool) (client : ClientView) (script : List Step) (first : ℕ) (ends : List E) (y : PlayerOut E) : Type 0 where
     pub trace : IsTraceOf client first y.trace
     pub follows : HasFollowed client.who.shape script y.trace y.cause
     pub done : AreDone told faults calm y.trace y.cause first ends y.ends.items
-    pub lines : y.cause ≢ causes.Memory → y.lines.items ≡ told_lines y.trace
+    pub lines : y.cause ≢ causes.Memory → y.lines.items ≡ lines_told watched y.trace
     pub cause : IsCause told faults calm client.who.shape y.trace first ends y.ends.items y.cause
 
 module _ {E G : Type 0} (told : E → Told) (faults : E → ℕ) (calm : E → Type 0) where
@@ -86,8 +86,8 @@ module _ {E G : Type 0} (told : E → Told) (faults : E → ℕ) (calm : E → T
     pub cause : SessionCause (faults x.end) (faults y.end) y.out
     pub calm_is : calm x.end → calm y.end
 
-module _ {E G W : Type 0} (told : E → Told) (faults : E → ℕ) (calm : E → Type 0) where
+module _ {E G W : Type 0} (told : E → Told) (faults : E → ℕ) (calm : E → Type 0) (telling_of : W → Telling) where
   abbrev pub KeepsTask : Task E G W → TaskOut E → Type 0
   KeepsTask (tasks.Serve x) (outs.Served y) = WasServed told faults calm x y
-  KeepsTask (tasks.Play x) (outs.Played y) = TookPart told faults calm x.client x.script.now x.first x.ends.items y
+  KeepsTask (tasks.Play x) (outs.Played y) = TookPart told faults calm (telling_of x.teller.now).watched x.client x.script.now x.first x.ends.items y
   KeepsTask _ _ = ⊥

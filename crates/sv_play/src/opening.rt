@@ -76,8 +76,8 @@ impl<'a, G, W: Teller> Hall<'a, G, W> {
         requires keeper { keeper.old ≡ keeper_after 0 self.now.lock.now self.now.scenario.now }
         requires passes { self.now.lock.now.passes ≡ session_count self.now.scenario.now }
         ensures count { IfOk result (λ r. (length r.0.items ≡ session_count self.now.scenario.now) × (length r.1.items ≡ session_count self.now.scenario.now)) }
-        ensures services { IfOk result (λ r. EachPlace (IsService N.E.told N.E.faults N.E.calm (setting self.now.lock.now self.now.scenario.now (N.made net.old) (N.calm net.old))) r.0.items) }
-        ensures clients { IfOk result (λ r. EachPlace (IsEndOf N.E.told N.E.faults N.E.calm (setting self.now.lock.now self.now.scenario.now (N.made net.old) (N.calm net.old)) ClientSide) r.1.items) }
+        ensures services { IfOk result (λ r. EachPlace (IsService N.E.told N.E.faults N.E.calm (setting self.now.lock.now self.now.scenario.now (N.made net.old) (N.calm net.old) (W.telling self.now.teller.now).watched)) r.0.items) }
+        ensures clients { IfOk result (λ r. EachPlace (IsEndOf N.E.told N.E.faults N.E.calm (setting self.now.lock.now self.now.scenario.now (N.made net.old) (N.calm net.old) (W.telling self.now.teller.now).watched) ClientSide) r.1.items) }
         ensures keeper { OnOk result (keeper.new ≡ keeper_after (session_count self.now.scenario.now) self.now.lock.now self.now.scenario.now) }
         ensures pairs { OnOk result ((N.made net.new ≡ N.made net.old + session_count self.now.scenario.now) × (N.owed net.new ≡ N.owed net.old + session_count self.now.scenario.now)) }
         ensures settled { N.settled net.new ≡ N.settled net.old }
@@ -104,10 +104,10 @@ impl<'a, G, W: Teller> Hall<'a, G, W> {
     ) -> Result<Part<'a, E, W>, AllocError>
         requires number { number < most_clients }
         requires plan { IsGoodPlan self.now.scenario.now.world.shape plan.now }
-        requires teller { W.shape self.now.teller.now ≡ self.now.scenario.now.world.shape }
+        requires teller { (W.telling self.now.teller.now).shape ≡ self.now.scenario.now.world.shape }
         requires count { length ends.items ≡ sessions_of_plan plan.now }
         requires last { first + sessions_of_plan plan.now ≤ most_sessions }
-        ensures part { IfOk result (IsPartOf W.shape self.now.scenario.now.world.shape number first plan.now) }
+        ensures part { IfOk result (IsPartOf W.telling self.now.scenario.now.world.shape (W.telling self.now.teller.now).watched number first plan.now) }
         ensures ends { IfOk result (λ x. x.ends.items ≡ ends.items) }
     {
         let interest = copy_objects(self.alloc, plan.interest.as_slice())?;
@@ -125,9 +125,9 @@ impl<'a, G, W: Teller> Hall<'a, G, W> {
     /// All clients, each over the ends of its sessions.
     fn open_parts<E: Drop>(&self, ends: Vec<E>) -> Result<Vec<Part<'a, E, W>>, AllocError>
         requires good { IsGoodScenario self.now.scenario.now }
-        requires teller { W.shape self.now.teller.now ≡ self.now.scenario.now.world.shape }
+        requires teller { (W.telling self.now.teller.now).shape ≡ self.now.scenario.now.world.shape }
         requires count { length ends.items ≡ session_count self.now.scenario.now }
-        ensures parts { IfOk result (λ parts. EachClient (IsPartOf W.shape self.now.scenario.now.world.shape) 0 0 self.now.scenario.now.clients parts.items) }
+        ensures parts { IfOk result (λ parts. EachClient (IsPartOf W.telling self.now.scenario.now.world.shape (W.telling self.now.teller.now).watched) 0 0 self.now.scenario.now.clients parts.items) }
         ensures ends { IfOk result (λ parts. flat_map ends_given parts.items ≡ ends.items) }
     {
         let mut parts = Vec::new(self.alloc);
@@ -151,12 +151,12 @@ impl<'a, G, W: Teller> Hall<'a, G, W> {
         keeper: &mut Pass<Sequencer>,
     ) -> Result<Vec<Task<'a, N::E, G, W>>, PlayFault>
         requires good { IsGoodScenario self.now.scenario.now }
-        requires teller { W.shape self.now.teller.now ≡ self.now.scenario.now.world.shape }
+        requires teller { (W.telling self.now.teller.now).shape ≡ self.now.scenario.now.world.shape }
         requires keeper { keeper.old ≡ keeper_after 0 self.now.lock.now self.now.scenario.now }
         requires passes { self.now.lock.now.passes ≡ session_count self.now.scenario.now }
         ensures count { IfOk result (λ tasks. length (services_of tasks.items) ≡ session_count self.now.scenario.now) }
-        ensures services { IfOk result (λ tasks. EachPlace (IsService N.E.told N.E.faults N.E.calm (setting self.now.lock.now self.now.scenario.now (N.made net.old) (N.calm net.old))) (services_of tasks.items)) }
-        ensures parts { IfOk result (λ tasks. EachClient (IsPart N.E.told N.E.faults N.E.calm W.shape (setting self.now.lock.now self.now.scenario.now (N.made net.old) (N.calm net.old))) 0 0 self.now.scenario.now.clients (parts_of tasks.items)) }
+        ensures services { IfOk result (λ tasks. EachPlace (IsService N.E.told N.E.faults N.E.calm (setting self.now.lock.now self.now.scenario.now (N.made net.old) (N.calm net.old) (W.telling self.now.teller.now).watched)) (services_of tasks.items)) }
+        ensures parts { IfOk result (λ tasks. EachClient (IsPart N.E.told N.E.faults N.E.calm W.telling (setting self.now.lock.now self.now.scenario.now (N.made net.old) (N.calm net.old) (W.telling self.now.teller.now).watched)) 0 0 self.now.scenario.now.clients (parts_of tasks.items)) }
         ensures keeper { OnOk result (keeper.new ≡ keeper_after (session_count self.now.scenario.now) self.now.lock.now self.now.scenario.now) }
         ensures pairs { OnOk result ((N.made net.new ≡ N.made net.old + session_count self.now.scenario.now) × (N.owed net.new ≡ N.owed net.old + session_count self.now.scenario.now)) }
         ensures settled { N.settled net.new ≡ N.settled net.old }

@@ -1,9 +1,9 @@
 //! A scenario's run on threads.
-ghost use Rattle.std.specs.Prelude.{◌≡◌, ◌≢◌, ◌+◌, reverse, length, IfOk, IsOk, Err};
+ghost use Rattle.std.specs.Prelude.{◌≡◌, ◌≢◌, ◌+◌, reverse, length, is_some, IfOk, IfSome, IsOk, Err};
 ghost use Rattle.std.specs.List.{flat_map};
 ghost use Rattle.sv_scenario.specs.Limits.{IsGoodScenario};
 ghost use Rattle.sv_scenario.specs.Sessions.{session_count};
-ghost use Rattle.sv_script.specs.Telling.{told_lines};
+ghost use Rattle.sv_player.specs.Played.{lines_told};
 ghost use Rattle.sv_play.specs.Given.{keeper_after};
 ghost use Rattle.sv_play.specs.Settling.{SomeDiffer};
 ghost use Rattle.sv_play.specs.Playing.{IsThreadedRun, TookAllIn, PlayCause};
@@ -12,7 +12,7 @@ use crate::gathering::{Left, gather};
 use crate::opening::Hall;
 use crate::outcome::{PlayFault, Playing};
 use crate::settling::settle_all;
-use crate::tasks::Teller;
+use crate::tasks::{Silence, Teller};
 use law_traffic::threaded_runs_leave_records;
 use std::alloc::{AllocError, Global};
 use std::sync::Wait;
@@ -29,7 +29,8 @@ use sv_world::List;
 ///
 /// Each session has a pair of ends and a pass, made in the order of the sessions' numbers. Once all jobs are done, the keeper takes all passes
 /// in, and all pairs are settled. Where a thread can't be started the answer is Start, where a pair can't be made or does not match it is
-/// Link, and else where anything had no memory it is Memory.
+/// Link, and else where anything had no memory it is Memory. Where a watch is given, it makes the line of each change of a client's view; else
+/// there are no lines.
 pub fn play_all<N: Net, C: Crew, G: Gate + Sync, R: Threads + Wait + Sync>(
     rt: &R,
     alloc: Global,
@@ -39,27 +40,39 @@ pub fn play_all<N: Net, C: Crew, G: Gate + Sync, R: Threads + Wait + Sync>(
     net: &mut N,
     crew: &mut C,
     gate: &G,
-    watch: &Watch,
+    watch: Option<&Watch>,
 ) -> Result<Playing, PlayFault>
     requires good { IsGoodScenario scenario.now }
     requires passes { lock.now.passes ≡ session_count scenario.now }
     requires keeper { keeper.old ≡ keeper_after 0 lock.now scenario.now }
-    requires watch { watch.now.shape ≡ scenario.now.world.shape }
+    requires watch { IfSome watch (λ w. w.now.shape ≡ scenario.now.world.shape) }
     ensures run { IfOk result (λ p. IsThreadedRun scenario.now (reverse keeper.new.seen) p.traces (N.settled net.old) (N.settled net.new) (C.ran crew.old) (C.ran crew.new)) }
-    ensures lines { IfOk result (λ p. p.lines.items ≡ flat_map told_lines p.traces) }
+    ensures lines { IfOk result (λ p. p.lines.items ≡ flat_map (lines_told (is_some watch.entry)) p.traces) }
     ensures keeper { IfOk result (λ p. TookAllIn scenario.now keeper.old keeper.new) }
     ensures cause { PlayCause (C.faults crew.old) (C.faults crew.new) (N.faults net.old) (N.faults net.new) result }
     ensures calm { N.calm net.old → N.calm net.new }
     ensures certain { N.calm net.old → result ≡ Err PlayFault.Link → SomeDiffer N.E.told N.E.calm (N.made net.old) (N.made net.new) }
 {
-    let hall = Hall {
-        alloc,
-        scenario,
-        lock,
-        gate,
-        teller: watch,
-    };
-    hall.play(rt, keeper, net, crew)
+    match watch {
+        Some(watch) => Hall {
+            alloc,
+            scenario,
+            lock,
+            gate,
+            teller: watch,
+        }
+        .play(rt, keeper, net, crew),
+        None => Hall {
+            alloc,
+            scenario,
+            lock,
+            gate,
+            teller: &Silence {
+                shape: scenario.world.shape,
+            },
+        }
+        .play(rt, keeper, net, crew),
+    }
 }
 
 impl<'a, G: Gate + Sync, W: Teller + Sync> Hall<'a, G, W> {
@@ -74,9 +87,9 @@ impl<'a, G: Gate + Sync, W: Teller + Sync> Hall<'a, G, W> {
         requires good { IsGoodScenario self.now.scenario.now }
         requires passes { self.now.lock.now.passes ≡ session_count self.now.scenario.now }
         requires keeper { keeper.old ≡ keeper_after 0 self.now.lock.now self.now.scenario.now }
-        requires teller { W.shape self.now.teller.now ≡ self.now.scenario.now.world.shape }
+        requires teller { (W.telling self.now.teller.now).shape ≡ self.now.scenario.now.world.shape }
         ensures run { IfOk result (λ p. IsThreadedRun self.now.scenario.now (reverse keeper.new.seen) p.traces (N.settled net.old) (N.settled net.new) (C.ran crew.old) (C.ran crew.new)) }
-        ensures lines { IfOk result (λ p. p.lines.items ≡ flat_map told_lines p.traces) }
+        ensures lines { IfOk result (λ p. p.lines.items ≡ flat_map (lines_told (W.telling self.now.teller.now).watched) p.traces) }
         ensures keeper { IfOk result (λ p. TookAllIn self.now.scenario.now keeper.old keeper.new) }
         ensures cause { PlayCause (C.faults crew.old) (C.faults crew.new) (N.faults net.old) (N.faults net.new) result }
         ensures calm { N.calm net.old → N.calm net.new }

@@ -1,6 +1,7 @@
 //! What the threads of a run do: serve a session, or play a client.
-ghost use Rattle.sv_world.specs.declared.world.Shape.{Shape};
+ghost use Rattle.std.specs.Prelude.{true, false};
 ghost use Rattle.sv_play.specs.Tasks.{MayBeServed, MayTakePart, TookPart, WasServed};
+ghost use Rattle.sv_play.specs.Telling.{Telling};
 
 use std::alloc::Global;
 use std::sync::Wait;
@@ -8,11 +9,12 @@ use std::thread::Threads;
 use sv_client::Client;
 use sv_link::{End, Gate, Job};
 use sv_lock::{Pass, SeqLock};
-use sv_player::{PlayerOut, play_client};
+use sv_player::{PlayerOut, Role, play_client};
 use sv_scenario::Step;
 use sv_sequencer::Sequencer;
 use sv_session::{SessionOut, serve_session};
 use sv_watch::Watch;
+use sv_world::Shape;
 
 /// A session that is to be served, over one end and by one pass.
 #[derive(Drop)]
@@ -24,39 +26,35 @@ pub struct Service<'a, E, G> {
     pub gate: &'a G,
 }
 
-/// A client and its script, over the ends of its sessions.
-#[derive(Drop)]
-pub(crate) struct Role<'a, E> {
-    pub(crate) alloc: Global,
-    pub(crate) client: Client,
-    pub(crate) script: &'a [Step],
-    /// The number of its first session.
-    pub(crate) first: u16,
-    pub(crate) ends: Vec<E>,
-}
-
 /// What tells the changes of views, where clients play. It stands for `Watch`, so that no type of a task has its callback.
 pub(crate) trait Teller {
-    ghost shape: { Self → Shape };
+    ghost telling: { Self → Telling };
 
     /// Plays a role, and tells what changes.
     fn play<E: End>(&self, role: Role<'_, E>) -> PlayerOut<E>
-        requires { MayTakePart E.told (shape self.now) role.client role.script.now role.first role.ends.items }
-        ensures { TookPart E.told E.faults E.calm role.entry.client role.entry.script.now role.entry.first role.entry.ends.items result };
+        requires { MayTakePart E.told (telling self.now).shape role.client role.script.now role.first role.ends.items }
+        ensures { TookPart E.told E.faults E.calm (telling self.now).watched role.entry.client role.entry.script.now role.entry.first role.entry.ends.items result };
 }
 
 impl Teller for Watch {
-    ghost shape = { λ w. w.shape };
+    ghost telling = { λ w. record { shape = w.shape; watched = true } };
 
     fn play<E: End>(&self, role: Role<'_, E>) -> PlayerOut<E> {
-        let Role {
-            alloc,
-            client,
-            script,
-            first,
-            ends,
-        } = role;
-        play_client(alloc, client, script, first, ends, self)
+        play_client(role, Some(self))
+    }
+}
+
+/// What stands for a watch where nobody watches: it tells nothing.
+#[derive(Drop)]
+pub(crate) struct Silence {
+    pub(crate) shape: Shape,
+}
+
+impl Teller for Silence {
+    ghost telling = { λ s. record { shape = s.shape; watched = false } };
+
+    fn play<E: End>(&self, role: Role<'_, E>) -> PlayerOut<E> {
+        play_client(role, None)
     }
 }
 
@@ -128,8 +126,8 @@ impl<'a, E: End + Send, G: Gate + Sync> Job for Service<'a, E, G> {
 impl<'a, E: End, W: Teller> Part<'a, E, W> {
     /// Plays the script, until the client is finished or something stops it.
     fn play(self) -> PlayerOut<E>
-        requires { MayTakePart E.told (W.shape self.teller.now) self.client self.script.now self.first self.ends.items }
-        ensures { TookPart E.told E.faults E.calm self.entry.client self.entry.script.now self.entry.first self.entry.ends.items result }
+        requires { MayTakePart E.told (W.telling self.teller.now).shape self.client self.script.now self.first self.ends.items }
+        ensures { TookPart E.told E.faults E.calm (W.telling self.entry.teller.now).watched self.entry.client self.entry.script.now self.entry.first self.entry.ends.items result }
     {
         let Part {
             alloc,
@@ -154,9 +152,9 @@ impl<'a, E: End + Send, G: Gate + Sync, W: Teller + Sync> Job for Task<'a, E, G,
 
     type Out = TaskOut<E>;
 
-    ghost ready = { IsReady E.told W.shape };
+    ghost ready = { IsReady E.told W.telling };
 
-    ghost keeps = { KeepsTask E.told E.faults E.calm };
+    ghost keeps = { KeepsTask E.told E.faults E.calm W.telling };
 
     fn run<R: Threads + Wait + Sync>(self, rt: &R) -> TaskOut<E> {
         match self {

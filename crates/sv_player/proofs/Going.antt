@@ -1,5 +1,5 @@
 -- A player's events keep what is true of it.
-use Rattle.std.proofs.Common.{◌≡◌, ◌⊎◌, inl, inr, ℕ, suc, ◌<◌, ◌≤◌, true, false, List, [], ◌∷◌, ◌++◌, length, Some, None, refl, sym, ap, subst, ◌∙◌, arith, true≢false}
+use Rattle.std.proofs.Common.{◌≡◌, ◌⊎◌, inl, inr, ℕ, suc, ◌<◌, ◌≤◌, Bool, true, false, List, [], ◌∷◌, ◌++◌, length, Some, None, refl, sym, ap, subst, ◌∙◌, arith, true≢false}
 use Rattle.std.specs.List.{AllByRecursion}
 use Rattle.sv_world.specs.declared.action.Action.{Action}
 use Rattle.sv_world.proofs.Good.{none_of_good}
@@ -23,7 +23,7 @@ use Rattle.sv_script.proofs.Beginnings.{all-passed, all-step, passed-less, step-
 use Rattle.sv_script.proofs.Ends.{passed-none}
 use Rattle.sv_script.proofs.Cuts.{cuts-done}
 use Rattle.sv_player.specs.declared.playing.Player.{Player}
-use Rattle.sv_player.specs.Going.{one_more_if, IsBudget, IsGoing, Did, IsHere, IsReady}
+use Rattle.sv_player.specs.Going.{one_more_if, AreTold, AreSeen, IsBudget, IsGoing, Did, IsHere, IsReady}
 use Rattle.sv_player.proofs.Well.{is_well}
 
 -- ---- The steps that are left
@@ -94,8 +94,8 @@ going_on p q e left g may come d =
       proper = rw (d.who, d.events) (may, g.proper);
       follows = follows_as p.client.who q.client.who p.script.now q.script.now (e ∷ p.client.events) q.client.events left q.left.now d.who d.script d.events d.left_is (p.left.now, (g.follows, come));
       budget = rw (d.who, d.events, d.script, d.left_is) (budget_on p.client.who p.script.now p.client.events p.left.now e left come g.budget);
-      told = rw (d.who, d.events) (d.told g.told);
-      seen = rw (d.who, d.events) (d.seen g.seen);
+      told = subst (λ (w : Bool). AreTold w q.client.who q.client.events q.lines.items) (sym d.watched) (rw (d.who, d.events) (d.told g.told));
+      seen = subst (λ (w : Bool). AreSeen w q.client.who q.client.events q.seen.items) (sym d.watched) (rw (d.who, d.events) (d.seen g.seen));
       count = rw d.events (d.count ∙ ap suc g.count);
     }
 

@@ -87,7 +87,7 @@ ends_by : (s : ℕ) (ending : Ending) (e : Event) (left : List Step) (p q : Play
 ends_by s ending e left p q b end at none may come of same asks gets how did =
     record {
       going = going_on p q e left at.going may come did;
-      onward = onward_by s e p q of did.who did.script did.first did.events;
+      onward = onward_by s e p q of did.who did.script did.first did.watched did.events;
       current = rw did.events (same ∙ at.current);
       how = rw did.events how;
       sent = rw (did.who, did.events, asks) (all_sent p.client.who p.client.events s end b.reader b.outbox at.linked none);

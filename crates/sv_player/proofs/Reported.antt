@@ -1,10 +1,12 @@
 -- What a player reports: its trace, whose first session has another number than its own, and its ends, which were closed.
-use Rattle.std.proofs.Common.{◌≡◌, ◌≢◌, ◌⊎◌, inl, inr, ℕ, ◌+◌, ◌≤◌, true, List, [], ◌∷◌, map, reverse, refl, sym, ap, subst, ◌∙◌, arith, true≢false}
+use Rattle.std.proofs.Common.{◌≡◌, ◌≢◌, ◌⊎◌, inl, inr, ℕ, ◌+◌, ◌≤◌, Bool, true, false, List, [], ◌∷◌, ◌++◌, map, reverse, refl, sym, ap, subst, ◌∙◌, arith, true≢false}
 use Rattle.std.specs.Prelude.{All}
 use Rattle.std.proofs.lemmas.List.{reverse-reverse}
 use mathlib.Core.List.{IsPrefix}
 use Rattle.sv_bytes.specs.Faults.{Rose}
 use Rattle.sv_link.specs.Ends.{Told}
+use Rattle.sv_world.specs.declared.world.ClientId.{ClientId}
+use Rattle.sv_watch.specs.declared.change.Change.{Change}
 use Rattle.sv_watch.specs.Told.{change_line}
 use Rattle.sv_wire.specs.declared.message.Request.{Request}
 use Rattle.sv_wire.specs.declared.message.Reply.{Reply}
@@ -25,8 +27,9 @@ use Rattle.sv_player.specs.declared.outcome.PlayerCause.{PlayerCause}
 use Rattle.sv_player.specs.declared.outcome.PlayerCause.TheVariants as causes
 use Rattle.sv_player.specs.declared.playing.Player.{Player}
 use Rattle.sv_player.specs.Carried.{request_frames, BeginsWithReplies}
+use Rattle.sv_player.specs.Going.{AreTold}
 use Rattle.sv_player.specs.Stops.{IsBad, IsShut}
-use Rattle.sv_player.specs.Played.{replies_of, IsTraceOf, IsDone, IsIdle, IsOpenSession, AreDone, HasOpen, IsCause, IsExact, HasFollowed, has_quit, has_left}
+use Rattle.sv_player.specs.Played.{replies_of, IsTraceOf, IsDone, IsIdle, IsOpenSession, AreDone, HasOpen, IsCause, IsExact, HasFollowed, has_quit, has_left, lines_told}
 use Rattle.sv_player.specs.Ends.{IsUncut, AreKept, IsClosedEnd, IsLeft, IsStuck, IsWhy, HasPlayed}
 use Rattle.sv_player.proofs.Listed.{after, before}
 use Rattle.sv_player.proofs.Linking.{frames_none}
@@ -87,6 +90,11 @@ module _ {E : Type 0} (told : E → Told) (faults : E → ℕ) (calm : E → Typ
   pub closed_over : (was mid now new : List E) → was ≡ mid → now ≡ new → AreKept (λ n. IsClosedEnd told faults calm) was now → AreKept (λ n. IsClosedEnd told faults calm) mid new
   closed_over was mid now new e f h =
       subst (λ (es : List E). AreKept (λ n. IsClosedEnd told faults calm) mid es) f (subst (λ (es : List E). AreKept (λ n. IsClosedEnd told faults calm) es now) e h)
+
+-- Of no objects no change is told.
+nothing_told : (client : ClientId) (t : List Event) → changes_of client [] t ≡ []
+nothing_told client [] = refl
+nothing_told client (e ∷ t) = ap (λ (cs : List Change). cs ++ []) (nothing_told client t)
 
 module _ {E : Type 0} (told : E → Told) (faults : E → ℕ) (calm : E → Type 0) (p0 p : Player) (old mid new : List E) (cause : PlayerCause) (T : Trace)
     (played : HasPlayed told faults calm p0 p old mid cause) (closed : AreKept (λ n. IsClosedEnd told faults calm) mid new)
@@ -268,12 +276,16 @@ module _ {E : Type 0} (told : E → Told) (faults : E → ℕ) (calm : E → Typ
         quit = λ e. to_end (quit_finishes p.client.events (subst (λ (c : PlayerCause). IsWhy told faults calm p.client.who p.client.events p0.first c old mid) e played.why));
       }
 
-  pub lines_are : cause ≢ causes.Memory → p.lines.items ≡ told_lines T
-  lines_are ne =
-      played.lines ne
+  told_or_none : (watched : Bool) → AreTold watched p.client.who p.client.events p.lines.items → p.lines.items ≡ lines_told watched T
+  told_or_none true lines =
+      lines
       ∙ sym (ap (λ (x : Trace). told_lines x) trace
       ∙ ap (λ (es : List Event). map change_line (changes_of p.client.who.client p.client.who.interest es)) (reverse-reverse (map (raised p0.first) p.client.events))
       ∙ ap (map change_line) (up_changes p0.first p.client.who.client p.client.who.interest p.client.events))
+  told_or_none false lines = lines ∙ ap (map change_line) (nothing_told p.client.who.client p.client.events)
+
+  pub lines_are : cause ≢ causes.Memory → p.lines.items ≡ lines_told p0.watched T
+  lines_are ne = told_or_none p0.watched (played.lines ne)
 
   pub trace_is : IsTraceOf p0.client p0.first T
   trace_is =

@@ -1,7 +1,9 @@
 -- What one session more makes of a player and its ends.
-use Rattle.std.proofs.Common.{◌≡◌, ◌≢◌, ◌⊎◌, inl, inr, ℕ, zero, suc, ◌+◌, ◌<◌, ◌≤◌, Bool, true, false, eqb, List, [], ◌∷◌, ◌++◌, length, slice_get, slice_set, Some, refl, sym, ap, subst, ◌∙◌, arith, append-nil}
+use Rattle.std.proofs.Common.{◌≡◌, ◌≢◌, ◌⊎◌, inl, inr, ℕ, zero, suc, ◌+◌, ◌<◌, ◌≤◌, Bool, true, false, eqb, List, [], ◌∷◌, ◌++◌, length, slice_get, slice_set, Option, None, Some, refl, sym, ap, subst, ◌∙◌, arith, append-nil}
 use Rattle.std.specs.Prelude.{All, if◌then◌else◌}
 use Rattle.std.specs.List.{AllByRecursion}
+use Rattle.std.specs.Option.{IfSome}
+use Rattle.sv_world.specs.declared.world.Shape.{Shape}
 use Rattle.std.proofs.lemmas.Bool.{cases_lt}
 use Rattle.std.proofs.lemmas.Bool.Decides.{eqb_tells}
 use Rattle.std.proofs.lemmas.List.Elements.{All-nil}
@@ -26,7 +28,7 @@ use Rattle.sv_player.specs.declared.outcome.PlayerCause.{PlayerCause}
 use Rattle.sv_player.specs.declared.outcome.PlayerCause.TheVariants as causes
 use Rattle.sv_player.specs.declared.playing.Player.{Player}
 use Rattle.sv_player.specs.Carried.{request_frames, BeginsWithReplies}
-use Rattle.sv_player.specs.Going.{one_more_if, IsGoing, IsNew}
+use Rattle.sv_player.specs.Going.{one_more_if, AreTold, IsGoing, IsNew}
 use Rattle.sv_player.specs.Stops.{is_cut}
 use Rattle.sv_player.specs.Sessions.{IsFresh, IsSameEnd, IsReason, HasEnded, Ended, Stopped}
 use Rattle.sv_player.specs.Played.{SentAll, has_quit, has_left}
@@ -152,6 +154,11 @@ quit_last t s h = ap has_quit h.1
 left_last : (t : List Event) (s : ℕ) → HasEnded endings.Left t s → has_left t ≡ true
 left_last t s h = ap has_left h.1
 
+-- A watch for a client's world is one for the same client's.
+pub still_fits : {W : Type 0} {s u : Shape} (shape_of : W → Shape) (watch : Option W) → IfSome watch (λ w. shape_of w ≡ s) → s ≡ u → IfSome watch (λ w. shape_of w ≡ u)
+still_fits shape_of None fits same = tt
+still_fits shape_of (Some w) fits same = fits ∙ same
+
 module _ {E : Type 0} (told : E → Told) (faults : E → ℕ) (calm : E → Type 0) where
   -- ---- Before the first session
 
@@ -174,6 +181,7 @@ module _ {E : Type 0} (told : E → Told) (faults : E → ℕ) (calm : E → Typ
         who = refl;
         script = refl;
         first = refl;
+        watched = refl;
         ends = record { count = refl; each = first_end p ends none fresh };
       }
 
@@ -218,6 +226,7 @@ module _ {E : Type 0} (told : E → Told) (faults : E → ℕ) (calm : E → Typ
           who = d.onward.who ∙ playing.who;
           script = d.onward.script ∙ playing.script;
           first = d.onward.first ∙ playing.first;
+          watched = d.onward.watched ∙ playing.watched;
           ends = kept_set (IsSoFar told faults calm p.client.who p.client.events) (IsSoFar told faults calm q.client.who q.client.events) old now k x y playing.ends at_k
               (λ n a b ne r. record {
                 carried = carried_on (Unit {0}) (Unit {0}) (λ u. u) p.client.who q.client.who p.client.events q.client.events n (told a) (told b) d.onward.who (d.onward.asks n ne) (d.onward.gets n ne) r.carried;
@@ -260,7 +269,7 @@ module _ {E : Type 0} (told : E → Told) (faults : E → ℕ) (calm : E → Typ
           proper = d.going.proper;
           left = q.left.now;
           follows = subst (λ (s : List Step). FollowsTo q.client.who s q.client.events q.left.now) (d.onward.script ∙ playing.script) d.going.follows;
-          lines = λ _. d.going.told;
+          lines = λ _. subst (λ (w : Bool). AreTold w q.client.who q.client.events q.lines.items) (d.onward.watched ∙ playing.watched) d.going.told;
           ends = left_ends cause d.onward.who d.onward.asks d.onward.gets (carried_ended (SentAll cause) k p q (told x) (told y) ending same d) (inl f);
           why = why;
         }
@@ -289,7 +298,7 @@ module _ {E : Type 0} (told : E → Told) (faults : E → ℕ) (calm : E → Typ
           proper = d.proper;
           left = d.left;
           follows = subst (λ (s : List Step). FollowsTo q.client.who s q.client.events d.left) (d.onward.script ∙ playing.script) d.follows;
-          lines = d.told;
+          lines = λ some. subst (λ (w : Bool). AreTold w q.client.who q.client.events q.lines.items) (d.onward.watched ∙ playing.watched) (d.told some);
           ends = left_ends cause d.onward.who d.onward.asks d.onward.gets (carried_stopped k p q (told x) (told y) cause same d)
               (count_at cause (faults x) (faults y) q.client.events k n d.current d.open_is);
           why = why;

@@ -93,7 +93,7 @@ module _ (s : ℕ) (reply : Reply) (p q : Player) (b : Buffers) (end : Told) (at
                           received = subst (λ (bytes : List ℕ). BeginsWithReplies bytes (got (e ∷ t) s) c.reader) (sym (ap (λ (x : Told). x.received) posted.told)) (received c.reader skips);
                         });
                   };
-              onward = onward_by s e p q refl did.who did.script did.first did.events;
+              onward = onward_by s e p q refl did.who did.script did.first did.watched did.events;
               events = did.events;
             };
         left = did.left_is;
@@ -106,7 +106,7 @@ module _ (s : ℕ) (reply : Reply) (p q : Player) (b : Buffers) (end : Told) (at
   pub got_stops : IsFineHere → (new : Told) (reader : List ℕ) (cause : PlayerCause) → (cause ≡ causes.LinkFault) ⊎ (cause ≡ causes.Memory) → Did e p.left.now p q → Skips b.reader reader → PostedPart end b.outbox (request_frames asks) new → is_bye reply ≡ false → Stopped s p q new cause
   got_stops fine new reader cause why did skips posted other =
       record {
-        onward = onward_by s e p q refl did.who did.script did.first did.events;
+        onward = onward_by s e p q refl did.who did.script did.first did.watched did.events;
         proper = (going fine did).proper;
         left = q.left.now;
         follows = (going fine did).follows;
@@ -137,7 +137,7 @@ module _ (s : ℕ) (reply : Reply) (p q : Player) (b : Buffers) (end : Told) (at
       go : (q.client.events ≡ t) ⊎ (q.client.events ≡ e ∷ t) → Stopped s p q end causes.Memory
       go (inl same) =
           record {
-            onward = onward_same s p q part.who part.script part.first same;
+            onward = onward_same s p q part.who part.script part.first part.watched same;
             proper = rw (part.who, same) at.going.proper;
             left = p.left.now;
             follows = follows_as p.client.who q.client.who p.script.now q.script.now t q.client.events p.left.now p.left.now part.who part.script same refl at.going.follows;
@@ -153,7 +153,7 @@ module _ (s : ℕ) (reply : Reply) (p q : Player) (b : Buffers) (end : Told) (at
           }
       go (inr more) =
           record {
-            onward = onward_by s e p q refl part.who part.script part.first more;
+            onward = onward_by s e p q refl part.who part.script part.first part.watched more;
             proper = rw (part.who, more) (record { current = at.current; taken = fine more }, at.going.proper);
             left = p.left.now;
             follows = follows_as p.client.who q.client.who p.script.now q.script.now (e ∷ t) q.client.events p.left.now p.left.now part.who part.script more refl (p.left.now, (at.going.follows, record { joined = here.joined; here = here.here; same = refl }));

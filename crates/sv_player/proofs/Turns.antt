@@ -35,7 +35,7 @@ use Rattle.sv_player.proofs.Going.{follows_as, going_on, does_step, still_within
 -- ---- Onward
 
 pub onward_self : (s : ℕ) (p : Player) → Onward s p p
-onward_self s p = record { who = refl; script = refl; first = refl; asks = λ n ne. refl; gets = λ n ne. refl; cuts = λ n ne. refl }
+onward_self s p = record { who = refl; script = refl; first = refl; watched = refl; asks = λ n ne. refl; gets = λ n ne. refl; cuts = λ n ne. refl }
 
 pub onward_more : (s : ℕ) (p q r : Player) → Onward s p q → Onward s q r → Onward s p r
 onward_more s p q r a b =
@@ -43,30 +43,33 @@ onward_more s p q r a b =
       who = b.who ∙ a.who;
       script = b.script ∙ a.script;
       first = b.first ∙ a.first;
+      watched = b.watched ∙ a.watched;
       asks = λ n ne. subst (λ (w : Identity). asked w.client w.interest r.client.events n ≡ asked w.client w.interest q.client.events n) a.who (b.asks n ne) ∙ a.asks n ne;
       gets = λ n ne. b.gets n ne ∙ a.gets n ne;
       cuts = λ n ne. b.cuts n ne ∙ a.cuts n ne;
     }
 
 -- by one event of the session
-pub onward_by : (s : ℕ) (e : Event) (p q : Player) → IsOf s p.client.events e → q.client.who ≡ p.client.who → q.script.now ≡ p.script.now → q.first ≡ p.first → q.client.events ≡ e ∷ p.client.events → Onward s p q
-onward_by s e p q of who script first es =
+pub onward_by : (s : ℕ) (e : Event) (p q : Player) → IsOf s p.client.events e → q.client.who ≡ p.client.who → q.script.now ≡ p.script.now → q.first ≡ p.first → q.watched ≡ p.watched → q.client.events ≡ e ∷ p.client.events → Onward s p q
+onward_by s e p q of who script first watched es =
     record {
       who = who;
       script = script;
       first = first;
+      watched = watched;
       asks = λ n ne. ap (λ (t : List Event). asked p.client.who.client p.client.who.interest t n) es ∙ asks_other p.client.who.client p.client.who.interest s p.client.events e of n ne;
       gets = λ n ne. ap (λ (t : List Event). got t n) es ∙ gets_other s p.client.events e of n ne;
       cuts = λ n ne. ap (λ (t : List Event). is_cut t n) es ∙ cuts_other s p.client.events e of n ne;
     }
 
 -- by no event
-pub onward_same : (s : ℕ) (p q : Player) → q.client.who ≡ p.client.who → q.script.now ≡ p.script.now → q.first ≡ p.first → q.client.events ≡ p.client.events → Onward s p q
-onward_same s p q who script first es =
+pub onward_same : (s : ℕ) (p q : Player) → q.client.who ≡ p.client.who → q.script.now ≡ p.script.now → q.first ≡ p.first → q.watched ≡ p.watched → q.client.events ≡ p.client.events → Onward s p q
+onward_same s p q who script first watched es =
     record {
       who = who;
       script = script;
       first = first;
+      watched = watched;
       asks = λ n ne. ap (λ (t : List Event). asked p.client.who.client p.client.who.interest t n) es;
       gets = λ n ne. ap (λ (t : List Event). got t n) es;
       cuts = λ n ne. ap (λ (t : List Event). is_cut t n) es;
@@ -111,7 +114,7 @@ module _ (s : ℕ) (e : Event) (left : List Step) (p q : Player) (end : Told) (r
               open_is = rw did.events due.open_is;
               linked = rw (did.who, did.events, same) (linked_posted p.client.who t (e ∷ t) s asks (asks_here p.client.who s t e due.current) end new reader outbox b.outbox due.gets before.linked posted fine);
             };
-        onward = onward_by s e p q due.of_it did.who did.script did.first did.events;
+        onward = onward_by s e p q due.of_it did.who did.script did.first did.watched did.events;
         events = did.events;
       }
 
@@ -120,7 +123,7 @@ module _ (s : ℕ) (e : Event) (left : List Step) (p q : Player) (end : Told) (r
   stops_by new cause why did posted =
       let going = going_on p q e left before.going due.may due.come did in
       record {
-        onward = onward_by s e p q due.of_it did.who did.script did.first did.events;
+        onward = onward_by s e p q due.of_it did.who did.script did.first did.watched did.events;
         proper = going.proper;
         left = q.left.now;
         follows = going.follows;
@@ -145,7 +148,7 @@ module _ (s : ℕ) (e : Event) (left : List Step) (p q : Player) (end : Told) (r
       go : (q.client.events ≡ t) ⊎ (q.client.events ≡ e ∷ t) → Stopped s p q end causes.Memory
       go (inl same) =
           record {
-            onward = onward_same s p q did.who did.script did.first same;
+            onward = onward_same s p q did.who did.script did.first did.watched same;
             proper = rw (did.who, same) before.going.proper;
             left = p.left.now;
             follows = follows_as p.client.who q.client.who p.script.now q.script.now t q.client.events p.left.now p.left.now did.who did.script same refl before.going.follows;
@@ -161,7 +164,7 @@ module _ (s : ℕ) (e : Event) (left : List Step) (p q : Player) (end : Told) (r
           }
       go (inr more) =
           record {
-            onward = onward_by s e p q due.of_it did.who did.script did.first more;
+            onward = onward_by s e p q due.of_it did.who did.script did.first did.watched more;
             proper = rw (did.who, more) (due.may, before.going.proper);
             left = left;
             follows = follows_as p.client.who q.client.who p.script.now q.script.now (e ∷ t) q.client.events left left did.who did.script more refl (p.left.now, (before.going.follows, due.come));
@@ -189,7 +192,7 @@ cause_by answers.Failed result before now is c = subst (λ (r : Result Unit Play
 cause_by answers.Memory result before now is c = subst (λ (r : Result Unit PlayerCause). FaultCause before now r) (sym is) c
 
 pub did_nothing : (e : Event) (p q : Player) → q ≡ p → DidInPart e p q
-did_nothing e p q same = rw same (record { who = refl; script = refl; first = refl; events = inl refl })
+did_nothing e p q same = rw same (record { who = refl; script = refl; first = refl; watched = refl; events = inl refl })
 
 -- ---- Which events are due
 

@@ -84,6 +84,7 @@ module _ {E : Type 0} (told : E → Told) (faults : E → ℕ) (calm : E → Typ
     pub who : new.client.who ≡ old.client.who
     pub script : new.script.now ≡ old.script.now
     pub first : new.first ≡ old.first
+    pub watched : new.watched ≡ old.watched
     pub ends : AreKept (IsSoFar new.client.who new.client.events) before now
 
   -- What the end of session n is when the player stops.
@@ -117,6 +118,6 @@ module _ {E : Type 0} (told : E → Told) (faults : E → ℕ) (calm : E → Typ
     pub proper : AreProper new.client.who 0 new.client.events
     pub left : List Step
     pub follows : FollowsTo new.client.who old.script.now new.client.events left
-    pub lines : cause ≢ causes.Memory → AreTold new.client.who new.client.events new.lines.items
+    pub lines : cause ≢ causes.Memory → AreTold old.watched new.client.who new.client.events new.lines.items
     pub ends : AreKept (IsLeft new.client.who new.client.events cause) before now
     pub why : IsWhy new.client.who new.client.events old.first cause before now

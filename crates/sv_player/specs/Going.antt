@@ -4,6 +4,7 @@ use Rattle.std.specs.Prelude.{◌≡◌, ◌⊎◌, ℕ, suc, ◌+◌, ◌<◌, 
 use Rattle.std.specs.List.{AllByRecursion}
 use Rattle.sv_world.specs.Limits.{most_outstanding, most_pending, most_sessions, most_steps}
 use Rattle.sv_world.specs.Worlds.{IsGoodShape}
+use Rattle.sv_world.specs.declared.world.ObjectId.{ObjectId}
 use Rattle.sv_watch.specs.Told.{change_line}
 use Rattle.sv_wire.specs.declared.message.Request.TheVariants as requests
 use Rattle.sv_client.specs.declared.trace.Event.{Event}
@@ -33,13 +34,18 @@ pub record MayPlay (who : Identity) (script : List Step) : Type 0 where
   pub shape : IsGoodShape who.shape
   pub plan : IsGoodPlan who.shape (scripted_plan who script)
 
--- the lines tell the changes that the events made
-abbrev pub AreTold : Identity → List Event → List (List ℕ) → Type 0
-AreTold who t lines = lines ≡ map change_line (changes_of who.client who.interest t)
+-- the objects whose changes are told: those of the client's interest where somebody watches, and else none
+abbrev pub told_objects : Bool → Identity → List ObjectId
+told_objects true who = who.interest
+told_objects false who = []
 
--- these are its views of the objects of its interest
-abbrev pub AreSeen : Identity → List Event → List Seen → Type 0
-AreSeen who t seen = seen ≡ seen_by t who.interest
+-- the lines tell the changes that the events made, to whoever watches
+abbrev pub AreTold : Bool → Identity → List Event → List (List ℕ) → Type 0
+AreTold watched who t lines = lines ≡ map change_line (changes_of who.client (told_objects watched who) t)
+
+-- these are its views of the objects whose changes are told
+abbrev pub AreSeen : Bool → Identity → List Event → List Seen → Type 0
+AreSeen watched who t seen = seen ≡ seen_by t (told_objects watched who)
 
 abbrev pub one_more_if : Bool → ℕ
 one_more_if true = 0
@@ -58,8 +64,8 @@ pub record IsGoing (p : Player) : Type 0 where
   pub proper : AreProper p.client.who 0 p.client.events
   pub follows : FollowsTo p.client.who p.script.now p.client.events p.left.now
   pub budget : IsBudget p.client.who p.script.now p.client.events p.left.now
-  pub told : AreTold p.client.who p.client.events p.lines.items
-  pub seen : AreSeen p.client.who p.client.events p.seen.items
+  pub told : AreTold p.watched p.client.who p.client.events p.lines.items
+  pub seen : AreSeen p.watched p.client.who p.client.events p.seen.items
   pub count : p.count ≡ length p.client.events
 
 -- The player did nothing yet.
@@ -69,6 +75,7 @@ pub record IsNew (p : Player) : Type 0 where
   pub none : p.client.events ≡ []
   pub left : p.left.now ≡ p.script.now
   pub lines : p.lines.items ≡ []
+  pub seen : p.seen.items ≡ []
   pub count : p.count ≡ 0
 
 -- The player did an event, told it, and has these steps left.
@@ -77,9 +84,10 @@ pub record Did (e : Event) (left : List Step) (old new : Player) : Type 0 where
   pub events : new.client.events ≡ e ∷ old.client.events
   pub script : new.script.now ≡ old.script.now
   pub first : new.first ≡ old.first
+  pub watched : new.watched ≡ old.watched
   pub left_is : new.left.now ≡ left
-  pub told : AreTold old.client.who old.client.events old.lines.items → AreTold old.client.who (e ∷ old.client.events) new.lines.items
-  pub seen : AreSeen old.client.who old.client.events old.seen.items → AreSeen old.client.who (e ∷ old.client.events) new.seen.items
+  pub told : AreTold old.watched old.client.who old.client.events old.lines.items → AreTold old.watched old.client.who (e ∷ old.client.events) new.lines.items
+  pub seen : AreSeen old.watched old.client.who old.client.events old.seen.items → AreSeen old.watched old.client.who (e ∷ old.client.events) new.seen.items
   pub count : new.count ≡ suc old.count
 
 -- Memory ended before the event, or after it.
@@ -87,6 +95,7 @@ pub record DidInPart (e : Event) (old new : Player) : Type 0 where
   pub who : new.client.who ≡ old.client.who
   pub script : new.script.now ≡ old.script.now
   pub first : new.first ≡ old.first
+  pub watched : new.watched ≡ old.watched
   pub events : (new.client.events ≡ old.client.events) ⊎ (new.client.events ≡ e ∷ old.client.events)
 
 -- ---- A player in a session

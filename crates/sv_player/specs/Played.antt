@@ -15,10 +15,16 @@ use Rattle.sv_client.specs.Proper.{Proper, identity_of}
 use Rattle.sv_client.specs.Seen.{ClientView}
 use Rattle.sv_scenario.specs.declared.scenario.Step.{Step}
 use Rattle.sv_script.specs.Following.{Follows, FollowsToEnd}
+use Rattle.sv_script.specs.Telling.{told_lines}
 use Rattle.sv_player.specs.Stops.{IsBad, IsShut, is_cut}
 use Rattle.sv_player.specs.declared.outcome.PlayerCause.{PlayerCause}
 use Rattle.sv_player.specs.declared.outcome.PlayerCause.TheVariants as causes
 use Rattle.sv_player.specs.Carried.{request_frames, BeginsWithReplies}
+
+-- the lines that a player tells: those of its trace where somebody watches, and else none
+abbrev pub lines_told : Bool → Trace → List (List ℕ)
+lines_told true trace = told_lines trace
+lines_told false trace = []
 
 abbrev pub replies_of : Trace → ℕ → List Rattle.sv_wire.specs.declared.message.Reply.Reply
 replies_of trace s = got (reverse trace.events) s

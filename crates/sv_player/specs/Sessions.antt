@@ -39,6 +39,7 @@ pub record Onward (s : ℕ) (old new : Player) : Type 0 where
   pub who : new.client.who ≡ old.client.who
   pub script : new.script.now ≡ old.script.now
   pub first : new.first ≡ old.first
+  pub watched : new.watched ≡ old.watched
   pub asks : (n : ℕ) → n ≢ s → asked old.client.who.client old.client.who.interest new.client.events n ≡ asked old.client.who.client old.client.who.interest old.client.events n
   pub gets : (n : ℕ) → n ≢ s → got new.client.events n ≡ got old.client.events n
   pub cuts : (n : ℕ) → n ≢ s → is_cut new.client.events n ≡ is_cut old.client.events n
@@ -96,7 +97,7 @@ pub record Stopped (s : ℕ) (old new : Player) (end : Told) (cause : PlayerCaus
   pub part : IsLinkedInPart new.client.who new.client.events s end
   pub whole : cause ≢ causes.LinkFault → cause ≢ causes.Memory → end.sent ≡ request_frames (asked new.client.who.client new.client.who.interest new.client.events s)
   pub messages : cause ≢ causes.LinkFault → cause ≢ causes.Memory → All IsRequest (asked new.client.who.client new.client.who.interest new.client.events s)
-  pub told : cause ≢ causes.Memory → AreTold new.client.who new.client.events new.lines.items
+  pub told : cause ≢ causes.Memory → AreTold new.watched new.client.who new.client.events new.lines.items
   pub going_on : cause ≢ causes.Memory → is_finished new.client.events ≡ false
   pub idle : joins new.client.events ≤ s → end.received ≡ []
   pub reason : IsReason new.client.who new.client.events new.first s end cause

@@ -10,4 +10,4 @@ mod session;
 mod telling;
 
 pub use outcome::{PlayerCause, PlayerOut, ReplyFault};
-pub use play::play_client;
+pub use play::{Role, play_client};

@@ -1,5 +1,5 @@
 //! A client that does the steps of its script, and tells what they change of its views.
-ghost use Rattle.std.specs.Prelude.{◌≡◌, ◌≢◌, ℕ, suc, ◌<◌, ◌≤◌, ◌∷◌, ◌++◌, map, option_to_list, All, IfOk, IfErr, OnOk, OnErr, None, []};
+ghost use Rattle.std.specs.Prelude.{◌≡◌, ◌≢◌, ℕ, suc, ◌<◌, ◌≤◌, ◌∷◌, ◌++◌, map, option_to_list, is_some, false, All, IfOk, IfErr, IfSome, OnOk, OnErr, None, []};
 ghost use Rattle.sv_world.specs.Limits.{most_sessions};
 ghost use Rattle.sv_client.specs.declared.trace.Event.TheVariants as events;
 ghost use Rattle.sv_client.specs.declared.fault.TakeFault.TheVariants as faults;
@@ -31,7 +31,9 @@ pub(crate) struct Player<'a> {
     pub(crate) script: &'a [Step],
     /// The steps that are not done yet.
     pub(crate) left: &'a [Step],
-    /// What it sees of the objects of its interest.
+    /// Whether somebody watches. What changes of its views is told then, and else nothing is.
+    pub(crate) watched: bool,
+    /// What it sees of the objects of its interest, where somebody watches.
     pub(crate) seen: Vec<Seen>,
     /// The lines told so far.
     pub(crate) lines: Vec<Line>,
@@ -53,23 +55,27 @@ impl<'a> Player<'a> {
         Ok(requests)
     }
 
-    /// Tells what the event that was done last changed since the objects were seen, and sees them as they are now.
-    fn tell(&mut self, watch: &Watch) -> Result<(), AllocError>
+    /// Tells whoever watches what the event that was done last changed since the objects were seen, and sees them as they are now.
+    fn tell(&mut self, watch: Option<&Watch>) -> Result<(), AllocError>
         requires count { self.old.count ≤ most_events }
-        requires changes { All (IsChangeIn watch.now.shape) (changes_since self.old.client (suc self.old.count) self.old.seen.items) }
-        ensures same { (self.new.client ≡ self.old.client) × (self.new.script.now ≡ self.old.script.now) × (self.new.left.now ≡ self.old.left.now) × (self.new.first ≡ self.old.first) }
+        requires changes { IfSome watch (λ w. All (IsChangeIn w.now.shape) (changes_since self.old.client (suc self.old.count) self.old.seen.items)) }
+        requires unseen { is_some watch ≡ false → self.old.seen.items ≡ [] }
+        ensures same { (self.new.client ≡ self.old.client) × (self.new.script.now ≡ self.old.script.now) × (self.new.left.now ≡ self.old.left.now) × (self.new.first ≡ self.old.first) × (self.new.watched ≡ self.old.watched) }
         ensures count { self.new.count ≡ suc self.old.count }
         ensures told { OnOk result (self.new.lines.items ≡ self.old.lines.items ++ map change_line (changes_since self.old.client (suc self.old.count) self.old.seen.items)) }
         ensures seen { OnOk result (self.new.seen.items ≡ seen_again self.old.client.events self.old.seen.items) }
     {
         self.count += 1;
-        tell_changes(
-            &self.client,
-            self.count,
-            &mut self.seen,
-            watch,
-            &mut self.lines,
-        )
+        match watch {
+            Some(watch) => tell_changes(
+                &self.client,
+                self.count,
+                &mut self.seen,
+                watch,
+                &mut self.lines,
+            ),
+            None => Ok(()),
+        }
     }
 
     /// Makes the action of its next step.
@@ -77,9 +83,10 @@ impl<'a> Player<'a> {
         &mut self,
         action: &Action,
         rest: &'a [Step],
-        watch: &Watch,
+        watch: Option<&Watch>,
     ) -> Result<Request, AllocError>
-        requires watch { watch.now.shape ≡ self.old.client.who.shape }
+        requires watch { IfSome watch (λ w. w.now.shape ≡ self.old.client.who.shape) }
+        requires watched { self.old.watched ≡ is_some watch }
         requires going { IsGoing self.old }
         requires may { MayMake self.old.client.who self.old.client.events action.now }
         requires count { self.old.count ≤ most_events }
@@ -143,8 +150,13 @@ impl<'a> Player<'a> {
     }
 
     /// Takes a reply, and answers the Done of a relay.
-    pub(crate) fn take(&mut self, reply: Reply, watch: &Watch) -> Result<Option<Request>, TakeFault>
-        requires watch { watch.now.shape ≡ self.old.client.who.shape }
+    pub(crate) fn take(
+        &mut self,
+        reply: Reply,
+        watch: Option<&Watch>,
+    ) -> Result<Option<Request>, TakeFault>
+        requires watch { IfSome watch (λ w. w.now.shape ≡ self.old.client.who.shape) }
+        requires watched { self.old.watched ≡ is_some watch }
         requires going { IsGoing self.old }
         requires count { self.old.count ≤ most_events }
         ensures fine { OnOk result (first_fault_of_reply self.old.client.who self.old.client.events reply ≡ None) }

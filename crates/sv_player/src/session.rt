@@ -1,5 +1,5 @@
 //! Playing one session over its end.
-ghost use Rattle.std.specs.Prelude.{◌≡◌, ◌≢◌, ◌<◌, ◌+◌, [], ◌∷◌, Some, None, false, true, length, option_to_list, All, IfOk, IfErr, IfSome, OnOk, OnErr, if◌then◌else◌};
+ghost use Rattle.std.specs.Prelude.{◌≡◌, ◌≢◌, ◌<◌, ◌+◌, [], ◌∷◌, Some, None, false, true, length, option_to_list, is_some, All, IfOk, IfErr, IfSome, OnOk, OnErr, if◌then◌else◌};
 ghost use Rattle.sv_world.specs.Limits.{most_outstanding, most_pending, most_sessions};
 ghost use Rattle.sv_frame.specs.Frames.{first_frame};
 ghost use Rattle.sv_wire.specs.declared.message.Reply as reply_rows;
@@ -64,11 +64,12 @@ impl<'a> Player<'a> {
     fn do_make<E: End>(
         &mut self,
         making: &Making<'a>,
-        watch: &Watch,
+        watch: Option<&Watch>,
         buffers: &mut Buffers,
         end: &mut E,
     ) -> Result<(), PlayerCause>
-        requires watch { watch.now.shape ≡ self.old.client.who.shape }
+        requires watch { IfSome watch (λ w. w.now.shape ≡ self.old.client.who.shape) }
+        requires watched { self.old.watched ≡ is_some watch }
         requires at { IsAt (latest_session self.old.client.events) self.old buffers.old (E.told end.old) }
         requires ready { IsReady self.old.client.who self.old.client.events self.old.left.now }
         requires next { unsynced self.old.client.who self.old.client.events self.old.left.now ≡ steps.Act making.now.action.now ∷ making.now.rest.now }
@@ -208,11 +209,12 @@ impl<'a> Player<'a> {
     /// Takes the reply in the first frame that came. Whether it was the Bye.
     fn take_first<E: End>(
         &mut self,
-        watch: &Watch,
+        watch: Option<&Watch>,
         buffers: &mut Buffers,
         end: &mut E,
     ) -> Result<bool, PlayerCause>
-        requires watch { watch.now.shape ≡ self.old.client.who.shape }
+        requires watch { IfSome watch (λ w. w.now.shape ≡ self.old.client.who.shape) }
+        requires watched { self.old.watched ≡ is_some watch }
         requires at { IsAt (latest_session self.old.client.events) self.old buffers.old (E.told end.old) }
         requires here { IsHere self.old.client.who self.old.client.events self.old.left.now }
         requires came { first_frame buffers.old.reader ≢ None }
@@ -256,11 +258,12 @@ impl<'a> Player<'a> {
     fn take_reply<E: End>(
         &mut self,
         reply: Reply,
-        watch: &Watch,
+        watch: Option<&Watch>,
         buffers: &mut Buffers,
         end: &mut E,
     ) -> Result<bool, PlayerCause>
-        requires watch { watch.now.shape ≡ self.old.client.who.shape }
+        requires watch { IfSome watch (λ w. w.now.shape ≡ self.old.client.who.shape) }
+        requires watched { self.old.watched ≡ is_some watch }
         requires at { IsAt (latest_session self.old.client.events) self.old buffers.old (E.told end.old) }
         requires here { IsHere self.old.client.who self.old.client.events self.old.left.now }
         requires came { first_frame buffers.old.reader ≢ None }
@@ -293,11 +296,12 @@ impl<'a> Player<'a> {
     /// Sends what waits, and takes the reply in the first frame that came. Whether it was the Bye.
     fn take_flushed<E: End>(
         &mut self,
-        watch: &Watch,
+        watch: Option<&Watch>,
         buffers: &mut Buffers,
         end: &mut E,
     ) -> Result<bool, PlayerCause>
-        requires watch { watch.now.shape ≡ self.old.client.who.shape }
+        requires watch { IfSome watch (λ w. w.now.shape ≡ self.old.client.who.shape) }
+        requires watched { self.old.watched ≡ is_some watch }
         requires at { IsAt (latest_session self.old.client.events) self.old buffers.old (E.told end.old) }
         requires here { IsHere self.old.client.who self.old.client.events self.old.left.now }
         requires came { first_frame buffers.old.reader ≢ None }
@@ -329,11 +333,12 @@ impl<'a> Player<'a> {
     /// What waits goes out together with what the replies that came lead to. Before the Bye, and before a fault is told, all is sent.
     fn take_ready<E: End>(
         &mut self,
-        watch: &Watch,
+        watch: Option<&Watch>,
         buffers: &mut Buffers,
         end: &mut E,
     ) -> Result<bool, PlayerCause>
-        requires watch { watch.now.shape ≡ self.old.client.who.shape }
+        requires watch { IfSome watch (λ w. w.now.shape ≡ self.old.client.who.shape) }
+        requires watched { self.old.watched ≡ is_some watch }
         requires at { IsAt (latest_session self.old.client.events) self.old buffers.old (E.told end.old) }
         requires here { IsHere self.old.client.who self.old.client.events self.old.left.now }
         requires came { first_frame buffers.old.reader ≢ None }
@@ -351,11 +356,12 @@ impl<'a> Player<'a> {
     /// Takes the next reply. What waits is sent before it waits for one. Whether it was the Bye.
     fn receive<E: End>(
         &mut self,
-        watch: &Watch,
+        watch: Option<&Watch>,
         buffers: &mut Buffers,
         end: &mut E,
     ) -> Result<bool, PlayerCause>
-        requires watch { watch.now.shape ≡ self.old.client.who.shape }
+        requires watch { IfSome watch (λ w. w.now.shape ≡ self.old.client.who.shape) }
+        requires watched { self.old.watched ≡ is_some watch }
         requires at { IsAt (latest_session self.old.client.events) self.old buffers.old (E.told end.old) }
         requires here { IsHere self.old.client.who self.old.client.events self.old.left.now }
         requires awaited { 0 < length (outstanding self.old.client.who self.old.client.events) }
@@ -384,11 +390,12 @@ impl<'a> Player<'a> {
     /// Its next move. How the session ended, if it did.
     fn go_on<E: End>(
         &mut self,
-        watch: &Watch,
+        watch: Option<&Watch>,
         buffers: &mut Buffers,
         end: &mut E,
     ) -> Result<Option<Ending>, PlayerCause>
-        requires watch { watch.now.shape ≡ self.old.client.who.shape }
+        requires watch { IfSome watch (λ w. w.now.shape ≡ self.old.client.who.shape) }
+        requires watched { self.old.watched ≡ is_some watch }
         requires at { IsAt (latest_session self.old.client.events) self.old buffers.old (E.told end.old) }
         requires ready { IsReady self.old.client.who self.old.client.events self.old.left.now }
         ensures moved { IsMoved result (latest_session self.old.client.events) self.old self.new buffers.new (E.told end.new) }
@@ -421,10 +428,11 @@ impl<'a> Player<'a> {
     /// Plays its first or next session over an end.
     pub(crate) fn play_session<E: End>(
         &mut self,
-        watch: &Watch,
+        watch: Option<&Watch>,
         end: &mut E,
     ) -> Result<Ending, PlayerCause>
-        requires watch { watch.now.shape ≡ self.old.client.who.shape }
+        requires watch { IfSome watch (λ w. w.now.shape ≡ self.old.client.who.shape) }
+        requires watched { self.old.watched ≡ is_some watch }
         requires going { IsGoing self.old }
         requires needed { must_join self.old.client.events ≡ true }
         requires few { joins self.old.client.events < most_sessions }

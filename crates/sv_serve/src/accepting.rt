@@ -1,5 +1,5 @@
 //! Accepting the connections of a scenario's sessions.
-ghost use Rattle.std.specs.Prelude.{◌≡◌, ◌≢◌, ℕ, ◌+◌, ◌<◌, ◌≤◌, ◌++◌, length, Err, IfOk, OnOk, OnErr};
+ghost use Rattle.std.specs.Prelude.{◌≡◌, ◌≢◌, ℕ, ◌+◌, ◌<◌, ◌≤◌, ◌++◌, length, Err, IfOk, OnOk, OnErr, false};
 ghost use Rattle.std.specs.List.{AllByRecursion};
 ghost use Rattle.sv_link.specs.declared.side.Side.TheVariants.{Server};
 ghost use Rattle.sv_scenario.specs.Limits.{IsGoodScenario};
@@ -71,7 +71,7 @@ impl<'a, G: Gate> Host<'a, G> {
         requires keeper { keeper.old ≡ keeper_after 0 self.now.lock.now self.now.scenario.now }
         requires passes { self.now.lock.now.passes ≡ session_count self.now.scenario.now }
         ensures count { IfOk result (λ services. length services.items ≡ session_count self.now.scenario.now) }
-        ensures services { IfOk result (λ services. EachPlace (IsService D.E.told D.E.faults D.E.calm (setting self.now.lock.now self.now.scenario.now (D.made door.old) (D.sure door.old self.now.port))) services.items) }
+        ensures services { IfOk result (λ services. EachPlace (IsService D.E.told D.E.faults D.E.calm (setting self.now.lock.now self.now.scenario.now (D.made door.old) (D.sure door.old self.now.port) false)) services.items) }
         ensures keeper { OnOk result (keeper.new ≡ keeper_after (session_count self.now.scenario.now) self.now.lock.now self.now.scenario.now) }
         ensures made { OnOk result (D.made door.new ≡ D.made door.old + session_count self.now.scenario.now) }
         ensures owed { OnOk result (D.owed door.new ≡ D.owed door.old + session_count self.now.scenario.now) }

@@ -1,6 +1,7 @@
 -- What is proved by hand of `play_client`.
-use Rattle.std.proofs.Common.{◌≡◌, ◌++◌, length, take, drop, sym, ap, ◌∙◌}
+use Rattle.std.proofs.Common.{◌≡◌, ◌++◌, Bool, length, take, drop, sym, ap, ◌∙◌}
 use Rattle.sv_client.proofs.Backwards.{written_back}
+use Rattle.sv_player.specs.Played.{lines_told}
 use Rattle.sv_player.proofs.Reported.{played_over, closed_over, trace_is, followed, ends_done, lines_are, cause_is, exact_is}
 use Rattle.sv_player.proofs.play.play_client.Goals as goal
 
@@ -9,8 +10,8 @@ returns g c =
     let told = g.E.End.told in
     let faults = g.E.End.faults in
     let calm = g.E.End.calm in
-    let n = c.args.ends.len in
-    let items = c.args.ends.items in
+    let n = c.args.role.ends.len in
+    let items = c.args.role.ends.items in
     let mid = c.start-cause.new.ends in
     let new = c.close_all.new.ends in
     let size : n ≡ length items = sym c.deref_mut.ensures.len ∙ ap length c.deref_mut.ensures.value in
@@ -28,7 +29,7 @@ returns g c =
       trace = trace_is told faults calm _ _ _ _ _ _ _ played closed trace proper;
       follows = followed told faults calm _ _ _ _ _ _ _ played closed trace proper;
       ends = ends_done told faults calm _ _ _ _ _ _ _ played closed trace proper;
-      lines = lines_are told faults calm _ _ _ _ _ _ _ played closed trace proper;
+      lines = λ ne. lines_are told faults calm _ _ _ _ _ _ _ played closed trace proper ne ∙ ap (λ (w : Bool). lines_told w c.into_trace.result) c.is_some.ensures;
       cause = cause_is told faults calm _ _ _ _ _ _ _ played closed trace proper;
       exact = exact_is told faults calm _ _ _ _ _ _ _ played closed trace proper;
     }

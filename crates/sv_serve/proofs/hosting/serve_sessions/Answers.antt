@@ -1,5 +1,5 @@
 -- What is left of sessions that were served, from what each of them left.
-use Rattle.std.proofs.Common.{rules, ◌+◌, ◌++◌, [], ◌∷◌, inl, sym, ap, subst, ◌∙◌, arith}
+use Rattle.std.proofs.Common.{rules, ◌+◌, ◌++◌, [], ◌∷◌, inl, sym, ap, subst, ◌∙◌, arith, false}
 use denote.Param.Send.{sendable}
 use Rattle.std.proofs.Crossing.{crosses}
 use Rattle.sv_sequencer.proofs.Sent.{lock-syncs, pass-sends}
@@ -16,25 +16,25 @@ use Rattle.sv_serve.proofs.hosting.serve_sessions.Goals as goal
 
 pub run_all-requires-clause-ready : goal.run_all-requires-clause-ready
 run_all-requires-clause-ready g c κs within =
-    let run = setting c.args.host.now.lock.now c.args.host.now.scenario.now (g.D.Door.made c.args.door.now) (g.D.Door.sure c.args.door.now c.args.host.now.port) in
+    let run = setting c.args.host.now.lock.now c.args.host.now.scenario.now (g.D.Door.made c.args.door.now) (g.D.Door.sure c.args.door.now c.args.host.now.port) false in
     services_ready g.D.E.End.told g.D.E.End.faults g.D.E.End.calm run c.requires.good c.in_ok-services.services.items c.in_ok-services.ensures.services
 
 pub take_in-requires-clause-passes : goal.take_in-requires-clause-passes
 take_in-requires-clause-passes g c κs within =
-    let run = setting c.args.host.now.lock.now c.args.host.now.scenario.now (g.D.Door.made c.args.door.now) (g.D.Door.sure c.args.door.now c.args.host.now.port) in
+    let run = setting c.args.host.now.lock.now c.args.host.now.scenario.now (g.D.Door.made c.args.door.now) (g.D.Door.sure c.args.door.now c.args.host.now.port) false in
     let t = c.in_ok-services.ensures in
     passes g.D.E.End.told g.D.E.End.faults g.D.E.End.calm run c.in_ok-services.services.items c.in-Done.served.items t.count t.services c.in-Done.ensures.kept
 
 pub take_in-requires-clause-own : goal.take_in-requires-clause-own
 take_in-requires-clause-own g c κs within =
-    let run = setting c.args.host.now.lock.now c.args.host.now.scenario.now (g.D.Door.made c.args.door.now) (g.D.Door.sure c.args.door.now c.args.host.now.port) in
+    let run = setting c.args.host.now.lock.now c.args.host.now.scenario.now (g.D.Door.made c.args.door.now) (g.D.Door.sure c.args.door.now c.args.host.now.port) false in
     let t = c.in_ok-services.ensures in
     served_own g.D.E.End.told g.D.E.End.faults g.D.E.End.calm run c.in_ok-services.services.items c.in-Done.served.items t.count t.services c.in-Done.ensures.kept
     (g.D.Door.made c.accept_all.new.door) t.made
 
 pub take_in-requires-clause-owed : goal.take_in-requires-clause-owed
 take_in-requires-clause-owed g c κs within =
-    let run = setting c.args.host.now.lock.now c.args.host.now.scenario.now (g.D.Door.made c.args.door.now) (g.D.Door.sure c.args.door.now c.args.host.now.port) in
+    let run = setting c.args.host.now.lock.now c.args.host.now.scenario.now (g.D.Door.made c.args.door.now) (g.D.Door.sure c.args.door.now c.args.host.now.port) false in
     let t = c.in_ok-services.ensures in
     let enough = all_served g.D.E.End.told g.D.E.End.faults g.D.E.End.calm run c.in_ok-services.services.items c.in-Done.served.items t.count t.services c.in-Done.ensures.kept in
     let owed = t.owed in
@@ -42,7 +42,7 @@ take_in-requires-clause-owed g c κs within =
 
 pub returns-clause-hosted : goal.returns-clause-hosted
 returns-clause-hosted g c =
-    let run = setting c.args.host.now.lock.now c.args.host.now.scenario.now (g.D.Door.made c.args.door.now) (g.D.Door.sure c.args.door.now c.args.host.now.port) in
+    let run = setting c.args.host.now.lock.now c.args.host.now.scenario.now (g.D.Door.made c.args.door.now) (g.D.Door.sure c.args.door.now c.args.host.now.port) false in
     let t = c.in_ok-services.ensures in
     let left = c.take_in.ensures in
     let ys = c.in-Done.served.items in
@@ -57,7 +57,7 @@ returns-clause-hosted g c =
 
 pub returns-clause-keeper : goal.returns-clause-keeper
 returns-clause-keeper g c =
-    let run = setting c.args.host.now.lock.now c.args.host.now.scenario.now (g.D.Door.made c.args.door.now) (g.D.Door.sure c.args.door.now c.args.host.now.port) in
+    let run = setting c.args.host.now.lock.now c.args.host.now.scenario.now (g.D.Door.made c.args.door.now) (g.D.Door.sure c.args.door.now c.args.host.now.port) false in
     let t = c.in_ok-services.ensures in
     let ys = c.in-Done.served.items in
     let k = c.take_in.new.keeper in
@@ -68,7 +68,7 @@ returns-clause-keeper g c =
 
 pub returns-then-take_in-clause-back : goal.returns-then-take_in-clause-back
 returns-then-take_in-clause-back g c =
-    let run = setting c.args.host.now.lock.now c.args.host.now.scenario.now (g.D.Door.made c.args.door.now) (g.D.Door.sure c.args.door.now c.args.host.now.port) in
+    let run = setting c.args.host.now.lock.now c.args.host.now.scenario.now (g.D.Door.made c.args.door.now) (g.D.Door.sure c.args.door.now c.args.host.now.port) false in
     let t = c.in_ok-services.ensures in
     let left = c.take_in.ensures in
     let ys = c.in-Done.served.items in
@@ -83,7 +83,7 @@ returns-then-take_in-clause-back g c =
 
 pub returns-clause-back : goal.returns-clause-back
 returns-clause-back g c =
-    let run = setting c.args.host.now.lock.now c.args.host.now.scenario.now (g.D.Door.made c.args.door.now) (g.D.Door.sure c.args.door.now c.args.host.now.port) in
+    let run = setting c.args.host.now.lock.now c.args.host.now.scenario.now (g.D.Door.made c.args.door.now) (g.D.Door.sure c.args.door.now c.args.host.now.port) false in
     let t = c.in_ok-services.ensures in
     let left = c.take_in.ensures in
     let ys = c.in-Done.served.items in

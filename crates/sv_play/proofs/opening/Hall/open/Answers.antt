@@ -13,7 +13,7 @@ returns-clause-services g c =
 
 pub returns-clause-parts : goal.returns-clause-parts
 returns-clause-parts g c =
-    let run = setting c.args.self.now.lock.now c.args.self.now.scenario.now (g.N.Net.made c.args.net.now) (g.N.Net.calm c.args.net.now) in
+    let run = setting c.args.self.now.lock.now c.args.self.now.scenario.now (g.N.Net.made c.args.net.now) (g.N.Net.calm c.args.net.now) (g.W.Teller.telling c.args.self.now.teller.now).watched in
     let parts = c.in_ok-parts.ensures in
-    subst (λ xs. EachClient (IsPart g.N.E.End.told g.N.E.End.faults g.N.E.End.calm g.W.Teller.shape run) 0 0 c.args.self.now.scenario.now.clients xs) (sym c.in_ok-make_tasks.ensures.parts)
-    (parts_over g.N.E.End.told g.N.E.End.faults g.N.E.End.calm run g.W.Teller.shape c.in_ok-services.ends.items c.in_ok-parts.parts.items parts.ends c.in_ok-services.ensures.clients parts.parts)
+    subst (λ xs. EachClient (IsPart g.N.E.End.told g.N.E.End.faults g.N.E.End.calm g.W.Teller.telling run) 0 0 c.args.self.now.scenario.now.clients xs) (sym c.in_ok-make_tasks.ensures.parts)
+    (parts_over g.N.E.End.told g.N.E.End.faults g.N.E.End.calm run g.W.Teller.telling c.in_ok-services.ends.items c.in_ok-parts.parts.items parts.ends c.in_ok-services.ensures.clients parts.parts)

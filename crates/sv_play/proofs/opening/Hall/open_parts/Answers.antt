@@ -31,10 +31,10 @@ loop-plan-preserved g c =
     let rest = into_iter_items c.take_ends.new.left in
     record {
       parts = λ more others.
-          subst (λ l. EachClient (IsPartOf g.W.Teller.shape shape) 0 0 plans l) (sym (ap (λ l. l ++ more) c.in_ok-push.ensures.items ∙ append_assoc c.loop-plan.parts.items (x ∷ []) more))
+          subst (λ l. EachClient (IsPartOf g.W.Teller.telling shape (g.W.Teller.telling c.args.self.now.teller.now).watched) 0 0 plans l) (sym (ap (λ l. l ++ more) c.in_ok-push.ensures.items ∙ append_assoc c.loop-plan.parts.items (x ∷ []) more))
           (i.parts (x ∷ more)
-          (one_more (IsPartOf g.W.Teller.shape shape) c.loop-plan.number c.loop-plan.first n plans plan x more low is part
-          (subst (λ s. EachClient (IsPartOf g.W.Teller.shape shape) (c.loop-plan.number + 1) (c.loop-plan.first + s) (drop (n + 1) plans) more) count others)));
+          (one_more (IsPartOf g.W.Teller.telling shape (g.W.Teller.telling c.args.self.now.teller.now).watched) c.loop-plan.number c.loop-plan.first n plans plan x more low is part
+          (subst (λ s. EachClient (IsPartOf g.W.Teller.telling shape (g.W.Teller.telling c.args.self.now.teller.now).watched) (c.loop-plan.number + 1) (c.loop-plan.first + s) (drop (n + 1) plans) more) count others)));
       ends =
           ap (λ l. flat_map ends_given l ++ rest) c.in_ok-push.ensures.items
           ∙ (ap (λ l. l ++ rest) (flat_map-append ends_given c.loop-plan.parts.items (x ∷ []))
@@ -53,5 +53,5 @@ returns-clause-parts g c =
     let plans = c.args.self.now.scenario.now.clients in
     let over = subst (λ l. length l ≤ c.loop-plan.plan-index) c.as_slice-plan-items.ensures c.loop-plan-test.false in
     let none = drop_all c.loop-plan.plan-index plans over in
-    subst (λ l. EachClient (IsPartOf {E = g.row.E.Denot} {W = g.row.W.Denot} g.W.Teller.shape shape) 0 0 plans l) (append-nil c.loop-plan.parts.items)
-    (i.parts [] (subst (λ ps. EachClient (IsPartOf {E = g.row.E.Denot} {W = g.row.W.Denot} g.W.Teller.shape shape) c.loop-plan.number c.loop-plan.first ps []) (sym none) tt))
+    subst (λ l. EachClient (IsPartOf {E = g.row.E.Denot} {W = g.row.W.Denot} g.W.Teller.telling shape (g.W.Teller.telling c.args.self.now.teller.now).watched) 0 0 plans l) (append-nil c.loop-plan.parts.items)
+    (i.parts [] (subst (λ ps. EachClient (IsPartOf {E = g.row.E.Denot} {W = g.row.W.Denot} g.W.Teller.telling shape (g.W.Teller.telling c.args.self.now.teller.now).watched) c.loop-plan.number c.loop-plan.first ps []) (sym none) tt))

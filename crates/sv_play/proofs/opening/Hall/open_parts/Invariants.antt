@@ -12,7 +12,7 @@ abbrev pub invariant-loop-plan : goal.invariant-loop-plan
 invariant-loop-plan g l =
     let plans = l.self.scenario.now.clients in
     record {
-      parts : (more : List (Part g.row.E.Denot g.row.W.Denot)) → EachClient (IsPartOf g.W.Teller.shape l.self.scenario.now.world.shape) l.number l.first (drop l.plan-index plans) more → EachClient (IsPartOf g.W.Teller.shape l.self.scenario.now.world.shape) 0 0 plans (l.parts.items ++ more);
+      parts : (more : List (Part g.row.E.Denot g.row.W.Denot)) → EachClient (IsPartOf g.W.Teller.telling l.self.scenario.now.world.shape (g.W.Teller.telling l.self.teller.now).watched) l.number l.first (drop l.plan-index plans) more → EachClient (IsPartOf g.W.Teller.telling l.self.scenario.now.world.shape (g.W.Teller.telling l.self.teller.now).watched) 0 0 plans (l.parts.items ++ more);
       ends : flat_map ends_given l.parts.items ++ into_iter_items l.left ≡ l.fn.ends.items;
       number : l.number ≡ l.plan-index;
       first : l.first + sessions_in (drop l.plan-index plans) ≡ session_count l.self.scenario.now;

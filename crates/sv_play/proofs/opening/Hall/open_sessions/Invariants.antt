@@ -10,7 +10,7 @@ invariant-loop g l =
     let told = g.N.E.End.told in
     let faults = g.N.E.End.faults in
     let calm = g.N.E.End.calm in
-    let run = setting l.self.lock.now l.self.scenario.now (g.N.Net.made l.initial.net) (g.N.Net.calm l.initial.net) in
+    let run = setting l.self.lock.now l.self.scenario.now (g.N.Net.made l.initial.net) (g.N.Net.calm l.initial.net) (g.W.Teller.telling l.self.teller.now).watched in
     record {
       keeper : l.keeper ≡ keeper_after l.counter l.self.lock.now l.self.scenario.now;
       service_count : length l.services.items ≡ l.counter;

@@ -4,7 +4,7 @@ use Rattle.std.specs.List.{flat_map}
 use denote.Param.Send.{sendable}
 use Rattle.std.proofs.Crossing.{crosses}
 use Rattle.sv_sequencer.proofs.Sent.{lock-syncs, pass-sends}
-use Rattle.sv_script.specs.Telling.{told_lines}
+use Rattle.sv_player.specs.Played.{lines_told}
 use Rattle.law_traffic.specs.Runs.{IsGoodRun}
 use Rattle.sv_play.specs.Given.{setting}
 use Rattle.sv_play.specs.Tasks.{serviced_of}
@@ -20,7 +20,7 @@ run_all-requires-clause-ready g c κs within =
     let told = g.N.E.End.told in
     let faults = g.N.E.End.faults in
     let calm = g.N.E.End.calm in
-    let run = setting c.args.self.now.lock.now c.args.self.now.scenario.now (g.N.Net.made c.args.net.now) (g.N.Net.calm c.args.net.now) in
+    let run = setting c.args.self.now.lock.now c.args.self.now.scenario.now (g.N.Net.made c.args.net.now) (g.N.Net.calm c.args.net.now) (g.W.Teller.telling c.args.self.now.teller.now).watched in
     let t = c.in_ok-tasks.ensures in
     let ts = c.in_ok-tasks.tasks.items in
     tasks_ready told faults calm _ run c.requires.good ts t.services t.parts
@@ -30,7 +30,7 @@ gather-requires-clause-passes g c =
     let told = g.N.E.End.told in
     let faults = g.N.E.End.faults in
     let calm = g.N.E.End.calm in
-    let run = setting c.args.self.now.lock.now c.args.self.now.scenario.now (g.N.Net.made c.args.net.now) (g.N.Net.calm c.args.net.now) in
+    let run = setting c.args.self.now.lock.now c.args.self.now.scenario.now (g.N.Net.made c.args.net.now) (g.N.Net.calm c.args.net.now) (g.W.Teller.telling c.args.self.now.teller.now).watched in
     let t = c.in_ok-tasks.ensures in
     let ts = c.in_ok-tasks.tasks.items in
     let os = c.in-Done.outs.items in
@@ -42,7 +42,7 @@ gather-requires-clause-numbers g c =
     let told = g.N.E.End.told in
     let faults = g.N.E.End.faults in
     let calm = g.N.E.End.calm in
-    let run = setting c.args.self.now.lock.now c.args.self.now.scenario.now (g.N.Net.made c.args.net.now) (g.N.Net.calm c.args.net.now) in
+    let run = setting c.args.self.now.lock.now c.args.self.now.scenario.now (g.N.Net.made c.args.net.now) (g.N.Net.calm c.args.net.now) (g.W.Teller.telling c.args.self.now.teller.now).watched in
     let t = c.in_ok-tasks.ensures in
     let ts = c.in_ok-tasks.tasks.items in
     let os = c.in-Done.outs.items in
@@ -54,7 +54,7 @@ gather-requires-clause-room g c =
     let told = g.N.E.End.told in
     let faults = g.N.E.End.faults in
     let calm = g.N.E.End.calm in
-    let run = setting c.args.self.now.lock.now c.args.self.now.scenario.now (g.N.Net.made c.args.net.now) (g.N.Net.calm c.args.net.now) in
+    let run = setting c.args.self.now.lock.now c.args.self.now.scenario.now (g.N.Net.made c.args.net.now) (g.N.Net.calm c.args.net.now) (g.W.Teller.telling c.args.self.now.teller.now).watched in
     let t = c.in_ok-tasks.ensures in
     let ts = c.in_ok-tasks.tasks.items in
     let os = c.in-Done.outs.items in
@@ -68,7 +68,7 @@ settle_all-requires-clause-pairs g c κs within =
     let told = g.N.E.End.told in
     let faults = g.N.E.End.faults in
     let calm = g.N.E.End.calm in
-    let run = setting c.args.self.now.lock.now c.args.self.now.scenario.now (g.N.Net.made c.args.net.now) (g.N.Net.calm c.args.net.now) in
+    let run = setting c.args.self.now.lock.now c.args.self.now.scenario.now (g.N.Net.made c.args.net.now) (g.N.Net.calm c.args.net.now) (g.W.Teller.telling c.args.self.now.teller.now).watched in
     let t = c.in_ok-tasks.ensures in
     let ts = c.in_ok-tasks.tasks.items in
     let os = c.in-Done.outs.items in
@@ -83,7 +83,7 @@ settle_all-requires-clause-owed g c κs within =
     let told = g.N.E.End.told in
     let faults = g.N.E.End.faults in
     let calm = g.N.E.End.calm in
-    let run = setting c.args.self.now.lock.now c.args.self.now.scenario.now (g.N.Net.made c.args.net.now) (g.N.Net.calm c.args.net.now) in
+    let run = setting c.args.self.now.lock.now c.args.self.now.scenario.now (g.N.Net.made c.args.net.now) (g.N.Net.calm c.args.net.now) (g.W.Teller.telling c.args.self.now.teller.now).watched in
     let t = c.in_ok-tasks.ensures in
     let ts = c.in_ok-tasks.tasks.items in
     let os = c.in-Done.outs.items in
@@ -106,7 +106,7 @@ returns-then-not-settle_all-clause-certain g c =
     let told = g.N.E.End.told in
     let faults = g.N.E.End.faults in
     let calm = g.N.E.End.calm in
-    let run = setting c.args.self.now.lock.now c.args.self.now.scenario.now (g.N.Net.made c.args.net.now) (g.N.Net.calm c.args.net.now) in
+    let run = setting c.args.self.now.lock.now c.args.self.now.scenario.now (g.N.Net.made c.args.net.now) (g.N.Net.calm c.args.net.now) (g.W.Teller.telling c.args.self.now.teller.now).watched in
     let t = c.in_ok-tasks.ensures in
     let ts = c.in_ok-tasks.tasks.items in
     let os = c.in-Done.outs.items in
@@ -123,7 +123,7 @@ returns-clause-run g c =
     let told = g.N.E.End.told in
     let faults = g.N.E.End.faults in
     let calm = g.N.E.End.calm in
-    let run = setting c.args.self.now.lock.now c.args.self.now.scenario.now (g.N.Net.made c.args.net.now) (g.N.Net.calm c.args.net.now) in
+    let run = setting c.args.self.now.lock.now c.args.self.now.scenario.now (g.N.Net.made c.args.net.now) (g.N.Net.calm c.args.net.now) (g.W.Teller.telling c.args.self.now.teller.now).watched in
     let t = c.in_ok-tasks.ensures in
     let ts = c.in_ok-tasks.tasks.items in
     let os = c.in-Done.outs.items in
@@ -143,7 +143,7 @@ returns-clause-lines g c =
     let told = g.N.E.End.told in
     let faults = g.N.E.End.faults in
     let calm = g.N.E.End.calm in
-    let run = setting c.args.self.now.lock.now c.args.self.now.scenario.now (g.N.Net.made c.args.net.now) (g.N.Net.calm c.args.net.now) in
+    let run = setting c.args.self.now.lock.now c.args.self.now.scenario.now (g.N.Net.made c.args.net.now) (g.N.Net.calm c.args.net.now) (g.W.Teller.telling c.args.self.now.teller.now).watched in
     let t = c.in_ok-tasks.ensures in
     let ts = c.in_ok-tasks.tasks.items in
     let os = c.in-Done.outs.items in
@@ -153,14 +153,14 @@ returns-clause-lines g c =
     let joined = subst (λ b. JoinedPasses (serviced_of os) b k) t.keeper c.gather.ensures.joined in
     let good : IsGoodRun c.args.self.now.scenario.now = record { good = c.requires.good; opening = c.read_scenario_numbers.ensures.values } in
     c.in_ok-all_lines.ensures
-    ∙ (told_all told faults calm _ run ts os t.count t.services t.parts kept left k c.gather.ensures.gathered joined good c.if-lacked.false (c.settle_all.ensures.agree (search rules)) ∙ ap (flat_map told_lines) (sym c.from_vec.ensures))
+    ∙ (told_all told faults calm _ run ts os t.count t.services t.parts kept left k c.gather.ensures.gathered joined good c.if-lacked.false (c.settle_all.ensures.agree (search rules)) ∙ ap (flat_map (lines_told run.watched)) (sym c.from_vec.ensures))
 
 pub returns-clause-keeper : goal.returns-clause-keeper
 returns-clause-keeper g c =
     let told = g.N.E.End.told in
     let faults = g.N.E.End.faults in
     let calm = g.N.E.End.calm in
-    let run = setting c.args.self.now.lock.now c.args.self.now.scenario.now (g.N.Net.made c.args.net.now) (g.N.Net.calm c.args.net.now) in
+    let run = setting c.args.self.now.lock.now c.args.self.now.scenario.now (g.N.Net.made c.args.net.now) (g.N.Net.calm c.args.net.now) (g.W.Teller.telling c.args.self.now.teller.now).watched in
     let t = c.in_ok-tasks.ensures in
     let ts = c.in_ok-tasks.tasks.items in
     let os = c.in-Done.outs.items in

@@ -3,7 +3,7 @@ use Rattle.std.proofs.Common.{ℕ, get_or, None, Some, sym, ap, subst, ◌∙◌
 use Rattle.std.proofs.lemmas.Option.{slice_get-get_or}
 use Rattle.sv_client.specs.Taking.{Identity}
 use Rattle.sv_player.specs.Ends.{IsPlayedNext}
-use Rattle.sv_player.proofs.Stepping.{begins, plays_on, has_played, fresh_next, not_over}
+use Rattle.sv_player.proofs.Stepping.{begins, plays_on, has_played, fresh_next, not_over, still_fits}
 use Rattle.sv_player.proofs.playing.Player.play.Goals as goal
 
 pub loop-place-init : goal.loop-place-init
@@ -16,7 +16,8 @@ play_next-requires g c =
     let k = c.loop-place.place in
     let x = c.index-ends-place.result in
     record {
-      watch = c.requires.watch ∙ ap (λ (w : Identity). w.shape) (sym inv.who);
+      watch = still_fits (λ w. w.now.shape) c.args.watch c.requires.watch (ap (λ (w : Identity). w.shape) (sym inv.who));
+      watched = inv.watched ∙ c.requires.watched;
       going = inv.going;
       needed = inv.needed;
       few = omega (arith, inv.joined, c.requires.few);

@@ -24,6 +24,13 @@ pub receive-requires-clause-awaited : goal.receive-requires-clause-awaited
 receive-requires-clause-awaited g c =
     joined_awaits c.args.self.now c.begin.new.self c.begin.new.buffers (g.E.End.told c.begin.new.end) c.requires.going c.in_ok-begin.ensures.turn
 
+pub returns-in_err-receive-clause-played : goal.returns-in_err-receive-clause-played
+returns-in_err-receive-clause-played g c =
+    let failed = err_from_is_err_and c.from_residual-in_err-receive.result c.from_residual-in_err-receive.ensures.1 in
+    rw (failed.1, failed.2)
+    (stopped_after (joins c.args.self.now.client.events) c.args.self.now c.begin.new.self c.receive.new.self c.begin.new.buffers (g.E.End.told c.begin.new.end) (g.E.End.told c.receive.new.end)
+    c.in_err-receive.field-0.0 c.in_ok-begin.ensures.turn.at c.in_ok-begin.ensures.turn.onward c.in_err-receive.ensures.received)
+
 pub returns-then-branch-clause-played : goal.returns-then-branch-clause-played
 returns-then-branch-clause-played g c =
     let p = c.args.self.now in

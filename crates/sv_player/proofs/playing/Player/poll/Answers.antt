@@ -6,4 +6,4 @@ use Rattle.sv_player.proofs.playing.Player.poll.Goals as goal
 
 pub returns-clause-ok : goal.returns-clause-ok
 returns-clause-ok c =
-    did_quiet _ _ _ _ (ap (λ (v : ClientView). v.who) c.in-Ok.ensures.ok) (ap (λ (v : ClientView). v.events) c.in-Ok.ensures.ok) refl refl refl refl refl (omega arith) refl
+    did_quiet _ _ _ _ (ap (λ (v : ClientView). v.who) c.in-Ok.ensures.ok) (ap (λ (v : ClientView). v.events) c.in-Ok.ensures.ok) refl refl refl refl refl refl (omega arith) refl

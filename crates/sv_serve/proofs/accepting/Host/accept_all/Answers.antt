@@ -1,5 +1,5 @@
 -- One session more, and giving all back where there is none.
-use Rattle.std.proofs.Common.{rules, ◌≡◌, ◌+◌, length, slice_get, sym, ap, ◌∙◌, arith}
+use Rattle.std.proofs.Common.{rules, ◌≡◌, ◌+◌, length, slice_get, sym, ap, ◌∙◌, arith, false}
 use Rattle.sv_link.specs.declared.side.Side.TheVariants.{Server}
 use Rattle.sv_session.specs.Serving.{SessionPass}
 use Rattle.sv_play.specs.Given.{keeper_after, pass_of, setting, IsService}
@@ -15,7 +15,7 @@ returns-in_err-services-clause-back g c = on_err c.from_residual.result _ (none_
 pub give_back_all-requires-clause-own : goal.give_back_all-requires-clause-own
 give_back_all-requires-clause-own g c κs within =
     let i = c.loop.invariant in
-    let run = setting c.args.self.now.lock.now c.args.self.now.scenario.now (g.D.Door.made c.args.door.now) (g.D.Door.sure c.args.door.now c.args.self.now.port) in
+    let run = setting c.args.self.now.lock.now c.args.self.now.scenario.now (g.D.Door.made c.args.door.now) (g.D.Door.sure c.args.door.now c.args.self.now.port) false in
     let made = i.made in
     let count = i.count in
     let same = c.in-Err.ensures.none.0 in
@@ -30,7 +30,7 @@ loop-preserved g c =
     let lock = c.args.self.now.lock.now in
     let scenario = c.args.self.now.scenario.now in
     let pairs = g.D.Door.made c.args.door.now in
-    let run = setting lock scenario pairs (g.D.Door.sure c.args.door.now c.args.self.now.port) in
+    let run = setting lock scenario pairs (g.D.Door.sure c.args.door.now c.args.self.now.port) false in
     let opened = c.in-Ok.ensures in
     let made : c.loop.keeper.made ≡ c.loop.counter = ap (λ (k : SessionPass). k.made) i.keeper in
     let at = sym i.count in

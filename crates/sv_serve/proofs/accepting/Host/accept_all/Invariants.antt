@@ -1,5 +1,5 @@
 -- The sessions whose connections were accepted so far.
-use Rattle.std.proofs.Common.{◌≡◌, ℕ, ◌+◌, ◌≤◌, length}
+use Rattle.std.proofs.Common.{◌≡◌, ℕ, ◌+◌, ◌≤◌, length, false}
 use Rattle.std.specs.Vec.{vec_capacity}
 use Rattle.sv_system.specs.Places.{EachPlace}
 use Rattle.sv_play.specs.Given.{keeper_after, setting, IsService}
@@ -7,7 +7,7 @@ use Rattle.sv_serve.proofs.accepting.Host.accept_all.Given as goal
 
 abbrev pub invariant-loop : goal.invariant-loop
 invariant-loop g l =
-    let run = setting l.self.lock.now l.self.scenario.now (g.D.Door.made l.initial.door) (g.D.Door.sure l.initial.door l.self.port) in
+    let run = setting l.self.lock.now l.self.scenario.now (g.D.Door.made l.initial.door) (g.D.Door.sure l.initial.door l.self.port) false in
     record {
       keeper : l.keeper ≡ keeper_after l.counter l.self.lock.now l.self.scenario.now;
       count : length l.services.items ≡ l.counter;
