@@ -53,6 +53,9 @@ class Term:
         """The statement that sets this attribute."""
         return ("set", *self.node[1:], node_of(value))
 
+    def __bool__(self):
+        raise TypeError("no truth value: write & | ~ for and, or, not; .min .max; and two comparisons for a < b < c")
+
 
 def obj(number):
     """The object of this number, as in `obj(3).attr(0) + 1`."""
@@ -125,7 +128,6 @@ def run(node, values):
 
 class Action(namedtuple("Action", "reads mask origin body")):
     """Code over the objects that it reads, ascending; the mask and the body name them by slot."""
-
     @property
     def writes(self):
         """The objects at the slots of the mask, ascending."""
@@ -249,12 +251,11 @@ def first_payload(came):
 
 class Client:
     """A client of a world of this shape. `on_change` gets each changed view of its interest: object, old, new."""
-
     def __init__(self, number, objects, attributes, interest=(), on_change=lambda target, old, new: None):
         self.number, self.shape, self.on_change = number, (objects, attributes), on_change
         self.life = self.made = self.told = self.asked = 0
         self.versions, self.pending, self.outstanding = {}, [], deque()
-        self.link, self.came, self.seen = None, bytearray(), dict.fromkeys(interest)
+        self.link, self.came, self.seen = None, bytearray(), dict.fromkeys(sorted(interest))
 
     def view(self, target):
         """What the last pending action that writes it keeps, else the version at the greatest position; or None."""
@@ -342,8 +343,7 @@ class Client:
                     raise Fault("outside")
                 if not select.select([self.link], [], [], seconds)[0]:
                     return None
-                piece = self.link.recv(65_536)
-                if not piece:
+                if not (piece := self.link.recv(65_536)):
                     raise ConnectionError("closed")
                 self.came += piece
             return self.accept(Payload(payload).reply())

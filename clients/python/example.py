@@ -55,5 +55,5 @@ if __name__ == "__main__":
         sys.exit("words: FILE NUMBER PORT [COUNT]")
     try:
         play(sys.argv[1], *map(int, sys.argv[2:]))
-    except (Fault, OSError) as fault:
+    except (Fault, OSError, ValueError, LookupError) as fault:
         sys.exit(f"stopped: {fault}")

@@ -18,6 +18,7 @@ import sys
 
 from actions import GREATEST, LEAST, TextFault, action_text, fault_of_action, read_action
 from journal import History
+import report
 from report import EVENTS, LARGE, NATURAL, SMALL, WHOLE, Entry, Event, Fault, Request, list_of, reply_text, request_text, value_text
 from scenario import NoScenario, read_scenario
 from traces import Walk, replies_by_session
@@ -31,22 +32,15 @@ class Wrong(Exception):
     """The number of the first wrong line."""
 
 
-class Lines:
-    """The lines of a text, each ended by a line feed; what stands behind the last line feed is no line."""
+class Lines(report.Lines):
+    """The lines of some bytes; what stands behind the last line feed is no line."""
 
     def __init__(self, data):
-        self.lines = data.decode("latin-1").split("\n")
-        self.rest = self.lines.pop()
-        self.at = 0
-
-    @property
-    def number(self):
-        """The number of the line at hand."""
-        return self.at + 1
+        super().__init__(data.decode("latin-1"))
 
     def peek(self):
         """The line at hand, or None behind the last one."""
-        return self.lines[self.at] if self.at < len(self.lines) else None
+        return super().peek() if self.has_more() else None
 
     def take(self, line):
         """The line at hand is this one."""

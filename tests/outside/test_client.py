@@ -269,6 +269,18 @@ def test_builder(count):
             count.expect(True, "a wrong node")
         else:
             count.expect(False, "a wrong node is no action")
+    for name, wrong in (
+            ("and", lambda: when(a > 1 and b > 1, [])), ("or", lambda: when(a > 1 or b > 1, [])),
+            ("not", lambda: when(not a > 1, [])), ("a chain", lambda: when(0 < a < 5, [])),
+            ("min", lambda: a.set(min(a, 5))), ("max", lambda: a.set(max(5, b))), ("in", lambda: when(a in (1, 2), [])),
+            ("if", lambda: a.set(1 if a > 1 else 2)), ("if of a number", lambda: a.set(1 if a else 2)),
+            ("no brackets", lambda: when(a == b & a >= 2, []))):
+        try:
+            wrong()
+        except TypeError as fault:
+            count.expect(str(fault).startswith("no truth value: write & | ~ "), f"{name}: {fault}")
+        else:
+            count.expect(False, f"Python's {name} is none of an action")
     one, get = ("number", 1), ("get", 0, 0)
     deep = one
     for _ in range(6):
@@ -544,6 +556,13 @@ def test_dropped(count):
     client.leave()
     judge(count, plan, server, [(client, told)], "reach")
     count.same(views, [(3,), (2, 1, 11, (2,)), (2,)], "reach: the far one is dropped, and the views follow")
+
+
+def test_interest(count):
+    """An interest in any order, with an object twice, joins as the ascending list that a server takes."""
+    client, sink = Client(0, 4, 1, (3, 0, 2, 0)), Sink()
+    client.join(sink)
+    count.same(wire.request_of(sink.frames.next()).interest, (0, 2, 3), "an interest that is not sorted")
 
 
 def test_limits(count):
@@ -895,6 +914,14 @@ def test_programs(count):
         for words in ((), (path, "0"), (path, "0", "no")):
             done = subprocess.run([sys.executable, example, *words], capture_output=True, check=False)
             count.same((done.returncode, done.stdout), (1, b""), f"example {words}")
+        none, text = os.path.join(room, "none.json"), os.path.join(room, "text.json")
+        with open(text, "w", encoding="ascii") as file:
+            file.write("world")
+        for words, line in (((none, "0"), "stopped: [Errno 2] "), ((text, "0"), "stopped: Expecting value"),
+                            ((path, "2"), "stopped: list index out of range")):
+            done = subprocess.run([sys.executable, example, *words, port], capture_output=True, text=True, check=False)
+            count.same((done.returncode, done.stdout), (1, ""), f"example {words}")
+            count.expect(done.stderr.startswith(line) and done.stderr.count("\n") == 1, f"example {words}: {done.stderr}")
     size = sum(1 for _ in open(os.path.join(CLIENTS, "dimboetu.py"), encoding="utf-8"))
     count.expect(size <= 400, f"the client has {size} lines")
     count.expect(dimboetu.__doc__.count("\n") > 3, "the client says how it is used")
@@ -928,8 +955,8 @@ def main():
     signal.alarm(4 * LONGEST)
     count = Compared()
     for test in (test_vectors, test_refused_payloads, test_streams, test_actions, test_builder, test_beside_players,
-                 test_two_at_once, test_rejoin, test_dropped, test_limits, test_random_runs, test_malformed, test_lies, test_late_items,
-                 test_programs, test_mine):
+                 test_two_at_once, test_rejoin, test_dropped, test_interest, test_limits, test_random_runs, test_malformed, test_lies,
+                 test_late_items, test_programs, test_mine):
         test(count)
     return count.close()
 

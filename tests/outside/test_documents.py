@@ -32,11 +32,13 @@ its opening fence:
     why NAME O P    what `why` prints of that replay's report, of object O at position P
     answers         lines `sS REQUEST -> REPLY`: what a server answers that has one object with the
                     one attribute 0, and a bound of 8
-    witness         a line `dimboetu witness NAME.json [K]`, then all that it prints of the scenario NAME
+    witness         a line `./dimboetu witness NAME.json [K]`, then all that it prints of the scenario NAME, each
+                    line behind `# `
     witness-answers WHEN    lines `sS REQUEST -> REPLY`: what such a server answers that tolerates a liar,
                     once clients 0 to 2 `joined` in sessions 0 to 2, or once the action of client 0 that
                     adds 1 to the object was `sent` to all of these
     file PATH       lines that stand together in that file of the repository
+    python          lines of Python, which must be read
     text, sh        not checked
 
 Where no document is named, it looks at more:
@@ -47,8 +49,10 @@ Where no document is named, it looks at more:
   are there; with --program each of them that ends by itself is run, and must end with status 0, a
   replay of an example with the text beside it;
 - each line that the program can print on standard error, each cause of a refused file and each
-  status stands in docs/ERRORS.md, and each refusal of docs/PROTOCOL.md has its row there;
-- `--help` has each command of README.md, each status, and names documents that are there.
+  status stands in docs/ERRORS.md, and each refusal has its row there, under its name in the program;
+- `--help` has each command of README.md, each status, and names documents that are there;
+- each row of the table of common slips in docs/ACTIONS.md is refused for that cause at that piece, and what is
+  written in its place is not.
 
 Every fenced block must have one of these words. Each pair, each line of a `gives` block behind its
 text, and every other block counts as one thing. Closes with `N passed, M failed`.
@@ -411,10 +415,10 @@ class Checker(Count):
 
     def check_witness(self, lines, name):
         """What `witness` prints of a scenario, where a client lies or none."""
-        command = re.fullmatch(r"dimboetu witness ([a-z]+)\.json(?: ([0-9]+))?", lines[0])
+        command = re.fullmatch(r"\./dimboetu witness ([a-z]+)\.json(?: ([0-9]+))?", lines[0])
         liar = None if command[2] is None else int(command[2])
         found = witness_text(witnessed(self.scenarios[command[1]], liar).server)
-        self.expect(found == "".join(line + "\n" for line in lines[1:]), f"{name}: {found}")
+        self.expect(found == "".join(line.removeprefix("# ") + "\n" for line in lines[1:]), f"{name}: {found}")
 
     def check_witness_answers(self, lines, name, when):
         """What a server that tolerates a liar answers to requests."""
@@ -468,6 +472,9 @@ class Checker(Count):
         """One block."""
         word, more = words[0], words[1:]
         if word in ("text", "sh"):
+            return
+        if word == "python":
+            self.expect(compile("\n".join(lines), name, "exec") is not None, name)
             return
         if word in ("action", "canonical", "gives", "answers", "witness") and not more:
             getattr(self, f"check_{word}")(lines, name)
@@ -542,8 +549,24 @@ class Checker(Count):
         for status in re.findall(r"^\| ([0-9]+) \|", text_of("README.md"), re.M):
             self.expect(re.search(rf"^\| {status} \| ", errors, re.M), f"ERRORS.md has no status {status}")
             self.expect(re.search(rf"(^|\s){status} [a-z]", help_text()), f"--help has no status {status}")
-        for code in range(1, 12):
-            self.expect(re.search(rf"^\| {code} \| [a-z]", errors, re.M), f"ERRORS.md has no refusal {code}")
+        refusals = re.findall(r"Refusal::(\w+) => ([0-9]+),", text_of("crates/sv_wire/src/refusal.rt"))
+        self.expect(len(refusals) == 11, f"refusals: {refusals}")
+        for name, code in refusals:
+            words = re.sub(r"\B([A-Z])", r" \1", name).lower()
+            self.expect(f"\n| {code} | {words} |" in errors, f"ERRORS.md has no refusal {code}, {words}")
+
+    def check_slips(self):
+        """The table of common slips: each is a statement of an action, or a whole one."""
+        section = text_of("docs/ACTIONS.md").split("\n## Common slips\n")[1].split("\n## ")[0]
+        rows = re.findall(r"^\| `([^|]*)` \| ([0-9]) at `([^|]*)` \| `([^|`]*)`[^|]*\|$", section, re.M)
+        self.expect(len(rows) == section.count("\n| `") > 0, f"common slips: {rows}")
+        for slip, cause, piece, right in rows:
+            wrong, good = (each if each.startswith("reads ") else f"reads 0 1 writes 0 {{ {each} }}" for each in (slip, right))
+            found = line_of_file(file_with(wrong, 2, 1)).split()
+            behind = wrong[int(found[-2]):]
+            self.expect(found[-3::2] == ["text", cause] and behind.startswith(piece), f"{slip}: {found} at {behind}")
+            found = line_of_file(file_with(good, 2, 1))
+            self.expect(found is None, f"{right}: {found}")
 
     def check_help(self):
         """What `--help` has."""
@@ -575,7 +598,7 @@ class Checker(Count):
             blocks += 1
             try:
                 self.check_block(words or ["none"], text[start:number - 1], name)
-            except (TextFault, ValueError, KeyError, IndexError, TypeError) as fault:
+            except (TextFault, ValueError, KeyError, IndexError, TypeError, SyntaxError) as fault:
                 self.expect(False, f"{name}: {type(fault).__name__}: {fault}")
             words = None
         self.expect(words is None and blocks > 0, f"{path}: fences")
@@ -594,6 +617,7 @@ def main(paths):
         checker.check_commands(program)
         checker.check_faults()
         checker.check_help()
+        checker.check_slips()
     return checker.close()
 
 
