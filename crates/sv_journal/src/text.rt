@@ -1,6 +1,7 @@
 //! Values and objects as they are printed.
 ghost use mathlib.Core.List.{IsPrefix};
-ghost use Rattle.std.specs.Prelude.{◌≡◌, ◌∷◌, ◌++◌, string_bytes, OnOk, OnErr};
+ghost use Rattle.std.specs.Prelude.{◌≡◌, ◌∷◌, ◌++◌, take, string_bytes, OnOk, OnErr};
+ghost use Rattle.std.specs.String.Boundary.{IsSplitPoint};
 ghost use Rattle.std.specs.List.{flat_map};
 ghost use Rattle.std.specs.Fmt.{decimal, signed_decimal};
 ghost use Rattle.sv_world.specs.declared.world.ObjectId.{ObjectId};
@@ -16,13 +17,8 @@ pub fn append_value(value: &[i64], out: &mut String) -> Result<(), AllocError>
     ensures err { OnErr result (string_bytes out.new ≡ string_bytes out.old) }
 {
     let len = out.len();
-    match put_value(value, out) {
-        Ok(()) => Ok(()),
-        Err(e) => {
-            out.truncate(len);
-            Err(e)
-        }
-    }
+    let put = put_value(value, out);
+    whole_or_cut(out, len, put)
 }
 
 /// Appends an object with its value, as `3=(5,-1)`.
@@ -31,13 +27,8 @@ pub fn append_held(object: ObjectId, value: &[i64], out: &mut String) -> Result<
     ensures err { OnErr result (string_bytes out.new ≡ string_bytes out.old) }
 {
     let len = out.len();
-    match put_held(object, value, out) {
-        Ok(()) => Ok(()),
-        Err(e) => {
-            out.truncate(len);
-            Err(e)
-        }
-    }
+    let put = put_held(object, value, out);
+    whole_or_cut(out, len, put)
 }
 
 /// Appends a list of objects, as `[0 2]`.
@@ -46,13 +37,21 @@ pub fn append_objects(objects: &[ObjectId], out: &mut String) -> Result<(), Allo
     ensures err { OnErr result (string_bytes out.new ≡ string_bytes out.old) }
 {
     let len = out.len();
-    match put_objects(objects, out) {
-        Ok(()) => Ok(()),
-        Err(e) => {
-            out.truncate(len);
-            Err(e)
-        }
+    let put = put_objects(objects, out);
+    whole_or_cut(out, len, put)
+}
+
+/// Where memory ran out, cuts `out` to the length that it had before something was put.
+fn whole_or_cut(out: &mut String, len: usize, put: Result<(), AllocError>) -> Result<(), AllocError>
+    requires { IsSplitPoint (string_bytes out.old) len }
+    ensures same { result ≡ put }
+    ensures ok { OnOk result (out.new ≡ out.old) }
+    ensures err { OnErr result (string_bytes out.new ≡ take len (string_bytes out.old)) }
+{
+    if put.is_err() {
+        out.truncate(len);
     }
+    put
 }
 
 // What these put stays where memory runs out: behind the old text stands a part of what was to be put.

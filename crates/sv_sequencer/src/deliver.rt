@@ -255,7 +255,7 @@ impl Core {
         ensures err { OnErr result (Remained self.old self.new h) }
     {
         let Request::Submit { action, .. } = request else {
-            return Err(AllocError);
+            unreachable!();
         };
         self.accept(session, request, id, action)
     }

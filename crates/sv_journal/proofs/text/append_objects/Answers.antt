@@ -2,5 +2,5 @@
 use Rattle.sv_journal.proofs.Fronts.{may_cut}
 use Rattle.sv_journal.proofs.text.append_objects.Goals as goal
 
-pub truncate-requires : goal.truncate-requires
-truncate-requires c = λ _. may_cut c.args.out.now c.put_objects.new.out c.len-len.result c.len-len.ensures c.put_objects.ensures.front
+pub whole_or_cut-requires : goal.whole_or_cut-requires
+whole_or_cut-requires c = may_cut c.args.out.now c.put_objects-put.new.out c.len-len.result c.len-len.ensures c.put_objects-put.ensures.front
