@@ -20,7 +20,7 @@ use sv_journal::{full_replies_stay, legal_relays_name_accepted, print_journal};
 use sv_lines::{
     Asked, LineStop, Unread, asked_at, expect, line_length, number_at, take_line, take_lines,
 };
-use sv_replay::open_sequencer;
+use sv_replay::{are_ended, open_sequencer};
 use sv_scenario::Scenario;
 use sv_sequencer::Sequencer;
 use sv_wire::{Reply, Request};
@@ -183,19 +183,6 @@ impl Served {
         let (_, lines) = printed.as_bytes().split_at(line_length(printed.as_bytes()));
         take_lines(text, lines)
     }
-
-    /// Whether each session had its End.
-    fn are_ended(&self) -> bool
-        ensures all { result ≡ true → (s : ℕ) → s < self.now.sequencer.rules.sessions → is_ended (history self.now.sequencer) s ≡ true }
-        ensures not { result ≡ false → ((s : ℕ) → s < self.now.sequencer.rules.sessions → is_ended (history self.now.sequencer) s ≡ true) → ⊥ }
-    {
-        for session in 0..self.sequencer.sessions() {
-            if !self.sequencer.is_ended(session) {
-                return false;
-            }
-        }
-        true
-    }
 }
 
 /// The server that a text's journal tells of, and what comes after the journal.
@@ -222,7 +209,7 @@ pub(crate) fn take_journal<'a>(
     if !whole {
         return Err(stop);
     }
-    if !served.are_ended() {
+    if !are_ended(&served.sequencer) {
         return Err(stop);
     }
     Ok((served, rest))

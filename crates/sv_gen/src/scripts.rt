@@ -2,7 +2,7 @@
 
 ghost use Rattle.std.specs.Prelude.{◌≡◌, ◌≤◌, ◌<◌, ◌+◌, ◌++◌, IfOk, OnOk};
 ghost use Rattle.sv_world.specs.Limits.{most_clients};
-ghost use Rattle.sv_gen.specs.Generated.{round_steps, script, interest, plan};
+ghost use Rattle.sv_gen.specs.Generated.{round_steps, script, interest, plan, most_load};
 
 use crate::acts::act;
 use std::alloc::{AllocError, Global};
@@ -24,7 +24,7 @@ fn put_round(alloc: Global, half: u16, base: u16, steps: &mut Vec<Step>) -> Resu
 
 fn script(alloc: Global, rounds: u16, half: u16, group: u16) -> Result<Vec<Step>, AllocError>
     requires half { half ≤ 1 }
-    requires groups { group + rounds ≤ 192 }
+    requires groups { group + rounds ≤ most_load }
     ensures { IfOk result (λ v. v.items ≡ script rounds half group) }
 {
     let mut steps = Vec::new(alloc);
@@ -35,7 +35,7 @@ fn script(alloc: Global, rounds: u16, half: u16, group: u16) -> Result<Vec<Step>
 }
 
 fn interest(alloc: Global, group: u16) -> Result<List<ObjectId>, AllocError>
-    requires { group ≤ 192 }
+    requires { group ≤ most_load }
     ensures { IfOk result (λ v. v ≡ interest group) }
 {
     let mut objects = List::new(alloc);

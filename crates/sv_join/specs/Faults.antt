@@ -9,16 +9,16 @@ use Rattle.sv_player.specs.declared.outcome.ReplyFault.{ReplyFault}
 use Rattle.sv_player.specs.declared.outcome.ReplyFault.TheVariants as replies
 
 -- The causes of the message grammar are numbered.
-abbrev pub cause_number : WireCause → ℕ
-cause_number causes.Short = 1
-cause_number causes.Kind = 2
-cause_number causes.Count = 3
-cause_number causes.Order = 4
-cause_number causes.Mask = 5
-cause_number causes.Code = 6
-cause_number causes.Large = 7
-cause_number causes.Deep = 8
-cause_number causes.Rest = 9
+abbrev pub wire_cause_number : WireCause → ℕ
+wire_cause_number causes.Short = 1
+wire_cause_number causes.Kind = 2
+wire_cause_number causes.Count = 3
+wire_cause_number causes.Order = 4
+wire_cause_number causes.Mask = 5
+wire_cause_number causes.Code = 6
+wire_cause_number causes.Large = 7
+wire_cause_number causes.Deep = 8
+wire_cause_number causes.Rest = 9
 
 -- Running out of memory is no fault of a reply.
 abbrev pub take_line : TakeFault → List ℕ
@@ -32,5 +32,5 @@ take_line takes.Memory = codes "memory\n"
 -- The line that tells why a reply was not taken.
 abbrev pub reply_line : ReplyFault → List ℕ
 reply_line (replies.Take fault) = take_line fault
-reply_line (replies.Wire fault) = codes "reply: malformed " ++ decimal fault.at ++ codes " " ++ decimal (cause_number fault.cause) ++ codes "\n"
+reply_line (replies.Wire fault) = codes "reply: malformed " ++ decimal fault.at ++ codes " " ++ decimal (wire_cause_number fault.cause) ++ codes "\n"
 reply_line (replies.TooLong size) = codes "reply: toolong " ++ decimal size ++ codes "\n"

@@ -2,7 +2,7 @@
 ghost use Rattle.std.specs.Prelude.{◌≡◌};
 ghost use Rattle.std.specs.Option.{option_copied};
 ghost use Rattle.sv_bytes.specs.Writing.{GrewOrRose};
-ghost use Rattle.sv_join.specs.Faults.{cause_number, reply_line, take_line};
+ghost use Rattle.sv_join.specs.Faults.{wire_cause_number, reply_line, take_line};
 ghost use Rattle.sv_join.specs.Statuses.{join_line, status_of};
 
 use crate::outcome::JoinFault;
@@ -66,8 +66,8 @@ impl From<JoinFault> for JoinEnding {
 }
 
 /// The number of a cause in the message grammar.
-fn cause_number(cause: WireCause) -> u8
-    ensures { result ≡ cause_number cause }
+fn wire_cause_number(cause: WireCause) -> u8
+    ensures { result ≡ wire_cause_number cause }
 {
     match cause {
         WireCause::Short => 1,
@@ -105,7 +105,7 @@ fn tell_reply<E: Sink>(fault: ReplyFault, err: &mut E)
         ReplyFault::Wire(fault) => tell_numbers(
             b"reply: malformed ",
             fault.at,
-            cause_number(fault.cause) as u32,
+            wire_cause_number(fault.cause) as u32,
             err,
         ),
         ReplyFault::TooLong(size) => tell_number(b"reply: toolong ", size, err),

@@ -1,25 +1,12 @@
 //! The text that tells a client's play.
 ghost use Rattle.std.specs.Prelude.{◌≡◌, string_bytes, IfOk};
 ghost use Rattle.sv_script.specs.Telling.{told_lines};
-ghost use Rattle.sv_join.specs.Texts.{join_text, made_by};
+ghost use Rattle.sv_join.specs.Texts.{join_text};
 
 use crate::outcome::Joined;
 use std::alloc::{AllocError, Global};
-use sv_client::{Trace, is_make};
 use sv_command::append_lines;
-
-/// How many actions a client made.
-fn made_by(trace: &Trace) -> usize
-    ensures { result ≡ made_by trace.now }
-{
-    let mut count = 0;
-    for event in trace.events.as_slice() {
-        if is_make(event) {
-            count += 1;
-        }
-    }
-    count
-}
+use sv_report::made_by;
 
 /// A line for each change of the client's views, and then how many actions it made.
 pub(crate) fn join_text(alloc: Global, joined: &Joined) -> Result<String, AllocError>

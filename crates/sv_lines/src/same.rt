@@ -38,13 +38,7 @@ fn same_objects(objects: &[ObjectId], others: &[ObjectId]) -> bool
     ensures same { result ≡ true → objects.now ≡ others.now }
     ensures all { objects.now ≡ others.now → result ≡ true }
 {
-    let [object, objects @ ..] = objects else {
-        return others.is_empty();
-    };
-    let [other, others @ ..] = others else {
-        return false;
-    };
-    object.0 == other.0 && same_objects(objects, others)
+    objects == others
 }
 
 fn equal_actions(action: &Action, other: &Action) -> bool

@@ -63,7 +63,7 @@ fn trouble_of(fault: ParseFault) -> Trouble
 }
 
 impl<E: End, L: Listener> Pilot<E, L> {
-    /// A pilot of a client over a new end, in no session.
+    /// A pilot of a client over a new end, in no session. It fails with `Memory` alone.
     pub fn new(alloc: Global, client: Client, end: E, listener: L) -> Result<Pilot<E, L>, Trouble>
         requires open { (E.told end).closed ≡ false }
         ensures client { IfOk result (λ pilot. pilot ≡ client) }
@@ -101,6 +101,9 @@ impl<E: End, L: Listener> Pilot<E, L> {
     }
 
     /// Begins a session, and is told the objects of the interest. At most 64 are begun.
+    ///
+    /// `Game` comes where so many were begun, and then nothing was done. Else a session may have been begun: `Link` comes where the connection failed
+    /// or ended, `Reply` where what came is no reply that the client takes, and `Memory`.
     #[tactic(auto, using(crate::proofs::Taking::did_then))]
     pub fn join(&mut self) -> Result<(), Trouble>
         ensures joined { OnOk result (Did (events.Join (joins self.old.events)) self.old self.new × NoReplyIsDue self.new) }
@@ -115,7 +118,7 @@ impl<E: End, L: Listener> Pilot<E, L> {
         self.settle()
     }
 
-    /// Goes on over another new end, in no session yet. The old one is closed.
+    /// Goes on over another new end, in no session yet. The old one is closed. It fails with `Memory` alone.
     pub fn change_end(&mut self, end: E) -> Result<(), Trouble>
         requires open { (E.told end).closed ≡ false }
         ensures same { self.new ≡ self.old }
@@ -127,6 +130,9 @@ impl<E: End, L: Listener> Pilot<E, L> {
 
     /// Makes the action of a text of less than 1,000 bytes. The listener is called at once for what it is expected to change, and again where
     /// that was wrong.
+    ///
+    /// `Game` comes outside a session, for a text that is longer or that of no action, and for an action that the client may not make; then nothing
+    /// was done. Else the action may have been made: `Link`, `Reply` and `Memory` come as at `join`.
     pub fn act(&mut self, text: &str) -> Result<(), Trouble>
         ensures made { OnOk result (MadeAction text.now self.old self.new × NoReplyIsDue self.new) }
         ensures stopped { OnErr result ((self.new ≡ self.old) ⊎ MadeAction text.now self.old self.new) }
@@ -169,6 +175,9 @@ impl<E: End, L: Listener> Pilot<E, L> {
     }
 
     /// Asks for an action that another client abandoned, if one is to be had.
+    ///
+    /// `Game` comes outside a session and where too many replies are due, and then nothing was asked. Else it may have been: `Link`, `Reply` and
+    /// `Memory` come as at `join`.
     #[tactic(auto, using(crate::proofs::Taking::did_then))]
     pub fn poll(&mut self) -> Result<(), Trouble>
         ensures polled { OnOk result (Did events.Poll self.old self.new × NoReplyIsDue self.new) }
@@ -183,6 +192,9 @@ impl<E: End, L: Listener> Pilot<E, L> {
     }
 
     /// Leaves the session.
+    ///
+    /// `Game` comes outside a session and while a reply is due, and then nothing was done. Else the session may have been left: `Link`, `Reply` and
+    /// `Memory` come as at `join`.
     #[tactic(auto, using(crate::proofs::Taking::did_then))]
     pub fn leave(&mut self) -> Result<(), Trouble>
         ensures left { OnOk result (Did events.Leave self.old self.new × NoReplyIsDue self.new) }

@@ -14,4 +14,4 @@ pub use laws::made_actions_fit;
 pub use opening::{open_sequencer, opening_world};
 pub use played::{committed_values, played_of};
 pub use schedule::{ServedRun, run_over, run_schedule};
-pub use server::Server;
+pub use server::{Server, are_ended};

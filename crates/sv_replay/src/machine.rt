@@ -1,7 +1,6 @@
 //! A scenario's run so far, and its turns.
 
-ghost use Rattle.std.specs.Prelude.{◌≡◌, ℕ, ◌<◌, true, length, All, IfOk, OnOk};
-ghost use Rattle.sv_journal.specs.Sessions.{is_ended};
+ghost use Rattle.std.specs.Prelude.{◌≡◌, ◌<◌, true, length, All, IfOk, OnOk};
 ghost use Rattle.sv_scenario.specs.declared.scenario.Turn.TheVariants as turns;
 ghost use Rattle.sv_scenario.specs.Limits.{IsGoodTurn};
 ghost use Rattle.sv_scenario.specs.Sessions.{session_count};
@@ -11,7 +10,7 @@ ghost use Rattle.sv_replay.specs.Machine.{stage_of, run_of, IsMachine, Went, aft
 ghost use Rattle.sv_replay.specs.Work.{Found, work_of_session, work_of_client};
 
 use crate::playing::Playing;
-use crate::server::Server;
+use crate::server::{Server, are_ended};
 use crate::serving::serve;
 use std::alloc::{AllocError, Global};
 use sv_exchange::Exchange;
@@ -170,26 +169,13 @@ impl<'a, S: Server> Machine<'a, S> {
         true
     }
 
-    /// Whether each session had its End.
-    fn are_ended(&self) -> bool
-        requires { IsMachine (stage_of S.view self.now) }
-        ensures { result ≡ true → (s : ℕ) → s < session_count self.now.scenario.now → is_ended (run_of (stage_of S.view self.now)).history s ≡ true }
-    {
-        for session in 0..self.server.sessions() {
-            if !self.server.is_ended(session) {
-                return false;
-            }
-        }
-        true
-    }
-
     /// At most so many rounds, until all is done.
     pub(crate) fn run_rounds(&mut self, rounds: u16) -> Result<(), AllocError>
         requires { IsMachine (stage_of S.view self.old) }
         ensures { OnOk result (Went (λ server scenario run. repeated rounds (round_served server (session_count scenario)) run) (stage_of S.view self.old) (stage_of S.view self.new)) }
     {
         for _ in 0..rounds {
-            if self.are_closed() && self.are_ended() {
+            if self.are_closed() && are_ended(&self.server) {
                 return Ok(());
             }
             self.round()?;

@@ -1,5 +1,5 @@
 //! What a run asks of its server.
-ghost use Rattle.std.specs.Prelude.{◌≡◌, ◌<◌, ℤ, List, [], true, false, slice_index_or, IfOk};
+ghost use Rattle.std.specs.Prelude.{◌≡◌, ℕ, ◌<◌, ℤ, List, [], true, false, slice_index_or, IfOk};
 ghost use Rattle.sv_journal.specs.Sessions.{is_end, is_ended};
 ghost use Rattle.sv_replay.specs.Serving.{Answers, ServerView, sequencer_view, sequencer_world};
 
@@ -35,6 +35,19 @@ pub trait Server: Drop {
     fn committed(&self, object: ObjectId) -> &Value
         requires { object.0 < (view self.now).rules.world.shape.objects }
         ensures { result.now ≡ slice_index_or (world self.now) object.0 [] };
+}
+
+/// Whether each session of a server had its End.
+pub fn are_ended<S: Server>(server: &S) -> bool
+    ensures all { result ≡ true → (s : ℕ) → s < (S.view server.now).rules.sessions → is_ended (S.view server.now).history s ≡ true }
+    ensures not { result ≡ false → ((s : ℕ) → s < (S.view server.now).rules.sessions → is_ended (S.view server.now).history s ≡ true) → ⊥ }
+{
+    for session in 0..server.sessions() {
+        if !server.is_ended(session) {
+            return false;
+        }
+    }
+    true
 }
 
 impl Server for Sequencer {

@@ -3,7 +3,6 @@ pub mod Seeking
 pub mod Doing
 pub mod Telling
 pub mod Standing
-pub mod Counting
 pub mod Dropping
 pub mod Traffic
 pub mod Outcomes

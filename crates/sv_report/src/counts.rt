@@ -6,14 +6,14 @@ ghost use Rattle.sv_client.specs.Traces.{makes};
 ghost use Rattle.sv_client.specs.Proper.{most_made};
 ghost use Rattle.sv_report.specs.Summary.{made_count};
 
-use sv_client::{Event, Trace, is_make};
+use sv_client::{Trace, is_make};
 
-/// How many of the events make an action.
-fn made_by(events: &[Event]) -> usize
-    ensures { result ≡ makes events.now }
+/// How many actions a client made.
+pub fn made_by(trace: &Trace) -> usize
+    ensures { result ≡ makes (reverse trace.now.events) }
 {
     let mut count = 0;
-    for event in events {
+    for event in trace.events.as_slice() {
         if is_make(event) {
             count += 1;
         }
@@ -29,7 +29,7 @@ pub(crate) fn made_in(traces: &[Trace]) -> usize
 {
     let mut count = 0;
     for trace in traces {
-        count += made_by(trace.events.as_slice());
+        count += made_by(trace);
     }
     count
 }

@@ -16,6 +16,7 @@ mod values;
 mod whole;
 
 pub use again::do_again;
+pub use counts::made_by;
 pub use event::{append_after, append_before};
 pub use laws::drops_are_outcomes;
 pub use summary::brief;

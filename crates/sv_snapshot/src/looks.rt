@@ -2,7 +2,7 @@
 ghost use Rattle.std.specs.Prelude.{◌≡◌, ◌∷◌, ◌<◌, ◌==◌, [], true, length, IfOk, OnOk, OnErr, MatchResult};
 ghost use Rattle.sv_client.specs.declared.trace.Event.TheVariants as events;
 ghost use Rattle.sv_client.specs.Traces.{makes};
-ghost use Rattle.sv_client.specs.Proper.{MayMake, in_session};
+ghost use Rattle.sv_client.specs.Proper.{MayMake, in_session, most_made};
 ghost use Rattle.sv_client.specs.Seen.{newly_asked, with_event};
 ghost use Rattle.sv_client.specs.Answers.{IsMakeFault};
 ghost use Rattle.sv_snapshot.specs.Snapshots.{is_look, look_at};
@@ -48,7 +48,7 @@ pub fn look(
     origin: Point,
 ) -> Result<Request, MakeFault>
     requires joined { in_session client.old.events ≡ true }
-    requires few { makes client.old.events < 65536 }
+    requires few { makes client.old.events < most_made }
     ensures request { IfOk result (λ request. request ∷ [] ≡ newly_asked client.old.who client.old.events (events.Make (look_at objects.now origin))) }
     ensures ok { OnOk result (client.new ≡ with_event client.old (events.Make (look_at objects.now origin))) }
     ensures err { OnErr result (client.new ≡ client.old) }

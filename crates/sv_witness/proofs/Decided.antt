@@ -18,7 +18,7 @@ use Rattle.sv_journal.specs.declared.entry.Logged.{Logged}
 use Rattle.sv_journal.specs.declared.entry.Logged.TheVariants as logged
 use Rattle.sv_journal.specs.History.{Authored, is_noted, client_of, is_client, is_submit_of, new_action, Outcome, Accepted, Dropped, actions_of, next_seq, commit_of}
 use Rattle.sv_journal.specs.Sessions.{is_end, is_over, is_live, asked_in, life_of, kept_outcome}
-use Rattle.sv_journal.specs.Answer.{Rules, refused_as, is_over_reach, is_bad_done, is_good_interest, reply_to_checked, reply_to_submit, reply_to_join, reply_to_client, reply_to_member, reply_to_request}
+use Rattle.sv_journal.specs.Answer.{Rules, refused_as, is_over_reach, is_bad_done, is_good_interest, reply_to_checked, reply_to_submit, reply_to_join, reply_to_client, reply_to_member, reply_to_request, reply_to_poll}
 use Rattle.sv_journal.specs.Serving.{is_poll, with_last_rows, noted_after, polled_after}
 use Rattle.sv_sequencer.specs.declared.decision.Decision.{Decision}
 use Rattle.sv_sequencer.specs.declared.decision.Decision.TheVariants as decisions
@@ -30,7 +30,7 @@ use Rattle.sv_witness.specs.Standing.{emptied, answers_poll, first_relay}
 use Rattle.sv_witness.specs.Witnessed.{agreed, witnessed_reply}
 use Rattle.sv_sequencer.proofs.Stepped.{reply-open}
 use Rattle.sv_witness.proofs.Routes.{IsPlain, plain-reply, plain-quiet, noted-may, due-uncommitted}
-use Rattle.sv_witness.proofs.Same.{accepted-agreed}
+use Rattle.sv_witness.proofs.Same.{accepted-agreed, client-agreed}
 use Rattle.sv_witness.proofs.Steps.{poll-none, poll-some}
 use Rattle.sv_witness.proofs.Forms.{polled-quiet}
 
@@ -273,6 +273,44 @@ module _ (r : Rules) (h : List Entry) (s : ℕ) where
 
     pub poll-quiet : is_noted (witnessed_reply r h s q) ≡ false
     poll-quiet = ap is_noted reply ∙ polled-quiet r (agreed_history h) s (due_to h s)
+
+-- ---- A session without a client is refused
+
+abbrev is_refused : Logged → Bool
+is_refused (logged.Refused code detail) = true
+is_refused _ = false
+
+pub record HasClient (h : List Entry) (s : ℕ) : Type 0 where
+  pub client : ℕ
+  pub joined : client_of h s ≡ Some client
+
+module _ (r : Rules) (h : List Entry) (s : ℕ) (q : Request) where
+  abbrev member_reply : Bool → Bool → Option ℕ → Logged
+  member_reply over spent client =
+      with_last_rows agreed r h s q
+      (if over then refused_as refusals.Over 0 else if spent then refused_as refusals.TooManyRequests 0 else reply_to_member r (agreed_history h) s client q)
+
+  member-joined : (over spent : Bool) (client : Option ℕ) → client ≡ client_of h s → is_refused (member_reply over spent client) ≡ false → HasClient h s
+  member-joined true spent client is served = absurd (true≢false served)
+  member-joined false true client is served = absurd (true≢false served)
+  member-joined false false None is served = absurd (true≢false served)
+  member-joined false false (Some k) is served = record { client = k; joined = sym is }
+
+  served-joined : is_refused (member_reply (is_over (agreed_history h) s) (nat_le most_requests (asked_in (agreed_history h) s)) (client_of (agreed_history h) s)) ≡ false → HasClient h s
+  served-joined served =
+      member-joined (is_over (agreed_history h) s) (nat_le most_requests (asked_in (agreed_history h) s)) (client_of (agreed_history h) s) (client-agreed h s) served
+
+polled-served : (r : Rules) (h : List Entry) (s : ℕ) (ps : List ℕ) → is_refused (reply_to_poll r h s ps) ≡ false
+polled-served r h s [] = refl
+polled-served r h s (p ∷ ps) = refl
+
+pub poll-joined : (r : Rules) (h : List Entry) (s : ℕ) (q : Request) → q ≡ requests.Poll → witnessed_reply r h s q ≡ polled_after agreed r h s → HasClient h s
+poll-joined r h s q is reply =
+    served-joined r h s requests.Poll (ap is_refused (ap (witnessed_reply r h s) (sym is) ∙ reply) ∙ polled-served r (agreed_history h) s (due_to h s))
+
+pub done-joined : (r : Rules) (h : List Entry) (s : ℕ) (q : Request) → q ≡ requests.Done (results_in q) → witnessed_reply r h s q ≡ noted_after agreed h s q → HasClient h s
+done-joined r h s q is reply =
+    served-joined r h s (requests.Done (results_in q)) (ap is_refused (ap (witnessed_reply r h s) (sym is) ∙ reply))
 
 -- ---- Requests without results
 

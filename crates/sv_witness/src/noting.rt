@@ -9,6 +9,7 @@ ghost use Rattle.sv_witness.specs.Kept.{kept_at, report_by, counts_as_report, co
 
 use crate::report::{Dispute, Report};
 use crate::reports::Reports;
+use crate::testimony::Asker;
 use std::alloc::{AllocError, Global};
 use std::marker::Brand;
 use std::sync::ledger::{Blank, Ledger};
@@ -17,34 +18,35 @@ use sv_queue::{Queue, Steps};
 use sv_wire::{Done1, copy_result};
 use sv_world::{ClientId, copy_values};
 
-/// What the results of a client are: those that count as its reports, of these the ones that bring agreement, and the disputes that they make.
+/// What results of a session's client are: those that count as its reports, of these the ones that bring agreement, and the disputes that they make.
 #[derive(Drop)]
 pub struct Noting {
-    pub client: u16,
+    pub asker: Asker,
     pub counted: Vec<Done1>,
     pub agreed: Vec<Done1>,
     pub disputes: Vec<Dispute>,
 }
 
-/// What the results of a client are to a queue and the reports that are kept. It changes neither.
+/// What results of a session's client are to a queue and the reports that are kept. It changes neither.
 pub fn noting_of(
     alloc: Global,
     queue: &Queue,
     reports: &Reports,
-    client: u16,
+    asker: Asker,
     results: &[Done1],
 ) -> Result<Noting, AllocError>
     requires { All (λ (d : Done1). d.pos ≤ last_position queue.now) results.now }
-    ensures client { IfOk result (λ noting. noting.client ≡ client) }
-    ensures counted { IfOk result (λ noting. noting.counted.items ≡ counted_results queue.now.commit reports.now client results.now) }
-    ensures agreed { IfOk result (λ noting. noting.agreed.items ≡ agreed_results queue.now reports.now (counted_results queue.now.commit reports.now client results.now)) }
-    ensures disputes { IfOk result (λ noting. noting.disputes.items ≡ new_disputes reports.now client (counted_results queue.now.commit reports.now client results.now)) }
+    ensures asker { IfOk result (λ noting. noting.asker ≡ asker) }
+    ensures counted { IfOk result (λ noting. noting.counted.items ≡ counted_results queue.now.commit reports.now asker.client results.now) }
+    ensures agreed { IfOk result (λ noting. noting.agreed.items ≡ agreed_results queue.now reports.now (counted_results queue.now.commit reports.now asker.client results.now)) }
+    ensures disputes { IfOk result (λ noting. noting.disputes.items ≡ new_disputes reports.now asker.client (counted_results queue.now.commit reports.now asker.client results.now)) }
 {
+    let client = asker.client;
     let counted = copy_counted(alloc, reports, queue.commit(), client, results)?;
     let agreed = copy_agreed(alloc, queue, reports, counted.as_slice())?;
     let disputes = disputes_with(alloc, reports, client, counted.as_slice())?;
     Ok(Noting {
-        client,
+        asker,
         counted,
         agreed,
         disputes,

@@ -63,12 +63,12 @@ fn due_decision(core: &Core, reports: &Reports, asker: Asker) -> Decision
     }
 }
 
-/// What results of a client are, with room for all that they change. What is kept stays.
+/// What results of a session's client are, with room for all that they change. What is kept stays.
 fn note_ahead(
     alloc: Global,
     queue: &Queue,
     testimony: &mut Testimony,
-    client: u16,
+    asker: Asker,
     results: &[Done1],
 ) -> Result<Noting, AllocError>
     requires { All (λ (d : Done1). d.pos ≤ last_position queue.now) results.now }
@@ -76,12 +76,12 @@ fn note_ahead(
     ensures rows { IfOk result (λ noting. AllByRecursion (λ (d : Done1). HasRoomFor testimony.new.reports d.pos) noting.counted.items) }
     ensures disputes { testimony.new.disputes.items ≡ testimony.old.disputes.items }
     ensures places { IfOk result (λ noting. vec_len testimony.new.disputes + length noting.disputes.items ≤ vec_capacity testimony.new.disputes) }
-    ensures client { IfOk result (λ noting. noting.client ≡ client) }
-    ensures counted { IfOk result (λ noting. noting.counted.items ≡ counted_results queue.now.commit testimony.old.reports client results.now) }
-    ensures agreed { IfOk result (λ noting. noting.agreed.items ≡ agreed_results queue.now testimony.old.reports (counted_results queue.now.commit testimony.old.reports client results.now)) }
-    ensures made { IfOk result (λ noting. noting.disputes.items ≡ new_disputes testimony.old.reports client (counted_results queue.now.commit testimony.old.reports client results.now)) }
+    ensures asker { IfOk result (λ noting. noting.asker ≡ asker) }
+    ensures counted { IfOk result (λ noting. noting.counted.items ≡ counted_results queue.now.commit testimony.old.reports asker.client results.now) }
+    ensures agreed { IfOk result (λ noting. noting.agreed.items ≡ agreed_results queue.now testimony.old.reports (counted_results queue.now.commit testimony.old.reports asker.client results.now)) }
+    ensures made { IfOk result (λ noting. noting.disputes.items ≡ new_disputes testimony.old.reports asker.client (counted_results queue.now.commit testimony.old.reports asker.client results.now)) }
 {
-    let noting = noting_of(alloc, queue, &testimony.reports, client, results)?;
+    let noting = noting_of(alloc, queue, &testimony.reports, asker, results)?;
     reserve_all(&mut testimony.reports, noting.counted.as_slice())?;
     testimony.disputes.reserve(noting.disputes.len())?;
     Ok(noting)
@@ -122,28 +122,27 @@ fn install(
     core: &mut Core,
     journal: &mut Journal,
     testimony: &mut Testimony,
-    session: u16,
     request: &Request,
     noting: Noting,
 ) -> Result<Reply, AllocError>
     ghost h: { List Entry }
     requires standing { Standing core.old testimony.old.reports testimony.old.disputes.items h }
-    requires session { session < (core_rules core.old).sessions }
-    requires joined { client_of h session ≡ Some noting.client }
+    requires session { noting.asker.session < (core_rules core.old).sessions }
+    requires joined { client_of h noting.asker.session ≡ Some noting.asker.client }
     requires done { request.now ≡ requests.Done (results_in request.now) }
-    requires good { is_bad_done (core_rules core.old) (agreed_history h) session (results_in request.now) ≡ false }
-    requires reply { witnessed_reply (core_rules core.old) h session request.now ≡ noted_after agreed h session request.now }
-    requires counted { noting.counted.items ≡ counted_results (queue_of core.old).commit testimony.old.reports noting.client (results_in request.now) }
+    requires good { is_bad_done (core_rules core.old) (agreed_history h) noting.asker.session (results_in request.now) ≡ false }
+    requires reply { witnessed_reply (core_rules core.old) h noting.asker.session request.now ≡ noted_after agreed h noting.asker.session request.now }
+    requires counted { noting.counted.items ≡ counted_results (queue_of core.old).commit testimony.old.reports noting.asker.client (results_in request.now) }
     requires brought { noting.agreed.items ≡ agreed_results (queue_of core.old) testimony.old.reports noting.counted.items }
-    requires made { noting.disputes.items ≡ new_disputes testimony.old.reports noting.client noting.counted.items }
+    requires made { noting.disputes.items ≡ new_disputes testimony.old.reports noting.asker.client noting.counted.items }
     requires rows { AllByRecursion (λ (d : Done1). HasRoomFor testimony.old.reports d.pos) noting.counted.items }
     requires places { vec_len testimony.old.disputes + length noting.disputes.items ≤ vec_capacity testimony.old.disputes }
-    ensures ok { IfOk result (Replied core.old core.new journal.old journal.new testimony.new.reports testimony.new.disputes.items h session request.now) }
+    ensures ok { IfOk result (Replied core.old core.new journal.old journal.new testimony.new.reports testimony.new.disputes.items h noting.asker.session request.now) }
     ensures err { OnErr result (NothingEntered core.old core.new journal.old journal.new (agreed_history h)) }
     ensures testimony { OnErr result (testimony.new ≡ testimony.old) }
 {
     let Noting {
-        client,
+        asker,
         counted,
         agreed,
         disputes: made,
@@ -153,14 +152,14 @@ fn install(
     };
     let before = core.commit();
     let noted = Decided {
-        session,
+        session: asker.session,
         decision: Decision::Note,
     };
     let entered = enter_reply(core, journal, noted, request, &done);
     drop(done);
     match entered {
         Ok(reply) => {
-            add_all(&mut testimony.reports, client, counted);
+            add_all(&mut testimony.reports, asker.client, counted);
             enter_all(&mut testimony.disputes, made);
             testimony.reports.forget(before, core.commit());
             Ok(reply)
@@ -273,7 +272,7 @@ impl Witness {
         ensures err { OnErr result (Stayed self.old self.new) }
     {
         let Some(client) = self.core.client(session) else {
-            return Err(AllocError);
+            unreachable!();
         };
         let asker = Asker { client, session };
         let decision = due_decision(&self.core, &self.testimony.reports, asker);
@@ -293,20 +292,20 @@ impl Witness {
         ensures err { OnErr result (Stayed self.old self.new) }
     {
         let Some(client) = self.core.client(session) else {
-            return Err(AllocError);
+            unreachable!();
         };
+        let asker = Asker { client, session };
         let noting = note_ahead(
             self.alloc,
             self.core.queue(),
             &mut self.testimony,
-            client,
+            asker,
             reported_by(request),
         )?;
         install(
             &mut self.core,
             &mut self.journal,
             &mut self.testimony,
-            session,
             request,
             noting,
         )

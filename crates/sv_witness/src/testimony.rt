@@ -9,7 +9,7 @@ pub struct Testimony {
     pub disputes: Vec<Dispute>,
 }
 
-/// A session that may be sent a position to report, and its client.
+/// A session that asks, and its client.
 #[derive(Clone, Copy, Drop)]
 pub struct Asker {
     pub client: u16,

@@ -32,18 +32,26 @@ fn told(alloc: Global, scenario: &str, object: u16, pos: u32) -> Result<Option<W
     }
 }
 
-/// Whether the run tells just these positions and this value.
+/// What is expected of an object at a position: the positions that its value comes from, and the value.
+#[derive(Clone, Copy, Drop)]
+pub struct Expected<'a> {
+    pub positions: &'a [u32],
+    pub value: &'a [i64],
+}
+
+/// Whether the run tells just what is expected.
 pub fn tells(
     alloc: Global,
     scenario: &str,
     object: u16,
     pos: u32,
-    positions: &[u32],
-    value: &[i64],
+    expected: Expected<'_>,
 ) -> Result<bool, AllocError> {
     let told = told(alloc, scenario, object, pos)?;
     Ok(match &told {
-        Some(why) => why.positions.as_slice() == positions && why.value.as_slice() == value,
+        Some(why) => {
+            why.positions.as_slice() == expected.positions && why.value.as_slice() == expected.value
+        }
         None => false,
     })
 }

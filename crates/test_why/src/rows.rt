@@ -1,5 +1,5 @@
 //! The positions and the value of an object at a position, worked out by hand from the scenario.
-use crate::calls::tells;
+use crate::calls::{Expected, tells};
 use std::test::Fail;
 use test_calls::examples::{CONFLICT, LOOKS};
 
@@ -42,7 +42,8 @@ const ROWS: [(&str, u16, u32, &[u32], &[i64]); 21] = [
 #[test]
 fn values_come_from_these_positions(rt: HostRuntime) -> Result<(), Fail> {
     for (scenario, object, pos, positions, value) in ROWS {
-        let is_so = tells(rt.alloc(), scenario, object, pos, positions, value)?;
+        let expected = Expected { positions, value };
+        let is_so = tells(rt.alloc(), scenario, object, pos, expected)?;
         assert!(&rt; is_so, "object {object} at {pos}");
     }
     Ok(())

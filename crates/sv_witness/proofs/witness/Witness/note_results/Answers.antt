@@ -4,18 +4,21 @@ use Rattle.std.proofs.lemmas.Result.{IfOk-weaker, on_err_weaker}
 use Rattle.sv_wire.specs.declared.message.Done1.{Done1}
 use Rattle.sv_queue.specs.Queue.{QueueView, last_position}
 use Rattle.sv_journal.specs.declared.entry.Entry.{Entry}
+use Rattle.sv_journal.specs.History.{client_of}
 use Rattle.sv_journal.specs.Answer.{is_bad_done}
 use Rattle.sv_journal.specs.Serving.{noted_after}
 use Rattle.sv_sequencer.specs.Cores.{core_rules, queue_of}
 use Rattle.sv_sequencer.specs.Decisions.{results_in}
 use Rattle.sv_sequencer.specs.Entering.{NothingEntered}
 use Rattle.sv_sequencer.specs.Step.{SequencerView, history}
+use Rattle.sv_witness.specs.declared.testimony.Asker.{Asker}
 use Rattle.sv_witness.specs.declared.testimony.Testimony.{Testimony}
 use Rattle.sv_witness.specs.Reports.{agreed_history}
 use Rattle.sv_witness.specs.declared.report.Dispute.{Dispute}
 use Rattle.sv_witness.specs.Kept.{kept_at, counted_results, agreed_results, new_disputes, KeepsBeside}
 use Rattle.sv_witness.specs.Standing.{Replied}
 use Rattle.sv_witness.specs.Witnessed.{agreed, witnessed_reply}
+use Rattle.sv_witness.proofs.Decided.{done-joined}
 use Rattle.sv_witness.proofs.KeptRows.{same-counted, same-agreed, same-disputes}
 use Rattle.sv_witness.proofs.Same.{client-agreed}
 use Rattle.sv_witness.proofs.Stepped.{stands-for, same-stands, after-reply, witnessed}
@@ -24,6 +27,15 @@ use Rattle.sv_witness.proofs.witness.Witness.note_results.Goals as goal
 
 pub client-requires : goal.client-requires
 client-requires g c = subst (λ (v : SequencerView). c.args.session < v.rules.sessions) (sym c.self.view_is) c.requires.1.0
+
+-- a session without a client would have been refused
+pub unreachable-requires : goal.unreachable-requires
+unreachable-requires g c =
+    let h = g.h in
+    let s = c.args.session in
+    let is = stands-for c.self.inside c.args.self.now h c.self.invariant c.self.view_is c.requires.0 in
+    let has = done-joined c.args.self.now.rules h s c.args.request.now c.requires.1.1.0 c.requires.1.1.1.1 in
+    c.in_default.not-Some has.client (c.client.ensures (agreed_history h) is.keeps ∙ client-agreed h s ∙ has.joined)
 
 pub note_ahead-requires : goal.note_ahead-requires
 note_ahead-requires g c =
@@ -57,7 +69,8 @@ install-requires g c =
     let low = subst (λ (w : SequencerView). s < w.rules.sessions) (sym c.self.view_is) c.requires.1.0 in
     let stands = subst (λ (ds : List Dispute). KeepsBeside (core_rules a.core) new ds h) (sym c.note_ahead.ensures.disputes)
     (same-stands (core_rules a.core) rows new a.testimony.disputes.items h same is.stands) in
-    let named = sym said.client in
+    let named = sym (ap (λ (asker : Asker). asker.client) said.asker) in
+    let at = sym (ap (λ (asker : Asker). asker.session) said.asker) in
     let counted = said.counted ∙ ap (λ (w : QueueView). counted_results w.commit rows k c.reported_by.result.now) c.queue.ensures ∙ ap (counted_results v.commit rows k) c.reported_by.ensures
     ∙ sym (same-counted rows new same v.commit k (results_in q)) ∙ ap (λ n. counted_results v.commit new n (results_in q)) named in
     let brought = said.agreed ∙ ap (agreed_results c.queue.result.now rows) (sym said.counted) ∙ ap (λ (w : QueueView). agreed_results w rows noting.counted.items) c.queue.ensures
@@ -65,7 +78,22 @@ install-requires g c =
     let made = said.made ∙ ap (new_disputes rows k) (sym said.counted) ∙ sym (same-disputes rows new same k noting.counted.items)
     ∙ ap (λ n. new_disputes new n noting.counted.items) named in (
       record { keeps = is.keeps; stands = stands },
-      (low, (joined ∙ ap Some named, (c.requires.1.1.0, (good, (reply, (counted, (brought, (made, (said.rows, said.places))))))))),
+      (
+        subst (λ n. n < (core_rules a.core).sessions) at low,
+        (
+          ap (client_of h) (sym at) ∙ joined ∙ ap Some named,
+          (
+            c.requires.1.1.0,
+            (
+              subst (λ n. is_bad_done (core_rules a.core) (agreed_history h) n (results_in q) ≡ false) at good,
+              (
+                subst (λ n. witnessed_reply (core_rules a.core) h n q ≡ noted_after agreed h n q) at reply,
+                (counted, (brought, (made, (said.rows, said.places)))),
+              ),
+            ),
+          ),
+        ),
+      ),
     )
 
 pub invariant_of-self-2 : goal.invariant_of-self-2
@@ -78,8 +106,10 @@ invariant_of-self-2 g c =
     let journal = c.install.new.journal in
     let kept = c.install.new.testimony in
     let at = c.requires.0 ∙ sym (ap history c.self.view_is) in
+    let asked = ap (λ (asker : Asker). asker.session) c.in_ok-noting.ensures.asker in
     after-reply a (record a { core = core; journal = journal; testimony = kept }) s q result c.self.invariant
-    (subst (λ (h : List Entry). IfOk result (Replied a.core core a.journal journal kept.reports kept.disputes.items h s q)) at c.install.ensures.ok)
+    (subst (λ (h : List Entry). IfOk result (Replied a.core core a.journal journal kept.reports kept.disputes.items h s q)) at
+    (subst (λ n. IfOk result (Replied a.core core a.journal journal kept.reports kept.disputes.items g.h n q)) asked c.install.ensures.ok))
     (subst (λ (h : List Entry). OnErr result (NothingEntered a.core core a.journal journal (agreed_history h))) at c.install.ensures.err)
     (on_err_weaker result (λ same p. ap (λ (t : Testimony). kept_at t.reports p) same ∙ c.note_ahead.ensures.reports p) c.install.ensures.testimony)
     (on_err_weaker result (λ same. ap (λ (t : Testimony). t.disputes.items) same ∙ c.note_ahead.ensures.disputes) c.install.ensures.testimony)
@@ -93,5 +123,7 @@ returns-clause-ok g c =
     let journal = c.install.new.journal in
     let kept = c.install.new.testimony in
     let at = c.requires.0 ∙ sym (ap history c.self.view_is) in
+    let asked = ap (λ (asker : Asker). asker.session) c.in_ok-noting.ensures.asker in
     IfOk-weaker c.install.result _ _ (witnessed a (record a { core = core; journal = journal; testimony = kept }) s q c.args.self.now c.self.view_is)
-    (subst (λ (h : List Entry). IfOk c.install.result (Replied a.core core a.journal journal kept.reports kept.disputes.items h s q)) at c.install.ensures.ok)
+    (subst (λ (h : List Entry). IfOk c.install.result (Replied a.core core a.journal journal kept.reports kept.disputes.items h s q)) at
+    (subst (λ n. IfOk c.install.result (Replied a.core core a.journal journal kept.reports kept.disputes.items g.h n q)) asked c.install.ensures.ok))

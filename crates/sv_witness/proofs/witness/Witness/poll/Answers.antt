@@ -5,7 +5,7 @@ use Rattle.sv_sequencer.specs.Cores.{core_rules, queue_of}
 use Rattle.sv_sequencer.specs.Step.{SequencerView}
 use Rattle.sv_witness.specs.Reports.{agreed_history, due_to}
 use Rattle.sv_witness.specs.Standing.{first_relay}
-use Rattle.sv_witness.proofs.Decided.{poll-holds, poll-told, poll-quiet}
+use Rattle.sv_witness.proofs.Decided.{poll-joined, poll-holds, poll-told, poll-quiet}
 use Rattle.sv_witness.proofs.DuePositions.{due-are}
 use Rattle.sv_witness.proofs.Same.{client-agreed}
 use Rattle.sv_witness.proofs.Stepped.{stands-for}
@@ -13,6 +13,15 @@ use Rattle.sv_witness.proofs.witness.Witness.poll.Goals as goal
 
 pub client-requires : goal.client-requires
 client-requires g c = subst (λ (v : SequencerView). c.args.session < v.rules.sessions) (sym c.self.view_is) c.requires.1.0
+
+-- a session without a client would have been refused
+pub unreachable-requires : goal.unreachable-requires
+unreachable-requires g c =
+    let h = g.h in
+    let s = c.args.session in
+    let is = stands-for c.self.inside c.args.self.now h c.self.invariant c.self.view_is c.requires.0 in
+    let has = poll-joined c.args.self.now.rules h s c.args.request.now c.requires.1.1.0 c.requires.1.1.1 in
+    c.in_default.not-Some has.client (c.client.ensures (agreed_history h) is.keeps ∙ client-agreed h s ∙ has.joined)
 
 pub keep-requires : goal.keep-requires
 keep-requires g c =
