@@ -1,3 +1,4 @@
+-- The lemmas of this crate, file by file.
 pub mod Greatest
 pub mod Staying
 pub mod EveryEntry

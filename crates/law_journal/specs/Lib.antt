@@ -1,3 +1,4 @@
+-- The definitions of this crate, file by file.
 pub mod Committed
 pub mod Entries
 pub mod Numbered

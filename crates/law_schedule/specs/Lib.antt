@@ -1,3 +1,4 @@
+-- The definitions of this crate, file by file.
 pub mod Players
 pub mod Serving
 pub mod Schedule

@@ -1,3 +1,4 @@
+-- The lemmas of this crate, file by file.
 pub mod Cuts
 pub mod Ours
 pub mod Messages

@@ -1,3 +1,4 @@
+-- The definitions of this crate, file by file.
 pub mod Cuts
 pub mod Sessions
 pub mod Traffic

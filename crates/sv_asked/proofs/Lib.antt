@@ -1,3 +1,4 @@
+-- The lemmas of this crate, file by file.
 pub mod Evaluated
 pub mod Worlds
 pub mod Made

@@ -1,3 +1,4 @@
+-- The lemmas of this crate, file by file.
 pub mod Splitting
 pub mod Telling
 pub mod Plain

@@ -1,3 +1,4 @@
+-- The definitions of this crate, file by file.
 pub mod Telling
 pub mod Places
 pub mod Tasks

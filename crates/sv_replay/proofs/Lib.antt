@@ -1,3 +1,4 @@
+-- The lemmas of this crate, file by file.
 pub mod Turns
 pub mod Events
 pub mod Doing

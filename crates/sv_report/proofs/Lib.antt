@@ -1,3 +1,4 @@
+-- The lemmas of this crate, file by file.
 pub mod Lines
 pub mod Seeking
 pub mod Doing

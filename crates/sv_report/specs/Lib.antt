@@ -1,3 +1,4 @@
+-- The definitions of this crate, file by file.
 pub mod Report
 pub mod Again
 pub mod Drops

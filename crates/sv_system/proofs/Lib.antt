@@ -1,3 +1,4 @@
+-- The lemmas of this crate, file by file.
 pub mod Aligned
 pub mod AllTold
 pub mod Allowed

@@ -1,3 +1,4 @@
+-- The lemmas of this crate, file by file.
 pub mod Walks
 pub mod Alone
 pub mod Wanting

@@ -1,3 +1,4 @@
+-- What is proved by hand of `commit_is_the_greatest`.
 use Rattle.law_journal.proofs.Greatest.{commit_is_the_greatest, next_has_no_result}
 use Rattle.law_journal.proofs.commits.commit_is_the_greatest.Goals as goal
 

@@ -1,3 +1,4 @@
+-- What is proved by hand of `scenarios_open_within_limits`.
 use Rattle.sv_system.proofs.Limits.{limits_of}
 use Rattle.law_journal.proofs.opening.scenarios_open_within_limits.Goals as goal
 

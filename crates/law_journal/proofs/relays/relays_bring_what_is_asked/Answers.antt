@@ -1,3 +1,4 @@
+-- What is proved by hand of `relays_bring_what_is_asked`.
 use Rattle.law_journal.specs.Brought.{BringsWhatIsAsked, HasItemsUnlessSent}
 use Rattle.law_journal.proofs.EveryEntry.{legal-of}
 use Rattle.law_journal.proofs.Asked.{served_bring}

@@ -1,3 +1,4 @@
+-- What is proved by hand of `relays_of_zero_answer_polls`.
 use Rattle.law_journal.specs.Numbered.{IsZeroForPolls, OfEntry}
 use Rattle.law_journal.proofs.EveryEntry.{legal-of}
 use Rattle.law_journal.proofs.Zeros.{served_tell_numbers, served_zero}

@@ -1,3 +1,4 @@
+-- What is proved by hand of `sessions_in_order_get_items`.
 use Rattle.law_journal.specs.Brought.{AsksForNews}
 use Rattle.law_journal.proofs.EveryEntry.{legal-of}
 use Rattle.law_journal.proofs.InOrder.{served_in_order}

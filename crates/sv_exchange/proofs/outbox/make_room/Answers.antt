@@ -1,3 +1,4 @@
+-- What is proved by hand of `make_room`.
 use Rattle.sv_exchange.proofs.Posting.{posted}
 use Rattle.sv_exchange.proofs.outbox.make_room.Goals as goal
 

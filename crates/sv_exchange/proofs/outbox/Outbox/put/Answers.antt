@@ -1,3 +1,4 @@
+-- What is proved by hand of `Outbox::put`.
 use Rattle.std.proofs.Common.{length, is_ok, refl, ap, arith}
 use Rattle.sv_exchange.proofs.Posting.{frame_room}
 use Rattle.sv_exchange.proofs.outbox.Outbox.put.Goals as goal
