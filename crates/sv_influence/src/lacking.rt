@@ -4,6 +4,7 @@ ghost use Rattle.sv_world.specs.declared.world.ObjectId.{ObjectId};
 ghost use Rattle.sv_world.specs.Control.{is_in, action_at, wanted_up_to};
 ghost use Rattle.sv_queue.specs.Queue.{IsUncommitted, queue_actions, sent_positions};
 ghost use Rattle.sv_influence.specs.Lacking.{lacking, base_objects, lacking_writers, committed_reads, reads_at};
+ghost use Rattle.sv_influence.specs.Writers.{most_look_ups};
 
 use crate::answers::Closure;
 use crate::numbers::Numbers;
@@ -27,7 +28,7 @@ pub fn closure<L: Ledger>(
     requires { IsUncommitted queue.now pos }
     ensures items { IfOk result (λ c. c.items ≡ lacking queue.now session pos) }
     ensures head { IfOk result (λ c. map (λ (o : ObjectId). o.0) c.head ≡ base_objects queue.now session pos) }
-    ensures ticks { steps.new ≤ steps.old + 33 * length (lacking queue.now session pos) + 1 }
+    ensures ticks { steps.new ≤ steps.old + most_look_ups * length (lacking queue.now session pos) + 1 }
 {
     let found = expand_all(alloc, queue, session, pos, steps)?;
     let Found { items, bases } = found;
@@ -78,7 +79,7 @@ fn expand_all<L: Ledger>(
     requires { IsUncommitted queue.now pos }
     ensures items { IfOk result (λ f. f.items.items ≡ lacking queue.now session pos) }
     ensures bases { IfOk result (λ f. (x : ℕ) → is_in x f.bases ≡ is_in x (base_objects queue.now session pos)) }
-    ensures ticks { steps.new ≤ steps.old + 33 * length (lacking queue.now session pos) + 1 }
+    ensures ticks { steps.new ≤ steps.old + most_look_ups * length (lacking queue.now session pos) + 1 }
 {
     let first = first_wanted(queue, session, pos, steps);
     let mut items = Vec::with_capacity(alloc, MOST_ITEMS)?;
@@ -132,7 +133,7 @@ impl Missing {
         ensures wanted { OnOk result ((j : ℕ) → is_in j self.new.wanted ≡ is_in j (lacking_writers queue.now session pos (reads_at queue.now pos) ++ self.old.wanted)) }
         ensures bases { OnOk result ((x : ℕ) → is_in x self.new.bases ≡ is_in x (committed_reads queue.now session pos (reads_at queue.now pos) ++ self.old.bases)) }
         ensures low { All (λ x. x < queue.now.shape.objects) (reads_at queue.now pos) }
-        ensures ticks { steps.new ≤ steps.old + 33 }
+        ensures ticks { steps.new ≤ steps.old + most_look_ups }
     {
         let entry = queue.entry(pos, steps);
         for (slot, object) in entry.action.reads.as_slice().iter().enumerate() {

@@ -5,6 +5,7 @@ use Rattle.sv_world.specs.Faults.{is_ascending}
 use Rattle.sv_world.specs.Control.{is_in, wanted_up_to}
 use Rattle.sv_queue.specs.Queue.{queue_actions, sent_positions, given_objects}
 use Rattle.sv_influence.specs.Lacking.{lacking}
+use Rattle.sv_influence.specs.Writers.{most_look_ups}
 use Rattle.sv_influence.proofs.Growth.{AreBases}
 use Rattle.sv_influence.proofs.lacking.expand_all.Given as goal
 
@@ -15,7 +16,7 @@ invariant-loop-next g l = record {
   last : IfNone l.next (l.missing.wanted ≡ []);
   whole : wanted_up_to (queue_actions l.queue) l.queue.commit (sent_positions l.queue l.session) l.pos (l.missing.wanted ++ option_to_list l.next) ++ reverse l.items.items ≡ lacking l.queue l.session l.pos;
   bases : AreBases l.queue.shape.objects (queue_actions l.queue) l.queue.commit (given_objects l.queue l.session) l.items.items l.missing.bases;
-  ticks : l.steps ≤ l.fn.steps + 1 + 33 * length l.items.items;
+  ticks : l.steps ≤ l.fn.steps + 1 + most_look_ups * length l.items.items;
 }
 
 abbrev pub decreases-loop-next : goal.decreases-loop-next
