@@ -4,7 +4,8 @@
     python3 tests/outside/test_bench.py
 
 Each name that such a program takes from a crate is searched there: a name of Rust in `src/lib.rt`, a definition or a lemma in the file of
-`specs` or `proofs` that its path tells, and a declared type in `src`. Whether the program is proved, only `bench/build.sh NAME` tells.
+`specs` or `proofs` that its path tells, and a declared type in `src`. A call of a function has as many arguments as the function has
+parameters. Whether the program is proved, only `bench/build.sh NAME` tells.
 """
 
 import os
@@ -36,6 +37,36 @@ def words(listed):
     return [name.split(" as ")[0].strip() for name in listed.split(",") if name.strip()]
 
 
+def count_listed(text, at, opening="([{", closing=")]}"):
+    """How many things stand between commas in the brackets that open at a place."""
+    depth, listed, some = 0, 0, False
+    for char in text[at:].replace("->", "  "):
+        if char in closing:
+            depth -= 1
+            if depth == 0:
+                return listed + some
+        if depth == 1 and char == ",":
+            listed, some = listed + some, False
+        elif depth >= 1 and not char.isspace():
+            some = True
+        if char in opening:
+            depth += 1
+    return None
+
+
+def calls(text):
+    """Each call of a function that a program's file takes from a crate: the crate, the name, and whether it has as many arguments as it should."""
+    for crate, listed, single in RUST.findall(text):
+        sources = "".join(map(text_of, files_below(os.path.join(ROOT, "crates", crate, "src"), ".rt")))
+        for word in words(listed or single):
+            declared = re.search(rf"\bpub fn {re.escape(word)}\b(?:<[^(]*>)?\(", sources)
+            if declared is None:
+                continue
+            wanted = count_listed(sources, declared.end() - 1, "([{<", ")]}>")
+            for call in re.finditer(rf"(?<![\w.:]){re.escape(word)}\(", text):
+                yield crate, f"{word}()", count_listed(text, call.end() - 1) == wanted
+
+
 def stands(word, text):
     """Whether a text has the word."""
     return re.search(rf"(?<!\w){re.escape(word)}(?!\w)", text) is not None
@@ -60,13 +91,14 @@ def cited(text):
 
 
 def main():
-    """The status: 0 where each name stands."""
+    """The status: 0 where each name stands, and each call fits."""
     passed = failed = 0
     for path in files_below(PROGRAMS, ".in"):
-        for crate, word, there in cited(text_of(path)):
-            passed, failed = passed + there, failed + (not there)
-            if not there:
-                print(f"{os.path.relpath(path, ROOT)}: {crate} has no {word} there")
+        text = text_of(path)
+        for crate, word, fits in [*cited(text), *calls(text)]:
+            passed, failed = passed + fits, failed + (not fits)
+            if not fits:
+                print(f"{os.path.relpath(path, ROOT)}: {crate} has no such {word}")
     print(f"{passed} passed, {failed} failed")
     return 1 if failed or not passed else 0
 
