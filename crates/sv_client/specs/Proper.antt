@@ -5,7 +5,8 @@ use Rattle.sv_world.specs.Limits.{most_clients, most_interest, most_outstanding,
 use Rattle.sv_world.specs.declared.action.Action.{Action}
 use Rattle.sv_world.specs.declared.world.ObjectId.{ObjectId}
 use Rattle.sv_world.specs.declared.world.Shape.{Shape}
-use Rattle.sv_world.specs.Faults.{first_fault_of_action, is_ascending}
+use Rattle.sv_world.specs.Faults.{first_fault_of_action, is_ascending, may_be_observed}
+use Rattle.sv_world.specs.Sets.{numbers_of}
 use Rattle.sv_wire.specs.declared.message.Reply.{Reply}
 use Rattle.sv_client.specs.declared.trace.Event.{Event}
 use Rattle.sv_client.specs.declared.trace.Event.TheVariants as events
@@ -42,6 +43,11 @@ pub record MayPoll (who : Identity) (t : List Event) : Type 0 where
   pub joined : in_session t ≡ true
   pub calm : length (outstanding who t) < most_outstanding
 
+pub record MayObserve (who : Identity) (t : List Event) (objects : List ObjectId) : Type 0 where
+  pub joined : in_session t ≡ true
+  pub good : may_be_observed who.shape.objects (numbers_of objects) ≡ true
+  pub calm : length (outstanding who t) < most_outstanding
+
 pub record MayLeave (who : Identity) (t : List Event) : Type 0 where
   pub joined : in_session t ≡ true
   pub settled : outstanding who t ≡ []
@@ -61,6 +67,7 @@ abbrev pub MayFollow : Identity → ℕ → List Event → Event → Type 0
 MayFollow who first t (events.Join s) = MayJoin first t s
 MayFollow who first t (events.Make action) = MayMake who t action
 MayFollow who first t events.Poll = MayPoll who t
+MayFollow who first t (events.Observe objects wait) = MayObserve who t objects
 MayFollow who first t events.Leave = MayLeave who t
 MayFollow who first t (events.Got s reply) = MayGet who t s reply
 MayFollow who first t _ = Unit {0}

@@ -1,12 +1,13 @@
 -- Which replies a client takes, and the first fault of one that it refuses.
 -- Events stand here with the latest first: `e ∷ t` is t, and then e.
-use Rattle.std.specs.Prelude.{ℕ, Bool, false, ◌==◌, ◌&&◌, ◌||◌, not, nat_le, nat_lt, max, is_none, List, [], ◌∷◌, ◌++◌, map, length, drop, Option, Some, None, if◌then◌else◌}
+use Rattle.std.specs.Prelude.{ℕ, suc, Bool, false, ◌==◌, ◌&&◌, ◌||◌, not, nat_le, nat_lt, max, is_none, List, [], ◌∷◌, ◌++◌, map, length, drop, Option, Some, None, if◌then◌else◌}
 use Rattle.std.specs.List.{list_any}
 use Rattle.sv_world.specs.declared.world.ClientId.{ClientId}
 use Rattle.sv_world.specs.declared.world.ObjectId.{ObjectId}
 use Rattle.sv_world.specs.declared.world.Shape.{Shape}
 use Rattle.sv_world.specs.Faults.{first_fault_of_action, is_ascending}
-use Rattle.sv_world.specs.Sets.{read_set}
+use Rattle.sv_world.specs.Limits.{most_positions}
+use Rattle.sv_world.specs.Sets.{numbers_of, read_set}
 use Rattle.sv_versions.specs.Held.{Held, read_below}
 use Rattle.sv_pending.specs.Pending.{PendingAction}
 use Rattle.sv_wire.specs.declared.message.ObjectValue.{ObjectValue}
@@ -43,6 +44,7 @@ outstanding who t = unanswered who t (current_session t)
 abbrev pub commit_in : Reply → Option ℕ
 commit_in (replies.Welcome commit head) = Some commit
 commit_in (replies.Relay seq commit head items) = Some commit
+commit_in (replies.Seen last commit head items) = Some commit
 commit_in (replies.Noted commit) = Some commit
 commit_in _ = None
 
@@ -70,10 +72,12 @@ allows request reply = allows_awaited (kind_of request) reply
 abbrev pub head_of : Reply → List ObjectValue
 head_of (replies.Welcome commit head) = head
 head_of (replies.Relay seq commit head items) = head
+head_of (replies.Seen last commit head items) = head
 head_of _ = []
 
 abbrev pub items_of : Reply → List Item
 items_of (replies.Relay seq commit head items) = items
+items_of (replies.Seen last commit head items) = items
 items_of _ = []
 
 abbrev pub head_ascends : List ObjectValue → Bool
@@ -95,11 +99,17 @@ abbrev pub goes_back : Option ℕ → ℕ → Bool
 goes_back None told = false
 goes_back (Some commit) told = nat_lt commit told
 
--- The objects of the head do not ascend, or the positions of the items do not; the first item stands at or below the reply's commit; or this
--- is below a commit that was told before.
+-- What was seen stands below its commit or below an item, or where no action may stand.
+abbrev pub is_badly_cut : Reply → Bool
+is_badly_cut (replies.Seen last commit head items) =
+    nat_lt last commit || list_any (λ (i : Item). nat_lt last i.pos) items || nat_lt most_positions last
+is_badly_cut _ = false
+
+-- The objects of the head do not ascend, or the positions of the items do not; the first item stands at or below the reply's commit; this is
+-- below a commit that was told before; or what was seen is badly cut.
 abbrev pub is_disordered : ℕ → Reply → Bool
 is_disordered told reply = not (head_ascends (head_of reply)) || not (items_ascend (items_of reply))
-    || begins_low (commit_in reply) (items_of reply) || goes_back (commit_in reply) told
+    || begins_low (commit_in reply) (items_of reply) || goes_back (commit_in reply) told || is_badly_cut reply
 
 -- The same, after the events t.
 abbrev pub is_out_of_order : List Event → Reply → Bool
@@ -142,7 +152,9 @@ abbrev pub is_unfit : ClientId → Shape → List PendingAction → Option Await
 is_unfit id shape pending kind (replies.Welcome commit head) = is_bad_head shape head
 is_unfit id shape pending kind (replies.Relay seq commit head items) =
     is_bad_head shape head || is_bad_answer id shape pending kind seq items
+is_unfit id shape pending kind (replies.Seen last commit head items) = is_bad_head shape head || has_bad_action shape items
 is_unfit id shape pending kind (replies.Dropped seq chain far) = not (is_for_front seq pending)
+is_unfit id shape pending kind (replies.Denied seq object) = not (is_for_front seq pending)
 is_unfit id shape pending kind (replies.Settled seq pos) = not (is_for_front seq pending)
 is_unfit id shape pending kind _ = false
 
@@ -176,9 +188,22 @@ first_missing_of held [] = None
 first_missing_of held (item ∷ items) =
     missing_at item.pos (first_unheld held item.pos (read_set item.action)) (first_missing_of (held ++ item_held held item) items)
 
-abbrev pub missing_in : List Held → Reply → Option (ℕ × ℕ)
-missing_in held (replies.Relay seq commit head items) = first_missing_of (held ++ head_held commit head) items
-missing_in held _ = None
+-- The objects that a request observes.
+abbrev pub observed_by : Option Awaited → List ℕ
+observed_by (Some (kinds.Observe objects)) = numbers_of objects
+observed_by _ = []
+
+-- The first item that lacks a value, and the first object of which it does; and where none does, the first of the objects that are seen of which no
+-- value at or below `last` is held.
+abbrev pub first_missing_seen : List Held → List Item → ℕ → List ℕ → Option (ℕ × ℕ)
+first_missing_seen held [] last xs = missing_at (suc last) (first_unheld held (suc last) xs) None
+first_missing_seen held (item ∷ items) last xs =
+    missing_at item.pos (first_unheld held item.pos (read_set item.action)) (first_missing_seen (held ++ item_held held item) items last xs)
+
+abbrev pub missing_in : List Held → Option Awaited → Reply → Option (ℕ × ℕ)
+missing_in held kind (replies.Relay seq commit head items) = first_missing_of (held ++ head_held commit head) items
+missing_in held kind (replies.Seen last commit head items) = first_missing_seen (held ++ head_held commit head) items last (observed_by kind)
+missing_in held kind _ = None
 
 -- ---- The five faults
 
@@ -197,7 +222,7 @@ abbrev pub fault_for : Identity → List Event → Request → Reply → Option 
 fault_for who t request reply = if not (allows request reply) then Some WrongKind
     else if is_out_of_order t reply then Some BadOrder
     else if has_bad_item who (pending_of t) request reply then Some BadItem
-    else missing_fault (missing_in (held_of t) reply)
+    else missing_fault (missing_in (held_of t) (kind_of request) reply)
 
 abbrev pub fault_after : Identity → List Event → List Request → Reply → Option Fault
 fault_after who t [] reply = Some Unasked

@@ -75,6 +75,7 @@ with_items held (item ∷ items) = with_items (held ++ item_held held item) item
 abbrev pub with_reply : List Held → Reply → List Held
 with_reply held (replies.Welcome commit head) = held ++ head_held commit head
 with_reply held (replies.Relay seq commit head items) = with_items (held ++ head_held commit head) items
+with_reply held (replies.Seen last commit head items) = with_items (held ++ head_held commit head) items
 with_reply held _ = held
 
 -- All values that a client got or computed, in that order. None is ever dropped here.
@@ -90,9 +91,11 @@ abbrev pub results_of : List Held → List Item → List Done1
 results_of held [] = []
 results_of held (item ∷ items) = record { pos = item.pos; values = item_result held item } ∷ results_of (held ++ item_held held item) items
 
--- A relay is answered by the Done with the results of its items.
+-- A relay is answered by the Done with the results of its items, and so is what was seen, where it has items.
 abbrev pub done_for : List Held → Reply → List Request
 done_for held (replies.Relay seq commit head items) = requests.Done (results_of (held ++ head_held commit head) items) ∷ []
+done_for held (replies.Seen last commit head []) = []
+done_for held (replies.Seen last commit head (item ∷ items)) = requests.Done (results_of (held ++ head_held commit head) (item ∷ items)) ∷ []
 done_for held _ = []
 
 -- ---- Pending actions
@@ -115,12 +118,19 @@ abbrev pub settled_by : List Held → Option (List (List ℤ)) → List PendingA
 settled_by held own [] = []
 settled_by held own (p ∷ ps) = if are_same own p.kept then ps else redone held ps
 
+-- What was seen tells news: it has a value or an item.
+abbrev pub has_news : List ObjectValue → List Item → Bool
+has_news [] [] = false
+has_news _ _ = true
+
 -- What a reply does to the pending actions, where `before` is held before it and `after` with it. A relay of the sequence number 0
 -- answers a Poll.
 abbrev pub pending_with : List Held → List Held → Reply → List PendingAction → List PendingAction
 pending_with before after (replies.Relay seq commit head items) pending =
     if seq == 0 then pending else settled_by after (last_values (results_of (before ++ head_held commit head) items)) pending
+pending_with before after (replies.Seen last commit head items) pending = if has_news head items then redone after pending else pending
 pending_with before after (replies.Dropped seq chain far) pending = redone after (without_front pending)
+pending_with before after (replies.Denied seq object) pending = redone after (without_front pending)
 pending_with before after (replies.Settled seq pos) pending = redone after (without_front pending)
 pending_with before after _ pending = pending
 
@@ -148,6 +158,7 @@ asked_by_event client interest t (events.Join n) s =
 asked_by_event client interest t (events.Make action) s =
     if is_session (current_session t) s then requests.Submit (suc (makes t)) action ∷ [] else []
 asked_by_event client interest t events.Poll s = if is_session (current_session t) s then requests.Poll ∷ [] else []
+asked_by_event client interest t (events.Observe objects wait) s = if is_session (current_session t) s then requests.Observe objects wait ∷ [] else []
 asked_by_event client interest t events.Leave s = if is_session (current_session t) s then requests.Leave ∷ [] else []
 asked_by_event client interest t (events.Got n reply) s = if n == s then done_for (held_of t) reply else []
 asked_by_event client interest t _ s = []

@@ -3,28 +3,34 @@ ghost use Rattle.std.specs.Prelude.{◌≡◌};
 ghost use Rattle.sv_client.specs.Kinds.{allows_kind};
 
 use sv_wire::Reply;
+use sv_world::{List, ObjectId};
 
 /// What was asked and has no reply yet.
-#[derive(Clone, Copy, Debug, Drop, PartialEq, Eq)]
+#[derive(Debug, Drop)]
 pub(crate) enum Awaited {
     Join,
     Submit,
     Done,
     Poll,
+    /// What these objects are.
+    Observe(List<ObjectId>),
     Leave,
 }
 
 /// Whether a reply is of a kind that this request may have.
-pub(crate) fn allows_kind(awaited: Awaited, reply: &Reply) -> bool
-    ensures { result ≡ allows_kind awaited reply.now }
+pub(crate) fn allows_kind(awaited: &Awaited, reply: &Reply) -> bool
+    ensures { result ≡ allows_kind awaited.now reply.now }
 {
     match reply {
-        Reply::Welcome { .. } => awaited == Awaited::Join,
-        Reply::Relay { .. } => awaited == Awaited::Submit || awaited == Awaited::Poll,
-        Reply::Dropped { .. } | Reply::Settled { .. } => awaited == Awaited::Submit,
-        Reply::Noted { .. } => awaited == Awaited::Done,
-        Reply::Idle => awaited == Awaited::Poll,
-        Reply::Bye => awaited == Awaited::Leave,
+        Reply::Welcome { .. } => matches!(awaited, Awaited::Join),
+        Reply::Relay { .. } => matches!(awaited, Awaited::Submit | Awaited::Poll),
+        Reply::Dropped { .. } | Reply::Denied { .. } | Reply::Settled { .. } => {
+            matches!(awaited, Awaited::Submit)
+        }
+        Reply::Noted { .. } => matches!(awaited, Awaited::Done),
+        Reply::Idle => matches!(awaited, Awaited::Poll),
+        Reply::Seen { .. } => matches!(awaited, Awaited::Observe(_)),
+        Reply::Bye => matches!(awaited, Awaited::Leave),
         Reply::Refused { .. } => false,
     }
 }

@@ -13,8 +13,10 @@ pub enum Event {
     /// It made an action, and sent its Submit.
     Make(Action),
     Poll,
+    /// It asked what these objects are, and would wait for news for so many milliseconds.
+    Observe(List<ObjectId>, u16),
     Leave,
-    /// It took a reply of this session, and sent the Done of a relay.
+    /// It took a reply of this session, and sent the Done of its items.
     Got(u16, Reply),
     /// It closed its session's link, to begin another session later.
     Cut,

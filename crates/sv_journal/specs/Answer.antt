@@ -6,10 +6,10 @@ use Rattle.sv_world.specs.declared.action.Action.{Action}
 use Rattle.sv_world.specs.declared.check.BadAction.{BadAction}
 use Rattle.sv_world.specs.declared.world.ObjectId.{ObjectId}
 use Rattle.sv_world.specs.declared.world.World.{World}
-use Rattle.sv_world.specs.Control.{is_in, below, action_at, needed_for, head_for, chain_length, influence_distance}
-use Rattle.sv_world.specs.Faults.{first_fault_of_action, cause_number, is_ascending}
+use Rattle.sv_world.specs.Control.{is_in, below, action_at, needed_for, head_for, chain_length, influence_distance, needed_to_see, head_to_see, greatest_cut}
+use Rattle.sv_world.specs.Faults.{first_fault_of_action, cause_number, is_ascending, may_be_observed}
 use Rattle.sv_world.specs.Limits.{most_clients, most_interest, most_items, most_requests}
-use Rattle.sv_world.specs.Sets.{write_set}
+use Rattle.sv_world.specs.Sets.{write_set, numbers_of}
 use Rattle.sv_wire.specs.declared.message.Done1.{Done1}
 use Rattle.sv_wire.specs.declared.message.ObjectValue.{ObjectValue}
 use Rattle.sv_wire.specs.declared.message.Request.{Request}
@@ -112,6 +112,21 @@ abbrev pub reply_to_poll : Rules → List Entry → ℕ → List ℕ → Logged
 reply_to_poll r h s [] = logged.Idle
 reply_to_poll r h s (p ∷ ps) = relay_of r h (actions_of h) s 0 p
 
+-- ---- Observes
+
+-- What a session is shown of objects at a position: what it lacks of an action that would read them behind it, and the base values that go
+-- with that.
+abbrev pub seen_at : Rules → List Entry → ℕ → List ℕ → ℕ → Logged
+seen_at r h s xs n = logged.Seen n (commit_of h)
+    (committed_held r h (head_to_see r.world.shape.objects (actions_of h) (commit_of h) (sent_to h s) (already_given r.world.shape.objects h s) xs n))
+    (needed_to_see (actions_of h) (commit_of h) (sent_to h s) xs n)
+
+-- An Observe is shown its objects at the greatest cut.
+abbrev pub reply_to_observe : Rules → List Entry → ℕ → List ℕ → Logged
+reply_to_observe r h s xs = if may_be_observed r.world.shape.objects xs
+    then seen_at r h s xs (greatest_cut (actions_of h) (commit_of h) (sent_to h s) xs)
+    else refused_as refusals.BadInterest 0
+
 -- ---- Requests
 
 abbrev pub is_good_interest : ℕ → List ℕ → Bool
@@ -129,6 +144,7 @@ abbrev pub reply_to_client : Rules → List Entry → ℕ → ℕ → Request �
 reply_to_client r h s k (requests.Submit seq a) = reply_to_submit r h s k seq a (kept_outcome h k seq)
 reply_to_client r h s k (requests.Done results) = reply_to_done r h s results
 reply_to_client r h s k requests.Poll = reply_to_poll r h s (orphans h)
+reply_to_client r h s k (requests.Observe objects wait) = reply_to_observe r h s (numbers_of objects)
 reply_to_client r h s k _ = logged.Bye
 
 abbrev pub reply_to_member : Rules → List Entry → ℕ → Option ℕ → Request → Logged

@@ -146,6 +146,7 @@ abbrev pub full_reply : List Authored → Logged → Reply
 full_reply A (logged.Welcome commit head) = replies.Welcome commit head
 full_reply A (logged.Relay seq commit head positions) = replies.Relay seq commit head (map (item_at A) positions)
 full_reply A (logged.Dropped seq chain far) = replies.Dropped seq chain far
+full_reply A (logged.Seen last commit head positions) = replies.Seen last commit head (map (item_at A) positions)
 full_reply A (logged.Settled seq pos) = replies.Settled seq pos
 full_reply A (logged.Noted commit) = replies.Noted commit
 full_reply A logged.Idle = replies.Idle

@@ -1,10 +1,11 @@
 -- Laws of journals: first those of a server that trusts its clients, and then the same of a server with any keeping.
-use Rattle.std.specs.Prelude.{◌≡◌, ◌+◌, ◌≤◌, ◌↔◌, All, List, ◌++◌, length, reverse, None}
+use Rattle.std.specs.Prelude.{◌≡◌, ℕ, ◌+◌, ◌≤◌, ◌↔◌, All, List, ◌++◌, length, reverse, None}
 use Rattle.sv_world.specs.Faults.{first_fault_of_action}
-use Rattle.sv_world.specs.Limits.{most_attrs, most_bound}
+use Rattle.sv_world.specs.Limits.{most_attrs, most_bound, most_items}
 use Rattle.sv_wire.specs.Grammar.{IsWireReply}
 use Rattle.sv_journal.specs.declared.entry.Entry.{Entry}
 use Rattle.sv_journal.specs.declared.entry.Logged.{Logged}
+use Rattle.sv_journal.specs.declared.entry.Logged.TheVariants as logged
 use Rattle.sv_journal.specs.History.{Authored, accepted, full_reply}
 use Rattle.sv_journal.specs.Answer.{Rules, Legal}
 use Rattle.sv_journal.specs.Serving.{Keeping, plain, LegalFor, IsKeeping}
@@ -20,9 +21,14 @@ FullRepliesStay = (later earlier : List Entry) (reply : Logged) → NamesAccepte
 abbrev pub LegalRelaysNameAccepted : Type 0
 LegalRelaysNameAccepted = (r : Rules) (h : List Entry) → Legal r h → RelaysNameAccepted (reverse h)
 
--- A relay of a legal journal has at most one item more than the bound.
+-- How many items a reply has at most: a relay one more than the bound, and what is seen as many as a report has results.
+abbrev pub most_sent : Rules → Logged → ℕ
+most_sent r (logged.Seen last commit head positions) = most_items
+most_sent r _ = r.bound + 1
+
+-- No reply of a legal journal has more items.
 abbrev pub LegalRelaysAreSmall : Type 0
-LegalRelaysAreSmall = (r : Rules) (h : List Entry) → Legal r h → All (λ (e : Entry). length (positions_in e.reply) ≤ r.bound + 1) h
+LegalRelaysAreSmall = (r : Rules) (h : List Entry) → Legal r h → All (λ (e : Entry). length (positions_in e.reply) ≤ most_sent r e.reply) h
 
 -- No cause of refusal applies to an accepted action of a legal journal.
 abbrev pub LegalActionsAreGood : Type 0
@@ -53,7 +59,7 @@ abbrev pub ServedRelaysNameAccepted : Type 0
 ServedRelaysNameAccepted = (k : Keeping) (r : Rules) (h : List Entry) → IsKeeping k → LegalFor k r h → All (λ (e : Entry). NamesAccepted (length (accepted h)) e.reply) h
 
 abbrev pub ServedRelaysAreSmall : Type 0
-ServedRelaysAreSmall = (k : Keeping) (r : Rules) (h : List Entry) → IsKeeping k → LegalFor k r h → All (λ (e : Entry). length (positions_in e.reply) ≤ r.bound + 1) h
+ServedRelaysAreSmall = (k : Keeping) (r : Rules) (h : List Entry) → IsKeeping k → LegalFor k r h → All (λ (e : Entry). length (positions_in e.reply) ≤ most_sent r e.reply) h
 
 abbrev pub ServedActionsAreGood : Type 0
 ServedActionsAreGood = (k : Keeping) (r : Rules) (h : List Entry) → IsKeeping k → LegalFor k r h →

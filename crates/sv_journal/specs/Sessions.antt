@@ -79,9 +79,10 @@ kept_outcome h k seq = if nat_le (next_seq h k) (seq + kept_count) then outcome_
 
 abbrev pub positions_in : Logged → List ℕ
 positions_in (logged.Relay seq commit head positions) = positions
+positions_in (logged.Seen last commit head positions) = positions
 positions_in _ = []
 
--- The positions that the relays answered to a session name.
+-- The positions that the relays answered to a session, and what it saw, name.
 abbrev pub sent_to : List Entry → ℕ → List ℕ
 sent_to [] s = []
 sent_to (e ∷ h) s = if e.session == s then sent_to h s ++ positions_in e.reply else sent_to h s
@@ -93,6 +94,7 @@ names head x = is_in x (map (λ (v : ObjectValue). v.object.0) head)
 abbrev pub named_in : Logged → ℕ → List ℕ
 named_in (logged.Welcome commit head) x = if names head x then commit ∷ [] else []
 named_in (logged.Relay seq commit head positions) x = if names head x then commit ∷ [] else []
+named_in (logged.Seen last commit head positions) x = if names head x then commit ∷ [] else []
 named_in _ x = []
 
 abbrev pub named_to : List Entry → ℕ → ℕ → List ℕ

@@ -27,6 +27,7 @@ request_text shape (requests.Join client life interest) =
 request_text shape (requests.Submit seq action) = codes "submit " ++ decimal seq ++ codes " " ++ action_text shape action
 request_text shape (requests.Done results) = codes "done " ++ bracketed result_text results
 request_text shape requests.Poll = codes "poll"
+request_text shape (requests.Observe objects wait) = codes "observe " ++ decimal wait ++ codes " " ++ objects_text objects
 request_text shape requests.Leave = codes "leave"
 request_text shape requests.Bad = codes "bad"
 request_text shape requests.End = codes "end"
@@ -36,6 +37,8 @@ reply_text A (logged.Welcome commit head) = codes "welcome " ++ decimal commit +
 reply_text A (logged.Relay seq commit head positions) =
     codes "relay " ++ decimal seq ++ codes " at " ++ decimal commit ++ codes " " ++ head_text head ++ codes " " ++ bracketed (item_text A) positions
 reply_text A (logged.Dropped seq chain far) = codes "dropped " ++ decimal seq ++ codes " chain " ++ decimal chain ++ codes " far " ++ decimal far
+reply_text A (logged.Seen last commit head positions) =
+    codes "seen " ++ decimal last ++ codes " at " ++ decimal commit ++ codes " " ++ head_text head ++ codes " " ++ bracketed (item_text A) positions
 reply_text A (logged.Settled seq pos) = codes "settled " ++ decimal seq ++ codes " at " ++ decimal pos
 reply_text A (logged.Noted commit) = codes "noted " ++ decimal commit
 reply_text A logged.Idle = codes "idle"
@@ -59,8 +62,9 @@ journal_text shape entries = codes "journal " ++ decimal (length entries) ++ 10 
 -- Each position that a reply names is one of so many accepted actions.
 abbrev pub NamesAccepted : ℕ → Logged → Type 0
 NamesAccepted count (logged.Relay seq commit head positions) = All (λ p. (1 ≤ p) × (p ≤ count)) positions
+NamesAccepted count (logged.Seen last commit head positions) = All (λ p. (1 ≤ p) × (p ≤ count)) positions
 NamesAccepted count _ = Unit {0}
 
--- Each position that a relay of the journal names is that of an accepted action.
+-- Each position that a reply of the journal names is that of an accepted action.
 abbrev pub RelaysNameAccepted : List Entry → Type 0
 RelaysNameAccepted entries = All (λ (e : Entry). NamesAccepted (length (accepted (reverse entries))) e.reply) entries

@@ -5,7 +5,7 @@ ghost use Rattle.sv_journal.specs.Sessions.{is_end};
 use sv_wire::{ObjectValue, Request};
 use sv_world::List;
 
-/// A reply as the journal keeps it: a relay names the positions of its items, whose actions stand in the journal already.
+/// A reply as the journal keeps it: a relay, and what was seen, name the positions of their items, whose actions stand in the journal already.
 #[derive(Debug, Drop)]
 pub enum Logged {
     Welcome {
@@ -22,6 +22,12 @@ pub enum Logged {
         seq: u32,
         chain: u32,
         far: u32,
+    },
+    Seen {
+        last: u32,
+        commit: u32,
+        head: List<ObjectValue>,
+        positions: List<u32>,
     },
     Settled {
         seq: u32,

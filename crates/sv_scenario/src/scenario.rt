@@ -32,6 +32,8 @@ pub enum Step {
     Act(Action),
     /// Asks for an abandoned action.
     Poll,
+    /// Asks what 1 to 16 objects are, ascending, all at one position.
+    Observe(List<ObjectId>),
     /// Waits until no reply is due.
     Sync,
     /// Notes the views of 1 to 16 objects, in any order, some of them perhaps twice.

@@ -40,6 +40,7 @@ is_finished _ = false
 abbrev pub event_of : Step → Option Event
 event_of (steps.Act action) = Some (events.Make action)
 event_of steps.Poll = Some events.Poll
+event_of (steps.Observe objects) = Some (events.Observe objects 0)
 event_of steps.Sync = None
 event_of (steps.Show objects) = Some (events.Show objects)
 event_of steps.Cut = Some events.Cut

@@ -43,6 +43,7 @@ request_held A _ = []
 abbrev pub reply_held : Logged → List Held
 reply_held (logged.Welcome commit head) = head_held commit head
 reply_held (logged.Relay seq commit head positions) = head_held commit head
+reply_held (logged.Seen last commit head positions) = head_held commit head
 reply_held _ = []
 
 -- Each value that an entry prints at a position: those of its reply's head at the reply's commit, and those of its Done at their positions.
@@ -71,6 +72,7 @@ AreSupplied A held (item ∷ items) = IsSupplied A held item × AreSupplied A (h
 
 abbrev pub IsSufficient : List Action → List Held → Reply → Type 0
 IsSufficient A held (replies.Relay seq commit head items) = AreSupplied A (held ++ head_held commit head) items
+IsSufficient A held (replies.Seen last commit head items) = AreSupplied A (held ++ head_held commit head) items
 IsSufficient A held _ = Unit {0}
 
 -- Each relay that was got is sufficient, with what was held before it.

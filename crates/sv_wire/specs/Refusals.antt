@@ -15,7 +15,8 @@ code_of refusals.BadInterest = 8
 code_of refusals.TooManyRequests = 9
 code_of refusals.NoSuchClient = 10
 code_of refusals.OldLife = 11
+code_of refusals.Full = 12
 
 -- The greatest code.
 abbrev pub last_code : ℕ
-last_code = 11
+last_code = 12

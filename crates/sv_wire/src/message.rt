@@ -44,6 +44,12 @@ pub enum Request {
     },
     /// Asks for an abandoned action to complete.
     Poll,
+    /// Asks what 1 to 16 objects are, all at one position. `wait` says for how many milliseconds the client would wait for news; the answer's
+    /// content does not depend on it.
+    Observe {
+        objects: List<ObjectId>,
+        wait: u16,
+    },
     Leave,
     Bad,
     End,
@@ -70,6 +76,19 @@ pub enum Reply {
         seq: u32,
         chain: u32,
         far: u32,
+    },
+    /// The action is not accepted: its client may not write this object.
+    Denied {
+        seq: u32,
+        object: ObjectId,
+    },
+    /// What an Observe asked for is known at the position `last` once these actions are evaluated on these committed values, of which the
+    /// session has all others.
+    Seen {
+        last: u32,
+        commit: u32,
+        head: List<ObjectValue>,
+        items: List<Item>,
     },
     /// The action has been committed, at this position.
     Settled {

@@ -19,7 +19,7 @@ pub enum Refusal {
     BadAction,
     /// The results are none that this session may report.
     BadResults,
-    /// The objects of interest don't ascend, are too many, or one is not of the world.
+    /// The objects of interest, or those that are observed, don't ascend, are too many or too few, or one is not of the world.
     BadInterest,
     /// The session has made all its requests.
     TooManyRequests,
@@ -27,10 +27,12 @@ pub enum Refusal {
     NoSuchClient,
     /// The life is not above the client's last one, which is the detail.
     OldLife,
+    /// All positions are taken.
+    Full,
 }
 
 /// The greatest code.
-pub(crate) const LAST_CODE: u8 = 11;
+pub(crate) const LAST_CODE: u8 = 12;
 
 impl Refusal {
     /// The code of a refusal, from 1.
@@ -49,6 +51,7 @@ impl Refusal {
             Refusal::TooManyRequests => 9,
             Refusal::NoSuchClient => 10,
             Refusal::OldLife => 11,
+            Refusal::Full => 12,
         }
     }
 }

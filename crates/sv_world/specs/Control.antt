@@ -2,10 +2,11 @@
 -- Everything here speaks of positions, reads, writes and delivery marks alone, and of no value: it holds for any clients.
 -- `A` is the list of accepted actions; the action at position p, counted from 1, is its p-th. `sent` are the positions that were sent to a
 -- session, and `given` are the objects whose committed value the session was given, or has computed, since they were last written.
-use Rattle.std.specs.Prelude.{◌≡◌, ℕ, zero, suc, ◌<◌, Bool, true, false, ◌&&◌, ◌||◌, not, nat_lt, nat_le, nat_eq, List, [], ◌∷◌, ◌++◌, map, filter, length, slice_index_or, max, pos, ◌-ℤ◌, nat_abs, if◌then◌else◌}
+use Rattle.std.specs.Prelude.{◌≡◌, ℕ, zero, suc, ◌<◌, Bool, true, false, ◌&&◌, ◌||◌, not, nat_lt, nat_le, nat_eq, List, [], ◌∷◌, ◌++◌, map, filter, length, take, slice_index_or, ◌+◌, ◌-◌, max, pos, ◌-ℤ◌, nat_abs, if◌then◌else◌}
 use Rattle.sv_world.specs.declared.action.Action.{Action}
 use Rattle.sv_world.specs.declared.action.Point.{Point}
-use Rattle.sv_world.specs.Sets.{read_set, write_set}
+use Rattle.sv_world.specs.Limits.{most_items}
+use Rattle.sv_world.specs.Sets.{object_numbered, read_set, write_set}
 use Rattle.sv_world.specs.Trees.{greatest}
 
 abbrev pub is_in : ℕ → List ℕ → Bool
@@ -92,3 +93,38 @@ distance p q = max (nat_abs (p.x -ℤ q.x)) (nat_abs (p.y -ℤ q.y))
 -- The greatest distance between the action's origin and that of an action in its influence, 0 where there is none.
 abbrev pub influence_distance : List Action → ℕ → Action → ℕ
 influence_distance A commit a = greatest (map (λ j. distance a.origin (action_at A j).origin) (influence A commit a))
+
+-- ---- Cuts: what objects are at one position, for a session that acts on none of them
+
+-- It reads the objects, writes nothing, and stands at (0, 0).
+abbrev pub reading : List ℕ → Action
+reading xs = record { reads = map object_numbered xs; mask = 0; origin = record { x = pos 0; y = pos 0 }; body = [] }
+
+-- The first n actions, and behind them, at position n + 1, one that reads the objects.
+abbrev pub with_reading : List Action → ℕ → List ℕ → List Action
+with_reading A n xs = take n A ++ reading xs ∷ []
+
+-- The positions up to n.
+abbrev pub up_to : ℕ → List ℕ → List ℕ
+up_to n ps = filter (λ p. nat_le p n) ps
+
+-- What a session lacks of the objects at n, ascending: what it lacks of an action that reads them behind the first n, without this action. Of
+-- the positions sent to it those up to n count, since position n + 1 is here that of the action that reads.
+abbrev pub needed_to_see : List Action → ℕ → List ℕ → List ℕ → ℕ → List ℕ
+needed_to_see A commit sent xs n = up_to n (needed_for (with_reading A n xs) commit (up_to n sent) (suc n))
+
+-- The objects of the base values that go with it, ascending. Those of the objects themselves that are read as committed are among them, but
+-- for those that the session was given since they were last written.
+abbrev pub head_to_see : ℕ → List Action → ℕ → List ℕ → List ℕ → List ℕ → ℕ → List ℕ
+head_to_see objects A commit sent given xs n = head_for objects (with_reading A n xs) commit (up_to n sent) given (suc n)
+
+-- The greatest number that passes a test, of those from `low` to `low` + n; `low` where none above it does.
+abbrev pub greatest_from : (ℕ → Bool) → ℕ → ℕ → ℕ
+greatest_from test low zero = low
+greatest_from test low (suc n) = if test (low + suc n) then low + suc n else greatest_from test low n
+
+-- The greatest cut that a session can be shown of objects: the greatest position, from the commit to the last one, at which it lacks few
+-- enough of them. At the commit it lacks none.
+abbrev pub greatest_cut : List Action → ℕ → List ℕ → List ℕ → ℕ
+greatest_cut A commit sent xs =
+    greatest_from (λ n. nat_le (length (needed_to_see A commit sent xs n)) most_items) commit (length A - commit)

@@ -1,6 +1,6 @@
 -- What is wrong with an action, if anything.
 use Rattle.std.specs.Prelude.{◌≡◌, ℕ, ◌^◌, ◌<◌, ◌≤◌, Bool, true, not, ◌&&◌, ◌==◌, nat_lt, nat_le, ℤ, pos, negsuc, int_le, List, [], ◌∷◌, length, All, if◌then◌else◌, Option, Some, None}
-use Rattle.std.specs.List.{list_any}
+use Rattle.std.specs.List.{list_all, list_any}
 use Rattle.sv_world.specs.Limits.{most_reads, most_nodes, most_depth}
 use Rattle.sv_world.specs.Sets.{is_in_mask, read_set}
 use Rattle.sv_world.specs.Trees.{body_nodes, body_depth, body_passes}
@@ -109,3 +109,8 @@ pub record IsGoodAction (shape : Shape) (a : Action) : Type 0 where
   pub few_nodes : body_nodes a.body ≤ most_nodes
   pub shallow : body_depth a.body ≤ most_depth
   pub origin : has_origin a ≡ true
+
+-- Objects that may be observed together, in a world of so many: 1 to 16 of them, ascending.
+abbrev pub may_be_observed : ℕ → List ℕ → Bool
+may_be_observed objects xs =
+    nat_lt 0 (length xs) && nat_le (length xs) most_reads && is_ascending xs && list_all (λ x. nat_lt x objects) xs

@@ -49,6 +49,10 @@ most_requests = 1024
 abbrev pub most_items : ℕ
 most_items = 33
 
+-- The positions of a world's actions.
+abbrev pub most_positions : ℕ
+most_positions = 4294967294
+
 -- The actions of a client that are not settled yet.
 abbrev pub most_pending : ℕ
 most_pending = 8

@@ -1,9 +1,10 @@
 //! Whether an action is one of a world of some shape, and else why not.
-ghost use Rattle.std.specs.Prelude.{◌≡◌, ◌↔◌, ◌&&◌, not, Some, None, MatchResult, OnOk};
+ghost use Rattle.std.specs.Prelude.{◌≡◌, ◌↔◌, ◌&&◌, not, nat_lt, Some, None, MatchResult, OnOk};
+ghost use Rattle.std.specs.List.{list_all};
 ghost use Rattle.sv_world.specs.declared.action.Action.{Action};
 ghost use Rattle.sv_world.specs.declared.world.Shape.{Shape};
 ghost use Rattle.sv_world.specs.Sets.{numbers_of};
-ghost use Rattle.sv_world.specs.Faults.{is_ascending, has_no_reads, has_too_many_reads, is_not_ascending, reads_no_object, has_bad_mask, has_slots, sets_in_mask, has_attrs, is_too_large, is_too_deep, is_in_plane, has_origin, first_fault_of_action, cause_number, IsGoodAction};
+ghost use Rattle.sv_world.specs.Faults.{is_ascending, has_no_reads, has_too_many_reads, is_not_ascending, reads_no_object, has_bad_mask, has_slots, sets_in_mask, has_attrs, is_too_large, is_too_deep, is_in_plane, has_origin, first_fault_of_action, cause_number, IsGoodAction, may_be_observed};
 
 use crate::fits::{Limits, block_fits};
 use crate::names::{NameTest, passes_in_nodes, weight};
@@ -68,6 +69,26 @@ pub fn is_ascending(objects: &[ObjectId]) -> bool
         last = object.0;
     }
     true
+}
+
+/// Whether all objects are of a world of so many.
+pub fn are_below(objects: u16, numbers: &[ObjectId]) -> bool
+    ensures { result ≡ list_all (λ x. nat_lt x objects) (numbers_of numbers.now) }
+{
+    let [first, rest @ ..] = numbers else {
+        return true;
+    };
+    first.0 < objects && are_below(objects, rest)
+}
+
+/// Whether these may be observed together in a world of so many objects: 1 to 16 of them, ascending.
+pub fn may_be_observed(objects: u16, observed: &[ObjectId]) -> bool
+    ensures { result ≡ may_be_observed objects (numbers_of observed.now) }
+{
+    !observed.is_empty()
+        && observed.len() <= MOST_READS
+        && is_ascending(observed)
+        && are_below(objects, observed)
 }
 
 /// Refuses an action that is not one of this shape, with the first cause that applies. It walks trees of any depth.

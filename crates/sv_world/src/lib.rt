@@ -25,7 +25,9 @@ mod world;
 pub use action::{Action, Cond, Expr, Point, Stmt};
 pub use body::Body;
 pub use boxed::Boxed;
-pub use check::{BadAction, check_action, good_actions_have_no_fault, is_ascending};
+pub use check::{
+    BadAction, are_below, check_action, good_actions_have_no_fault, is_ascending, may_be_observed,
+};
 pub use copy::{copy_action, copy_objects, copy_value, copy_values};
 pub use cursor::NodeCursor;
 pub use equal::{same_bodies_are_equal, same_body};
@@ -40,7 +42,7 @@ pub use laws::{
 };
 pub use limits::{
     MOST_ATTRS, MOST_BOUND, MOST_CLIENTS, MOST_DEPTH, MOST_INTEREST, MOST_ITEMS, MOST_NODES,
-    MOST_OBJECTS, MOST_OUTSTANDING, MOST_PENDING, MOST_REACH, MOST_READS, MOST_REQUESTS,
+    MOST_OBJECTS, MOST_OUTSTANDING, MOST_PENDING, MOST_POSITIONS, MOST_REACH, MOST_READS, MOST_REQUESTS,
     MOST_SESSIONS, MOST_SHOWN, MOST_STEPS, MOST_TURNS, limits_are_those_of_contracts,
 };
 pub use list::List;

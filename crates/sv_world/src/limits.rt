@@ -1,7 +1,7 @@
 //! The limits of the subject: how many there may be of what. `specs/Limits.antt` has the same numbers for contracts.
 ghost use Rattle.std.specs.Prelude.{◌≡◌};
 ghost use Rattle.sv_world.specs.Limits.{most_objects, most_attrs, most_reads, most_nodes, most_depth, most_clients, most_sessions, most_bound, most_reach};
-ghost use Rattle.sv_world.specs.Limits.{most_interest, most_requests, most_items, most_pending, most_outstanding, most_steps, most_shown, most_turns};
+ghost use Rattle.sv_world.specs.Limits.{most_interest, most_requests, most_items, most_positions, most_pending, most_outstanding, most_steps, most_shown, most_turns};
 
 /// The objects of a world.
 pub const MOST_OBJECTS: u16 = 4096;
@@ -39,6 +39,9 @@ pub const MOST_REQUESTS: u16 = 1024;
 /// The actions of a relay, which are one and those that influence it; so too the results of a report.
 pub const MOST_ITEMS: usize = 33;
 
+/// The positions of a world's actions.
+pub const MOST_POSITIONS: u32 = 4_294_967_294;
+
 /// The actions of a client that are not settled yet.
 pub const MOST_PENDING: usize = 8;
 
@@ -60,6 +63,7 @@ pub fn limits_are_those_of_contracts()
     ensures actions { (MOST_READS ≡ most_reads) × (MOST_NODES ≡ most_nodes) × (MOST_DEPTH ≡ most_depth) }
     ensures servers { (MOST_CLIENTS ≡ most_clients) × (MOST_SESSIONS ≡ most_sessions) × (MOST_BOUND ≡ most_bound) }
     ensures messages { (MOST_INTEREST ≡ most_interest) × (MOST_REQUESTS ≡ most_requests) × (MOST_ITEMS ≡ most_items) }
+    ensures positions { MOST_POSITIONS ≡ most_positions }
     ensures clients { (MOST_PENDING ≡ most_pending) × (MOST_OUTSTANDING ≡ most_outstanding) }
     ensures scripts { (MOST_STEPS ≡ most_steps) × (MOST_SHOWN ≡ most_shown) × (MOST_TURNS ≡ most_turns) }
 {}
