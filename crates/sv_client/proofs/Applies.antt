@@ -41,11 +41,11 @@ front_applied : (told : ℕ) (all kept : List Held) (kind : Option Awaited) (rep
     → AnswersAbove told kept all → IfOk r (λ made. made ≡ None) → IfErr r (λ fault. fault ≡ faults.Memory) → OnOk r (after ≡ redone kept (without_front before))
     → IsApplied told all kind reply before r kept after
 front_applied told all kept kind reply before after (Ok made) m d p w s n f i = (
-      m,
-      ap (λ (o : Option Request). option_to_list o) n ∙ sym d,
-      i ∙ redone_same s (without_front before) ∙ sym p,
-      subst (AnswersAbove told kept) (sym w) s,
-    )
+  m,
+  ap (λ (o : Option Request). option_to_list o) n ∙ sym d,
+  i ∙ redone_same s (without_front before) ∙ sym p,
+  subst (AnswersAbove told kept) (sym w) s,
+)
 front_applied told all kept kind reply before after (Err fault) m d p w s n f i = subst (IsMissing (missing_in all kind reply)) (sym f) tt
 
 -- A reply that takes the front action out, which was not accepted or is settled.
