@@ -22,7 +22,7 @@ use Rattle.sv_wire.specs.Fields.{byte_from, result_from}
 use Rattle.sv_wire.specs.Messages.{mask_from, point_from, action_from, item_from, join_request_from, submit_from, done_from, observe_from, request_front, request_kind_of, welcome_from, work_from, relay_from, seen_from, dropped_from, denied_from, settled_from, noted_from, code_from, refused_from, reply_front, reply_kind_of, whole, placed, request_at, reply_at}
 use Rattle.sv_wire.specs.Spelling.{int_bytes, object_bytes, head_bytes, result_bytes, point_bytes, body_bytes, action_bytes, item_bytes, work_bytes, request_bytes, reply_bytes}
 use Rattle.sv_wire.specs.Grammar.{IsWireHead, IsWireResult, IsWireAction, IsWireObserved, IsWireWork, IsWireRequest, IsWireReply}
-use Rattle.sv_wire.specs.Laws.{IsRequest, IsReply, RequestsDiffer, RepliesDiffer, RequestsAreApart, RepliesAreApart, KindsAreApart}
+use Rattle.sv_wire.specs.Laws.{RequestsDiffer, RepliesDiffer, RequestsAreApart, RepliesAreApart, KindsAreApart}
 use Rattle.sv_wire.specs.Ranges.{HeldFits, ResultFits, ActionFits, ItemFits, RequestFits, ReplyFits}
 use Rattle.sv_wire.proofs.Again.{number_again, int32_again, count_again, several_again, objects_again, head_again, result_again, both_of_each}
 use Rattle.sv_wire.proofs.AgainTrees.{body_again}
