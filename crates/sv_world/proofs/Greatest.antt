@@ -1,5 +1,5 @@
 -- The greatest number that passes a test, and the greatest cut.
-use Rattle.std.proofs.Common.{◌≡◌, ℕ, zero, suc, ◌<◌, ◌≤◌, ◌+◌, ◌-◌, Bool, true, false, inl, inr, List, [], ◌++◌, length, refl, ◌∙◌, ap, subst, arith, nat_le, le-leb, leb-true, length-append, ◌≢◌}
+use Rattle.std.proofs.Common.{◌≡◌, ℕ, zero, suc, ◌<◌, ◌≤◌, ◌+◌, ◌-◌, Bool, true, inl, inr, List, [], ◌++◌, length, refl, ◌∙◌, ap, subst, arith, nat_le, le-leb, leb-true, length-append, ◌≢◌}
 use Rattle.std.specs.Prelude.{if◌then◌else◌}
 use Rattle.std.proofs.lemmas.Bool.{cond_both, cases_eq, cases_lt}
 use Rattle.sv_world.specs.declared.action.Action.{Action}
@@ -38,26 +38,6 @@ greatest_from-greatest test low (suc n) m l h =
       | inr s ↦ less (omega arith) h
     ])
 
--- A number that passes, where none above it does.
-pub greatest_from-is : (test : ℕ → Bool) (low n m : ℕ) → low ≤ m → m ≤ low + n → test m ≡ true → ((k : ℕ) → m < k → k ≤ low + n → test k ≡ false) →
-    greatest_from test low n ≡ m
-greatest_from-is test low n m above l h none =
-    let up = greatest_from-greatest test low n m l h in
-    let g = greatest_from test low n in
-    let high = greatest_from-high test low n in
-    elim (cases_lt m g) [
-      | inl over' ↦
-          (let y : test g ≡ true = greatest_from-taken test low n (omega arith) in
-          let z : test g ≡ false = none g over' high in cc)
-      | inr under ↦ omega arith
-    ]
-  where
-    greatest_from-taken : (test : ℕ → Bool) (low n : ℕ) → low < greatest_from test low n → test (greatest_from test low n) ≡ true
-    greatest_from-taken test low zero l = absurd (omega arith)
-    greatest_from-taken test low (suc n) l =
-        let less = greatest_from-taken test low n in
-        cond_both (test (low + suc n)) (low + suc n) (greatest_from test low n) (λ (m : ℕ). low < m → test m ≡ true) (λ e g. e) (λ e g. less g) l
-
 pub greatest_from-agree : (p q : ℕ → Bool) (low n : ℕ) → ((m : ℕ) → low < m → m ≤ low + n → p m ≡ q m) → greatest_from p low n ≡ greatest_from q low n
 greatest_from-agree p q low zero same = refl
 greatest_from-agree p q low (suc n) same =
@@ -95,6 +75,17 @@ cut-few_below A c s xs n l closed le =
     let few = cut-few A c s xs in
     let more = see-longer A c s xs n (greatest_cut A c s xs) closed le (cut-high A c s xs l) in
     omega arith
+
+-- It is a position at which few enough are needed, where at none above it are.
+pub cut-is : (A : List Action) (c : ℕ) (s xs : List ℕ) (n : ℕ) → c ≤ length A → n ≤ length A → length (needed_to_see A c s xs n) ≤ most_items →
+    ((k : ℕ) → n < k → k ≤ length A → most_items < length (needed_to_see A c s xs k)) → n ≡ greatest_cut A c s xs
+cut-is A c s xs n low l few none =
+    let g = greatest_cut A c s xs in
+    let up : n ≤ g = cut-greatest A c s xs n l few in
+    elim (cases_lt n g) [
+      | inl over' ↦ (let many = none g over' (cut-high A c s xs low) in let less = cut-few A c s xs in absurd (omega arith))
+      | inr under ↦ omega arith
+    ]
 
 -- Marks up to the commit do not count, nor what the committed actions are.
 pub cut-agree : (A B : List Action) (c : ℕ) (s t xs : List ℕ) → length A ≡ length B →

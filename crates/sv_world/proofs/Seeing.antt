@@ -1,13 +1,14 @@
 -- What a session lacks of objects at a position, said of the list of all actions.
-use Rattle.std.proofs.Common.{◌≡◌, ℕ, zero, suc, ◌<◌, ◌≤◌, true, false, ◌⊎◌, inl, inr, ◌↔◌, List, [], ◌∷◌, ◌++◌, take, length, refl, sym, ◌∙◌, ap, subst, arith, nat_le, le-leb, leb-true, get_or-take}
-use Rattle.std.proofs.lemmas.Bool.{cases_Bool, cases_eq, cases_lt}
+use Rattle.std.proofs.Common.{◌≡◌, ℕ, zero, suc, ◌<◌, ◌≤◌, true, false, ◌⊎◌, inl, inr, ◌↔◌, List, [], ◌∷◌, ◌++◌, take, length, refl, sym, ◌∙◌, ap, subst, arith, nat_le, nat_lt, le-leb, leb-true, lt-ltb, ltb-true, not, ◌&&◌, map, filter, get_or-take}
+use Rattle.std.proofs.lemmas.Bool.{cases_Bool, cases_eq, cases_lt, and_parts, and_from, not-true, not_from_false}
 use Rattle.std.proofs.lemmas.List.{length-take-le}
 use Rattle.sv_world.specs.declared.action.Action.{Action}
 use Rattle.sv_world.specs.Sets.{read_set}
-use Rattle.sv_world.specs.Control.{is_in, blank, action_at, last_writer, IsNeeded, missing_writers, needed_for, reading, with_reading, up_to, needed_to_see, head_to_see}
+use Rattle.sv_world.specs.Control.{is_in, blank, action_at, last_writer, IsNeeded, missing_writers, wanted_up_to, needed_for, reading, with_reading, up_to, needed_to_see, head_to_see}
 use Rattle.sv_world.specs.Faults.{is_ascending}
-use Rattle.sv_world.proofs.Members.{is_in-head, is_in-one, is_in-append_left, is_in-append_right, is_in-append_cases, is_in-filter, is_in-filter_parts}
+use Rattle.sv_world.proofs.Members.{is_in-head, is_in-one, is_in-append_left, is_in-append_right, is_in-append_cases, is_in-filter, is_in-filter_parts, is_in-map, is_in-map_from}
 use Rattle.sv_world.proofs.Ascending.{ascending-filter, ascending-push, ascending_same}
+use Rattle.sv_world.proofs.Sweeps.{sweep, sweep-has, sweep-closed, sweep-sound, sweep-ascending}
 use Rattle.sv_world.proofs.Writers.{action_at-append, action_at-last, last_writer-below, last_writer-same, missing_writers-parts, missing_writers-has, missing_writers-lower}
 use Rattle.sv_world.proofs.Bases.{head_for-iff}
 use Rattle.sv_world.proofs.Needs.{needed-ascending, needed-bounds, needed-sound, needed-target, needed-closed, needed-iff}
@@ -265,3 +266,42 @@ see_head-iff objects A c s g xs n x le l =
         ),
       )),
     )
+
+-- ---- as a sweep
+
+-- It is the sweep from n downwards that begins with the missing writers of the objects.
+pub see-sweep : (A : List Action) (c : ℕ) (s xs : List ℕ) (n : ℕ) (w : List ℕ) → n ≤ length A →
+    ((j : ℕ) → is_in j w ≡ is_in j (filter (λ k. nat_lt c k && not (is_in k s)) (map (λ x. last_writer A x (suc n)) xs))) →
+    wanted_up_to A c s n w ≡ needed_to_see A c s xs n
+see-sweep A c s xs n w l same =
+    let M = missing_writers A c s in
+    let lower = missing_writers-lower A c s in
+    let test = λ (k : ℕ). nat_lt c k && not (is_in k s) in
+    let writers = map (λ (x : ℕ). last_writer A x (suc n)) xs in
+    ascending_same (sweep M n w) (needed_to_see A c s xs n) (sweep-ascending M n w) (see-ascending A c s xs n)
+    (sweep-sound M (λ (k : ℕ). is_in k (needed_to_see A c s xs n) ≡ true)
+    (λ k i p h.
+    let q = missing_writers-parts A c s k i h in
+    let is : i ≡ last_writer A q.0 k = q.1.1.0 in
+    subst (λ (m : ℕ). is_in m (needed_to_see A c s xs n) ≡ true) (sym is)
+    (see-closed A c s xs n k q.0 l p q.1.0 (subst (λ (m : ℕ). c < m) is q.1.1.1.0) (subst (λ (m : ℕ). is_in m s ≡ false) is q.1.1.1.1)))
+    n w
+    (λ k u m.
+    let kept = is_in-filter_parts (λ (k : ℕ). nat_lt c k && not (is_in k s)) k writers (sym (same k) ∙ m) in
+    let tests = and_parts (nat_lt c k) (not (is_in k s)) kept.1 in
+    let from = is_in-map_from (λ (x : ℕ). last_writer A x (suc n)) k xs kept.0 in
+    let is : k ≡ last_writer A from.0 (suc n) = from.1.1 in
+    subst (λ (m : ℕ). is_in m (needed_to_see A c s xs n) ≡ true) (sym is)
+    (see-direct A c s xs n from.0 l from.1.0 (subst (λ (m : ℕ). c < m) is (ltb-true c k tests.0))
+    (subst (λ (m : ℕ). is_in m s ≡ false) is (not-true (is_in k s) tests.1)))))
+    (see-sound A c s xs n (λ (k : ℕ). is_in k (sweep M n w) ≡ true) l
+    (λ x h above free.
+    let j = last_writer A x (suc n) in
+    let low : 0 < j = omega arith in
+    let under : j < suc n = last_writer-below A x (suc n) low in
+    sweep-has M n w j
+    (same j ∙ is_in-filter (λ (k : ℕ). nat_lt c k && not (is_in k s)) j writers (is_in-map (λ (y : ℕ). last_writer A y (suc n)) x xs h)
+    (and_from (nat_lt c j) (not (is_in j s)) (lt-ltb c j above) (not_from_false (is_in j s) free)))
+    low (omega arith))
+    (λ k x p reads above free.
+    sweep-closed M lower n w k (last_writer A x k) p (missing_writers-has A c s k (last_writer A x k) x reads refl above free)))
