@@ -2,6 +2,7 @@
 mod Checked
 pub mod Commits
 mod Counts
+pub mod Cuts
 mod Filling
 mod Fronts
 mod Heads
