@@ -1,5 +1,5 @@
 -- How many objects the base values of a reply have.
-use Rattle.std.proofs.Common.{◌≡◌, ℕ, zero, suc, ◌+◌, ◌*◌, ◌≤◌, Bool, true, false, not, ◌&&◌, ◌||◌, nat_eq, nat_le, ◌⊎◌, inl, inr, List, [], ◌∷◌, ◌++◌, filter, length, take, refl, arith}
+use Rattle.std.proofs.Common.{◌≡◌, ℕ, zero, suc, ◌+◌, ◌*◌, ◌≤◌, Bool, true, false, not, ◌&&◌, ◌||◌, nat_eq, nat_le, ◌⊎◌, inl, inr, List, [], ◌∷◌, ◌++◌, filter, length, take, refl, ap, arith, length-append}
 use Rattle.std.specs.Prelude.{if◌then◌else◌}
 use Rattle.std.specs.List.{AllByRecursion}
 use Rattle.std.proofs.lemmas.Bool.{cases_eq, ne_eqb, and_parts}
@@ -8,7 +8,7 @@ use Rattle.sv_world.specs.declared.action.Action.{Action}
 use Rattle.sv_world.specs.declared.world.ObjectId.{ObjectId}
 use Rattle.sv_world.specs.Sets.{object_numbered, read_set}
 use Rattle.sv_world.specs.Control.{is_in, below, action_at, last_writer, reads_committed, needed_for, head_for, reading, with_reading, up_to, needed_to_see, head_to_see}
-use Rattle.sv_journal.proofs.Cuts.{seen-one_more}
+use Rattle.sv_world.proofs.Seeing.{see-ends}
 
 -- ---- What passes a test
 
@@ -132,4 +132,5 @@ pub seen_count : (objects : ℕ) (A : List Action) (commit : ℕ) (sent given xs
     length (head_to_see objects A commit sent given xs n) ≤ 16 * (length (needed_to_see A commit sent xs n) + 1)
 seen_count objects A commit sent given xs n few short low =
     let count = head_count objects (with_reading A n xs) commit (up_to n sent) given (suc n) (few_with_reading A n xs few short) in
-    omega (arith, count, seen-one_more A commit sent xs n low)
+    let needed = ap (λ (ps : List ℕ). length ps) (see-ends A commit sent xs n low) in
+    omega (arith, count, needed, length-append (needed_to_see A commit sent xs n) (suc n ∷ []))

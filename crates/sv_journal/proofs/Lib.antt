@@ -1,8 +1,8 @@
 -- The lemmas of this crate, file by file.
 mod Checked
+pub mod Closed
 pub mod Commits
 mod Counts
-pub mod Cuts
 mod Filling
 mod Fronts
 mod Heads

@@ -10,6 +10,7 @@ use Rattle.sv_world.specs.declared.world.Shape.{Shape}
 use Rattle.sv_world.specs.Control.{blank}
 use Rattle.sv_world.specs.Faults.{first_fault_of_action, IsGoodAction}
 use Rattle.sv_world.specs.Sets.{numbers_of}
+use Rattle.sv_world.proofs.Greatest.{cut-low}
 use Rattle.sv_wire.specs.declared.message.Done1.{Done1}
 use Rattle.sv_wire.specs.declared.message.Item.{Item}
 use Rattle.sv_wire.specs.declared.message.Request.{Request}
@@ -25,14 +26,12 @@ use Rattle.sv_journal.specs.Serving.{Keeping, plain, reply_for, LegalFor, with_r
 use Rattle.sv_journal.specs.Text.{NamesAccepted}
 use Rattle.sv_journal.specs.Laws.{most_sent, AreWithinLimits, LegalRepliesAreMessages, ServedRepliesAreMessages}
 use Rattle.sv_journal.proofs.Plain.{plain-keeping, plain-legal}
-use Rattle.sv_journal.proofs.Kept.{commit_within-kept}
 use Rattle.sv_journal.proofs.Replies.{cut_for, seen_now, each_row}
 use Rattle.sv_journal.proofs.Named.{NeededWithin, all_named}
 use Rattle.sv_journal.proofs.Sizes.{SizeWithin, entry_of, all_small}
 use Rattle.sv_journal.proofs.Checked.{IsGood, AreGood, served_good}
 use Rattle.sv_journal.proofs.Counts.{FewReads, one_more}
 use Rattle.sv_journal.proofs.Results.{AreResults, results_quiet, results_noted, some_good}
-use Rattle.sv_journal.proofs.Cuts.{cut-within}
 use Rattle.sv_journal.proofs.Heads.{HeadAscends, HeadWithin, IsHead, wire_head, relay_head, seen_head, welcome_head, observed_few}
 
 -- A law of sv_world: what holds of an action that no cause applies to.
@@ -102,10 +101,9 @@ fits_here ascends within none_good k law r h s q limits good results = each_row 
 
     shown : (xs : List ℕ) → length xs ≤ 16 → Keeps k r h s q (seen_now r (k.kept h) (actions_of h) s xs)
     shown xs short =
-        let low : commit_of (k.kept h) ≤ length (actions_of h) = omega (arith, length-map (accepted h) (λ (x : Authored). x.action), commit_within-kept k law h) in
-        let cut = cut-within (actions_of h) (commit_of (k.kept h)) (sent_to (k.kept h) s) xs low in
         quiet k law r h s q results (seen_now r (k.kept h) (actions_of h) s xs) refl
-        (seen_head ascends within r (k.kept h) (actions_of h) s xs (cut_for (k.kept h) (actions_of h) s xs) limits results few short cut.0)
+        (seen_head ascends within r (k.kept h) (actions_of h) s xs (cut_for (k.kept h) (actions_of h) s xs) limits results few short
+        (cut-low (actions_of h) (commit_of (k.kept h)) (sent_to (k.kept h) s) xs))
 
 all_fit : HeadAscends → HeadWithin → GoodWhereNone → (k : Keeping) → IsKeeping k → (r : Rules) (h : List Entry) → AreWithinLimits r → LegalFor k r h →
     AreResults r.world.shape.attrs (k.kept h) × AllByRecursion (λ (e : Entry). Fits e.reply) h

@@ -19,7 +19,7 @@ use Rattle.sv_journal.specs.declared.entry.Entry.{Entry}
 use Rattle.sv_journal.specs.declared.entry.Logged.{Logged}
 use Rattle.sv_journal.specs.declared.entry.Logged.TheVariants as logged
 use Rattle.sv_journal.specs.History.{is_relay, client_of, Outcome, Accepted, Dropped, actions_of, next_seq, commit_of}
-use Rattle.sv_journal.specs.Sessions.{is_over, is_live, asked_in, life_of, kept_outcome, sent_to, already_given}
+use Rattle.sv_journal.specs.Sessions.{is_over, is_live, asked_in, life_of, kept_outcome, positions_in, sent_to, already_given}
 use Rattle.sv_journal.specs.Answer.{Rules, refused, refused_as, relay_of, is_over_reach, committed_held, reply_to_good, reply_to_checked, reply_to_submit, is_bad_done, orphans, reply_to_poll, is_good_interest, reply_to_join, reply_to_client, reply_to_member}
 use Rattle.sv_journal.specs.Serving.{Keeping, noted_after, polled_after, with_last_rows, reply_for, IsKeeping}
 use Rattle.sv_journal.proofs.Kept.{client-kept, actions-kept, next-kept, kept_outcome-kept, over-kept, live-kept, life-kept}
@@ -39,6 +39,17 @@ seen_now r h A s xs = seen_of r h A s xs (cut_for h A s xs)
 abbrev pub is_seen : Logged → Bool
 is_seen (logged.Seen last commit head positions) = true
 is_seen _ = false
+
+pub sends_none : (w : Logged) → is_relay w ≡ false → is_seen w ≡ false → positions_in w ≡ []
+sends_none (logged.Relay seq commit head positions) e f = absurd (cc)
+sends_none (logged.Seen last commit head positions) e f = absurd (cc)
+sends_none (logged.Welcome commit head) e f = refl
+sends_none (logged.Dropped seq chain far) e f = refl
+sends_none (logged.Settled seq pos) e f = refl
+sends_none (logged.Noted commit) e f = refl
+sends_none logged.Idle e f = refl
+sends_none (logged.Refused code detail) e f = refl
+sends_none logged.Bye e f = refl
 
 -- What a refusal tells besides its code: a small number, or a client's next number or life.
 abbrev pub IsDetail : List Entry → ℕ → Type 0

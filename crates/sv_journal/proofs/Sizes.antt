@@ -1,5 +1,5 @@
 -- The relays of a server have at most one item more than the bound, and what it shows has at most 33, whatever results it keeps.
-use Rattle.std.proofs.Common.{◌≡◌, ℕ, zero, suc, ◌+◌, ◌<◌, ◌≤◌, false, List, [], ◌∷◌, ◌++◌, map, length, Option, Some, None, ◌⊎◌, inl, inr, refl, sym, ap, subst, ◌∙◌, arith, append_assoc, length-append}
+use Rattle.std.proofs.Common.{◌≡◌, ℕ, zero, suc, ◌+◌, ◌<◌, ◌≤◌, true, false, List, [], ◌∷◌, ◌++◌, map, length, Option, Some, None, ◌⊎◌, inl, inr, refl, sym, ap, subst, ◌∙◌, arith, append_assoc, length-append}
 use Rattle.std.specs.Prelude.{nat_le}
 use Rattle.std.specs.List.{AllByRecursion}
 use Rattle.std.proofs.lemmas.Bool.{cond_both, cases_lt, eq-eqb, ne_eqb}
@@ -9,6 +9,7 @@ use Rattle.std.proofs.lemmas.Option.{slice_get_within}
 use Rattle.sv_world.specs.declared.action.Action.{Action}
 use Rattle.sv_world.specs.Control.{needed_for, chain_length}
 use Rattle.sv_world.specs.Sets.{numbers_of}
+use Rattle.sv_world.proofs.Greatest.{cut-few}
 use Rattle.sv_wire.specs.declared.message.Request.{Request}
 use Rattle.sv_wire.specs.declared.message.Request.TheVariants as requests
 use Rattle.sv_journal.specs.declared.entry.Entry.{Entry}
@@ -22,8 +23,7 @@ use Rattle.sv_journal.specs.Laws.{most_sent, LegalRelaysAreSmall, ServedRelaysAr
 use Rattle.sv_journal.proofs.Commits.{new_by}
 use Rattle.sv_journal.proofs.Kept.{commit_within-kept, commit_grows-kept}
 use Rattle.sv_journal.proofs.Plain.{plain-keeping, plain-legal}
-use Rattle.sv_journal.proofs.Cuts.{cut-few}
-use Rattle.sv_journal.proofs.Replies.{seen_now, is_seen, each_reply}
+use Rattle.sv_journal.proofs.Replies.{seen_now, is_seen, sends_none, each_reply}
 use Rattle.sv_journal.proofs.Named.{first_is_in, kept_within}
 
 -- A law of sv_world: later a relay has no more items than its action had influences when it was accepted, and one.
@@ -113,50 +113,57 @@ kept_known h k seq o =
     known zero e = absurd (none e)
     known (suc n) e = omega (arith, slice_get_within (outcomes_of h k) n o e)
 
-pub not_by_poll : (o : Option ℕ) (next : ℕ → ℕ) → new_action o next requests.Poll ≡ []
+not_by_poll : (o : Option ℕ) (next : ℕ → ℕ) → new_action o next requests.Poll ≡ []
 not_by_poll None next = refl
 not_by_poll (Some k) next = refl
 
--- ---- Each reply
-
 abbrev pub entry_of : ℕ → Request → Logged → Entry
 entry_of s q w = record { session = s; request = q; reply = w }
+
+-- A Submit that is repeated adds no action, and a Poll neither.
+pub none_again : (h : List Entry) (s j seq p : ℕ) (q : Request) (a : Action) (w : Logged) → client_of h s ≡ Some j → q ≡ requests.Submit seq a →
+    kept_outcome h j seq ≡ Some (Accepted p) → is_relay w ≡ true → new_by (entry_of s q w) h ≡ []
+none_again h s j seq p q a w client asked kept relayed =
+    rw (relayed, client, asked, ne_eqb seq (next_seq h j) (λ e. omega (arith, e, kept_known h j seq (Accepted p) kept))) refl
+
+pub none_polled : (h : List Entry) (s : ℕ) (q : Request) (w : Logged) → q ≡ requests.Poll → is_relay w ≡ true → new_by (entry_of s q w) h ≡ []
+none_polled h s q w asked relayed = rw (relayed, asked) (not_by_poll (client_of h s) (λ i. suc (length (outcomes_of h i))))
+
+-- A new one adds its own.
+pub one_fresh : (h : List Entry) (s j seq : ℕ) (q : Request) (a : Action) (w : Logged) → client_of h s ≡ Some j → q ≡ requests.Submit seq a → seq ≡ next_seq h j →
+    is_relay w ≡ true → new_by (entry_of s q w) h ≡ record { client = j; seq = seq; action = a } ∷ []
+one_fresh h s j seq q a w client asked next relayed = rw (relayed, client, asked, eq-eqb seq (next_seq h j) next) refl
+
+-- ---- Each reply
 
 abbrev KeepsBound : Rules → Keeping → List Entry → ℕ → Request → Logged → Type 0
 KeepsBound r k h s q w = AreBounded r.bound k (entry_of s q w ∷ h) × (length (positions_in w) ≤ most_sent r w)
 
 no_items : (r : Rules) (w : Logged) → is_relay w ≡ false → is_seen w ≡ false → length (positions_in w) ≤ most_sent r w
-no_items r (logged.Relay seq commit head positions) e f = absurd (cc)
-no_items r (logged.Welcome commit head) e f = omega arith
-no_items r (logged.Dropped seq chain far) e f = omega arith
-no_items r (logged.Seen last commit head positions) e f = absurd (cc)
-no_items r (logged.Settled seq pos) e f = omega arith
-no_items r (logged.Noted commit) e f = omega arith
-no_items r logged.Idle e f = omega arith
-no_items r (logged.Refused code detail) e f = omega arith
-no_items r logged.Bye e f = omega arith
+no_items r w e f = omega (arith, ap (λ (ps : List ℕ). length ps) (sends_none w e f))
 
 bound_kept : SizeWithin → (k : Keeping) → IsKeeping k → (r : Rules) (h : List Entry) (s : ℕ) (q : Request) → AreBounded r.bound k h →
     KeepsBound r k h s q (reply_for k r h s q)
 bound_kept size k law r h s q inv = each_reply k law r h s (KeepsBound r k h s q) q (record {
   other = λ w e f. (none_new k law r.bound (entry_of s q w) h (rw e refl) inv, no_items r w e f);
   fresh = λ j seq a client asked next good chain.
-      let count = length-map (accepted h) (λ (x : Authored). x.action) in (
-        one_new k law r.bound (entry_of s q (relay_of r (k.kept h) (actions_of h ++ a ∷ []) s seq (suc (length (actions_of h))))) h j seq a
-            (rw (client, asked, eq-eqb seq (next_seq h j) next) refl) chain inv,
+      let count = length-map (accepted h) (λ (x : Authored). x.action) in
+      let w = relay_of r (k.kept h) (actions_of h ++ a ∷ []) s seq (suc (length (actions_of h))) in (
+        one_new k law r.bound (entry_of s q w) h j seq a (one_fresh h s j seq q a w client asked next refl) chain inv,
         sized size (actions_of h ++ a ∷ []) (commit_of (k.kept h)) r.bound (suc (length (actions_of h))) (sent_to (k.kept h) s)
             (record { earlier = actions_of h; action = a; later = []; split = refl; placed = omega arith; early = commit_of (k.kept h); before = omega arith; chain = chain })
             (omega (arith, count, commit_within-kept k law h)),
       );
-  again = λ j seq p a client asked kept above. (
-    none_new k law r.bound (entry_of s q (relay_of r (k.kept h) (actions_of h) s seq p)) h
-        (rw (client, asked, ne_eqb seq (next_seq h j) (λ e. omega (arith, e, kept_known h j seq (Accepted p) kept))) refl) inv,
-    sized size (actions_of h) (commit_of (k.kept h)) r.bound p (sent_to (k.kept h) s) (inv p (omega (arith, above)) (kept_within h j seq p kept)) above,
-  );
+  again = λ j seq p a client asked kept above.
+      let w = relay_of r (k.kept h) (actions_of h) s seq p in (
+        none_new k law r.bound (entry_of s q w) h (none_again h s j seq p q a w client asked kept refl) inv,
+        sized size (actions_of h) (commit_of (k.kept h)) r.bound p (sent_to (k.kept h) s) (inv p (omega (arith, above)) (kept_within h j seq p kept)) above,
+      );
   poll = λ j p ps client asked open_still first.
       let due = first_is_in (k.due h s) p ps first in
-      let above = law.above h s p due in (
-        none_new k law r.bound (entry_of s q (relay_of r (k.kept h) (actions_of h) s 0 p)) h (rw asked (not_by_poll (client_of h s) (λ i. suc (length (outcomes_of h i))))) inv,
+      let above = law.above h s p due in
+      let w = relay_of r (k.kept h) (actions_of h) s 0 p in (
+        none_new k law r.bound (entry_of s q w) h (none_polled h s q w asked refl) inv,
         sized size (actions_of h) (commit_of (k.kept h)) r.bound p (sent_to (k.kept h) s) (inv p (omega (arith, above)) (law.within h s p due)) above,
       );
   seen = λ j wait objects client asked open_still good. (
