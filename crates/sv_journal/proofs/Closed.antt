@@ -49,10 +49,10 @@ seen_close A commit sent xs n within p x m reads above =
 
 -- ---- Accepted actions and those that an entry adds
 
-abbrev acts : List Authored → List Action
+abbrev pub acts : List Authored → List Action
 acts A = map (λ (x : Authored). x.action) A
 
-all_actions : (e : Entry) (h : List Entry) → actions_of (e ∷ h) ≡ actions_of h ++ acts (new_by e h)
+pub all_actions : (e : Entry) (h : List Entry) → actions_of (e ∷ h) ≡ actions_of h ++ acts (new_by e h)
 all_actions e h = map-append (λ (x : Authored). x.action) (accepted h) (new_by e h)
 
 same_actions : (e : Entry) (h : List Entry) → new_by e h ≡ [] → actions_of (e ∷ h) ≡ actions_of h
