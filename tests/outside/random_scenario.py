@@ -5,8 +5,8 @@
 
 The same seed gives the same file. There are few objects, so that clients meet each other: 1 to 8
 clients, 1 to 12 objects of 1 to 4 numbers, a bound of 0 to 8, at times a reach and origins; acts of
-all forms of the language, void ones among them; polls, syncs, shows, cuts, and a quit at the end of
-some scripts. Most files have a schedule of random turns, which counts for `replay` alone.
+all forms of the language, void ones among them; polls, observes, syncs, shows, cuts, and a quit at the
+end of some scripts. Most files have a schedule of random turns, which counts for `replay` alone.
 """
 
 import json
@@ -140,14 +140,18 @@ class Maker:
         """A script with at most so many cuts."""
         steps = []
         syncs = self.chance.choice([0, 2, 2, 4])
-        weights = [10, self.chance.choice([0, 2, 2, 12]), syncs, 3, self.chance.choice([1, 1, 3])]
+        weights = [10, self.chance.choice([0, 2, 2, 12]), syncs, 3, self.chance.choice([1, 1, 3]),
+                   self.chance.choice([0, 2, 4, 12])]
         for _ in range(self.chance.choice([0, 1, 3, 6, 10, 16, 24, 40])):
-            kind = self.chance.choices(["act", "poll", "sync", "show", "cut"], weights)[0]
+            kind = self.chance.choices(["act", "poll", "sync", "show", "cut", "observe"], weights)[0]
             if kind == "act":
                 steps.append({"act": self.act()})
             elif kind == "show":
                 count = self.chance.randrange(1, min(16, self.objects + 2) + 1)
                 steps.append({"show": [self.chance.randrange(self.objects) for _ in range(count)]})
+            elif kind == "observe":
+                count = self.chance.randrange(1, min(16, self.objects) + 1)
+                steps.append({"observe": sorted(self.chance.sample(range(self.objects), count))})
             elif kind != "cut":
                 steps.append(kind)
             elif cuts:
