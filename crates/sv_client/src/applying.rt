@@ -118,7 +118,7 @@ fn evaluate(
     versions: &mut Versions,
     undo: &mut Undo,
     brought: &Brought<'_>,
-) -> Result<Vec<Done1>, TakeFault>
+) -> Result<List<Done1>, TakeFault>
     requires head { IsHeadWithin versions.old.shape.objects brought.now.head.now }
     requires reads { ItemsReadWithin versions.old.shape.objects brought.now.items.now }
     ensures shape { versions.new.shape ≡ versions.old.shape }
@@ -128,7 +128,7 @@ fn evaluate(
     hold_head(versions, undo, brought.commit, brought.head)?;
     let mut results = Vec::with_capacity(versions.alloc(), brought.items.len())?;
     evaluate_items(versions, undo, brought.items, &mut results)?;
-    Ok(results)
+    Ok(List::from_vec(results))
 }
 
 fn apply_relay(
@@ -148,10 +148,8 @@ fn apply_relay(
     ensures err { OnErr result (pending.new ≡ pending.old) }
 {
     let results = evaluate(versions, undo, relay)?;
-    settle_by(pending, versions, seq, &results)?;
-    Ok(Some(Request::Done {
-        results: List::from_vec(results),
-    }))
+    settle_by(pending, versions, seq, results.as_slice())?;
+    Ok(Some(Request::Done { results }))
 }
 
 fn has_news(brought: &Brought<'_>) -> bool
@@ -178,15 +176,13 @@ fn reconcile_by(
 }
 
 /// The Done of results, where there are any.
-fn done_of(results: Vec<Done1>) -> Option<Request>
-    ensures { option_to_list result ≡ done_with results.items }
+fn done_of(results: List<Done1>) -> Option<Request>
+    ensures { option_to_list result ≡ done_with results }
 {
-    if results.is_empty() {
+    if results.len() == 0 {
         return None;
     }
-    Some(Request::Done {
-        results: List::from_vec(results),
-    })
+    Some(Request::Done { results })
 }
 
 /// Refuses where no value is held of an object at or below a position.

@@ -172,11 +172,8 @@ fn is_good_answer(
 {
     match awaited {
         Awaited::Poll => seq == 0,
-        Awaited::Join
-        | Awaited::Submit
-        | Awaited::Done
-        | Awaited::Observe(_)
-        | Awaited::Leave => is_for_front(pending, seq) && ends_as_own(id, pending, items),
+        Awaited::Join | Awaited::Submit | Awaited::Done | Awaited::Observe(_) | Awaited::Leave =>
+            is_for_front(pending, seq) && ends_as_own(id, pending, items),
     }
 }
 
