@@ -47,13 +47,24 @@ settles-submit who t requests.Poll (replies.Relay n commit head items) c k g =
     let bad : is_bad_relay who (pending_of t) requests.Poll n items ≡ false = (or_parts (is_bad_head who.shape head) (is_bad_relay who (pending_of t) requests.Poll n items) g).1 in
     let good : (n == 0) ≡ true = not-false (n == 0) (or_parts _ (not (n == 0)) bad).1 in
     ap not good
+settles-submit who t (requests.Observe objects wait) (replies.Relay n commit head items) c k g =
+    let bad : is_bad_relay who (pending_of t) (requests.Observe objects wait) n items ≡ false = (or_parts (is_bad_head who.shape head) (is_bad_relay who (pending_of t) (requests.Observe objects wait) n items) g).1 in
+    let good : (n == 0) ≡ true = not-false (n == 0) (or_parts _ (not (n == 0)) bad).1 in
+    ap not good
 settles-submit who t requests.Poll replies.Idle c k g = refl
+settles-submit who t (requests.Observe objects wait) replies.Idle c k g = refl
 settles-submit who t requests.Poll (replies.Dropped n chain far) c k g = absurd (true≢false (sym k))
+settles-submit who t (requests.Observe objects wait) (replies.Dropped n chain far) c k g = absurd (true≢false (sym k))
 settles-submit who t requests.Poll (replies.Settled n pos) c k g = absurd (true≢false (sym k))
+settles-submit who t (requests.Observe objects wait) (replies.Settled n pos) c k g = absurd (true≢false (sym k))
 settles-submit who t requests.Poll (replies.Welcome commit head) c k g = absurd (true≢false (sym k))
+settles-submit who t (requests.Observe objects wait) (replies.Welcome commit head) c k g = absurd (true≢false (sym k))
 settles-submit who t requests.Poll (replies.Noted commit) c k g = absurd (true≢false (sym k))
+settles-submit who t (requests.Observe objects wait) (replies.Noted commit) c k g = absurd (true≢false (sym k))
 settles-submit who t requests.Poll (replies.Refused code detail) c k g = absurd (true≢false (sym k))
+settles-submit who t (requests.Observe objects wait) (replies.Refused code detail) c k g = absurd (true≢false (sym k))
 settles-submit who t requests.Poll replies.Bye c k g = absurd (true≢false (sym k))
+settles-submit who t (requests.Observe objects wait) replies.Bye c k g = absurd (true≢false (sym k))
 settles-submit who t (requests.Join client life interest) (replies.Welcome commit head) c k g = refl
 settles-submit who t (requests.Join client life interest) (replies.Relay n commit head items) c k g = absurd (true≢false (sym k))
 settles-submit who t (requests.Join client life interest) (replies.Dropped n chain far) c k g = absurd (true≢false (sym k))
@@ -112,6 +123,7 @@ rest-of (requests.Submit seq a) b ks js e f = ap without_first f ∙ sym (cond-t
 rest-of (requests.Join client life interest) b ks js e f = f ∙ sym (cond-false b (without_first js) js e)
 rest-of (requests.Done results) b ks js e f = f ∙ sym (cond-false b (without_first js) js e)
 rest-of requests.Poll b ks js e f = f ∙ sym (cond-false b (without_first js) js e)
+rest-of (requests.Observe objects wait) b ks js e f = f ∙ sym (cond-false b (without_first js) js e)
 rest-of requests.Leave b ks js e f = f ∙ sym (cond-false b (without_first js) js e)
 rest-of requests.Bad b ks js e f = f ∙ sym (cond-false b (without_first js) js e)
 rest-of requests.End b ks js e f = f ∙ sym (cond-false b (without_first js) js e)
@@ -171,6 +183,7 @@ module _ (who : Identity) (first : ℕ) where
       (aligned-got r t s (subst (λ (n : ℕ). AreProper who first (events.Got n r ∷ t)) e p) before)
   aligned (events.Make action ∷ t) p s c = aligned-make action t s p c (aligned t p.1 s c)
   aligned (events.Poll ∷ t) p s c = quiet who first t s (if is_session (current_session t) s then requests.Poll ∷ [] else []) (quiet-if who first (is_session (current_session t) s) requests.Poll refl) (got-fewer who first t p.1 s) (aligned t p.1 s c)
+  aligned (events.Observe objects wait ∷ t) p s c = quiet who first t s (if is_session (current_session t) s then requests.Poll ∷ [] else []) (quiet-if who first (is_session (current_session t) s) requests.Poll refl) (got-fewer who first t p.1 s) (aligned t p.1 s c)
   aligned (events.Leave ∷ t) p s c = quiet who first t s (if is_session (current_session t) s then requests.Leave ∷ [] else []) (quiet-if who first (is_session (current_session t) s) requests.Leave refl) (got-fewer who first t p.1 s) (aligned t p.1 s c)
   aligned (events.Cut ∷ t) p s c = quiet who first t s [] refl (got-fewer who first t p.1 s) (aligned t p.1 s c)
   aligned (events.Quit ∷ t) p s c = quiet who first t s [] refl (got-fewer who first t p.1 s) (aligned t p.1 s c)

@@ -79,6 +79,7 @@ module _ (who : Identity) (first : ℕ) where
       (cond_both (settles r) (without_first (keys (pending_of t))) (keys (pending_of t)) AreChecked (λ e. checked-rest (keys (pending_of t)) before) (λ e. before))
   pending-checked (events.Join s ∷ t) p = pending-checked t p.1
   pending-checked (events.Poll ∷ t) p = pending-checked t p.1
+  pending-checked (events.Observe objects wait ∷ t) p = pending-checked t p.1
   pending-checked (events.Leave ∷ t) p = pending-checked t p.1
   pending-checked (events.Cut ∷ t) p = pending-checked t p.1
   pending-checked (events.Quit ∷ t) p = pending-checked t p.1
@@ -109,6 +110,8 @@ module _ (who : Identity) (first : ℕ) where
   not-bad_done true held (replies.Relay seq commit head items) (suc j) e = none-some requests.Bad e
   not-bad_done true held (replies.Welcome commit head) j e = none-some requests.Bad e
   not-bad_done true held (replies.Dropped seq chain far) j e = none-some requests.Bad e
+  not-bad_done true held (replies.Denied seq object) j e = none-some requests.Bad e
+  not-bad_done true held (replies.Seen last commit head items) j e = none-some requests.Bad e
   not-bad_done true held (replies.Settled seq pos) j e = none-some requests.Bad e
   not-bad_done true held (replies.Noted commit) j e = none-some requests.Bad e
   not-bad_done true held replies.Idle j e = none-some requests.Bad e
@@ -127,6 +130,7 @@ module _ (who : Identity) (first : ℕ) where
       now (events.Got m r) j g = not-bad_done (m == s) (held_of t) r j g
       now (events.Make action) j g = not-bad_if (is_session (current_session t) s) (requests.Submit (suc (makes t)) action) j refl g
       now events.Poll j g = not-bad_if (is_session (current_session t) s) requests.Poll j refl g
+      now (events.Observe objects wait) j g = not-bad_if (is_session (current_session t) s) requests.Poll j refl g
       now events.Leave j g = not-bad_if (is_session (current_session t) s) requests.Leave j refl g
       now events.Cut j g = none-some requests.Bad g
       now events.Quit j g = none-some requests.Bad g
@@ -143,6 +147,7 @@ pub items-logged : (A : List Authored) (reply : Logged) → items_of (full_reply
 items-logged A (logged.Relay seq commit head positions) = refl
 items-logged A (logged.Welcome commit head) = refl
 items-logged A (logged.Dropped seq chain far) = refl
+items-logged A (logged.Seen last commit head positions) = refl
 items-logged A (logged.Settled seq pos) = refl
 items-logged A (logged.Noted commit) = refl
 items-logged A logged.Idle = refl
@@ -157,6 +162,7 @@ positions-low K keeps r d h l (logged.Relay seq commit head positions) is =
     )
 positions-low K keeps r d h l (logged.Welcome commit head) is = (refl, λ k m. absurd (true≢false (sym m)))
 positions-low K keeps r d h l (logged.Dropped seq chain far) is = (refl, λ k m. absurd (true≢false (sym m)))
+positions-low K keeps r d h l (logged.Seen last commit head positions) is = (refl, λ k m. absurd (true≢false (sym m)))
 positions-low K keeps r d h l (logged.Settled seq pos) is = (refl, λ k m. absurd (true≢false (sym m)))
 positions-low K keeps r d h l (logged.Noted commit) is = (refl, λ k m. absurd (true≢false (sym m)))
 positions-low K keeps r d h l logged.Idle is = (refl, λ k m. absurd (true≢false (sym m)))
@@ -315,6 +321,8 @@ module _ (truthful : Truthful) where
       ∙ ap (with_last_rows K r g s (requests.Done results)) (cond-false (is_bad_done r (K.kept g) s results) (refused 7 0) (logged.Noted (commit_with (K.kept g) s results)) (done-good results is)))) refl
   allowed requests.Poll is =
       subst (λ (y : Logged). allows requests.Poll (full_reply A y) ≡ true) (sym (member-reply requests.Poll is refl refl ∙ polled K r g s (orphans (K.kept g)))) (due-allowed (K.due g s))
+  allowed (requests.Observe objects wait) is =
+      subst (λ (y : Logged). allows (requests.Observe objects wait) (full_reply A y) ≡ true) (sym (member-reply (requests.Observe objects wait) is refl refl ∙ polled K r g s (orphans (K.kept g)))) (due-allowed (K.due g s))
   allowed requests.Leave is = subst (λ (y : Logged). allows requests.Leave (full_reply A y) ≡ true) (sym (member-reply requests.Leave is refl refl)) refl
   allowed requests.Bad is = absurd (never-bad who L.first whole s (length (got whole s)) (asking requests.Bad is refl))
   allowed requests.End is = absurd (true≢false (sym (ap is_end is) ∙ (of-parts e s mine).1))

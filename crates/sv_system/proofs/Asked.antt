@@ -70,6 +70,7 @@ module _ (who : Identity) (first : ℕ) where
   got-one (events.Join n) t s = front-all (got t s)
   got-one (events.Make action) t s = front-all (got t s)
   got-one events.Poll t s = front-all (got t s)
+  got-one (events.Observe objects wait) t s = front-all (got t s)
   got-one events.Leave t s = front-all (got t s)
   got-one events.Cut t s = front-all (got t s)
   got-one events.Quit t s = front-all (got t s)
@@ -107,6 +108,7 @@ module _ (who : Identity) (first : ℕ) where
   got-when (events.Join m ∷ t) s n reply is = got-later (events.Join m) t s n reply (got-when t s n reply is)
   got-when (events.Make action ∷ t) s n reply is = got-later (events.Make action) t s n reply (got-when t s n reply is)
   got-when (events.Poll ∷ t) s n reply is = got-later events.Poll t s n reply (got-when t s n reply is)
+  got-when (events.Observe objects wait ∷ t) s n reply is = got-later (events.Observe objects wait) t s n reply (got-when t s n reply is)
   got-when (events.Leave ∷ t) s n reply is = got-later events.Leave t s n reply (got-when t s n reply is)
   got-when (events.Cut ∷ t) s n reply is = got-later events.Cut t s n reply (got-when t s n reply is)
   got-when (events.Quit ∷ t) s n reply is = got-later events.Quit t s n reply (got-when t s n reply is)
@@ -186,6 +188,8 @@ module _ (who : Identity) (first : ℕ) where
   done-by t s results (replies.Relay seq commit head items) (suc j) e = absurd (none-some (requests.Done results) e)
   done-by t s results (replies.Welcome commit head) j e = absurd (none-some (requests.Done results) e)
   done-by t s results (replies.Dropped seq chain far) j e = absurd (none-some (requests.Done results) e)
+  done-by t s results (replies.Denied seq object) j e = absurd (none-some (requests.Done results) e)
+  done-by t s results (replies.Seen last commit head items) j e = absurd (none-some (requests.Done results) e)
   done-by t s results (replies.Settled seq pos) j e = absurd (none-some (requests.Done results) e)
   done-by t s results (replies.Noted commit) j e = absurd (none-some (requests.Done results) e)
   done-by t s results replies.Idle j e = absurd (none-some (requests.Done results) e)
@@ -221,6 +225,7 @@ module _ (who : Identity) (first : ℕ) where
   done-of_event (events.Make action) t s j results e =
       (let f : requests.Submit (suc (makes t)) action ≡ requests.Done results = no-done_if (is_session (current_session t) s) _ j results e in cc)
   done-of_event events.Poll t s j results e = (let f : requests.Poll ≡ requests.Done results = no-done_if (is_session (current_session t) s) _ j results e in cc)
+  done-of_event (events.Observe objects wait) t s j results e = (let f : requests.Poll ≡ requests.Done results = no-done_if (is_session (current_session t) s) _ j results e in cc)
   done-of_event events.Leave t s j results e = (let f : requests.Leave ≡ requests.Done results = no-done_if (is_session (current_session t) s) _ j results e in cc)
   done-of_event events.Cut t s j results e = absurd (none-some (requests.Done results) e)
   done-of_event events.Quit t s j results e = absurd (none-some (requests.Done results) e)
@@ -299,6 +304,7 @@ module _ (who : Identity) (first : ℕ) where
   begun-or_not (events.Got m r ∷ t) p s = begun-got t m r s p.0.current (begun-or_not t p.1 s)
   begun-or_not (events.Make action ∷ t) p s = still-not t (events.Make action) s (omega arith) (not-asked t _ s) refl (begun-or_not t p.1 s)
   begun-or_not (events.Poll ∷ t) p s = still-not t events.Poll s (omega arith) (not-asked t _ s) refl (begun-or_not t p.1 s)
+  begun-or_not (events.Observe objects wait ∷ t) p s = still-not t (events.Observe objects wait) s (omega arith) (not-asked t _ s) refl (begun-or_not t p.1 s)
   begun-or_not (events.Leave ∷ t) p s = still-not t events.Leave s (omega arith) (not-asked t _ s) refl (begun-or_not t p.1 s)
   begun-or_not (events.Cut ∷ t) p s = still-not t events.Cut s (omega arith) (λ f. refl) refl (begun-or_not t p.1 s)
   begun-or_not (events.Quit ∷ t) p s = still-not t events.Quit s (omega arith) (λ f. refl) refl (begun-or_not t p.1 s)
@@ -311,6 +317,7 @@ module _ (who : Identity) (first : ℕ) where
   current-last (events.Got m r ∷ t) p s c = current-last t p.1 s c
   current-last (events.Make action ∷ t) p s c = current-last t p.1 s c
   current-last (events.Poll ∷ t) p s c = current-last t p.1 s c
+  current-last (events.Observe objects wait ∷ t) p s c = current-last t p.1 s c
   current-last (events.Leave ∷ t) p s c = current-last t p.1 s c
   current-last (events.Cut ∷ t) p s c = current-last t p.1 s c
   current-last (events.Quit ∷ t) p s c = current-last t p.1 s c
@@ -324,6 +331,7 @@ current-joined (events.Join m ∷ t) s c = or_left (m == s) (list_any (is_join_o
 current-joined (events.Got m r ∷ t) s c = current-joined t s c
 current-joined (events.Make action ∷ t) s c = current-joined t s c
 current-joined (events.Poll ∷ t) s c = current-joined t s c
+current-joined (events.Observe objects wait ∷ t) s c = current-joined t s c
 current-joined (events.Leave ∷ t) s c = current-joined t s c
 current-joined (events.Cut ∷ t) s c = current-joined t s c
 current-joined (events.Quit ∷ t) s c = current-joined t s c

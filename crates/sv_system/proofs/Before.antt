@@ -58,6 +58,7 @@ told-most K keeps r A d h g l b (logged.Noted commit) is c e =
     let w : commit ≡ commit_of (K.kept (d ∷ h)) = t.1.1 ∙ noted-commit K keeps d h commit is in
     omega arith
 told-most K keeps r A d h g l b (logged.Dropped seq chain far) is c e = absurd (none-some c e)
+told-most K keeps r A d h g l b (logged.Seen last commit head positions) is c e = absurd (none-some c e)
 told-most K keeps r A d h g l b (logged.Settled seq pos) is c e = absurd (none-some c e)
 told-most K keeps r A d h g l b logged.Idle is c e = absurd (none-some c e)
 told-most K keeps r A d h g l b (logged.Refused code detail) is c e = absurd (none-some c e)
@@ -192,6 +193,7 @@ module _ (awaited : Awaited) where
   told-before (events.Join o ∷ t) p = told-before t (part-rest t (events.Join o) whole p)
   told-before (events.Make action ∷ t) p = told-before t (part-rest t (events.Make action) whole p)
   told-before (events.Poll ∷ t) p = told-before t (part-rest t events.Poll whole p)
+  told-before (events.Observe objects wait ∷ t) p = told-before t (part-rest t (events.Observe objects wait) whole p)
   told-before (events.Leave ∷ t) p = told-before t (part-rest t events.Leave whole p)
   told-before (events.Cut ∷ t) p = told-before t (part-rest t events.Cut whole p)
   told-before (events.Quit ∷ t) p = told-before t (part-rest t events.Quit whole p)

@@ -76,6 +76,7 @@ accepted-here K keeps r e h i l low high (logged.Relay seq commit head positions
     ]
 accepted-here K keeps r e h i l low high (logged.Welcome commit head) is = (let n : length (accepted (e ∷ h)) ≡ length (accepted h) = not-relay e h e.reply (ap is_relay is) in absurd (omega arith))
 accepted-here K keeps r e h i l low high (logged.Dropped seq chain far) is = (let n : length (accepted (e ∷ h)) ≡ length (accepted h) = not-relay e h e.reply (ap is_relay is) in absurd (omega arith))
+accepted-here K keeps r e h i l low high (logged.Seen last commit head positions) is = (let n : length (accepted (e ∷ h)) ≡ length (accepted h) = not-relay e h e.reply (ap is_relay is) in absurd (omega arith))
 accepted-here K keeps r e h i l low high (logged.Settled seq pos) is = (let n : length (accepted (e ∷ h)) ≡ length (accepted h) = not-relay e h e.reply (ap is_relay is) in absurd (omega arith))
 accepted-here K keeps r e h i l low high (logged.Noted commit) is = (let n : length (accepted (e ∷ h)) ≡ length (accepted h) = not-relay e h e.reply (ap is_relay is) in absurd (omega arith))
 accepted-here K keeps r e h i l low high logged.Idle is = (let n : length (accepted (e ∷ h)) ≡ length (accepted h) = not-relay e h e.reply (ap is_relay is) in absurd (omega arith))
@@ -115,6 +116,7 @@ one-small : (K : Keeping) (keeps : IsKeeping K) (r : Rules) (e : Entry) (h : Lis
 one-small K keeps r e h l (logged.Relay seq commit head positions) is = relay-small K keeps r e h commit head positions l (legal-relay K keeps r e h seq commit head positions l is)
 one-small K keeps r e h l (logged.Welcome commit head) is = omega arith
 one-small K keeps r e h l (logged.Dropped seq chain far) is = omega arith
+one-small K keeps r e h l (logged.Seen last commit head positions) is = omega arith
 one-small K keeps r e h l (logged.Settled seq pos) is = omega arith
 one-small K keeps r e h l (logged.Noted commit) is = omega arith
 one-small K keeps r e h l logged.Idle is = omega arith

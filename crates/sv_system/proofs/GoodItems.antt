@@ -192,6 +192,8 @@ module _ (truthful : Truthful) where
   no-bad_item (logged.Welcome commit head) is = welcome-head commit head (tells (logged.Welcome commit head) is) is
   no-bad_item (logged.Dropped seq chain far) is =
       let t : AnswersSubmit g e.session e.request seq = tells (logged.Dropped seq chain far) is in settled-good seq t.1.1.0 t.1.1.1.0
+  no-bad_item (logged.Seen last commit head positions) is =
+      let t : AnswersSubmit g e.session e.request seq = tells (logged.Seen last commit head positions) is in settled-good seq t.1.1.0 t.1.1.1.0
   no-bad_item (logged.Settled seq pos) is =
       let t : AnswersKept g e.session e.request seq = tells (logged.Settled seq pos) is in settled-good seq t.1.1.0 t.1.1.1.0
   no-bad_item (logged.Noted commit) is = refl

@@ -72,6 +72,7 @@ accepted-one d h k n p c q e (logged.Relay seq commit head positions) is told =
     place_of (Accepted m ∷ os) = m
     place_of _ = 0
 accepted-one d h k n p c q e (logged.Dropped seq chain far) is told = absurd (true≢false (ap is_accepted told))
+accepted-one d h k n p c q e (logged.Seen last commit head positions) is told = absurd (true≢false (ap is_accepted told))
   where
     is_accepted : List Outcome → Bool
     is_accepted (Accepted m ∷ os) = true
@@ -139,6 +140,7 @@ relay-of : (reply : Logged) (p : ℕ) → is_in p (positions_in reply) ≡ true 
 relay-of (logged.Relay seq commit head positions) p m = (seq, (commit, (head, (positions, refl))))
 relay-of (logged.Welcome commit head) p m = absurd (true≢false (sym m))
 relay-of (logged.Dropped seq chain far) p m = absurd (true≢false (sym m))
+relay-of (logged.Seen last commit head positions) p m = absurd (true≢false (sym m))
 relay-of (logged.Settled seq pos) p m = absurd (true≢false (sym m))
 relay-of (logged.Noted commit) p m = absurd (true≢false (sym m))
 relay-of logged.Idle p m = absurd (true≢false (sym m))

@@ -51,6 +51,7 @@ welcome-logged A q client life interest e (logged.Welcome commit head) a = (comm
 welcome-logged A q client life interest e (logged.Relay seq commit head positions) a =
     absurd (true≢false (sym a ∙ ap (λ (p : Request). allows p (full_reply A (logged.Relay seq commit head positions))) e))
 welcome-logged A q client life interest e (logged.Dropped seq chain far) a = absurd (true≢false (sym a ∙ ap (λ (p : Request). allows p (replies.Dropped seq chain far)) e))
+welcome-logged A q client life interest e (logged.Seen last commit head positions) a = absurd (true≢false (sym a ∙ ap (λ (p : Request). allows p (replies.Dropped seq chain far)) e))
 welcome-logged A q client life interest e (logged.Settled seq pos) a = absurd (true≢false (sym a ∙ ap (λ (p : Request). allows p (replies.Settled seq pos)) e))
 welcome-logged A q client life interest e (logged.Noted commit) a = absurd (true≢false (sym a ∙ ap (λ (p : Request). allows p (replies.Noted commit)) e))
 welcome-logged A q client life interest e logged.Idle a = absurd (true≢false (sym a ∙ ap (λ (p : Request). allows p replies.Idle) e))
@@ -64,6 +65,7 @@ leave-only (requests.Join client life interest) a = absurd (true≢false (sym a)
 leave-only (requests.Submit seq x) a = absurd (true≢false (sym a))
 leave-only (requests.Done results) a = absurd (true≢false (sym a))
 leave-only requests.Poll a = absurd (true≢false (sym a))
+leave-only (requests.Observe objects wait) a = absurd (true≢false (sym a))
 leave-only requests.Bad a = absurd (true≢false (sym a))
 leave-only requests.End a = absurd (true≢false (sym a))
 
@@ -73,6 +75,7 @@ never-refused (requests.Join client life interest) code detail = refl
 never-refused (requests.Submit seq a) code detail = refl
 never-refused (requests.Done results) code detail = refl
 never-refused requests.Poll code detail = refl
+never-refused (requests.Observe objects wait) code detail = refl
 never-refused requests.Leave code detail = refl
 never-refused requests.Bad code detail = refl
 never-refused requests.End code detail = refl

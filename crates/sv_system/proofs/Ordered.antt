@@ -76,6 +76,8 @@ pub none-missing : (A : List Action) (held : List Held) (reply : Reply) → IsSu
 none-missing A held (replies.Relay seq commit head items) h = none-missing_of A (held ++ head_held commit head) items h
 none-missing A held (replies.Welcome commit head) h = refl
 none-missing A held (replies.Dropped seq chain far) h = refl
+none-missing A held (replies.Denied seq object) h = refl
+none-missing A held (replies.Seen last commit head items) h = refl
 none-missing A held (replies.Settled seq pos) h = refl
 none-missing A held (replies.Noted commit) h = refl
 none-missing A held replies.Idle h = refl
@@ -142,6 +144,7 @@ module _ (awaited : Awaited) where
       let grows : commit_of (K.kept g) ≤ commit_of (K.kept (e ∷ g)) = commit_grows-kept K keeps e g in
       four-false false false false (goes_back (Some commit) (told whole)) refl refl refl (not-back commit (omega arith))
   ordered (logged.Dropped seq chain far) is = refl
+  ordered (logged.Seen last commit head positions) is = refl
   ordered (logged.Settled seq pos) is = refl
   ordered logged.Idle is = refl
   ordered (logged.Refused code detail) is = refl

@@ -93,6 +93,8 @@ module _ (who : Identity) (first : ℕ) where
       let w : settled t ≤ settled (events.Make action ∷ t) = settled-made action t p.1 in omega arith)
   answered-settled (events.Poll ∷ t) p s i n a l e =
       (let fewer : length (got t s) ≤ length (here t s) = got-fewer who first t p.1 s in answered-settled t p.1 s i n a l (get-left (here t s) _ i (requests.Submit n a) (omega arith) e))
+  answered-settled (events.Observe objects wait ∷ t) p s i n a l e =
+      (let fewer : length (got t s) ≤ length (here t s) = got-fewer who first t p.1 s in answered-settled t p.1 s i n a l (get-left (here t s) _ i (requests.Submit n a) (omega arith) e))
   answered-settled (events.Leave ∷ t) p s i n a l e =
       (let fewer : length (got t s) ≤ length (here t s) = got-fewer who first t p.1 s in answered-settled t p.1 s i n a l (get-left (here t s) _ i (requests.Submit n a) (omega arith) e))
   answered-settled (events.Cut ∷ t) p s i n a l e =
@@ -116,6 +118,7 @@ module _ (who : Identity) (first : ℕ) where
   joined-most (events.Make action ∷ t) = (let l : joined_makes t ≤ makes t = joined-most t in omega arith)
   joined-most (events.Got m r ∷ t) = joined-most t
   joined-most (events.Poll ∷ t) = joined-most t
+  joined-most (events.Observe objects wait ∷ t) = joined-most t
   joined-most (events.Leave ∷ t) = joined-most t
   joined-most (events.Cut ∷ t) = joined-most t
   joined-most (events.Quit ∷ t) = joined-most t
@@ -143,6 +146,7 @@ module _ (who : Identity) (first : ℕ) where
       older-made t p.1 s n j k a c f (asked-as_before t (events.Got m r) n j k a (cond-false (m == n) _ _ (ne_eqb m n (λ x. f (sym (same_Some m s (sym p.0.current ∙ c)) ∙ x)))) e)
   older-made (events.Make action ∷ t) p s n j k a c f e = older-made t p.1 s n j k a c f (asked-as_before t (events.Make action) n j k a (other-none (current_session t) s n _ c f) e)
   older-made (events.Poll ∷ t) p s n j k a c f e = older-made t p.1 s n j k a c f (asked-as_before t events.Poll n j k a (other-none (current_session t) s n _ c f) e)
+  older-made (events.Observe objects wait ∷ t) p s n j k a c f e = older-made t p.1 s n j k a c f (asked-as_before t (events.Observe objects wait) n j k a (other-none (current_session t) s n _ c f) e)
   older-made (events.Leave ∷ t) p s n j k a c f e = older-made t p.1 s n j k a c f (asked-as_before t events.Leave n j k a (other-none (current_session t) s n _ c f) e)
   older-made (events.Cut ∷ t) p s n j k a c f e = older-made t p.1 s n j k a c f (asked-as_before t events.Cut n j k a refl e)
   older-made (events.Quit ∷ t) p s n j k a c f e = older-made t p.1 s n j k a c f (asked-as_before t events.Quit n j k a refl e)
@@ -154,6 +158,8 @@ module _ (who : Identity) (first : ℕ) where
   no-submit_done true held (replies.Relay seq commit head items) (suc j) k a e = none-some (requests.Submit k a) e
   no-submit_done true held (replies.Welcome commit head) j k a e = none-some (requests.Submit k a) e
   no-submit_done true held (replies.Dropped seq chain far) j k a e = none-some (requests.Submit k a) e
+  no-submit_done true held (replies.Denied seq object) j k a e = none-some (requests.Submit k a) e
+  no-submit_done true held (replies.Seen last commit head items) j k a e = none-some (requests.Submit k a) e
   no-submit_done true held (replies.Settled seq pos) j k a e = none-some (requests.Submit k a) e
   no-submit_done true held (replies.Noted commit) j k a e = none-some (requests.Submit k a) e
   no-submit_done true held replies.Idle j k a e = none-some (requests.Submit k a) e
@@ -171,6 +177,7 @@ module _ (who : Identity) (first : ℕ) where
 
   abbrev is_poll : Request → Bool
   is_poll requests.Poll = true
+  is_poll (requests.Observe objects wait) = true
   is_poll _ = false
 
   no-poll_submits : (ps : List PendingAction) (j : ℕ) → slice_get (map submit_of ps) j ≡ Some requests.Poll → ⊥
@@ -206,6 +213,7 @@ module _ (who : Identity) (first : ℕ) where
       left (events.Got m r) q c x y before = before c l x y
       left (events.Make action) q c x y before = before c l x y
       left events.Poll q c x y before = before c l x y
+      left (events.Observe objects wait) q c x y before = before c l x y
       left events.Leave q c x y before = before c l x y
       left events.Cut q c x y before = before c l x y
       left events.Quit q c x y before = before c l x y
@@ -222,6 +230,7 @@ module _ (who : Identity) (first : ℕ) where
           ]
       now (events.Got m r) q c j z g x = absurd (no-submit_done (m == s) (held_of t) r j k a g)
       now events.Poll q c j z g x = absurd (no-submit (is_session (current_session t) s) requests.Poll j k a refl g)
+      now (events.Observe objects wait) q c j z g x = absurd (no-submit (is_session (current_session t) s) requests.Poll j k a refl g)
       now events.Leave q c j z g x = absurd (no-submit (is_session (current_session t) s) requests.Leave j k a refl g)
       now events.Cut q c j z g x = absurd (none-some (requests.Submit k a) g)
       now events.Quit q c j z g x = absurd (none-some (requests.Submit k a) g)

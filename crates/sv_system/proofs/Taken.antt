@@ -40,9 +40,10 @@ plain-at shape (a ∷ A) good (suc (suc k)) = plain-at shape A (λ i d l. good (
 -- The results reported of a reply, where these values are held before it.
 abbrev pub IsReported : List (List ℤ) → List Action → List Held → Reply → Type 0
 IsReported opening A held (replies.Relay seq commit head items) = AllByRecursion (IsSerialResult opening A) (results_of (held ++ head_held commit head) items)
+IsReported opening A held (replies.Seen last commit head items) = AllByRecursion (IsSerialResult opening A) (results_of (held ++ head_held commit head) items)
 IsReported opening A held _ = Unit {0}
 
--- The results reported of each relay that was got are those of the serial execution.
+-- The results reported of each relay that was got, and of what was seen, are those of the serial execution.
 abbrev pub AreReported : List (List ℤ) → List Action → List Event → Type 0
 AreReported opening A [] = Unit {0}
 AreReported opening A (events.Got s reply ∷ t) = IsReported opening A (held_of t) reply × AreReported opening A t
@@ -135,6 +136,12 @@ module _ (objects : ℕ) (opening : List (List ℤ)) (count : length opening ≡
       record { serial = g.serial; sufficient = (g.supplied, w.sufficient); taken = taken-now s (replies.Relay seq commit head items) t T refl w g.taken; reported = (g.reported, w.reported) }
   got-well s (replies.Dropped seq chain far) t f w =
       record { serial = w.serial; sufficient = (tt, w.sufficient); taken = taken-silent s (replies.Dropped seq chain far) t refl w; reported = (tt, w.reported) }
+  got-well s (replies.Denied seq object) t f w =
+      record { serial = w.serial; sufficient = (tt, w.sufficient); taken = taken-silent s (replies.Denied seq object) t refl w; reported = (tt, w.reported) }
+  got-well s (replies.Seen last commit head items) t f w =
+      let T : Telling = record { commit = commit; head = head; items = items } in
+      let g = telling-taken s (replies.Seen last commit head items) t T refl f w in
+      record { serial = g.serial; sufficient = (g.supplied, w.sufficient); taken = taken-now s (replies.Seen last commit head items) t T refl w g.taken; reported = (g.reported, w.reported) }
   got-well s (replies.Settled seq pos) t f w =
       record { serial = w.serial; sufficient = (tt, w.sufficient); taken = taken-silent s (replies.Settled seq pos) t refl w; reported = (tt, w.reported) }
   got-well s (replies.Noted commit) t f w =
@@ -152,6 +159,7 @@ module _ (objects : ℕ) (opening : List (List ℤ)) (count : length opening ≡
   all-well (events.Join s ∷ t) f = let w = all-well t f in record { serial = w.serial; sufficient = w.sufficient; taken = w.taken; reported = w.reported }
   all-well (events.Make action ∷ t) f = let w = all-well t f in record { serial = w.serial; sufficient = w.sufficient; taken = w.taken; reported = w.reported }
   all-well (events.Poll ∷ t) f = let w = all-well t f in record { serial = w.serial; sufficient = w.sufficient; taken = w.taken; reported = w.reported }
+  all-well (events.Observe objects wait ∷ t) f = let w = all-well t f in record { serial = w.serial; sufficient = w.sufficient; taken = w.taken; reported = w.reported }
   all-well (events.Leave ∷ t) f = let w = all-well t f in record { serial = w.serial; sufficient = w.sufficient; taken = w.taken; reported = w.reported }
   all-well (events.Cut ∷ t) f = let w = all-well t f in record { serial = w.serial; sufficient = w.sufficient; taken = w.taken; reported = w.reported }
   all-well (events.Quit ∷ t) f = let w = all-well t f in record { serial = w.serial; sufficient = w.sufficient; taken = w.taken; reported = w.reported }

@@ -61,6 +61,7 @@ one-reported opening A p (requests.Done results) vs low each is = some-reported 
 one-reported opening A p (requests.Join client life interest) vs low each is = absurd (none-some vs is)
 one-reported opening A p (requests.Submit seq a) vs low each is = absurd (none-some vs is)
 one-reported opening A p requests.Poll vs low each is = absurd (none-some vs is)
+one-reported opening A p (requests.Observe objects wait) vs low each is = absurd (none-some vs is)
 one-reported opening A p requests.Leave vs low each is = absurd (none-some vs is)
 one-reported opening A p requests.Bad vs low each is = absurd (none-some vs is)
 one-reported opening A p requests.End vs low each is = absurd (none-some vs is)
@@ -106,6 +107,7 @@ module _ (r : Rules) (H : List Entry) (Ls : List Trace) (count : length r.world.
   entry-serial e h (requests.Join client life interest) is b before owned = tt
   entry-serial e h (requests.Submit seq a) is b before owned = tt
   entry-serial e h requests.Poll is b before owned = tt
+  entry-serial e h (requests.Observe objects wait) is b before owned = tt
   entry-serial e h requests.Leave is b before owned = tt
   entry-serial e h requests.Bad is b before owned = tt
   entry-serial e h requests.End is b before owned = tt
@@ -151,6 +153,7 @@ module _ (r : Rules) (H : List Entry) (Ls : List Trace) (count : length r.world.
   request-all-held (requests.Join client life interest) h = tt
   request-all-held (requests.Submit seq a) h = tt
   request-all-held requests.Poll h = tt
+  request-all-held (requests.Observe objects wait) h = tt
   request-all-held requests.Leave h = tt
   request-all-held requests.Bad h = tt
   request-all-held requests.End h = tt
