@@ -37,7 +37,9 @@ settles-submit who t (requests.Submit seq a) (replies.Relay n commit head items)
     let front : is_for_front n (pending_of t) ≡ true = (and_parts (is_for_front n (pending_of t)) (ends_with_front who (pending_of t) items) good).0 in
     ap not (not-zero n (settled t) (front-number n (pending_of t) (suc (settled t)) c.numbered front))
 settles-submit who t (requests.Submit seq a) (replies.Dropped n chain far) c k g = refl
+settles-submit who t (requests.Submit seq a) (replies.Denied n object) c k g = refl
 settles-submit who t (requests.Submit seq a) (replies.Settled n pos) c k g = refl
+settles-submit who t (requests.Submit seq a) (replies.Seen last commit head items) c k g = absurd (true≢false (sym k))
 settles-submit who t (requests.Submit seq a) (replies.Welcome commit head) c k g = absurd (true≢false (sym k))
 settles-submit who t (requests.Submit seq a) (replies.Noted commit) c k g = absurd (true≢false (sym k))
 settles-submit who t (requests.Submit seq a) replies.Idle c k g = absurd (true≢false (sym k))
@@ -47,28 +49,31 @@ settles-submit who t requests.Poll (replies.Relay n commit head items) c k g =
     let bad : is_bad_relay who (pending_of t) requests.Poll n items ≡ false = (or_parts (is_bad_head who.shape head) (is_bad_relay who (pending_of t) requests.Poll n items) g).1 in
     let good : (n == 0) ≡ true = not-false (n == 0) (or_parts _ (not (n == 0)) bad).1 in
     ap not good
-settles-submit who t (requests.Observe objects wait) (replies.Relay n commit head items) c k g =
-    let bad : is_bad_relay who (pending_of t) (requests.Observe objects wait) n items ≡ false = (or_parts (is_bad_head who.shape head) (is_bad_relay who (pending_of t) (requests.Observe objects wait) n items) g).1 in
-    let good : (n == 0) ≡ true = not-false (n == 0) (or_parts _ (not (n == 0)) bad).1 in
-    ap not good
 settles-submit who t requests.Poll replies.Idle c k g = refl
-settles-submit who t (requests.Observe objects wait) replies.Idle c k g = refl
 settles-submit who t requests.Poll (replies.Dropped n chain far) c k g = absurd (true≢false (sym k))
-settles-submit who t (requests.Observe objects wait) (replies.Dropped n chain far) c k g = absurd (true≢false (sym k))
+settles-submit who t requests.Poll (replies.Denied n object) c k g = absurd (true≢false (sym k))
 settles-submit who t requests.Poll (replies.Settled n pos) c k g = absurd (true≢false (sym k))
-settles-submit who t (requests.Observe objects wait) (replies.Settled n pos) c k g = absurd (true≢false (sym k))
+settles-submit who t requests.Poll (replies.Seen last commit head items) c k g = refl
 settles-submit who t requests.Poll (replies.Welcome commit head) c k g = absurd (true≢false (sym k))
-settles-submit who t (requests.Observe objects wait) (replies.Welcome commit head) c k g = absurd (true≢false (sym k))
 settles-submit who t requests.Poll (replies.Noted commit) c k g = absurd (true≢false (sym k))
-settles-submit who t (requests.Observe objects wait) (replies.Noted commit) c k g = absurd (true≢false (sym k))
 settles-submit who t requests.Poll (replies.Refused code detail) c k g = absurd (true≢false (sym k))
-settles-submit who t (requests.Observe objects wait) (replies.Refused code detail) c k g = absurd (true≢false (sym k))
 settles-submit who t requests.Poll replies.Bye c k g = absurd (true≢false (sym k))
-settles-submit who t (requests.Observe objects wait) replies.Bye c k g = absurd (true≢false (sym k))
+settles-submit who t (requests.Observe objects wait) (replies.Seen last commit head items) c k g = refl
+settles-submit who t (requests.Observe objects wait) (replies.Relay n commit head items) c k g = absurd (true≢false (sym k))
+settles-submit who t (requests.Observe objects wait) (replies.Dropped n chain far) c k g = absurd (true≢false (sym k))
+settles-submit who t (requests.Observe objects wait) (replies.Denied n object) c k g = absurd (true≢false (sym k))
+settles-submit who t (requests.Observe objects wait) (replies.Settled n pos) c k g = absurd (true≢false (sym k))
+settles-submit who t (requests.Observe objects wait) (replies.Welcome commit head) c k g = refl
+settles-submit who t (requests.Observe objects wait) (replies.Noted commit) c k g = refl
+settles-submit who t (requests.Observe objects wait) replies.Idle c k g = refl
+settles-submit who t (requests.Observe objects wait) (replies.Refused code detail) c k g = refl
+settles-submit who t (requests.Observe objects wait) replies.Bye c k g = refl
 settles-submit who t (requests.Join client life interest) (replies.Welcome commit head) c k g = refl
 settles-submit who t (requests.Join client life interest) (replies.Relay n commit head items) c k g = absurd (true≢false (sym k))
 settles-submit who t (requests.Join client life interest) (replies.Dropped n chain far) c k g = absurd (true≢false (sym k))
+settles-submit who t (requests.Join client life interest) (replies.Denied n object) c k g = absurd (true≢false (sym k))
 settles-submit who t (requests.Join client life interest) (replies.Settled n pos) c k g = absurd (true≢false (sym k))
+settles-submit who t (requests.Join client life interest) (replies.Seen last commit head items) c k g = refl
 settles-submit who t (requests.Join client life interest) (replies.Noted commit) c k g = refl
 settles-submit who t (requests.Join client life interest) replies.Idle c k g = refl
 settles-submit who t (requests.Join client life interest) (replies.Refused code detail) c k g = refl
@@ -76,7 +81,9 @@ settles-submit who t (requests.Join client life interest) replies.Bye c k g = re
 settles-submit who t (requests.Done results) (replies.Noted commit) c k g = refl
 settles-submit who t (requests.Done results) (replies.Relay n commit head items) c k g = absurd (true≢false (sym k))
 settles-submit who t (requests.Done results) (replies.Dropped n chain far) c k g = absurd (true≢false (sym k))
+settles-submit who t (requests.Done results) (replies.Denied n object) c k g = absurd (true≢false (sym k))
 settles-submit who t (requests.Done results) (replies.Settled n pos) c k g = absurd (true≢false (sym k))
+settles-submit who t (requests.Done results) (replies.Seen last commit head items) c k g = refl
 settles-submit who t (requests.Done results) (replies.Welcome commit head) c k g = refl
 settles-submit who t (requests.Done results) replies.Idle c k g = refl
 settles-submit who t (requests.Done results) (replies.Refused code detail) c k g = refl
@@ -84,7 +91,9 @@ settles-submit who t (requests.Done results) replies.Bye c k g = refl
 settles-submit who t requests.Leave replies.Bye c k g = refl
 settles-submit who t requests.Leave (replies.Relay n commit head items) c k g = absurd (true≢false (sym k))
 settles-submit who t requests.Leave (replies.Dropped n chain far) c k g = absurd (true≢false (sym k))
+settles-submit who t requests.Leave (replies.Denied n object) c k g = absurd (true≢false (sym k))
 settles-submit who t requests.Leave (replies.Settled n pos) c k g = absurd (true≢false (sym k))
+settles-submit who t requests.Leave (replies.Seen last commit head items) c k g = refl
 settles-submit who t requests.Leave (replies.Welcome commit head) c k g = refl
 settles-submit who t requests.Leave (replies.Noted commit) c k g = refl
 settles-submit who t requests.Leave replies.Idle c k g = refl
@@ -94,6 +103,8 @@ settles-submit who t requests.Bad r c k g = absurd (true≢false (sym k ∙ bad-
     bad-none : (r : Reply) → allows requests.Bad r ≡ false
     bad-none (replies.Relay n commit head items) = refl
     bad-none (replies.Dropped n chain far) = refl
+    bad-none (replies.Denied n object) = refl
+    bad-none (replies.Seen last commit head items) = refl
     bad-none (replies.Settled n pos) = refl
     bad-none (replies.Welcome commit head) = refl
     bad-none (replies.Noted commit) = refl
@@ -105,6 +116,8 @@ settles-submit who t requests.End r c k g = absurd (true≢false (sym k ∙ end-
     end-none : (r : Reply) → allows requests.End r ≡ false
     end-none (replies.Relay n commit head items) = refl
     end-none (replies.Dropped n chain far) = refl
+    end-none (replies.Denied n object) = refl
+    end-none (replies.Seen last commit head items) = refl
     end-none (replies.Settled n pos) = refl
     end-none (replies.Welcome commit head) = refl
     end-none (replies.Noted commit) = refl
@@ -183,7 +196,7 @@ module _ (who : Identity) (first : ℕ) where
       (aligned-got r t s (subst (λ (n : ℕ). AreProper who first (events.Got n r ∷ t)) e p) before)
   aligned (events.Make action ∷ t) p s c = aligned-make action t s p c (aligned t p.1 s c)
   aligned (events.Poll ∷ t) p s c = quiet who first t s (if is_session (current_session t) s then requests.Poll ∷ [] else []) (quiet-if who first (is_session (current_session t) s) requests.Poll refl) (got-fewer who first t p.1 s) (aligned t p.1 s c)
-  aligned (events.Observe objects wait ∷ t) p s c = quiet who first t s (if is_session (current_session t) s then requests.Poll ∷ [] else []) (quiet-if who first (is_session (current_session t) s) requests.Poll refl) (got-fewer who first t p.1 s) (aligned t p.1 s c)
+  aligned (events.Observe objects wait ∷ t) p s c = quiet who first t s (if is_session (current_session t) s then requests.Observe objects wait ∷ [] else []) (quiet-if who first (is_session (current_session t) s) (requests.Observe objects wait) refl) (got-fewer who first t p.1 s) (aligned t p.1 s c)
   aligned (events.Leave ∷ t) p s c = quiet who first t s (if is_session (current_session t) s then requests.Leave ∷ [] else []) (quiet-if who first (is_session (current_session t) s) requests.Leave refl) (got-fewer who first t p.1 s) (aligned t p.1 s c)
   aligned (events.Cut ∷ t) p s c = quiet who first t s [] refl (got-fewer who first t p.1 s) (aligned t p.1 s c)
   aligned (events.Quit ∷ t) p s c = quiet who first t s [] refl (got-fewer who first t p.1 s) (aligned t p.1 s c)

@@ -10,7 +10,7 @@ use Rattle.sv_wire.specs.declared.message.Reply.TheVariants as replies
 use Rattle.sv_journal.specs.History.{Authored, accepted, outcomes_of, next_seq}
 use Rattle.sv_client.specs.declared.trace.Event.{Event}
 use Rattle.sv_client.specs.declared.trace.Event.TheVariants as events
-use Rattle.sv_client.specs.Traces.{makes, current_session, held_of, with_reply, pending_with, pending_of, asked, got}
+use Rattle.sv_client.specs.Traces.{makes, current_session, held_of, with_reply, has_news, pending_with, pending_of, asked, got}
 use Rattle.sv_client.specs.Taking.{Identity, outstanding, unanswered}
 use Rattle.sv_client.specs.Proper.{AreProper, in_session, identity_of}
 use Rattle.sv_script.specs.Following.{is_finished}
@@ -32,7 +32,8 @@ none-with : (before more : List Held) (r : Reply) → pending_with before more r
 none-with before more (replies.Relay seq commit head items) = elim (cases_Bool (seq == 0)) [ inl t ↦ cond-true (seq == 0) _ _ t | inr f ↦ cond-false (seq == 0) _ _ f ]
 none-with before more (replies.Dropped seq chain far) = refl
 none-with before more (replies.Denied seq object) = refl
-none-with before more (replies.Seen last commit head items) = refl
+none-with before more (replies.Seen last commit head items) =
+    elim (cases_Bool (has_news head items)) [ inl t ↦ cond-true (has_news head items) _ _ t | inr f ↦ cond-false (has_news head items) _ _ f ]
 none-with before more (replies.Settled seq pos) = refl
 none-with before more (replies.Welcome commit head) = refl
 none-with before more (replies.Noted commit) = refl

@@ -20,6 +20,7 @@ use Rattle.sv_journal.specs.Answer.{Rules, is_bad_result, is_bad_done}
 use Rattle.sv_journal.specs.Serving.{Keeping, LegalFor, IsKeeping}
 use Rattle.sv_client.specs.declared.trace.Trace.{Trace}
 use Rattle.sv_client.specs.Traces.{requests_of}
+use Rattle.sv_client.specs.Kinds.{kind_of}
 use Rattle.sv_client.specs.Taking.{Identity, allows, has_bad_item}
 use Rattle.sv_system.specs.Fronts.{IsFront}
 use Rattle.sv_system.specs.Fits.{requests_in, FitsIn, FitsOne}
@@ -142,6 +143,17 @@ same-allows (requests.Observe objects wait) q t reply = ap (λ (z : Request). al
 same-allows requests.Leave q t reply = ap (λ (z : Request). allows z reply) t
 same-allows requests.Bad q t reply = ap (λ (z : Request). allows z reply) t
 same-allows requests.End q t reply = ap (λ (z : Request). allows z reply) t
+
+-- They are of the same kind.
+pub same-kind : (p q : Request) → AreSameButValues p q → kind_of p ≡ kind_of q
+same-kind (requests.Done results) q t = ap kind_of (sym t.1.0)
+same-kind (requests.Join client life interest) q t = ap kind_of t
+same-kind (requests.Submit seq a) q t = ap kind_of t
+same-kind requests.Poll q t = ap kind_of t
+same-kind (requests.Observe objects wait) q t = ap kind_of t
+same-kind requests.Leave q t = ap kind_of t
+same-kind requests.Bad q t = ap kind_of t
+same-kind requests.End q t = ap kind_of t
 
 done-items : (who : Identity) (ps : List PendingAction) (xs ys : List Done1) (reply : Reply) → has_bad_item who ps (requests.Done xs) reply ≡ has_bad_item who ps (requests.Done ys) reply
 done-items who ps xs ys (replies.Noted commit) = refl

@@ -66,7 +66,9 @@ no-join_done true held (replies.Relay seq commit head items) (suc j) q e = absur
 no-join_done true held (replies.Welcome commit head) j q e = absurd (none-some q e)
 no-join_done true held (replies.Dropped seq chain far) j q e = absurd (none-some q e)
 no-join_done true held (replies.Denied seq object) j q e = absurd (none-some q e)
-no-join_done true held (replies.Seen last commit head items) j q e = absurd (none-some q e)
+no-join_done true held (replies.Seen last commit head []) j q e = absurd (none-some q e)
+no-join_done true held (replies.Seen last commit head (item ∷ items)) zero q e = (let f = same_Some _ q e in (ap is_join_request (sym f), ap is_leave (sym f)))
+no-join_done true held (replies.Seen last commit head (item ∷ items)) (suc j) q e = absurd (none-some q e)
 no-join_done true held (replies.Settled seq pos) j q e = absurd (none-some q e)
 no-join_done true held (replies.Noted commit) j q e = absurd (none-some q e)
 no-join_done true held replies.Idle j q e = absurd (none-some q e)
@@ -151,7 +153,7 @@ module _ (who : Identity) (first : ℕ) where
       now (events.Got m r) may j g = absurd (true≢false (no-join_done (m == s) (held_of t) r j (requests.Join client life interest) g).0)
       now (events.Make action) may j g = absurd (no-join_if (is_session (current_session t) s) (requests.Submit (suc (makes t)) action) j client life interest refl g)
       now events.Poll may j g = absurd (no-join_if (is_session (current_session t) s) requests.Poll j client life interest refl g)
-      now (events.Observe objects wait) may j g = absurd (no-join_if (is_session (current_session t) s) requests.Poll j client life interest refl g)
+      now (events.Observe objects wait) may j g = absurd (no-join_if (is_session (current_session t) s) (requests.Observe objects wait) j client life interest refl g)
       now events.Leave may j g = absurd (no-join_if (is_session (current_session t) s) requests.Leave j client life interest refl g)
       now events.Cut may j g = absurd (none-some (requests.Join client life interest) g)
       now events.Quit may j g = absurd (none-some (requests.Join client life interest) g)
@@ -201,7 +203,7 @@ module _ (who : Identity) (first : ℕ) where
   bye-only (replies.Welcome commit head) k held = refl
   bye-only (replies.Dropped seq chain far) k held = refl
   bye-only (replies.Denied seq object) k held = refl
-  bye-only (replies.Seen last commit head items) k held = refl
+  bye-only (replies.Seen last commit head items) k held = absurd (true≢false (sym k))
   bye-only (replies.Settled seq pos) k held = refl
   bye-only (replies.Noted commit) k held = refl
   bye-only replies.Idle k held = refl

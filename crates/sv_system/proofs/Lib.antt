@@ -10,6 +10,7 @@ pub mod Begun
 pub mod BoundedRelays
 pub mod Commits
 pub mod Covers
+pub mod Cuts
 pub mod Dones
 pub mod Entered
 pub mod Every

@@ -117,7 +117,7 @@ module _ (who : Identity) (first : ℕ) where
   event-made (events.Make action) t s j n a e = submit-if (IsMade (events.Make action ∷ t)) (is_session (current_session t) s) (suc (makes t)) action (made-now action t) j n a e
   event-made (events.Got m r) t s j n a e = absurd (no-submit_done who first (m == s) (held_of t) r j n a e)
   event-made events.Poll t s j n a e = absurd (no-submit (is_session (current_session t) s) requests.Poll j n a refl e)
-  event-made (events.Observe objects wait) t s j n a e = absurd (no-submit (is_session (current_session t) s) requests.Poll j n a refl e)
+  event-made (events.Observe objects wait) t s j n a e = absurd (no-submit (is_session (current_session t) s) (requests.Observe objects wait) j n a refl e)
   event-made events.Leave t s j n a e = absurd (no-submit (is_session (current_session t) s) requests.Leave j n a refl e)
   event-made events.Cut t s j n a e = absurd (none-some (requests.Submit n a) e)
   event-made events.Quit t s j n a e = absurd (none-some (requests.Submit n a) e)

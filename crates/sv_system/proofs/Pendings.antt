@@ -13,7 +13,7 @@ use Rattle.sv_wire.specs.declared.message.Reply.{Reply}
 use Rattle.sv_wire.specs.declared.message.Reply.TheVariants as replies
 use Rattle.sv_client.specs.declared.trace.Event.{Event}
 use Rattle.sv_client.specs.declared.trace.Event.TheVariants as events
-use Rattle.sv_client.specs.Traces.{makes, held_of, with_reply, head_held, results_of, last_values, are_same, without_front, settled_by, pending_with, done_for, pending_of, submit_of, asked_by_event, asked, got}
+use Rattle.sv_client.specs.Traces.{makes, held_of, with_reply, head_held, results_of, last_values, are_same, without_front, settled_by, has_news, pending_with, done_for, pending_of, submit_of, asked_by_event, asked, got}
 use Rattle.sv_client.specs.Taking.{Identity}
 use Rattle.sv_client.specs.Proper.{MayMake, AreProper}
 use Rattle.sv_system.proofs.Asked.{may-answer}
@@ -37,7 +37,6 @@ abbrev pub settles : Reply → Bool
 settles (replies.Relay seq commit head items) = not (seq == 0)
 settles (replies.Dropped seq chain far) = true
 settles (replies.Denied seq object) = true
-settles (replies.Seen last commit head items) = true
 settles (replies.Settled seq pos) = true
 settles _ = false
 
@@ -73,7 +72,11 @@ keys-with before more (replies.Relay seq commit head items) ps =
     ]
 keys-with before more (replies.Dropped seq chain far) ps = redone-keys more (without_front ps) ∙ without-keys ps
 keys-with before more (replies.Denied seq object) ps = redone-keys more (without_front ps) ∙ without-keys ps
-keys-with before more (replies.Seen last commit head items) ps = redone-keys more (without_front ps) ∙ without-keys ps
+keys-with before more (replies.Seen last commit head items) ps =
+    elim (cases_Bool (has_news head items)) [
+      | inl e ↦ ap keys (cond-true (has_news head items) (redone more ps) ps e) ∙ redone-keys more ps
+      | inr e ↦ ap keys (cond-false (has_news head items) (redone more ps) ps e)
+    ]
 keys-with before more (replies.Settled seq pos) ps = redone-keys more (without_front ps) ∙ without-keys ps
 keys-with before more (replies.Welcome commit head) ps = refl
 keys-with before more (replies.Noted commit) ps = refl
@@ -241,7 +244,8 @@ module _ (who : Identity) (first : ℕ) where
   quiet-done held (replies.Welcome commit head) = refl
   quiet-done held (replies.Dropped seq chain far) = refl
   quiet-done held (replies.Denied seq object) = refl
-  quiet-done held (replies.Seen last commit head items) = refl
+  quiet-done held (replies.Seen last commit head []) = refl
+  quiet-done held (replies.Seen last commit head (item ∷ items)) = refl
   quiet-done held (replies.Settled seq pos) = refl
   quiet-done held (replies.Noted commit) = refl
   quiet-done held replies.Idle = refl

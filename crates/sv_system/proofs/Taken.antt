@@ -11,12 +11,15 @@ use Rattle.sv_world.specs.Sets.{read_set}
 use Rattle.sv_world.specs.declared.world.Shape.{Shape}
 use Rattle.sv_world.specs.declared.action.Action.{Action}
 use Rattle.sv_versions.specs.Held.{Held}
+use Rattle.sv_wire.specs.declared.message.Done1.{Done1}
+use Rattle.sv_wire.specs.declared.message.Request.{Request}
+use Rattle.sv_wire.specs.declared.message.Request.TheVariants as requests
 use Rattle.sv_wire.specs.declared.message.Reply.{Reply}
 use Rattle.sv_wire.specs.declared.message.Reply.TheVariants as replies
 use Rattle.sv_journal.specs.History.{Authored}
 use Rattle.sv_client.specs.declared.trace.Event.{Event}
 use Rattle.sv_client.specs.declared.trace.Event.TheVariants as events
-use Rattle.sv_client.specs.Traces.{head_held, held_of, results_of}
+use Rattle.sv_client.specs.Traces.{head_held, held_of, results_of, done_for}
 use Rattle.sv_system.specs.Fronts.{IsFront}
 use Rattle.sv_system.specs.Serial.{AreSerial, AreSupplied, AreSufficient}
 use Rattle.sv_system.specs.Delivery.{Delivery, Telling, AreLawful, tellings_to, telling_in, tellings_got}
@@ -42,6 +45,25 @@ abbrev pub IsReported : List (List ℤ) → List Action → List Held → Reply 
 IsReported opening A held (replies.Relay seq commit head items) = AllByRecursion (IsSerialResult opening A) (results_of (held ++ head_held commit head) items)
 IsReported opening A held (replies.Seen last commit head items) = AllByRecursion (IsSerialResult opening A) (results_of (held ++ head_held commit head) items)
 IsReported opening A held _ = Unit {0}
+
+abbrev pub first-results : List Request → List Done1
+first-results (requests.Done results ∷ qs) = results
+first-results _ = []
+
+-- So are those of the Done that it asks for.
+pub reported-done : (opening : List (List ℤ)) (A : List Action) (held : List Held) (reply : Reply) (results : List Done1) → done_for held reply ≡ requests.Done results ∷ [] →
+    IsReported opening A held reply → AllByRecursion (IsSerialResult opening A) results
+reported-done opening A held (replies.Relay seq commit head items) results e h = subst (AllByRecursion (IsSerialResult opening A)) (ap first-results e) h
+reported-done opening A held (replies.Seen last commit head []) results e h = cc
+reported-done opening A held (replies.Seen last commit head (item ∷ items)) results e h = subst (AllByRecursion (IsSerialResult opening A)) (ap first-results e) h
+reported-done opening A held (replies.Welcome commit head) results e h = cc
+reported-done opening A held (replies.Dropped seq chain far) results e h = cc
+reported-done opening A held (replies.Denied seq object) results e h = cc
+reported-done opening A held (replies.Settled seq pos) results e h = cc
+reported-done opening A held (replies.Noted commit) results e h = cc
+reported-done opening A held replies.Idle results e h = cc
+reported-done opening A held (replies.Refused code detail) results e h = cc
+reported-done opening A held replies.Bye results e h = cc
 
 -- The results reported of each relay that was got, and of what was seen, are those of the serial execution.
 abbrev pub AreReported : List (List ℤ) → List Action → List Event → Type 0

@@ -106,7 +106,9 @@ module _ (who : Identity) (first : ℕ) where
       done-now true (replies.Welcome commit head) j g = none-some (requests.Submit n a) g
       done-now true (replies.Dropped seq chain far) j g = none-some (requests.Submit n a) g
       done-now true (replies.Denied seq object) j g = none-some (requests.Submit n a) g
-      done-now true (replies.Seen last commit head items) j g = none-some (requests.Submit n a) g
+      done-now true (replies.Seen last commit head []) j g = none-some (requests.Submit n a) g
+      done-now true (replies.Seen last commit head (item ∷ items)) zero g = true≢false (sym (ap is_submit (same_Some _ (requests.Submit n a) g)))
+      done-now true (replies.Seen last commit head (item ∷ items)) (suc j) g = none-some (requests.Submit n a) g
       done-now true (replies.Settled seq pos) j g = none-some (requests.Submit n a) g
       done-now true (replies.Noted commit) j g = none-some (requests.Submit n a) g
       done-now true replies.Idle j g = none-some (requests.Submit n a) g
@@ -118,7 +120,7 @@ module _ (who : Identity) (first : ℕ) where
       now (events.Got m r) j g = absurd (done-now (m == s) r j g)
       now (events.Make action) j g = make-now (is_session (current_session t) s) action j g
       now events.Poll j g = absurd (no-submit (is_session (current_session t) s) requests.Poll j n a refl g)
-      now (events.Observe objects wait) j g = absurd (no-submit (is_session (current_session t) s) requests.Poll j n a refl g)
+      now (events.Observe objects wait) j g = absurd (no-submit (is_session (current_session t) s) (requests.Observe objects wait) j n a refl g)
       now events.Leave j g = absurd (no-submit (is_session (current_session t) s) requests.Leave j n a refl g)
       now events.Cut j g = absurd (none-some (requests.Submit n a) g)
       now events.Quit j g = absurd (none-some (requests.Submit n a) g)
@@ -205,20 +207,6 @@ answered-next K keeps r A d h l n a q (logged.Dropped seq chain far) is s =
         ],
       ),
     )
-answered-next K keeps r A d h l n a q (logged.Seen last commit head positions) is s =
-    let t : AnswersSubmit h d.session d.request seq = subst (λ (y : Logged). TellsFor K r h d.session d.request y) is (served-tells K keeps r d h l) in
-    let k = t.0 in
-    let number : seq ≡ n = ap submit_number (sym t.1.1.1.0 ∙ q) in
-    let grows : next_seq h k ≤ next_seq (d ∷ h) k = next-grows h (d ∷ h) (after d same) k in (
-      k,
-      (
-        t.1.0,
-        elim t.1.1.1.1 [
-          | inl o ↦ (let old : seq < next_seq h k = kept_known h k seq o.0 o.1 in omega arith)
-          | inr fresh ↦ next-new d h k n a t.1.0 q (sym number ∙ fresh) (ap (λ (y : Logged). length (outcome_in (suc (length (accepted h))) y)) is)
-        ],
-      ),
-    )
 answered-next K keeps r A d h l n a q (logged.Settled seq pos) is s =
     let t : AnswersKept h d.session d.request seq = subst (λ (y : Logged). TellsFor K r h d.session d.request y) is (served-tells K keeps r d h l) in
     let k = t.0 in
@@ -227,6 +215,7 @@ answered-next K keeps r A d h l n a q (logged.Settled seq pos) is s =
     let old : seq < next_seq h k = kept_known h k seq t.1.1.1.1.0 t.1.1.1.1.1 in
     (k, (t.1.0, omega arith))
 answered-next K keeps r A d h l n a q (logged.Welcome commit head) is s = absurd (true≢false (sym s))
+answered-next K keeps r A d h l n a q (logged.Seen last commit head positions) is s = absurd (true≢false (sym s))
 answered-next K keeps r A d h l n a q (logged.Noted commit) is s = absurd (true≢false (sym s))
 answered-next K keeps r A d h l n a q logged.Idle is s = absurd (true≢false (sym s))
 answered-next K keeps r A d h l n a q (logged.Refused code detail) is s = absurd (true≢false (sym s))

@@ -24,7 +24,7 @@ ReplicasAreSerial = (r : Rules) (h : List Entry) (Ls : List Trace) → length r.
 abbrev pub NeverRefused : Type 0
 NeverRefused = (r : Rules) (h : List Entry) (Ls : List Trace) (i : ℕ) (L : Trace) (s : ℕ) (reply : Reply) →
     length r.world.values ≡ r.world.shape.objects → All (λ (v : List ℤ). length v ≡ r.world.shape.attrs) r.world.values → r.bound ≤ most_bound →
-    Legal r h → Fits r.world.shape h Ls → slice_get Ls i ≡ Some L → length (accepted h) ≤ most_positions →
+    length (accepted h) ≤ most_positions → Legal r h → Fits r.world.shape h Ls → slice_get Ls i ≡ Some L →
     current_session (reverse L.events) ≡ Some s → length (requests_of L s) ≤ most_requests →
     slice_get (replies_in (accepted h) h s) (length (got (reverse L.events) s)) ≡ Some reply →
     first_fault_of_reply (identity_of r.world.shape L) (reverse L.events) reply ≡ None
