@@ -30,6 +30,7 @@ pub mod NeverSent
 pub mod NextReply
 pub mod NonEmpty
 pub mod Numbering
+pub mod Observed
 pub mod Opened
 pub mod Order
 pub mod Ordered

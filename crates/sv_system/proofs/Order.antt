@@ -96,7 +96,7 @@ module _ (K : Keeping) (r : Rules) (H : List Entry) (L : Trace) (served : IsServ
   pub joined-has : (v : List Event) → IsPart v whole → (s : ℕ) → list_any (is_join_of s) v ≡ true → has_session L s ≡ true
   joined-has v part s h = any-reverse (is_join_of s) L.events (any-part (is_join_of s) v whole part h)
 
-  got-has : (s n : ℕ) (reply : Reply) → slice_get (got whole s) n ≡ Some reply → has_session L s ≡ true
+  pub got-has : (s n : ℕ) (reply : Reply) → slice_get (got whole s) n ≡ Some reply → has_session L s ≡ true
   got-has s n reply is =
       let g = got-when who L.first whole s n reply is in
       let a = got-answers who L.first whole fits.proper.events s n reply g in
