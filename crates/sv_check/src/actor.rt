@@ -248,12 +248,7 @@ impl<'a> Actor<'a> {
         }
     }
 
-    fn observe(
-        &mut self,
-        alloc: Global,
-        objects: &[ObjectId],
-        wait: u16,
-    ) -> Result<(), AllocError>
+    fn observe(&mut self, alloc: Global, objects: &[ObjectId], wait: u16) -> Result<(), AllocError>
         requires { MayDo self.old.client.who self.old.client.events (events.Observe objects.now wait) }
         ensures { OnOk result (DidEvent (events.Observe objects.now wait) self.old self.new) }
     {
