@@ -14,7 +14,7 @@ from operator import add, and_, eq, le, lt, mul, not_, or_, sub
 from types import SimpleNamespace
 
 LEAST, GREATEST, FARTHEST, MOST_PAYLOAD = -2 ** 63, 2 ** 63 - 1, 1_000_000, 65_536
-MOST_PENDING, MOST_OUTSTANDING, MOST_REQUESTS = 8, 16, 1024
+MOST_PENDING, MOST_OUTSTANDING, MOST_REQUESTS, MOST_OBSERVED = 8, 16, 1024, 16
 SHORT, KIND, COUNT, ORDER, MASK, CODE, LARGE, DEEP, REST = range(1, 10)
 OPERATIONS = {
     "+": add, "-": sub, "*": mul,
@@ -34,14 +34,16 @@ NODES = {
 NODE_OF_BYTE = {byte: kind for kind, (byte, _) in NODES.items()}
 REPLIES = {
     0x81: ("welcome", ("commit", "head")), 0x89: ("relay", ("number", "commit", "head", "items")),
-    0x8a: ("dropped", ("number", "chain", "far")), 0x84: ("settled", ("number", "position")),
+    0x8a: ("dropped", ("number", "chain", "far")), 0x8b: ("seen", ("last", "commit", "head", "items")),
+    0x8c: ("denied", ("number", "target")), 0x84: ("settled", ("number", "position")),
     0x85: ("noted", ("commit",)), 0x86: ("idle", ()), 0x87: ("refused", ("code", "detail")), 0x88: ("bye", ())}
-FITS = {"join": "welcome", "submit": "relay dropped settled", "done": "noted", "poll": "relay idle", "leave": "bye"}
+FITS = {"join": "welcome", "submit": "relay dropped denied settled", "done": "noted", "poll": "relay idle",
+        "observe": "seen", "leave": "bye"}
 
 
 class Fault(Exception):
-    """Nothing was done (`outside` a session, `action N`, `full`, `busy`, `spent`), or a reply is refused: `malformed
-    PLACE CAUSE`, `toolong N`, `unasked`, `wrongkind`, `badorder`, `baditem`, `missing POSITION OBJECT`."""
+    """Nothing was done (`outside` a session, `action N`, `objects`, `full`, `busy`, `spent`), or a reply is refused:
+    `malformed PLACE CAUSE`, `toolong N`, `unasked`, `wrongkind`, `badorder`, `baditem`, `missing POSITION OBJECT`."""
 
 
 class Term:
@@ -178,6 +180,8 @@ def request_bytes(kind, *fields):
         values = [struct.pack(">IB", position, len(each)) + b"".join(
             struct.pack(f">B{len(value)}q", len(value), *value) for value in each) for position, each in fields[0]]
         return struct.pack(">BB", 3, len(values)) + b"".join(values)
+    if kind == "observe":
+        return struct.pack(f">BB{len(fields[0])}HH", 7, len(fields[0]), *fields[0], fields[1])
     return b"\x04" if kind == "poll" else b"\x05"
 
 
@@ -200,8 +204,8 @@ class Payload:
     def field(self, field, above=0):
         """A field of a reply, of an action, or of a node below so many others."""
         if field == "head":
-            targets, values = [-1], []
-            for _ in range(self.take("H", (COUNT, lambda count: count <= 528))):
+            targets, values, most = [-1], [], 544 if self.data[0] == 0x8b else 528
+            for _ in range(self.take("H", (COUNT, lambda count: count <= most))):
                 targets.append(self.take("H", (ORDER, lambda target: target > targets[-1])))
                 sizes = (COUNT, lambda count: 1 <= count <= 4)
                 values.append(tuple(self.take("q") for _ in range(self.take("B", sizes))))
@@ -217,8 +221,8 @@ class Payload:
                 (LARGE, lambda _: self.nodes < 64), (DEEP, lambda _: above < 8))]
             self.nodes += 1
             return (kind, *[self.field(inner, above + 1) for inner in NODES[kind][1]])
-        return self.take(*{
-            "byte": "B", "wide": "q", "code": ("B", (CODE, lambda code: 1 <= code <= 11))}.get(field, "I"))
+        return self.take(*{"byte": "B", "wide": "q", "target": "H",
+                           "code": ("B", (CODE, lambda code: 1 <= code <= 12))}.get(field, "I"))
 
     def action(self):
         """An action."""
@@ -231,7 +235,7 @@ class Payload:
     def reply(self):
         """The reply that the payload is, with its kind and its fields."""
         kind, fields = REPLIES[self.take("B", (KIND, lambda byte: byte in REPLIES))]
-        reply = {"kind": kind, "number": None, "commit": None, "head": (), "items": ()}
+        reply = {"kind": kind, "number": None, "commit": None, "last": None, "head": (), "items": ()}
         reply.update((field, self.field(field)) for field in fields)
         if self.at < len(self.data):
             raise Fault(f"malformed {self.at} {REST}")
@@ -301,9 +305,18 @@ class Client:
         self.need_room()
         self.ask("poll")
 
+    def observe(self, objects, wait=0):
+        """Asks what 1 to 16 objects, ascending, are at one position; the reply's `seen` has the value of each then. A
+        server may wait so many milliseconds for news."""
+        is_short = 1 <= len(objects) <= MOST_OBSERVED
+        if not is_short or sorted(set(objects)) != [*objects] or not 0 <= objects[0] <= objects[-1] < self.shape[0]:
+            raise Fault("objects")
+        self.need_room()
+        self.ask("observe", tuple(objects), wait)
+
     def need_room(self):
-        """Room for one more Submit or Poll, for the Dones that may be due then, and for a Leave."""
-        owed = sum(request[0] in ("submit", "poll") for request in self.outstanding)
+        """Room for one more request, for the Dones that may be due then, and for a Leave."""
+        owed = sum(request[0] in ("submit", "poll", "observe") for request in self.outstanding)
         is_busy = len(self.outstanding) == MOST_OUTSTANDING
         if not self.link or is_busy or self.asked + owed + 3 > MOST_REQUESTS:
             raise Fault("outside" if not self.link else "busy" if is_busy else "spent")
@@ -330,9 +343,9 @@ class Client:
         """Sends a request. After an OSError, here or in `take`, the client may join anew."""
         if not self.link:
             raise Fault("outside")
+        payload = request_bytes(*request)
         self.outstanding.append(request)
         self.asked += 1
-        payload = request_bytes(*request)
         self.link.sendall(struct.pack(">I", len(payload)) + payload)
 
     def take(self, seconds=None):
@@ -358,7 +371,8 @@ class Client:
             raise Fault("wrongkind" if kind else "unasked")
         places = [item.position for item in reply.items]
         if any(sorted(set(each)) != each for each in (places, [target for target, _ in reply.head])) or (
-                reply.commit is not None and not self.told <= reply.commit < min(places[:1] + [2 ** 32])):
+                reply.commit is not None and not self.told <= reply.commit < min(places[:1] + [2 ** 32])) or (
+                reply.last is not None and not max(places[-1:] + [reply.commit]) <= reply.last < 2 ** 32 - 1):
             raise Fault("badorder")
         number, act = self.pending[0][:2] if kind == "submit" else (0, None)
         own = [(item.client, item.number, item.action) for item in reply.items[-1:]]
@@ -372,28 +386,36 @@ class Client:
         """Takes a reply to the oldest outstanding request; where it is refused nothing changes."""
         self.look_at(reply)
         versions, results = {target: dict(held) for target, held in self.versions.items()}, []
+
+        def below(position, target):
+            places = [place for place in versions.get(target, ()) if place < position]
+            if not places:
+                raise Fault(f"missing {position} {target}")
+            return versions[target][max(places)]
+
         for target, value in reply.head:
             versions.setdefault(target, {})[reply.commit] = value
         for item in reply.items:
-            values = []
-            for target in item.action.reads:
-                below = [place for place in versions.get(target, ()) if place < item.position]
-                if not below:
-                    raise Fault(f"missing {item.position} {target}")
-                values.append(versions[target][max(below)])
+            values = [below(item.position, target) for target in item.action.reads]
             results.append((item.position, item.action.result(values)))
             for target, value in zip(item.action.writes, results[-1][1]):
                 versions.setdefault(target, {})[item.position] = value
+        kind, *fields = self.outstanding[0]
+        if kind == "observe":
+            reply.seen = {target: below(reply.last + 1, target) for target in fields[0]}
         self.told = self.told if reply.commit is None else reply.commit
         for target, held in versions.items():
             last = max((place for place in held if place <= self.told), default=0)
             self.versions[target] = {place: value for place, value in held.items() if place >= last}
-        if self.outstanding.popleft()[0] == "submit":
+        self.outstanding.popleft()
+        is_news = kind == "observe" and bool(reply.head or results)
+        if kind == "submit":
             (_, _, kept), *self.pending = self.pending
-            if not results or kept != results[-1][1]:
-                remaining, self.pending = self.pending, []
-                for number, act, _ in remaining:
-                    self.add(number, act)
+            is_news = not results or kept != results[-1][1]
+        if is_news:
+            remaining, self.pending = self.pending, []
+            for number, act, _ in remaining:
+                self.add(number, act)
         if results:
             self.ask("done", tuple(results))
         self.tell()

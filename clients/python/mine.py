@@ -37,7 +37,7 @@ def play(me, port):
             client.make(digging(me, (left % 4 or 1) if me == 0 else random.randint(1, min(3, left))))
         else:
             time.sleep(0.2)
-            client.make(action(reads=(0, 1, 2)))
+            client.observe((0, 1, 2))
         client.finish()
     client.leave()
 

@@ -1,14 +1,14 @@
 #!/usr/bin/env python3
 """The edits that the prover must refuse and that are too dear for the gate: those of tests/outside/edits/NAME, for the crate NAME.
 
-    python3 tests/outside/edits.py [NAME..]
+    python3 tests/outside/edits.py [NAME.. | --due]
     python3 tests/outside/edits.py --recorded
 
-Without names it tries those of all crates. It puts them in place in a copy of the repository's committed state, in which no other edit
-stands, and runs `rt ci` there on these crates. So it takes what the gate has kept, and proves anew just what an edit changes. All of them
-take an hour of one processor and more. Where all were refused, it records for each crate the sum of its code, its definitions and its edits
-in edits/refused.txt. With --recorded it tries nothing, and fails where a crate is another one than was recorded: then its edits must be tried
-again. What stands below a crate is not part of its sum.
+Without words it tries those of all crates, with --due those that are due. It puts them in place in a copy of the repository's committed state,
+in which no other edit stands, and runs `rt ci` there on these crates. So it takes what the gate has kept, and proves anew just what an edit
+changes. All of them take an hour of one processor and more. Where all were refused, it records for each crate, in edits/refused.txt, the sum of
+its edits and of its code and definitions and those of all crates below it. With --recorded it tries nothing, and only says which edits are due:
+those whose sum is another one now.
 """
 
 import hashlib
@@ -28,10 +28,27 @@ def files_below(folder):
     return sorted(os.path.join(at, name) for at, _, names in os.walk(folder) for name in names)
 
 
+def with_all_below(root, crate):
+    """The crate and all that it stands on, in order."""
+    with open(os.path.join(root, "crates.txt"), encoding="ascii") as file:
+        lines = [line.split(":") for line in file if ":" in line and not line.startswith("#")]
+    uses, found = {name: used.split() for name, used in lines}, set()
+
+    def visit(name):
+        if name in uses and name not in found:
+            found.add(name)
+            for one in uses[name]:
+                visit(one)
+
+    visit(crate)
+    return sorted(found)
+
+
 def sum_of(root, crate):
-    """The sum of a crate's code, its definitions and its edits."""
+    """The sum of a crate's edits, and of its code and definitions and those of all crates below it."""
     total = hashlib.sha256()
-    for folder in (f"crates/{crate}/src", f"crates/{crate}/specs", f"tests/outside/edits/{crate}"):
+    folders = [f"crates/{name}/{part}" for name in with_all_below(root, crate) for part in ("src", "specs")]
+    for folder in (*folders, f"tests/outside/edits/{crate}"):
         for path in files_below(os.path.join(root, folder)):
             with open(path, "rb") as file:
                 data = file.read()
@@ -74,15 +91,17 @@ def try_all(crates):
 
 
 def main(words):
-    """The status: 0 where all is refused, or recorded as it stands."""
+    """The status: 0 where all that was tried is refused, or nothing was to be tried."""
     known = sorted(name for name in os.listdir(EDITS) if os.path.isdir(os.path.join(EDITS, name)))
-    if words == ["--recorded"]:
+    if words in (["--recorded"], ["--due"]):
         sums = recorded()
-        others = [name for name in known if sums.get(name) != sum_of(ROOT, name)]
-        for name in others:
-            print(f"the edits of {name} were not tried since it changed: python3 tests/outside/edits.py {name}")
-        print(f"{len(known) - len(others)} passed, {len(others)} failed")
-        return 1 if others else 0
+        due = [name for name in known if sums.get(name) != sum_of(ROOT, name)]
+        if due and words == ["--due"]:
+            return try_all(due)
+        if due:
+            print(f"due, since these crates or some below them changed: the edits of {' '.join(due)} (python3 tests/outside/edits.py --due)")
+        print(f"{len(known) - len(due)} passed, 0 failed")
+        return 0
     unknown = [name for name in words if name not in known]
     if unknown:
         print(f"no edits of {', '.join(unknown)}; there are those of {', '.join(known)}", file=sys.stderr)

@@ -82,6 +82,12 @@ def join_of(found):
     return None if None in (client, life, interest) else Request("join", client=client, life=life, interest=interest)
 
 
+def observe_of(found):
+    """An Observe, or None where a number is outside its type."""
+    wait, objects = number_in(found[1], SMALL), interest_of(found[2])
+    return None if None in (wait, objects) else Request("observe", wait=wait, objects=objects)
+
+
 @functools.lru_cache(maxsize=10_000)
 def action_in(text):
     """The action that this is the canonical text of, or None."""
@@ -108,6 +114,8 @@ def request_in(text, scenario):
         return Request(text)
     if found := re.fullmatch(rf"join c({NATURAL}) ({NATURAL}) ({list_of(NATURAL)})", text):
         return join_of(found)
+    if found := re.fullmatch(rf"observe ({NATURAL}) ({list_of(NATURAL)})", text):
+        return observe_of(found)
     if found := re.fullmatch(rf"submit ({NATURAL}) (.*)", text):
         return submit_of(found, scenario)
     if found := re.fullmatch(rf"done ({list_of(RESULT)})", text):
@@ -158,9 +166,8 @@ class Follower(Walk):
         self.need(self.outstanding, line, "no request is outstanding")
         self.accept(self.outstanding[0], entries[place].reply, line)
 
-    def hold(self, target, position, value, line):
-        """A value at a position is held."""
-        self.held.setdefault(target, {})[position] = value
+    def need_serial(self, target, position, value, line):
+        """A value may be any."""
 
     def read_below(self, target, position, line):
         """The value of an object that the action of a position reads: the last one before it that it was given."""

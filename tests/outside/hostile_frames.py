@@ -78,8 +78,10 @@ class Requests:
             return b"\x06" + struct.pack(">I", max(0, number)) + self.chance.choice(self.bodies)
         if kind < 0.85:
             return self.done(session)
-        if kind < 0.97:
+        if kind < 0.91:
             return b"\x04"
+        if kind < 0.97:
+            return self.observe()
         return self.join() if kind < 0.995 else b"\x05"
 
     def join(self):
@@ -88,6 +90,11 @@ class Requests:
         life = (self.model.lives[owner] if owner < 32 else 0) + self.chance.choice([1, 1, 1, 1, 0, 2])
         interest = sorted(self.chance.sample(range(OBJECTS), self.chance.randrange(4)))
         return struct.pack(f">BHIB{len(interest)}H", 1, owner, life, len(interest), *interest)
+
+    def observe(self):
+        """An Observe, at times of an object that the world lacks."""
+        objects = sorted(self.chance.sample(range(OBJECTS + (self.chance.random() < 0.02)), self.chance.randrange(1, 4)))
+        return struct.pack(f">BB{len(objects)}HH", 7, len(objects), *objects, self.chance.choice([0, 0, 1, 65535]))
 
     def done(self, session):
         """Results of the first positions that have none, mostly with as many values as are due."""

@@ -46,6 +46,8 @@ def payload_of(request):
         return b"\x03" + bytes([len(request.results)]) + b"".join(
             struct.pack(">IB", place, len(values)) + b"".join(struct.pack(f">B{len(one)}q", len(one), *one) for one in values)
             for place, values in request.results)
+    if request.kind == "observe":
+        return struct.pack(f">BB{len(request.objects)}HH", 7, len(request.objects), *request.objects, request.wait)
     return {"poll": b"\x04", "leave": b"\x05"}[request.kind]
 
 

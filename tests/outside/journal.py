@@ -17,6 +17,7 @@ REQUESTS = 1024
 CLIENTS = 32
 MOST_RESULTS = 33
 MOST_INTEREST = 64
+MOST_OBSERVED = 16
 
 MALFORMED, NOT_JOINED, ALREADY_JOINED, ENDED, BAD_NUMBER, BAD_ACTION = 1, 2, 3, 4, 5, 6
 BAD_DONE, BAD_INTEREST, SPENT, BAD_CLIENT, STALE = 7, 8, 9, 10, 11
@@ -96,29 +97,37 @@ class History:
         place = bisect_left(writers, below)
         return writers[place - 1] if place else 0
 
-    def lacking(self, session, position):
-        """What the session lacks of a position: the least set that has it and the last writers
-        of what its members read, where these are above the commit and were not sent."""
-        if position in session.sent:
-            return []
-        needed, waiting = set(), [position]
+    def missing_writers(self, session, targets, below):
+        """The last writers of these objects below a position that are above the commit and were
+        not sent."""
+        writers = (self.last_writer(target, below) for target in targets)
+        return [one for one in writers if one > self.commit and one not in session.sent]
+
+    def closed(self, session, positions):
+        """The least set that has these positions and the missing writers of what its members read."""
+        needed, waiting = set(), list(positions)
         while waiting:
             one = waiting.pop()
-            if one in needed:
-                continue
-            needed.add(one)
-            for target in self.action(one).reads:
-                writer = self.last_writer(target, one)
-                if writer > self.commit and writer not in session.sent:
-                    waiting.append(writer)
+            if one not in needed:
+                needed.add(one)
+                waiting += self.missing_writers(session, self.action(one).reads, one)
         return sorted(needed)
 
-    def base_values(self, session, positions):
+    def lacking(self, session, position):
+        """What the session lacks of a position: nothing where it was sent."""
+        return [] if position in session.sent else self.closed(session, [position])
+
+    def lacking_of(self, session, objects, last):
+        """What the session lacks of objects as they are after the first actions: what it would lack
+        of an action that reads them right behind these, but for this action."""
+        return self.closed(session, self.missing_writers(session, objects, last + 1))
+
+    def base_values(self, session, positions, *more):
         """The committed values of what these positions read as committed, other than those that
-        the session was given since their last write."""
+        the session was given since their last write; `more` has other readers' positions and reads."""
         wanted = set()
-        for position in positions:
-            for target in self.action(position).reads:
+        for position, reads in [*((one, self.action(one).reads) for one in positions), *more]:
+            for target in reads:
                 writer = self.last_writer(target, position)
                 if writer <= self.commit and not session.is_given(target, writer, self.commit):
                     wanted.add(target)
@@ -149,13 +158,16 @@ class History:
         """One more than the outcomes that the client has."""
         return 1 + len(self.outcomes.get(client, []))
 
+    def items(self, positions):
+        """The items of these positions."""
+        return tuple((one, self.accepted[one - 1].author, self.accepted[one - 1].number)
+                     for one in positions)
+
     def relay(self, session, number, position):
         """The relay of a position to a session, by the commit and the marks before it."""
         positions = self.lacking(session, position)
-        items = tuple((one, self.accepted[one - 1].author, self.accepted[one - 1].number)
-                      for one in positions)
         return Reply("relay", number=number, commit=self.commit,
-                     head=self.base_values(session, positions), items=items)
+                     head=self.base_values(session, positions), items=self.items(positions))
 
     def is_bad_done(self, session, results):
         """Whether a list of results is refused; those at or below the commit are not looked at."""
@@ -205,6 +217,8 @@ class History:
             return self.answer_submit(session, request)
         if request.kind == "done":
             return self.answer_done(session, request)
+        if request.kind == "observe":
+            return self.answer_observe(session, request.objects)
         for position in self.orphans():
             return self.send(session, self.relay(session, 0, position))
         return Reply("idle")
@@ -259,6 +273,20 @@ class History:
             insort(self.writers.setdefault(target, []), position)
         outcomes.append(("accepted", position))
         return self.send(session, self.relay(session, request.number, position))
+
+    def answer_observe(self, session, objects):
+        """The objects at the greatest position, from the commit on, at which the session lacks no
+        more than a Done may report."""
+        if not 1 <= len(objects) <= MOST_OBSERVED or any(one >= self.objects for one in objects):
+            return refused(BAD_INTEREST)
+        if any(first >= second for first, second in zip(objects, objects[1:])):
+            return refused(BAD_INTEREST)
+        last = max(place for place in range(self.commit, len(self.accepted) + 1)
+                   if len(self.lacking_of(session, objects, place)) <= MOST_RESULTS)
+        positions = self.lacking_of(session, objects, last)
+        head = self.base_values(session, positions, (last + 1, objects))
+        return self.send(session, Reply("seen", last=last, commit=self.commit, head=head,
+                                        items=self.items(positions)))
 
     def answer_done(self, session, request):
         """The commit after the first results of positions were noted and put in order."""

@@ -8,7 +8,7 @@ printed form of requests and replies (report.py) and the action language (action
 from collections import deque
 
 from actions import evaluate
-from report import Request, held_text, value_text
+from report import Request, held_text, objects_text, value_text
 
 
 class Wrong(Exception):
@@ -16,7 +16,8 @@ class Wrong(Exception):
 
 
 class Player:
-    """A scripted client. `lines` is its part of the report, `told` its told lines."""
+    """A scripted client. `lines` is its part of the report, `told` its told lines, `looked` has the
+    lines of its looks."""
 
     def __init__(self, client, scenario):
         self.client = client
@@ -32,6 +33,7 @@ class Player:
         self.where = "outside"
         self.lines = []
         self.told = []
+        self.looked = []
         self.seen = {target: None for target in self.plan.interest}
 
     @property
@@ -94,7 +96,7 @@ class Player:
             return not self.waiting
         if step.kind == "act":
             return len(self.pending) < 8 and len(self.waiting) < 16
-        return step.kind != "poll" or len(self.waiting) < 16
+        return step.kind not in ("poll", "observe") or len(self.waiting) < 16
 
     def turn(self):
         """Does the next step if it can. Answers the requests that it asks, or None where it did
@@ -116,6 +118,9 @@ class Player:
         if step.kind == "poll":
             self.note("poll")
             return [self.ask(Request("poll"))]
+        if step.kind == "observe":
+            self.note(f"observe {objects_text(step.objects)}")
+            return [self.ask(Request("observe", wait=0, objects=step.objects))]
         if step.kind == "show":
             views = [(target, self.view(target)) for target in step.objects]
             self.note("show [" + " ".join(f"{target}={value_text(view) if view else '?'}"
@@ -174,39 +179,67 @@ class Player:
             self.where = "inside"
         elif reply.kind == "bye" and request.kind == "leave":
             self.where = "byed"
-        elif reply.kind in ("dropped", "settled") and request.kind == "submit":
+        elif reply.kind in ("dropped", "denied", "settled") and request.kind == "submit":
             if self.pending.pop(0)[0] != reply.number:
                 raise Wrong("another number than the front one")
             self.redo()
         elif reply.kind == "relay" and request.kind in ("submit", "poll"):
             asked = self.relay(request, reply, actions)
+        elif reply.kind == "seen" and request.kind == "observe":
+            asked = self.see(request, reply, actions)
         elif (request.kind, reply.kind) not in (("done", "noted"), ("poll", "idle")):
             raise Wrong(f"{request.kind} was answered {reply.kind}")
         self.prune()
         self.note(f"got s{self.session} #{number}")
         return asked
 
-    def relay(self, request, reply, actions):
-        """Evaluates the items, and settles the own action."""
+    def values_below(self, objects, position):
+        """The values that objects have below a position."""
+        values = {}
+        for target in objects:
+            below = [value for place, value in self.kept.get(target, []) if place < position]
+            if not below:
+                raise Wrong(f"object {target} is unknown below {position}")
+            values[target] = below[-1]
+        return values
+
+    def evaluated(self, items, actions):
+        """The results of the items, which are kept."""
         results = []
-        for position, _, _ in reply.items:
+        for position, _, _ in items:
             action = actions[position]
-            values = {}
-            for target in action.reads:
-                below = [value for place, value in self.kept.get(target, []) if place < position]
-                if not below:
-                    raise Wrong(f"object {target} is unknown below {position}")
-                values[target] = below[-1]
-            result = evaluate(action, values)
+            result = evaluate(action, self.values_below(action.reads, position))
             results.append((position, result))
             for target, value in zip(action.writes, result):
                 self.put(target, position, value)
+        return tuple(results)
+
+    def relay(self, request, reply, actions):
+        """Evaluates the items, and settles the own action."""
+        results = self.evaluated(reply.items, actions)
         if not results:
             raise Wrong("a relay without items")
         if request.kind == "submit":
-            number, _, kept = self.pending.pop(0)
+            number, action, kept = self.pending.pop(0)
             if reply.items[-1][1:] != (self.client, number) or reply.number != number:
                 raise Wrong("the last item is not the own one")
             if kept != results[-1][1]:
                 self.redo()
-        return [self.ask(Request("done", results=tuple(results)))]
+            if not action.writes and not action.body:
+                self.look(f"look c{self.client} {number}", action.reads, results[-1][0])
+        return [self.ask(Request("done", results=results))]
+
+    def see(self, request, reply, actions):
+        """Evaluates the items; where there is anything new, all that is pending is computed again."""
+        results = self.evaluated(reply.items, actions)
+        if reply.last < max([reply.commit, *(position for position, _ in results)]):
+            raise Wrong("a cut below what it shows")
+        self.look(f"seen c{self.client}", request.objects, reply.last + 1, reply.last)
+        if reply.head or results:
+            self.redo()
+        return [self.ask(Request("done", results=results))] if results else []
+
+    def look(self, begin, objects, position, named=None):
+        """The line of a look: the values of objects below a position."""
+        values = held_text(self.values_below(objects, position).items())
+        self.looked.append(f"{begin} at {position if named is None else named} {values}")

@@ -5,8 +5,9 @@
 
 The same seed gives the same file. There are few objects, so that clients meet each other: 1 to 8
 clients, 1 to 12 objects of 1 to 4 numbers, a bound of 0 to 8, at times a reach and origins; acts of
-all forms of the language, void ones among them; polls, syncs, shows, cuts, and a quit at the end of
-some scripts. Most files have a schedule of random turns, which counts for `replay` alone.
+all forms of the language, void ones among them; polls, observes, syncs, shows, cuts, and a quit at the
+end of some scripts. Most files have a schedule of random turns, which counts for `replay` alone. In
+some files that schedule lets more actions be unfinished than an observe may show at once.
 """
 
 import json
@@ -140,14 +141,18 @@ class Maker:
         """A script with at most so many cuts."""
         steps = []
         syncs = self.chance.choice([0, 2, 2, 4])
-        weights = [10, self.chance.choice([0, 2, 2, 12]), syncs, 3, self.chance.choice([1, 1, 3])]
+        weights = [10, self.chance.choice([0, 2, 2, 12]), syncs, 3, self.chance.choice([1, 1, 3]),
+                   self.chance.choice([0, 2, 4, 12])]
         for _ in range(self.chance.choice([0, 1, 3, 6, 10, 16, 24, 40])):
-            kind = self.chance.choices(["act", "poll", "sync", "show", "cut"], weights)[0]
+            kind = self.chance.choices(["act", "poll", "sync", "show", "cut", "observe"], weights)[0]
             if kind == "act":
                 steps.append({"act": self.act()})
             elif kind == "show":
                 count = self.chance.randrange(1, min(16, self.objects + 2) + 1)
                 steps.append({"show": [self.chance.randrange(self.objects) for _ in range(count)]})
+            elif kind == "observe":
+                count = self.chance.randrange(1, min(16, self.objects) + 1)
+                steps.append({"observe": sorted(self.chance.sample(range(self.objects), count))})
             elif kind != "cut":
                 steps.append(kind)
             elif cuts:
@@ -171,9 +176,33 @@ class Maker:
             turns.append(letter + str(self.chance.randrange(sessions if letter == "s" else clients)))
         return turns
 
+    def crowd(self):
+        """Five writers and some observers. All actions are made and accepted before any is reported."""
+        chance, writers = self.chance, range(5)
+        clients, turns = [], []
+        for one in writers:
+            other = chance.choice(writers)
+            reads = " ".join(str(target) for target in sorted({one, other}))
+            text = f"reads {reads} writes {one} {{ set @{one}.0 ((@{one}.0 + @{other}.0) + 1); }}"
+            clients.append({"interest": [], "steps": [{"act": text}] * 8})
+        for _ in range(chance.choice([1, 1, 2, 3])):
+            seen = sorted(chance.sample(writers, chance.choice([3, 5, 5])))
+            clients.append({"interest": [], "steps": [{"observe": seen}] * 2 + ["sync", {"observe": seen}]})
+        for turn in ("c", "s", "t"):
+            turns += [f"{turn}{one}" for one in range(len(clients))]
+        for turn in ("c", "s"):
+            more = [f"{turn}{one}" for one in writers] * 8
+            chance.shuffle(more)
+            turns += more
+        turns += [f"{turn}{one}" for one in range(5, len(clients)) for turn in "ccsstt"]
+        return {"attrs": 1, "objects": [[self.number()] for _ in writers],
+                "bound": chance.choice([8, 32, 32]), "clients": clients, "schedule": turns}
+
     def scenario(self):
         """The whole file."""
         chance = self.chance
+        if chance.random() < 0.05:
+            return self.crowd()
         value = {"attrs": self.attributes}
         value["objects"] = [[self.number() * chance.choice([1, 1, 10]) if not self.is_wild
                              else self.number() for _ in range(self.attributes)]

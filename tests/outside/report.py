@@ -45,6 +45,8 @@ class Request(NamedTuple):
     number: Optional[int] = None
     action: object = None
     results: tuple = ()
+    objects: tuple = ()
+    wait: Optional[int] = None
 
 
 class Reply(NamedTuple):
@@ -60,6 +62,8 @@ class Reply(NamedTuple):
     far: Optional[int] = None
     code: Optional[int] = None
     detail: Optional[int] = None
+    last: Optional[int] = None
+    target: Optional[int] = None
 
 
 class Entry(NamedTuple):
@@ -109,6 +113,16 @@ def held_text(pairs):
     return "[" + " ".join(f"{target}={value_text(value)}" for target, value in pairs) + "]"
 
 
+def objects_text(objects):
+    """A list of objects."""
+    return "[" + " ".join(str(target) for target in objects) + "]"
+
+
+def items_text(items):
+    """A list of items, each with its position, its author and the author's number."""
+    return "[" + " ".join(f"{position}:c{author}.{number}" for position, author, number in items) + "]"
+
+
 def results_text(results):
     """A list of positions, each with its values one after the other."""
     return "[" + " ".join(f"{position}:" + "".join(value_text(value) for value in values)
@@ -118,12 +132,13 @@ def results_text(results):
 def request_text(request):
     """The text of a request."""
     if request.kind == "join":
-        interest = " ".join(str(target) for target in request.interest)
-        return f"join c{request.client} {request.life} [{interest}]"
+        return f"join c{request.client} {request.life} {objects_text(request.interest)}"
     if request.kind == "submit":
         return f"submit {request.number} {action_text(request.action)}"
     if request.kind == "done":
         return f"done {results_text(request.results)}"
+    if request.kind == "observe":
+        return f"observe {request.wait} {objects_text(request.objects)}"
     return request.kind
 
 
@@ -133,10 +148,13 @@ def reply_text(reply):
     if kind == "welcome":
         return f"welcome {reply.commit} {held_text(reply.head)}"
     if kind == "relay":
-        items = " ".join(f"{position}:c{author}.{number}" for position, author, number in reply.items)
-        return f"relay {reply.number} at {reply.commit} {held_text(reply.head)} [{items}]"
+        return f"relay {reply.number} at {reply.commit} {held_text(reply.head)} {items_text(reply.items)}"
+    if kind == "seen":
+        return f"seen {reply.last} at {reply.commit} {held_text(reply.head)} {items_text(reply.items)}"
     if kind == "dropped":
         return f"dropped {reply.number} chain {reply.chain} far {reply.far}"
+    if kind == "denied":
+        return f"denied {reply.number} object {reply.target}"
     if kind == "settled":
         return f"settled {reply.number} at {reply.position}"
     if kind == "noted":
@@ -181,8 +199,13 @@ def results_of(text, line):
     return tuple(results)
 
 
+def objects_of(text, line):
+    """The objects of a printed list."""
+    return tuple(number_of(one, SMALL, line) for one in text[1:-1].split())
+
+
 def items_of(text, line):
-    """The items of a printed relay."""
+    """The items of a printed reply."""
     items = []
     for one in text[1:-1].split():
         position, author, number = re.fullmatch(r"([0-9]+):c([0-9]+)\.([0-9]+)", one).groups()
@@ -197,9 +220,11 @@ def request_of(text, line):
         return Request(text)
     found = re.fullmatch(rf"join c({NATURAL}) ({NATURAL}) ({list_of(NATURAL)})", text)
     if found:
-        interest = tuple(number_of(one, SMALL, line) for one in found[3][1:-1].split())
         return Request("join", client=number_of(found[1], SMALL, line),
-                       life=number_of(found[2], LARGE, line), interest=interest)
+                       life=number_of(found[2], LARGE, line), interest=objects_of(found[3], line))
+    found = re.fullmatch(rf"observe ({NATURAL}) ({list_of(NATURAL)})", text)
+    if found:
+        return Request("observe", wait=number_of(found[1], SMALL, line), objects=objects_of(found[2], line))
     found = re.fullmatch(rf"done ({list_of(RESULT)})", text)
     if found:
         return Request("done", results=results_of(found[1], line))
@@ -221,15 +246,20 @@ def reply_of(text, line):
     if found:
         return Reply("welcome", commit=number_of(found[1], LARGE, line), head=held_of(found[2], line))
     found = re.fullmatch(
-        rf"relay ({NATURAL}) at ({NATURAL}) ({list_of(HELD)}) ({list_of(ITEM)})", text)
+        rf"(relay|seen) ({NATURAL}) at ({NATURAL}) ({list_of(HELD)}) ({list_of(ITEM)})", text)
     if found:
-        return Reply("relay", number=number_of(found[1], LARGE, line),
-                     commit=number_of(found[2], LARGE, line),
-                     head=held_of(found[3], line), items=items_of(found[4], line))
+        first = {"relay": "number", "seen": "last"}[found[1]]
+        return Reply(found[1], **{first: number_of(found[2], LARGE, line)},
+                     commit=number_of(found[3], LARGE, line),
+                     head=held_of(found[4], line), items=items_of(found[5], line))
     found = re.fullmatch(rf"dropped ({NATURAL}) chain ({NATURAL}) far ({NATURAL})", text)
     if found:
         number, chain, far = (number_of(one, LARGE, line) for one in found.groups())
         return Reply("dropped", number=number, chain=chain, far=far)
+    found = re.fullmatch(rf"denied ({NATURAL}) object ({NATURAL})", text)
+    if found:
+        return Reply("denied", number=number_of(found[1], LARGE, line),
+                     target=number_of(found[2], SMALL, line))
     found = re.fullmatch(rf"settled ({NATURAL}) at ({NATURAL})", text)
     if found:
         number, position = (number_of(one, LARGE, line) for one in found.groups())
@@ -301,6 +331,7 @@ EVENTS = (
     ("make", rf"make (?P<number>{NATURAL}) kept (?P<text>none|{list_of(HELD)})"),
     ("got", rf"got s(?P<session>{NATURAL}) #(?P<number>{NATURAL})"),
     ("show", rf"show (?P<text>{list_of(SHOWN)})"),
+    ("observe", rf"observe (?P<text>{list_of(NATURAL)})"),
     ("poll", "poll"), ("leave", "leave"), ("cut", "cut"), ("quit", "quit"),
 )
 

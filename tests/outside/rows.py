@@ -112,6 +112,47 @@ s1 leave -> bye
 s1 done [1:] -> refused 4 0
 s1 end -> bye
 """),
+    ("what is seen", (10, 20), 4, None, """
+s0 submit 1 INC(0) -> relay 1 at 0 [0=(10)] [1:c0.1]
+s1 observe 0 [0 1] -> seen 1 at 0 [0=(10) 1=(20)] [1:c0.1]
+s1 done [1:(11)] -> noted 1
+s0 done [1:(11)] -> noted 1
+s1 observe 65535 [0 1] -> seen 1 at 1 [] []
+s2 observe 0 [1] -> seen 1 at 1 [1=(20)] []
+s2 observe 0 [0 1] -> seen 1 at 1 [0=(11)] []
+s0 submit 2 INC(1) -> relay 2 at 1 [1=(20)] [2:c0.2]
+s1 observe 0 [0] -> seen 2 at 1 [] []
+s1 observe 0 [0 1] -> seen 2 at 1 [] [2:c0.2]
+s1 observe 0 [1] -> seen 2 at 1 [] []
+s2 done [2:(21)] -> refused 7 0
+s2 submit 1 INC(1) -> relay 1 at 1 [] [2:c0.2 3:c2.1]
+"""),
+    ("an observe that is not answered by a cut", (0, 0), 0, None, """
+s0 poll -> refused 2 0
+s0 observe 0 [0] -> refused 2 0
+s1 observe 0 [] -> refused 8 0
+s1 observe 0 [0 0] -> refused 8 0
+s1 observe 0 [1 0] -> refused 8 0
+s1 observe 0 [0 2] -> refused 8 0
+s1 observe 0 [0 1 2 3 4 5 6 7 8 9 10 11 12 13 14 15 16] -> refused 8 0
+s1 observe 0 [0 1] -> seen 0 at 0 [0=(0) 1=(0)] []
+s1 leave -> bye
+s1 observe 0 [0] -> refused 4 0
+"""),
+    ("an observe before a repeated submit", (0,), 8, None, """
+s0 submit 1 INC(0) -> relay 1 at 0 [0=(0)] [1:c0.1]
+s1 join c0 2 [] -> welcome 0 []
+s1 observe 0 [0] -> seen 1 at 0 [0=(0)] [1:c0.1]
+s1 submit 1 INC(0) -> relay 1 at 0 [] []
+"""),
+    ("more than a Done may report", (0, 0, 0, 0), 8, None, "\n".join(
+        [f"s0 submit {place} INC({(place - 1) // 9}) -> relay {place} at 0 "
+         f"{f'[{place // 9}=(0)]' if place % 9 == 1 else '[]'} [{place}:c0.{place}]" for place in range(1, 37)]
+        + ["s1 observe 0 [0 1 2 3] -> seen 33 at 0 [0=(0) 1=(0) 2=(0) 3=(0)] ["
+           + " ".join(f"{place}:c0.{place}" for place in range(1, 34)) + "]",
+           "s2 observe 0 [0 3] -> seen 36 at 0 [0=(0) 3=(0)] ["
+           + " ".join(f"{place}:c0.{place}" for place in [*range(1, 10), *range(28, 37)]) + "]",
+           "s1 observe 0 [0 1 2 3] -> seen 36 at 0 [] [34:c0.34 35:c0.35 36:c0.36]"])),
     ("nine outcomes", (0,), 0, None, "\n".join(
         ["s0 submit 1 INC(0) -> relay 1 at 0 [0=(0)] [1:c0.1]"]
         + [f"s0 submit {number} INC(0) -> dropped {number} chain 1 far 0" for number in range(2, 10)]
@@ -163,8 +204,8 @@ def random_requests(seed, sessions, objects, attributes):
     ended = set()
     for _ in range(120):
         session = chance.randrange(sessions)
-        kind = chance.choices(["join", "submit", "done", "poll", "leave", "bad", "end"],
-                              [30, 60, 50, 20, 1, 1, 2])[0]
+        kind = chance.choices(["join", "submit", "done", "poll", "observe", "leave", "bad", "end"],
+                              [30, 60, 50, 20, 30, 1, 1, 2])[0]
         if session in ended:
             continue
         if kind == "join":
@@ -187,6 +228,12 @@ def random_requests(seed, sessions, objects, attributes):
             yield session, Request("done", results=tuple(
                 (place, tuple((chance.randrange(99),) * attributes
                               for _ in range(chance.choice([0, 1, 1, 1, 2])))) for place in places))
+        elif kind == "observe":
+            count = chance.choice([0, 1, 1, 2, 3, 17])
+            seen = [chance.randrange(objects + (chance.random() < 0.05)) for _ in range(count)]
+            if chance.random() < 0.9:
+                seen = sorted(set(seen))
+            yield session, Request("observe", wait=chance.choice([0, 1, 65535]), objects=tuple(seen))
         else:
             if kind == "end":
                 ended.add(session)

@@ -87,6 +87,14 @@ def keyed(value, needed, others, where):
     return value
 
 
+def ascending(value, objects, where):
+    """A list of objects, each above the one before."""
+    found = tuple(whole(one, 0, objects - 1, where) for one in value)
+    if any(first >= second for first, second in zip(found, found[1:])):
+        raise NoScenario(f"{where}: not ascending")
+    return found
+
+
 def step_of(value, objects, attributes, where):
     """The step that stands here."""
     if value in ("poll", "sync", "cut", "quit") and type(value) is str:
@@ -96,6 +104,9 @@ def step_of(value, objects, attributes, where):
     if "show" in value:
         shown = listed(value["show"], 1, 16, where)
         return Step("show", objects=tuple(whole(one, 0, objects - 1, where) for one in shown))
+    if "observe" in value:
+        listed(value["observe"], 1, 16, f"{where}/observe")
+        return Step("observe", objects=ascending(value["observe"], objects, f"{where}/observe"))
     if type(value.get("act")) is not str:
         raise NoScenario(f"{where}: no step")
     try:
@@ -112,9 +123,7 @@ def plan_of(value, objects, attributes, where):
     """The client that stands here; a quit is its last step."""
     keyed(value, ("interest", "steps"), (), where)
     listed(value["interest"], 0, 64, f"{where}/interest")
-    interest = tuple(whole(one, 0, objects - 1, f"{where}/interest") for one in value["interest"])
-    if any(first >= second for first, second in zip(interest, interest[1:])):
-        raise NoScenario(f"{where}/interest: not ascending")
+    interest = ascending(value["interest"], objects, f"{where}/interest")
     listed(value["steps"], 0, 256, f"{where}/steps")
     steps = tuple(step_of(one, objects, attributes, f"{where}/steps/{place}")
                   for place, one in enumerate(value["steps"]))

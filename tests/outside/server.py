@@ -79,6 +79,8 @@ class Server:
             return self.done(session, request.results)
         if kind == "submit":
             return self.submit(session, request)
+        if kind == "observe":
+            return self.observe(session, request.objects)
         return self.poll(session)
 
     def join(self, session, request):
@@ -145,30 +147,61 @@ class Server:
                     far = max(far, mine - other, other - mine)
         return count, far
 
-    def relay(self, session, number, position):
-        """What a session lacks of a position: one walk down the queue, in which a marked writer
-        takes its objects out of the set."""
-        items, objects = [], set()
-        if session not in self.queue[position - 1].marks:
-            items, objects = [position], set(self.queue[position - 1].action.reads)
-            for place in range(position - 1, self.commit, -1):
-                queued = self.queue[place - 1]
-                if not objects & set(queued.action.writes):
-                    continue
-                if session in queued.marks:
-                    objects -= set(queued.action.writes)
-                else:
-                    objects |= set(queued.action.reads)
-                    items.append(place)
+    def walk(self, session, objects, last):
+        """What a session lacks of objects after a position, and the objects that are left: one walk
+        down the queue, in which a marked writer takes its objects out of the set."""
+        items, objects = [], set(objects)
+        for place in range(last, self.commit, -1):
+            queued = self.queue[place - 1]
+            if not objects & set(queued.action.writes):
+                continue
+            if session in queued.marks:
+                objects -= set(queued.action.writes)
+            else:
+                objects |= set(queued.action.reads)
+                items.append(place)
+        return items, objects
+
+    def send(self, session, reply, items, objects):
+        """The same reply with these items, and with the values of those objects that the session
+        was not given. Both are noted."""
         head = sorted(target for target in objects if session not in self.given[target])
         for place in items:
             self.queue[place - 1].marks.add(session)
         for target in head:
             self.given[target].add(session)
-        return Reply("relay", number=number, commit=self.commit,
-                     head=tuple((target, self.committed[target]) for target in head),
-                     items=tuple((place, self.queue[place - 1].author, self.queue[place - 1].number)
-                                 for place in sorted(items)))
+        return reply._replace(
+            commit=self.commit, head=tuple((target, self.committed[target]) for target in head),
+            items=tuple((place, self.queue[place - 1].author, self.queue[place - 1].number)
+                        for place in sorted(items)))
+
+    def relay(self, session, number, position):
+        """What a session lacks of a position."""
+        items, objects = [], set()
+        if session not in self.queue[position - 1].marks:
+            items, objects = self.walk(session, self.queue[position - 1].action.reads, position - 1)
+            items.append(position)
+        return self.send(session, Reply("relay", number=number), items, objects)
+
+    def cut(self, session, objects):
+        """The greatest position at which a session lacks at most 33 of these objects' writers, and
+        of what they read. What it lacks grows with the position, so that it is found by halves."""
+        least, greatest = self.commit, len(self.queue)
+        while least < greatest:
+            middle = (least + greatest + 1) // 2
+            if len(self.walk(session, objects, middle)[0]) > 33:
+                greatest = middle - 1
+            else:
+                least = middle
+        return least
+
+    def observe(self, session, objects):
+        """Shows objects at the greatest cut."""
+        if not 0 < len(objects) < 17 or list(objects) != sorted(set(objects)) \
+                or objects[-1] >= self.shape[0]:
+            return self.refuse(8)
+        last = self.cut(session, objects)
+        return self.send(session, Reply("seen", last=last), *self.walk(session, objects, last))
 
     def done(self, session, results):
         """Notes results, and installs them in order."""

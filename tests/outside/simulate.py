@@ -1,9 +1,10 @@
 #!/usr/bin/env python3
 """A simulation of replays, apart from the product.
 
-    python3 tests/outside/simulate.py SCENARIO.json [--watch] [--turns SEED]
+    python3 tests/outside/simulate.py SCENARIO.json [--watch | --looks] [--turns SEED]
 
-Prints the report that `replay FILE` is to print, byte for byte, with --watch also the told lines.
+Prints the report that `replay FILE` is to print, byte for byte, with --watch also the told lines, or with --looks
+what `looks FILE` is to print.
 With --turns the schedule is passed over, and turns are taken at random until all is done, as the
 threads of `play` might take them. Written from the documents alone; its server is server.py and its clients
 are players.py, and the checker of reports shares neither.
@@ -122,14 +123,23 @@ class Run:
             lines += [line for player in self.players for line in player.told]
         return "".join(line + "\n" for line in lines)
 
+    def looks(self):
+        """The lines of the looks, client by client."""
+        return "".join(line + "\n" for player in self.players for line in player.looked)
 
-def replay(scenario, watched=False, **kinds):
-    """The report of the scenario's replay; `kinds` may name another server or player."""
+
+def replayed(scenario, **kinds):
+    """The scenario's replay; `kinds` may name another server or player."""
     run = Run(scenario, **kinds)
     run.go(scenario.schedule)
     if not run.is_over():
         raise Wrong("the rounds were not enough")
-    return run.report(watched)
+    return run
+
+
+def replay(scenario, watched=False, **kinds):
+    """The report of the scenario's replay."""
+    return replayed(scenario, **kinds).report(watched)
 
 
 def play(scenario, seed, watched=False, patient=False, **kinds):
@@ -155,16 +165,21 @@ def play(scenario, seed, watched=False, patient=False, **kinds):
 
 def main(words):
     """The status of these words."""
-    watched = "--watch" in words
-    words = [word for word in words if word != "--watch"]
-    if len(words) not in (1, 3) or (len(words) == 3 and words[1] != "--turns"):
-        print("words: SCENARIO.json [--watch] [--turns SEED]", file=sys.stderr)
+    watched, looks = "--watch" in words, "--looks" in words
+    words = [word for word in words if word not in ("--watch", "--looks")]
+    if len(words) not in (1, 3) or (len(words) == 3 and (looks or words[1] != "--turns")):
+        print("words: SCENARIO.json [--watch | --looks] [--turns SEED]", file=sys.stderr)
         return 2
     try:
         scenario = read_scenario(words[0])
     except (OSError, NoScenario) as fault:
         return status_of(fault)
-    text = replay(scenario, watched) if len(words) == 1 else play(scenario, words[2], watched, True)
+    if looks:
+        text = replayed(scenario).looks()
+    elif len(words) == 1:
+        text = replay(scenario, watched)
+    else:
+        text = play(scenario, words[2], watched, True)
     sys.stdout.write(text)
     return 0
 

@@ -34,7 +34,7 @@ from server import Server
 HERE = os.path.dirname(os.path.abspath(__file__))
 DATA = os.path.join(HERE, "..", "..", "examples")
 PRINTED = ("first", "empty_script", "conflict", "trade", "unknown_view", "sixteen_reads", "bound",
-           "reach", "retry", "orphan", "marketplace", "looks", "great_totals", "two_views")
+           "reach", "retry", "orphan", "marketplace", "looks", "great_totals", "two_views", "observe")
 REFUSED = ("written_object_not_read", "no_such_object", "seventeen_reads", "number_after_object",
            "origin_too_far")
 SEEDS = 40
@@ -136,6 +136,9 @@ def test_examples(count):
         count.expect(simulate.replay(scenario) == text, f"{name} is not what is simulated")
         watched = simulate.replay(scenario, True)
         count.expect(refusal(scenario, watched, True) is None, f"{name} with told lines")
+        if os.path.exists(os.path.join(DATA, f"{name}.looks")):
+            with open(os.path.join(DATA, f"{name}.looks"), encoding="ascii") as file:
+                count.same(simulate.replayed(scenario).looks(), file.read(), f"{name}: its looks")
         if watched != text:
             count.expect(refusal(scenario, watched, False), f"{name}: told lines that nobody asked for")
             count.expect(refusal(scenario, text, True), f"{name}: told lines are missing")
@@ -308,7 +311,10 @@ def test_wrong_runs(count):
                 if seed not in scenarios:
                     scenarios[seed] = scenario_of(scenario_text(seed).encode("ascii"))
                 try:
-                    text = simulate.play(scenarios[seed], seed, True, seed % 3 > 0, **{word: kind})
+                    if seed % 4 == 1:
+                        text = simulate.replay(scenarios[seed], True, **{word: kind})
+                    else:
+                        text = simulate.play(scenarios[seed], seed, True, seed % 3 > 0, **{word: kind})
                 except Wrong:
                     continue
                 if refusal(scenarios[seed], text, True):

@@ -88,7 +88,8 @@ def clients_request(request):
     """A request of report.py as the fields that the client has."""
     return {"join": ("join", request.client, request.life, request.interest),
             "submit": ("submit", request.number, request.action and clients_action(request.action)),
-            "done": ("done", request.results)}.get(request.kind, (request.kind,))
+            "done": ("done", request.results),
+            "observe": ("observe", request.objects, request.wait)}.get(request.kind, (request.kind,))
 
 
 def printed(reply):
@@ -123,7 +124,7 @@ def test_vectors(count):
     """Each vector is written and read as it stands, by the client and by the stand-in."""
     vectors = message_vectors()
     kinds = {text.split()[0] for _, text, _, _ in vectors}
-    count.same(len(kinds), 13, "each kind of message has a vector")
+    count.same(len(kinds), 16, "each kind of message has a vector")
     for asks, text, acts, data in vectors:
         payload = data[4:]
         count.same(wire.frame(payload), data, f"frame of {text}")
@@ -171,7 +172,8 @@ def test_refused_payloads(count):
         count.same(fault_of_payload(False, head + data), moved, f"{statements} statements in a relay")
     vectors = {}
     names = {"welcome 0": "welcome", "relay 1 at 0 [0": "relay", "relay 1 at 0 []": "first_relay", "noted": "noted",
-             "bye": "bye", "join c0": "join", "submit 1": "submit", "done [1:(6)]": "done", "leave": "leave"}
+             "bye": "bye", "join c0": "join", "submit 1": "submit", "done [1:(6)]": "done", "leave": "leave",
+             "observe 0": "observe", "seen 3": "seen", "denied": "denied"}
     for asks, text, _, data in message_vectors():
         for beginning, name in names.items():
             if text.startswith(beginning):
@@ -355,6 +357,8 @@ class Beside(Player):
     def ask(self, request):
         if request.kind == "poll":
             self.mine.poll()
+        elif request.kind == "observe":
+            self.mine.observe(request.objects, request.wait)
         elif request.kind == "leave":
             self.mine.ask("leave")
         return super().ask(request)
@@ -396,11 +400,24 @@ def link_to(server):
     return link
 
 
+class Observer(Client):
+    """A client that keeps what it was shown: pairs of a cut and the values there."""
+
+    shown = ()
+
+    def accept(self, reply):
+        """Takes a reply."""
+        super().accept(reply)
+        if reply.kind == "seen":
+            self.shown = (*self.shown, (reply.last, reply.seen))
+        return reply
+
+
 def client_of(plan, number, interest=None):
     """A client of a scenario, and the list of changes that it tells."""
     told = []
     mine = plan.plans[number].interest if interest is None else interest
-    client = Client(number, len(plan.opening), plan.attributes, mine, lambda *change: told.append(change))
+    client = Observer(number, len(plan.opening), plan.attributes, mine, lambda *change: told.append(change))
     return client, told
 
 
@@ -430,6 +447,8 @@ def judge(count, plan, server, clients, name):
         wrong = [(target, place) for target, held in client.versions.items() for place, value in held.items()
                  if value != serial.value(target, place)]
         count.same(wrong, [], f"{name}: client {client.number} holds serial values")
+        cuts = [(last, {target: serial.value(target, last) for target in values}) for last, values in client.shown]
+        count.same(list(client.shown), cuts, f"{name}: client {client.number} was shown serial cuts")
         seen = dict.fromkeys(client.seen)
         for target, old, new in told:
             if seen[target] != old or old == new:
@@ -597,6 +616,7 @@ def test_limits(count):
 
 def test_random_runs(count):
     """Random clients on one thread: they make, take, poll, give their sessions up and join again."""
+    shown = 0
     for seed in range(16):
         chance = random.Random(seed)
         maker = Maker(seed)
@@ -615,13 +635,16 @@ def test_random_runs(count):
                 client = clients[number][0]
                 if not client.link:
                     client.join(link_to(server))
-                what = chance.choice(("make", "make", "make", "take", "take", "poll", "cut"))
+                what = chance.choice(("make", "make", "make", "take", "take", "poll", "observe", "observe", "cut"))
                 if what == "make" and len(client.pending) < 8 and len(client.outstanding) < 16:
                     client.make(act_of(maker.act()))
                 elif what == "take" and client.outstanding:
                     client.take(chance.choice([None, 0]))
                 elif what == "poll" and len(client.outstanding) < 16:
                     client.poll()
+                elif what == "observe" and len(client.outstanding) < 16:
+                    seen = chance.sample(range(maker.objects), chance.randrange(1, maker.objects + 1))
+                    client.observe(sorted(seen), chance.choice([0, 50]))
                 elif what == "cut" and left[number]:
                     left[number] -= 1
                     client.give_up()
@@ -639,6 +662,8 @@ def test_random_runs(count):
             made = [client.made for client, _ in clients]
             count.same([len(history.outcomes.get(number, [])) for number in range(len(cuts))], made,
                        f"random run {seed}: an outcome for each action")
+        shown += sum(len(client.shown) for client, _ in clients)
+    count.expect(shown > 100, f"{shown} times something was shown")
 
 
 # Careless clients.
@@ -714,10 +739,10 @@ def lies():
     relay = reply("relay 2 at 3 [] [4:c0.2]", ADD_ONE)
     yield "nothing", reply("idle"), "unasked"
     yield "nothing", reply("refused 4 0"), "unasked"
-    for asked, allowed in (("join", "welcome"), ("act", "relay dropped settled"), ("poll", "relay idle"),
-                           ("leave", "bye"), ("done", "noted")):
+    for asked, allowed in (("join", "welcome"), ("act", "relay dropped denied settled"), ("poll", "relay idle"),
+                           ("leave", "bye"), ("done", "noted"), ("observe", "seen")):
         for text in ("welcome 3 []", "dropped 2 chain 1 far 0", "settled 2 at 3", "noted 3", "idle", "bye", "refused 4 0",
-                     "refused 9 0", "relay 0 at 3 [] []"):
+                     "refused 9 0", "relay 0 at 3 [] []", "seen 3 at 3 [] []", "denied 2 object 0"):
             if text.split()[0] not in allowed:
                 yield asked, reply(text), "wrongkind"
     yield "poll", reply("welcome 1 [9=(1)]"), "wrongkind"
@@ -729,6 +754,18 @@ def lies():
     yield "poll", reply("relay 0 at 2 [] [4:c1.1]", OTHER), "badorder"
     yield "join", reply("welcome 2 []"), "badorder"
     yield "done", reply("noted 2"), "badorder"
+    for text in ("seen 3 at 4 [] []", "seen 9 at 2 [] []", "seen 4294967295 at 3 [] []"):
+        yield "observe", reply(text), "badorder"
+    yield "observe", reply("seen 4 at 3 [] [5:c1.1]", ADD_ONE), "badorder"
+    yield "observe", reply("seen 5 at 3 [] [5:c1.2 4:c1.1]", ADD_ONE, ADD_ONE), "badorder"
+    yield "observe", reply("seen 5 at 3 [] [3:c1.1]", ADD_ONE), "badorder"
+    yield "observe", reply("seen 3 at 3 [2=(1)] []"), "baditem"
+    yield "observe", reply("seen 3 at 3 [0=(1,1)] []"), "baditem"
+    yield "observe", reply("seen 4 at 3 [] [4:c1.1]", "reads 2 writes { }"), "baditem"
+    yield "observe", reply("seen 3 at 3 [] []"), "missing 4 1"
+    yield "observe", reply("seen 4294967294 at 3 [] []"), "missing 4294967295 1"
+    yield "observe", reply("seen 5 at 3 [] [4:c1.1]", ADD_ONE), "missing 6 1"
+    yield "observe", reply("seen 5 at 3 [] [4:c1.1 5:c1.2]", ADD_ONE, OTHER), "missing 5 1"
     yield "join", reply("welcome 3 [2=(1)]"), "baditem"
     yield "join", reply("welcome 3 [0=(1,2)]"), "baditem"
     yield "act", reply("relay 2 at 3 [2=(1)] [4:c0.2]", ADD_ONE), "baditem"
@@ -736,7 +773,8 @@ def lies():
     yield "act", reply("relay 2 at 3 [] []"), "baditem"
     yield "poll", reply("relay 0 at 3 [] []"), "baditem"
     yield "poll", reply("relay 1 at 3 [] [4:c1.1]", ADD_ONE), "baditem"
-    for text in ("dropped 1 chain 9 far 0", "dropped 3 chain 9 far 0", "settled 1 at 3", "settled 3 at 3"):
+    for text in ("dropped 1 chain 9 far 0", "dropped 3 chain 9 far 0", "settled 1 at 3", "settled 3 at 3",
+                 "denied 1 object 0", "denied 3 object 0"):
         yield "act", reply(text), "baditem"
     yield "act", reply("relay 1 at 3 [] [4:c0.2]", ADD_ONE), "baditem"
     yield "act", reply("relay 3 at 3 [] [4:c0.3]", ADD_ONE), "baditem"
@@ -799,6 +837,8 @@ def asked_so(asked):
         client.say(reply("relay 2 at 3 [] [4:c0.2]", ADD_ONE))
     elif asked == "poll":
         client.poll()
+    elif asked == "observe":
+        client.observe((0, 1))
     elif asked == "leave":
         client.ask("leave")
     return client
@@ -886,6 +926,48 @@ def test_late_items(count):
     count.same((client.view(0), client.view(1), client.pending), ((6,), (102,), []), "each result in its turn")
 
 
+def test_observe(count):
+    """Which objects may be observed; what is shown, reported and computed again."""
+    client = Client(0, 20, 1)
+    count.refuses(lambda: client.observe((0,)), "outside", "no session")
+    client.join(Sink())
+    for objects in ((), range(17), (1, 0), (0, 0), (0, 20), (-1, 0)):
+        count.refuses(lambda: client.observe(objects), "objects", f"objects {objects}")
+    for _ in range(15):
+        client.observe(range(4, 20), 65535)
+    count.refuses(lambda: client.observe(()), "objects", "the objects come first")
+    count.refuses(lambda: client.observe((0,)), "busy", "a seventeenth request")
+    client = Lied()
+    client.say(reply("welcome 0 [0=(5) 1=(5)]"))
+    client.observe((0, 1))
+    client.make(act_of(ADD_ONE))
+    seen = client.say(reply("seen 1 at 0 [] [1:c1.1]", "reads 0 writes 0 { set @0.0 (@0.0 * 10); }"))
+    count.same((seen.last, seen.seen, client.view(0)), (1, {0: (50,), 1: (5,)}, (51,)), "an item that is shown reconciles")
+    count.same([request[0] for request in client.outstanding], ["submit", "done"], "its result is reported")
+    client.poll()
+    client.observe((1,))
+    client.observe((1,), 9)
+    client.make(act_of(OTHER))
+    client.say(reply("relay 1 at 0 [] [4:c0.1]", ADD_ONE))
+    client.say(reply("noted 1"))
+    client.say(reply("relay 0 at 1 [] [2:c1.2]", "reads 1 writes 1 { set @1.0 100; }"))
+    client.make(act_of("reads 0 writes { }"))
+    seen = client.say(reply("seen 4 at 1 [] []"))
+    count.same((seen.seen, client.view(1)), ({1: (100,)}, (7,)), "where nothing is new, nothing is computed again")
+    count.same([request[0] for request in client.outstanding], ["observe", "submit", "done", "done", "submit"], "nothing is reported")
+    seen = client.say(reply("seen 4 at 3 [1=(200)] []"))
+    count.same((seen.seen, client.view(1)), ({1: (200,)}, (202,)), "a value that is shown reconciles")
+    client.say(reply("denied 2 object 1"))
+    count.same((client.view(1), len(client.pending)), ((200,), 1), "a denied action goes as a dropped one does")
+    client = Lied()
+    client.say(reply("welcome 0 [0=(5) 1=(5)]"))
+    client.make(act_of(ADD_ONE))
+    client.observe((0, 1))
+    client.say(reply("relay 1 at 0 [] [3:c0.1]", ADD_ONE))
+    seen = client.say(reply("seen 2 at 0 [] [1:c1.1]", OTHER))
+    count.same((seen.seen, client.view(0)), ({0: (5,), 1: (7,)}, (6,)), "values at the cut, not the latest ones")
+
+
 # The programs.
 
 def test_programs(count):
@@ -923,7 +1005,7 @@ def test_programs(count):
             count.same((done.returncode, done.stdout), (1, ""), f"example {words}")
             count.expect(done.stderr.startswith(line) and done.stderr.count("\n") == 1, f"example {words}: {done.stderr}")
     size = sum(1 for _ in open(os.path.join(CLIENTS, "dimboetu.py"), encoding="utf-8"))
-    count.expect(size <= 400, f"the client has {size} lines")
+    count.expect(size <= 425, f"the client has {size} lines")
     count.expect(dimboetu.__doc__.count("\n") > 3, "the client says how it is used")
 
 
@@ -956,7 +1038,7 @@ def main():
     count = Compared()
     for test in (test_vectors, test_refused_payloads, test_streams, test_actions, test_builder, test_beside_players,
                  test_two_at_once, test_rejoin, test_dropped, test_interest, test_limits, test_random_runs, test_malformed, test_lies,
-                 test_late_items, test_programs, test_mine):
+                 test_late_items, test_observe, test_programs, test_mine):
         test(count)
     return count.close()
 

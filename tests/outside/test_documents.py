@@ -123,10 +123,10 @@ def keyed(value, needed, others, path):
             raise Refused(f"{path}/{key}", "key")
 
 
-def look_at_interest(value, objects, path):
-    """An interest: objects of the world, ascending."""
+def look_at_ascending(value, least, greatest, objects, path):
+    """So many objects of the world, ascending."""
     before = -1
-    for place, one in enumerate(listed(value, 0, 64, path)):
+    for place, one in enumerate(listed(value, least, greatest, path)):
         whole(one, 0, 65535, f"{path}/{place}")
         if one <= before:
             raise Refused(f"{path}/{place}", "order")
@@ -136,11 +136,14 @@ def look_at_interest(value, objects, path):
 
 
 def look_at_step(value, shape, path):
-    """A step: one of four words, an act or a show."""
+    """A step: one of four words, an act, a show or an observe."""
     if type(value) is str and value in ("poll", "sync", "cut", "quit"):
         return
-    if type(value) is not dict or list(value) not in (["act"], ["show"]):
+    if type(value) is not dict or list(value) not in (["act"], ["show"], ["observe"]):
         raise Refused(path, "kind")
+    if "observe" in value:
+        look_at_ascending(value["observe"], 1, 16, shape[0], f"{path}/observe")
+        return
     if "show" in value:
         for place, one in enumerate(listed(value["show"], 1, 16, f"{path}/show")):
             if whole(one, 0, 65535, f"{path}/show/{place}") >= shape[0]:
@@ -159,7 +162,7 @@ def look_at_step(value, shape, path):
 def look_at_client(value, shape, path):
     """A client: its interest, and its steps, of which only the last may be a quit."""
     keyed(value, ("interest", "steps"), (), path)
-    look_at_interest(value["interest"], shape[0], f"{path}/interest")
+    look_at_ascending(value["interest"], 0, 64, shape[0], f"{path}/interest")
     steps = listed(value["steps"], 0, 256, f"{path}/steps")
     for place, step in enumerate(steps):
         look_at_step(step, shape, f"{path}/steps/{place}")
@@ -550,7 +553,7 @@ class Checker(Count):
             self.expect(re.search(rf"^\| {status} \| ", errors, re.M), f"ERRORS.md has no status {status}")
             self.expect(re.search(rf"(^|\s){status} [a-z]", help_text()), f"--help has no status {status}")
         refusals = re.findall(r"Refusal::(\w+) => ([0-9]+),", text_of("crates/sv_wire/src/refusal.rt"))
-        self.expect(len(refusals) == 11, f"refusals: {refusals}")
+        self.expect(len(refusals) == 12, f"refusals: {refusals}")
         for name, code in refusals:
             words = re.sub(r"\B([A-Z])", r" \1", name).lower()
             self.expect(f"\n| {code} | {words} |" in errors, f"ERRORS.md has no refusal {code}, {words}")

@@ -141,7 +141,7 @@ def test_reports(test):
 
 def test_witness(test):
     """Worlds with each of their clients as the liar, with none, and with one that they have not; each text is that of a server in Python."""
-    for name in ("trade", "conflict", "bound", "first", "looks", "empty_script", "orphan", "marketplace"):
+    for name in ("trade", "conflict", "bound", "first", "looks", "observe", "empty_script", "orphan", "marketplace"):
         path = os.path.join(ROOT, "examples", f"{name}.json")
         scenario = read_scenario(path)
         clients = len(scenario.plans)

@@ -29,7 +29,7 @@ from scenario import read_scenario, scenario_of
 HERE = os.path.dirname(os.path.abspath(__file__))
 TOP = os.path.join(HERE, "..", "..")
 PICTURE = os.path.join(TOP, "tools", "picture")
-EXAMPLES = ("first", "conflict", "trade", "bound", "reach", "retry", "orphan", "looks", "marketplace")
+EXAMPLES = ("first", "conflict", "trade", "bound", "reach", "retry", "orphan", "looks", "observe", "marketplace")
 SHOTS = (("trade", "#action=c1.2", "1120,860"), ("marketplace", "#action=c3.9", "1120,1040"))
 
 
@@ -45,6 +45,7 @@ def market(actions, clients):
                                  f"{{ set @{giver}.1 (@{giver}.1 - 5); set @{taker}.1 (@{taker}.1 + 5); }} }}"})
             if number % 5 == 0:
                 steps.append("sync")
+                steps.append({"observe": [giver, taker]})
             if client % 3 == 0 and number == actions // clients // 2:
                 steps.append("cut")
         plans.append({"interest": sorted(chance.sample(range(64), 8)), "steps": steps})
@@ -82,6 +83,7 @@ def counted(report, scenario):
                 real = ["(" + ",".join(map(str, value)) + ")" for value in first_results[position]]
                 wrong += guess != real
     return {"clients": len(report.traces), "sessions": scenario.sessions,
+            "observed": sum(entry.reply.kind == "seen" for entry in report.entries),
             "entries": len(report.entries), "made": made, "accepted": len(accepted),
             "dropped": len(dropped), "commit": report.commit, "corrected": wrong}, writes
 

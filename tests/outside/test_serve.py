@@ -95,7 +95,7 @@ def example(name):
 def world(*plans, objects=((0,), (0,)), bound=8):
     """A scenario with these clients: an interest, and steps, where a text is an action or a step's word."""
     return {"attrs": 1, "objects": objects, "bound": bound, "clients": [{"interest": interest, "steps": [
-        step if step in ("sync", "poll", "cut", "quit") else {"act": step} for step in steps]}
+        step if step in ("sync", "poll", "cut", "quit") or type(step) is dict else {"act": step} for step in steps]}
         for interest, *steps in plans]}
 
 
@@ -152,10 +152,13 @@ def test_examples(test):
         test.same(sorted(journal.replies(session)[-1] for session in range(2)), ["bye", "bye"], "conflict: both left")
     play(test, example("trade"), "trade", 6)
     for name, wanted in (("retry", 2), ("orphan", None), ("bound", None), ("empty_script", 0), ("unknown_view", 1),
-                         ("marketplace", None)):
+                         ("observe", 1), ("marketplace", None)):
         play(test, example(name), name, wanted)
     steps = (ADD_ONE, "cut", SET_ONE, "poll", "sync", "cut", "cut", ADD_ONE, "cut", "cut", SET_ONE, *["cut"] * 2, ADD_ONE)
     play(test, test.scenario(world(*[([0, 1], *steps), ([1], *steps, "quit")] * 4)), "8 clients with 7 cuts: 64 sessions")
+    seen = {"observe": [0, 1]}
+    steps = (seen, ADD_ONE, seen, SET_ONE, seen, "sync", seen, "cut", seen, seen, ADD_ONE, "sync", seen)
+    play(test, test.scenario(world(*[([0], *steps), ([], *steps)] * 4)), "8 clients who act and observe")
 
 
 def test_python_client(test):
@@ -196,6 +199,29 @@ def test_python_client(test):
     wrong = [(target, place) for target, held in client.versions.items() for place, value in held.items()
              if value != journal.serial.value(target, place)]
     test.same(wrong, [], "Python client: all that it holds is serial")
+
+
+def test_python_observer(test):
+    """The Python client sees what a scripted join does, and acts on nothing: all that it is shown are cuts of one world."""
+    both = "reads 0 1 writes 0 1 { set @0.0 (@0.0 - 1); set @1.0 (@1.0 + 1); }"
+    path, port = test.scenario(world(([],), ([], *[both, "sync"] * 40), objects=((40,), (0,)))), free_port()
+    server, join = test.run("serve", path, port), test.run("join", path, 1, port)
+    client, shown = Client(0, 2, 1), []
+    client.join(connect(port))
+    client.finish()
+    while not shown or shown[-1][1][0] != (0,):
+        client.observe((0, 1), 10)
+        reply = client.take()
+        shown.append((reply.last, reply.seen))
+        client.finish()
+        time.sleep(0.002)
+    client.leave()
+    journal = test.served(path, server, "Python observer")
+    test.printed(journal, 1, join, "Python observer")
+    test.same([seen for last, seen in shown if seen != {0: (40 - last,), 1: (last,)}], [], "Python observer: each is one cut")
+    test.same(shown, sorted(shown, key=lambda each: each[0]), "Python observer: no cut goes back")
+    if journal:
+        test.same((journal.commit, client.made), (40, 0), "Python observer: nothing else has a position")
 
 
 def test_python_example(test):
@@ -258,6 +284,7 @@ JOIN = request_bytes("join", 0, 1, (0,))
 SUBMIT = b"\x06\x00\x00\x00\x01" + wire.action_bytes(read_action(ADD_ONE))
 BAD_SUBMIT = b"\x06\x00\x00\x00\x01" + wire.action_bytes(read_action("reads 4096 writes { }"))
 DONE = request_bytes("done", ((1, ((6,),)),))
+OBSERVE = request_bytes("observe", (0,), 5)
 
 # What a peer sends before it says that it sends no more; the requests and the replies in the journal.
 BAD_PEERS = (
@@ -285,6 +312,9 @@ BAD_PEERS = (
     ("an action that is refused, and results of nothing", said(JOIN, BAD_SUBMIT, request_bytes("done", ((9, ()),))),
      ["join c0 1 [0]", "submit 1 reads 4096 writes { }", "done [9:]"],
      ["welcome 0 [0=(0)]", "refused 6 4", "refused 7 0"]),
+    ("observes", said(OBSERVE, JOIN, OBSERVE, request_bytes("observe", (0, 2), 0), b"\x07\x00\x00\x00"),
+     ["observe 5 [0]", "join c0 1 [0]", "observe 5 [0]", "observe 0 [0 2]", "bad"],
+     ["refused 2 0", "welcome 0 [0=(0)]", "seen 0 at 0 [] []", "refused 8 0", "refused 1 0"]),
     ("noise and more", noise(1), ["bad"], ["refused 1 0"]),
     ("other noise and more", noise(2), ["bad"], ["refused 1 0"]),
     ("a Join, and noise in frames and more", said(JOIN, *[noise(one, 5 + one) for one in range(9)]),
@@ -330,8 +360,9 @@ def test_bad_peers(test):
         if journal := run.judge():
             told = journal.replies(0)
             test.same(journal.requests(0), requests, f"{run.name}: requests")
-            # The honest client's action may be committed by the time of the Welcome.
-            test.same([text.replace("welcome 1 ", "welcome 0 ") for text in told], replies, f"{run.name}: replies")
+            # The honest client's action may be accepted, or committed, by then.
+            test.same([re.sub("seen [01] at [01] ", "seen 0 at 0 ", text.replace("welcome 1 ", "welcome 0 ")) for text in told], replies,
+                      f"{run.name}: replies")
             wanted = said(*map(reply_bytes_of, told))
             test.same(came, wanted[:len(came)] if run.name.endswith("more") else wanted, f"{run.name}: bytes")
 
@@ -359,6 +390,8 @@ def payload_of(request):
         return b"\x06" + request.number.to_bytes(4, "big") + wire.action_bytes(request.action)
     if request.kind == "join":
         return request_bytes("join", request.client, request.life, request.interest)
+    if request.kind == "observe":
+        return request_bytes("observe", request.objects, request.wait)
     return {"bad": b"\x02"}.get(request.kind) or request_bytes(request.kind, request.results)
 
 
@@ -636,7 +669,7 @@ def nobody(test):
 def run_all(test):
     """Each test; one that can't go on counts as failed."""
     judge = nobody(test)
-    for one in (test_words, test_first_example, test_examples, test_python_client, test_python_example, test_order,
+    for one in (test_words, test_first_example, test_examples, test_python_client, test_python_observer, test_python_example, test_order,
                 test_bad_peers, test_silence, test_careless, test_reset_in_queue, test_lives,
                 test_lying_result, test_stolen_numbers, test_lying_servers, test_ports, test_outputs,
                 lambda _: judge()):

@@ -6,16 +6,17 @@ clients of its own (players.py), which keep few values.
 """
 
 from actions import evaluate
-from report import Fault, Request, held_text, request_text, value_text
+from report import LARGE, Fault, Request, held_text, objects_text, request_text, value_text
 
 MOST_PENDING = 8
 MOST_OUTSTANDING = 16
 
 ANSWERS = {
     "join": ("welcome",),
-    "submit": ("relay", "dropped", "settled"),
+    "submit": ("relay", "dropped", "denied", "settled"),
     "done": ("noted",),
     "poll": ("relay", "idle"),
+    "observe": ("seen",),
     "leave": ("bye",),
 }
 
@@ -122,7 +123,7 @@ class Walk:
             return not self.outstanding
         if kind == "act" and len(self.pending) == MOST_PENDING:
             return False
-        return kind not in ("act", "poll") or len(self.outstanding) < MOST_OUTSTANDING
+        return kind not in ("act", "poll", "observe") or len(self.outstanding) < MOST_OUTSTANDING
 
     def need(self, condition, line, reason):
         """A fault at this line unless the condition holds."""
@@ -174,6 +175,15 @@ class Walk:
         self.start(event)
         self.need(len(self.outstanding) < MOST_OUTSTANDING, event.line, "too many requests are out")
         self.ask(Request("poll"))
+
+    def observe(self, event):
+        """The step's objects are asked for, without waiting for news."""
+        step = self.start(event)
+        line = event.line
+        self.need(len(self.outstanding) < MOST_OUTSTANDING, line, "too many requests are out")
+        text = objects_text(step.objects)
+        self.need(event.text == text, line, f"it observes {text}")
+        self.ask(Request("observe", wait=0, objects=step.objects))
 
     def show(self, event):
         """The views of the step's objects, in its order."""
@@ -242,7 +252,9 @@ class Walk:
             self.hold(target, reply.commit, value, line)
         if reply.kind == "relay":
             self.relay(request, reply, line)
-        elif reply.kind in ("dropped", "settled"):
+        elif reply.kind == "seen":
+            self.see(request, reply, line)
+        elif reply.kind in ("dropped", "denied", "settled"):
             front = self.pending.pop(0)
             self.need(front.number == reply.number, line, "it is not of the front pending action")
             self.reconcile()
@@ -257,6 +269,8 @@ class Walk:
         self.need(positions == sorted(set(positions)), line, "the items don't ascend")
         if positions:
             self.need(positions[0] > reply.commit, line, "an item is not above the commit")
+        if reply.last is not None:
+            self.need(max([reply.commit, *positions]) <= reply.last < LARGE, line, "it is badly cut")
         if reply.commit is not None:
             self.need(reply.commit >= self.told_commit, line, "the commit fell")
 
@@ -274,10 +288,14 @@ class Walk:
         self.need(self.history.action(position) == front.action, line,
                   "the last item is another action")
 
-    def hold(self, target, position, value, line):
-        """A value at a position is held; it is the serial one."""
+    def need_serial(self, target, position, value, line):
+        """A value at a position must be the serial one."""
         self.need(value == self.serial.value(target, position), line,
                   f"object {target} at {position} is not serial")
+
+    def hold(self, target, position, value, line):
+        """A value at a position is held."""
+        self.need_serial(target, position, value, line)
         self.held.setdefault(target, {})[position] = value
 
     def read_below(self, target, position, line):
@@ -288,16 +306,30 @@ class Walk:
                   f"object {target} below {position} is an old one")
         return found[1]
 
-    def relay(self, request, reply, line):
+    def evaluated(self, items, line):
         """The items are evaluated in order, each below its position; one Done tells the results."""
         results = []
-        for position, _, _ in reply.items:
+        for position, _, _ in items:
             action = self.history.action(position)
             result = evaluate(action, {target: self.read_below(target, position, line) for target in action.reads})
             for target, value in zip(action.writes, result):
                 self.hold(target, position, value, line)
             results.append((position, result))
-        self.ask(Request("done", results=tuple(results)))
+        if results:
+            self.ask(Request("done", results=tuple(results)))
+        return results
+
+    def see(self, request, reply, line):
+        """All objects that were asked for are held as the cut has them. News reconciles."""
+        results = self.evaluated(reply.items, line)
+        for target in request.objects:
+            self.need_serial(target, reply.last, self.read_below(target, reply.last + 1, line), line)
+        if reply.head or results:
+            self.reconcile()
+
+    def relay(self, request, reply, line):
+        """The items are evaluated, and the own action is settled."""
+        results = self.evaluated(reply.items, line)
         if request.kind == "submit":
             front = self.pending.pop(0)
             if front.kept is None or front.kept != results[-1][1]:
@@ -306,7 +338,7 @@ class Walk:
     def follow(self, event):
         """One event more."""
         self.need(not self.is_done, event.line, "it is finished already")
-        {"join": self.join, "make": self.make, "poll": self.poll, "show": self.show,
+        {"join": self.join, "make": self.make, "poll": self.poll, "observe": self.observe, "show": self.show,
          "cut": self.cut, "quit": self.quit, "leave": self.leave, "got": self.take}[event.kind](event)
 
 

@@ -175,6 +175,8 @@ class Reading:
             request = Request("done", results=tuple(self.result() for _ in range(self.count(1, 33))))
         elif kind == 6:
             request = Request("submit", number=self.number(4), action=self.action())
+        elif kind == 7:
+            request = Request("observe", objects=self.objects(1, 16), wait=self.number(2))
         elif kind in (4, 5):
             request = Request("poll" if kind == 4 else "leave")
         else:
@@ -249,14 +251,22 @@ def head_bytes(head):
         struct.pack(">HB", target, len(value)) + struct.pack(f">{len(value)}q", *value) for target, value in head)
 
 
+def item_bytes(items, action_at):
+    """The bytes of a list of items."""
+    return bytes([len(items)]) + b"".join(
+        struct.pack(">IHI", *item) + action_bytes(action_at(item[0])) for item in items)
+
+
 def reply_bytes(reply, action_at):
     """The payload of a reply; `action_at` gives the action at a position."""
     if reply.kind == "welcome":
         return b"\x81" + struct.pack(">I", reply.commit) + head_bytes(reply.head)
-    if reply.kind == "relay":
-        items = b"".join(struct.pack(">IHI", *item) + action_bytes(action_at(item[0])) for item in reply.items)
-        return (b"\x89" + struct.pack(">II", reply.number, reply.commit) + head_bytes(reply.head)
-                + bytes([len(reply.items)]) + items)
+    if reply.kind in ("relay", "seen"):
+        kind, first = (b"\x89", reply.number) if reply.kind == "relay" else (b"\x8b", reply.last)
+        return (kind + struct.pack(">II", first, reply.commit) + head_bytes(reply.head)
+                + item_bytes(reply.items, action_at))
+    if reply.kind == "denied":
+        return b"\x8c" + struct.pack(">IH", reply.number, reply.target)
     if reply.kind == "dropped":
         return b"\x8a" + struct.pack(">III", reply.number, reply.chain, reply.far)
     if reply.kind == "settled":

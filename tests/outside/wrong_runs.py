@@ -4,7 +4,7 @@ A checker of reports is worth something only where it refuses what these print. 
 one rule and keeps all others; a run in which the rule doesn't matter may print a right report.
 """
 
-from actions import evaluate
+from actions import Action, evaluate
 from players import Player
 from report import Reply, Request
 from server import Position, Server
@@ -216,16 +216,92 @@ class WelcomesWithTheOpening(Server):
         return reply._replace(head=tuple((one, self.opening[one]) for one, _ in reply.head))
 
 
+class AcceptsObserves(Server):
+    """Gives what is observed a position."""
+
+    def observe(self, session, objects):
+        action = Action(tuple(objects), (), (0, 0), ())
+        self.queue.append(Position(self.client_of[session], 0, action))
+        self.queue[-1].marks.add(session)
+        reply = super().observe(session, objects)
+        return reply._replace(last=reply.last - 1) if reply.last == len(self.queue) else reply
+
+
+class ForgetsWhatWasSeen(Server):
+    """Marks nothing that it shows."""
+
+    def observe(self, session, objects):
+        marks = [set(queued.marks) for queued in self.queue]
+        reply = super().observe(session, objects)
+        for queued, old in zip(self.queue, marks):
+            queued.marks = old
+        return reply
+
+
+class GivesNothingToObservers(Server):
+    """Forgets which values it shows."""
+
+    def observe(self, session, objects):
+        given = [set(sessions) for sessions in self.given]
+        reply = super().observe(session, objects)
+        self.given = given
+        return reply
+
+
+class ShowsTheCommittedAlone(Server):
+    """Shows no action that is not committed."""
+
+    def cut(self, session, objects):
+        return self.commit
+
+
+class ShowsAnOlderCut(Server):
+    """Shows a cut that is one position too old."""
+
+    def cut(self, session, objects):
+        return max(self.commit, super().cut(session, objects) - 1)
+
+
+class ShowsAllAtOnce(Server):
+    """Shows the last position, however many items that takes, and notes all their results."""
+
+    def cut(self, session, objects):
+        return len(self.queue)
+
+    def done(self, session, results):
+        for first in range(33, len(results), 33):
+            super().done(session, results[first - 33:first])
+        return super().done(session, results[(len(results) - 1) // 33 * 33:])
+
+
+class ShowsWritersAlone(Server):
+    """Leaves out what the writers of observed objects read."""
+
+    def observe(self, session, objects):
+        reply = super().observe(session, objects)
+        items = tuple(item for item in reply.items
+                      if set(objects) & set(self.queue[item[0] - 1].action.writes))
+        return reply._replace(items=items)
+
+
+class RelaysToObservers(Server):
+    """Takes an observe for a poll where an action is abandoned."""
+
+    def observe(self, session, objects):
+        reply = self.poll(session)
+        return super().observe(session, objects) if reply.kind == "idle" else reply
+
+
 class ReadsTheLatest(Player):
     """Evaluates a late older action on the latest values."""
 
-    def relay(self, request, reply, actions):
+    def evaluated(self, items, actions):
         kept = self.kept
         self.kept = {target: [(0, held[-1][1])] + held for target, held in kept.items()}
         last = {target: held[-1][0] for target, held in kept.items()}
         for target, held in self.kept.items():
             self.kept[target] = [(place, held[-1][1]) for place, _ in held if place <= last[target]]
-        return super().relay(request, reply, actions)
+        return super().evaluated(items, actions)
 
 
 class RedoesTheFirst(Player):
@@ -364,6 +440,78 @@ class SkipsAPoll(Player):
     def __init__(self, client, scenario):
         super().__init__(client, scenario)
         self.steps = type(self.steps)(step for step in self.steps if step.kind != "poll")
+
+
+class SkipsAnObserve(Player):
+    """Doesn't observe."""
+
+    def __init__(self, client, scenario):
+        super().__init__(client, scenario)
+        self.steps = type(self.steps)(step for step in self.steps if step.kind != "observe")
+
+
+class ObservesWithSeventeenOut(Player):
+    """Observes while sixteen requests are outstanding."""
+
+    def can_take_turn(self):
+        if self.where == "inside" and self.steps and self.steps[0].kind == "observe":
+            return len(self.waiting) < 17
+        return super().can_take_turn()
+
+
+class AlwaysWaits(Player):
+    """Asks to be told of news where its step doesn't."""
+
+    def ask(self, request):
+        return super().ask(request._replace(wait=100) if request.kind == "observe" else request)
+
+
+class ReportsNothingSeen(Player):
+    """Sends no results of what it saw."""
+
+    def see(self, request, reply, actions):
+        if super().see(request, reply, actions):
+            self.waiting.pop()
+        return []
+
+
+class ReportsWhereNothingWasSeen(Player):
+    """Sends a Done also for what was seen without items: of a position that nobody looks at any more."""
+
+    def see(self, request, reply, actions):
+        asked = super().see(request, reply, actions)
+        if asked or not 0 < reply.last <= reply.commit:
+            return asked
+        return [self.ask(Request("done", results=((reply.last, ()),)))]
+
+
+class KeepsItsGuess(Player):
+    """Computes nothing again by what it saw."""
+
+    def see(self, request, reply, actions):
+        pending = list(self.pending)
+        asked = super().see(request, reply, actions)
+        self.pending = pending
+        return asked
+
+
+class RedoesByItemsAlone(Player):
+    """Computes nothing again where it saw a value and no item."""
+
+    def see(self, request, reply, actions):
+        pending = list(self.pending)
+        asked = super().see(request, reply, actions)
+        self.pending = self.pending if reply.items else pending
+        return asked
+
+
+class RedoesWithoutNews(Player):
+    """Computes all again where it saw nothing new."""
+
+    def see(self, request, reply, actions):
+        asked = super().see(request, reply, actions)
+        self.redo()
+        return asked
 
 
 class ShowsAscending(Player):

@@ -112,6 +112,7 @@ function measure() {
 const yOfPlace = (place) => AXIS + CHART - 8 - (CHART - 22) * (accepted.length > 1 ? place / (accepted.length - 1) : 0);
 function line(x1, y1, x2, y2, colour, thick = 1) { pen.strokeStyle = colour; pen.lineWidth = thick; pen.beginPath(); pen.moveTo(x1, y1); pen.lineTo(x2, y2); pen.stroke(); }
 function disc(x, y, r, colour, hollow) { pen.beginPath(); pen.arc(x, y, r, 0, 7); if (hollow) { pen.fillStyle = "#fff"; pen.fill(); pen.strokeStyle = colour; pen.lineWidth = 1.6; pen.stroke(); } else { pen.fillStyle = colour; pen.fill(); } }
+function diamond(x, y, r, colour, hollow) { pen.beginPath(); pen.moveTo(x, y - r); pen.lineTo(x + r, y); pen.lineTo(x, y + r); pen.lineTo(x - r, y); pen.closePath(); pen.fillStyle = hollow ? "#fff" : colour; pen.fill(); pen.strokeStyle = colour; pen.lineWidth = 1.2; pen.stroke(); }
 function cross(x, y, r, colour) { line(x - r, y - r, x + r, y + r, colour, 2); line(x - r, y + r, x + r, y - r, colour, 2); }
 function label(text, x, y, colour, font = "11px system-ui, sans-serif", align = "left") { pen.fillStyle = colour; pen.font = font; pen.textAlign = align; pen.textBaseline = "middle"; pen.fillText(text, x, y); }
 
@@ -164,6 +165,7 @@ function paintStays() {
     else if (kind === "join" && time > 1) line(x, top, x, low, "#12805c", 1.5);
     else if (kind === "refused") cross(x, low - 6, 3, "#98a1b0");
     else if (kind === "adopt" && scale >= 14) label("poll", x - 8, low - 6, "#667085", "10px system-ui, sans-serif");
+    else if ((kind === "news" || kind === "same") && scale >= 6) diamond(x, low - 6, 3.5, "#98a1b0", kind === "same");
     else if (kind === "show" && scale >= 20) { pen.strokeStyle = "#98a1b0"; pen.lineWidth = 1.2; pen.beginPath(); pen.ellipse(x, low - 6, 5, 3, 0, 0, 7); pen.stroke(); disc(x, low - 6, 1.2, "#98a1b0"); }
   }
 }
@@ -377,14 +379,15 @@ byId("legend").innerHTML = [
   [`<path d="M4 0v14" stroke="#d02b3b" stroke-width="2"/><path d="M11 0v14" stroke="#12805c" stroke-width="2"/>`, "cut, joined again"],
   [`<path d="M0 7h16" stroke="#2f6fed88" stroke-width="2"/><circle cx="8" cy="7" r="3" fill="#fff" stroke="#2f6fed" stroke-width="1.6"/>`, "asked again"],
   [`<ellipse cx="8" cy="7" rx="6" ry="4" fill="none" stroke="#98a1b0" stroke-width="1.4"/><circle cx="8" cy="7" r="1.6" fill="#98a1b0"/>`, "show"],
+  [`<path d="M4 3l4 4-4 4-4-4z" fill="#98a1b0"/><path d="M12 3l4 4-4 4-4-4z" fill="none" stroke="#98a1b0"/>`, "observed: news, none"],
   [`<rect x="0" y="2" width="16" height="10" fill="#fff1d6"/>`, "not finished"],
   [`<rect x="0" y="2" width="16" height="10" fill="#d9f0e4"/>`, "finished"],
 ].map(([inside, name]) => `<span>${icon(inside)}${name}</span>`).join("");
-const NAMES = { clients: "clients", sessions: "sessions", entries: "entries", made: "made", accepted: "accepted", dropped: "dropped", commit: "finished", corrected: "guessed wrong", unguessed: "no guess", rejoined: "joined again", refused: "refused" };
+const NAMES = { clients: "clients", sessions: "sessions", entries: "entries", made: "made", accepted: "accepted", dropped: "dropped", commit: "finished", corrected: "guessed wrong", unguessed: "no guess", rejoined: "joined again", observed: "observed", refused: "refused" };
 const ONE = { clients: "client", sessions: "session", entries: "entry" };
 const CLASSES = { dropped: "bad", refused: "bad", corrected: "warn" };
 const guesses = actions.some((each) => each.k !== null);
-byId("counts").innerHTML = Object.entries(NAMES).filter(([key]) => (guesses || key !== "corrected") && (counts[key] || !["unguessed", "rejoined", "refused"].includes(key))).map(([key, name]) => `<li class="${counts[key] ? CLASSES[key] || "" : ""}"><b id="count-${key}">${counts[key]}</b> ${counts[key] === 1 && ONE[key] || name}</li>`).join("");
+byId("counts").innerHTML = Object.entries(NAMES).filter(([key]) => (guesses || key !== "corrected") && (counts[key] || !["unguessed", "rejoined", "observed", "refused"].includes(key))).map(([key, name]) => `<li class="${counts[key] ? CLASSES[key] || "" : ""}"><b id="count-${key}">${counts[key]}</b> ${counts[key] === 1 && ONE[key] || name}</li>`).join("");
 
 tell(null);
 worldTable(100);

@@ -16,12 +16,13 @@ SUBMIT = re.compile(r"submit ([0-9]+) (.*)")
 DONE = re.compile(r"done \[(.*)\]")
 WELCOME = re.compile(r"welcome ([0-9]+) \[(.*)\]")
 RELAY = re.compile(r"relay ([0-9]+) at ([0-9]+) \[(.*)\] \[(.*)\]")
+SEEN = re.compile(r"seen ([0-9]+) at ([0-9]+) \[(.*)\] \[(.*)\]")
 DROPPED = re.compile(r"dropped ([0-9]+) chain ([0-9]+) far ([0-9]+)")
 SETTLED = re.compile(r"settled ([0-9]+) at ([0-9]+)")
 NOTED = re.compile(r"noted ([0-9]+)")
 ACTION = re.compile(r"reads ([0-9 ]+?) writes ([0-9 ]*?)(?: at (-?[0-9]+) (-?[0-9]+))? ?\{.*\}")
 EVENT = re.compile(r"join s([0-9]+)|make ([0-9]+) kept (none|\[.*\])|got s([0-9]+) #([0-9]+)"
-                   r"|show \[(.*)\]|poll|leave|cut|quit")
+                   r"|show \[(.*)\]|observe \[.*\]|poll|leave|cut|quit")
 HELD = re.compile(r"([0-9]+)=(\([^)]*\)|\?)")
 RESULT = re.compile(r"([0-9]+):((?:\([^)]*\))*)")
 
@@ -111,11 +112,13 @@ class Model:
             self.sessions.append({"session": session, "client": int(joined[1]), "from": entry,
                                   "to": None, "life": int(joined[2]), "how": ""})
         submitted, done = SUBMIT.fullmatch(request), DONE.fullmatch(request)
-        relayed = RELAY.fullmatch(reply)
+        relayed, seen = RELAY.fullmatch(reply), SEEN.fullmatch(reply)
         if submitted and session in self.owner:
             self.take_submit(entry, session, int(submitted[1]), submitted[2], reply)
         elif request == "poll" and session in self.owner and relayed:
             self.marks.append([entry, self.owner[session], "adopt", relayed[4]])
+        elif seen and session in self.owner:
+            self.marks.append([entry, self.owner[session], "news" if seen[3] or seen[4] else "same", seen[1]])
         if done and NOTED.fullmatch(reply):
             self.take_done(entry, session, done[1])
         if reply.startswith("refused"):
@@ -170,7 +173,7 @@ class Model:
 
     def take_values(self, reply):
         """Opening values, which stand in replies before any action wrote their objects."""
-        found = WELCOME.fullmatch(reply) or RELAY.fullmatch(reply)
+        found = WELCOME.fullmatch(reply) or RELAY.fullmatch(reply) or SEEN.fullmatch(reply)
         if found:
             commit, head = (found[1], found[2]) if len(found.groups()) == 2 else (found[2], found[3])
             for each, value in held_in(head):
@@ -308,6 +311,7 @@ class Model:
             "unguessed": sum(1 for each in actions if each.kept == "none"),
             "rejoined": sum(count - 1 for count in lives.values()),
             "refused": sum(1 for each in self.marks if each[2] == "refused"),
+            "observed": sum(1 for each in self.marks if each[2] in ("news", "same")),
         }
 
     def chain_of(self, action):

@@ -16,7 +16,7 @@ use test_calls::examples::*;
 type Row<'a> = (&'a str, &'a str, u8, &'a str, &'a str);
 
 /// Runs that print the same at each call.
-const ROWS: [Row<'static>; 24] = [
+const ROWS: [Row<'static>; 25] = [
     ("replay a", FIRST, 0, FIRST_REPORT, ""),
     ("replay a", EMPTY_SCRIPT, 0, EMPTY_SCRIPT_REPORT, ""),
     ("replay a", CONFLICT, 0, CONFLICT_REPORT, ""),
@@ -32,6 +32,7 @@ const ROWS: [Row<'static>; 24] = [
     ("replay a", GREAT_TOTALS, 0, GREAT_TOTALS_REPORT, ""),
     ("replay a", TWO_VIEWS, 0, TWO_VIEWS_REPORT, ""),
     ("replay a", EDGES, 0, EDGES_REPORT, ""),
+    ("replay a", OBSERVE, 0, OBSERVE_REPORT, ""),
     (
         "replay a",
         WRITTEN_OBJECT_NOT_READ,
@@ -65,7 +66,9 @@ fn examples_print_what_stands_beside_them(rt: HostRuntime) -> Result<(), Fail> {
 }
 
 /// Scenarios whose clients come in any order: a run of them ends well.
-const MIXED: [&str; 7] = [CONFLICT, BOUND, REACH, RETRY, ORPHAN, LOOKS, EDGES];
+const MIXED: [&str; 8] = [
+    CONFLICT, BOUND, REACH, RETRY, ORPHAN, LOOKS, EDGES, OBSERVE,
+];
 
 fn ends_well<R: Threads + Wait + Sync>(
     rt: &R,

@@ -58,6 +58,12 @@ pub const NUMBER_AFTER_OBJECT_LINE: &str = "scenario: /clients/0/steps/0/act: te
 pub const NUMBER_AFTER_OBJECT: &str =
     "{\"attrs\":1,\"objects\":[[5]],\"bound\":4,\"clients\":[{\"interest\":[0],\"steps\":[{\"act\":\"reads 0 writes 0 { set @0.0 (@0.0 -1); }\"},\"sync\",{\"show\":[0]}]}]}\n";
 
+pub const OBSERVE: &str =
+    "{\"attrs\":1,\"objects\":[[10],[20]],\"bound\":4,\"clients\":[{\"interest\":[],\"steps\":[{\"act\":\"reads 0 writes 0 { set @0.0 (@0.0 + 1); }\"}]},{\"interest\":[],\"steps\":[{\"observe\":[0,1]},\"sync\",{\"observe\":[0,1]},\"sync\",{\"show\":[0,1]}]}],\"schedule\":[\"c0\",\"c1\",\"s0\",\"s1\",\"t0\",\"t1\",\"c0\",\"s0\",\"c1\",\"s1\",\"t1\",\"s1\",\"t1\"]}\n";
+
+pub const OBSERVE_REPORT: &str =
+    "journal 11\n1 s0 join c0 1 [] -> welcome 0 []\n2 s1 join c1 1 [] -> welcome 0 []\n3 s0 submit 1 reads 0 writes 0 { set @0.0 (@0.0 + 1); } -> relay 1 at 0 [0=(10)] [1:c0.1]\n4 s1 observe 0 [0 1] -> seen 1 at 0 [0=(10) 1=(20)] [1:c0.1]\n5 s1 done [1:(11)] -> noted 1\n6 s0 done [1:(11)] -> noted 1\n7 s1 observe 0 [0 1] -> seen 1 at 1 [] []\n8 s0 leave -> bye\n9 s0 end -> bye\n10 s1 leave -> bye\n11 s1 end -> bye\nclient 0\njoin s0\ngot s0 #1\nmake 1 kept none\ngot s0 #3\ngot s0 #6\nleave\ngot s0 #8\nclient 1\njoin s1\ngot s1 #2\nobserve [0 1]\ngot s1 #4\ngot s1 #5\nobserve [0 1]\ngot s1 #7\nshow [0=(11) 1=(20)]\nleave\ngot s1 #10\nworld 1\n0=(11)\n1=(20)\n";
+
 pub const ORIGIN_TOO_FAR_LINE: &str = "scenario: /clients/0/steps/0/act: text 20 2\n";
 
 pub const ORIGIN_TOO_FAR: &str =
