@@ -98,6 +98,7 @@ module _ (e : Entry) (h : List Entry) where
       relay-one (logged.Relay seq commit head positions) y = refl
       relay-one (logged.Welcome commit head) y = absurd (true≢false (sym y))
       relay-one (logged.Dropped seq chain far) y = absurd (true≢false (sym y))
+      relay-one (logged.Seen last commit head positions) y = absurd (true≢false (sym y))
       relay-one (logged.Settled seq pos) y = absurd (true≢false (sym y))
       relay-one (logged.Noted commit) y = absurd (true≢false (sym y))
       relay-one logged.Idle y = absurd (true≢false (sym y))
@@ -119,6 +120,7 @@ module _ (e : Entry) (h : List Entry) where
   fresh-of (Some k) c (requests.Join client life interest) f y = inl refl
   fresh-of (Some k) c (requests.Done results) f y = inl refl
   fresh-of (Some k) c requests.Poll f y = inl refl
+  fresh-of (Some k) c (requests.Observe objects wait) f y = inl refl
   fresh-of (Some k) c requests.Leave f y = inl refl
   fresh-of (Some k) c requests.Bad f y = inl refl
   fresh-of (Some k) c requests.End f y = inl refl
