@@ -10,7 +10,6 @@ use Rattle.sv_world.specs.declared.world.ObjectId.{ObjectId}
 use Rattle.sv_eval.specs.Serial.{serial_world}
 use Rattle.sv_eval.proofs.Effects.{effect_counted}
 use Rattle.sv_versions.specs.Held.{Held, read_below}
-use Rattle.sv_wire.specs.declared.message.ObjectValue.{ObjectValue}
 use Rattle.sv_wire.specs.declared.message.Item.{Item}
 use Rattle.sv_wire.specs.declared.message.Done1.{Done1}
 use Rattle.sv_wire.specs.declared.message.Request.TheVariants as requests
