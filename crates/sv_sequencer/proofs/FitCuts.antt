@@ -1,5 +1,5 @@
 -- What a session sees of objects, by a fitting queue and by the history.
-use Rattle.std.proofs.Common.{◌≡◌, ℕ, zero, suc, ◌+◌, ◌-◌, ◌<◌, ◌≤◌, Bool, true, cond, nat_le, List, [], ◌∷◌, ◌++◌, map, filter, take, length, All, Option, ℤ, inl, inr, refl, sym, ◌∙◌, ap, subst, arith}
+use Rattle.std.proofs.Common.{◌≡◌, ℕ, zero, suc, ◌+◌, ◌-◌, ◌<◌, ◌≤◌, Bool, true, cond, nat_le, List, [], ◌∷◌, ◌++◌, map, filter, take, length, All, Option, ℤ, is_some, inl, inr, refl, sym, ◌∙◌, ap, subst, arith}
 use Rattle.std.proofs.lemmas.Bool.{cases_Bool, cases_eq, cond_both}
 use Rattle.std.proofs.lemmas.List.{length-take-le}
 use Rattle.sv_world.specs.declared.action.Action.{Action}
@@ -21,6 +21,7 @@ use Rattle.sv_journal.specs.declared.entry.Logged.TheVariants as logged
 use Rattle.sv_journal.specs.History.{Authored, accepted, actions_of, result_at, commit_of}
 use Rattle.sv_journal.specs.Sessions.{sent_to, named_to}
 use Rattle.sv_journal.specs.Answer.{Rules, committed_held, seen_at}
+use Rattle.sv_journal.proofs.Commits.{run_within}
 use Rattle.sv_sequencer.specs.Fits.{actions_in, was_given, QueueFits}
 use Rattle.sv_sequencer.specs.Relays.{held_in, cut_for, seen_positions, seen_bases}
 use Rattle.sv_sequencer.proofs.FitPush.{length-actions}
@@ -171,3 +172,10 @@ pub seen_bases-below : (v : QueueView) (s : ℕ) (xs : List ℕ) → All (λ x. 
 seen_bases-below v s xs = all-members (λ x. x < v.shape.objects) (seen_bases v s xs)
     (λ x m. ((head_for-iff v.shape.objects (with_reading (queue_actions v) (cut_for v s xs) xs) v.commit (up_to (cut_for v s xs) (sent_positions v s)) (given_objects v s)
     (suc (cut_for v s xs)) x).0 m).0)
+
+-- The greatest cut is one of a history's positions.
+pub cut-within : (h : List Entry) (s : ℕ) (xs : List ℕ) → greatest_cut (actions_of h) (commit_of h) (sent_to h s) xs ≤ length (actions_of h)
+cut-within h s xs =
+    let b = greatest_from-bounds (λ n. nat_le (length (needed_to_see (actions_of h) (commit_of h) (sent_to h s) xs n)) most_items) (commit_of h) (length (actions_of h) - commit_of h) in
+    let most : greatest_cut (actions_of h) (commit_of h) (sent_to h s) xs ≤ commit_of h + (length (actions_of h) - commit_of h) = b.1 in
+    omega (arith, run_within (λ p. is_some (result_at h p)) (length (accepted h)), length-actions (accepted h))
