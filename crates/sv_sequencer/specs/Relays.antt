@@ -1,13 +1,14 @@
 -- What a relay takes from a queue, and what its delivery and reported results make of it.
 use Rattle.std.specs.Prelude.{◌≡◌, ℕ, ◌<◌, ◌≤◌, Bool, ◌&&◌, ◌||◌, not, ◌==◌, nat_lt, List, [], ◌∷◌, map, length, slice_index_or, is_none, if◌then◌else◌}
 use Rattle.std.specs.List.{list_all}
-use Rattle.sv_world.specs.Control.{is_in, action_at, needed_to_see, head_to_see, greatest_cut}
+use Rattle.sv_world.specs.Control.{is_in, action_at}
 use Rattle.sv_world.specs.Sets.{write_set}
 use Rattle.sv_wire.specs.declared.message.Done1.{Done1}
 use Rattle.sv_wire.specs.declared.message.ObjectValue.{ObjectValue}
 use Rattle.sv_wire.specs.declared.message.Item.{Item}
 use Rattle.sv_world.specs.Worlds.{HaveAttrs}
-use Rattle.sv_queue.specs.Queue.{QueueView, last_position, entry_at, queue_actions, sent_positions, given_objects, with_mark, with_given, with_result}
+use Rattle.sv_queue.specs.Queue.{QueueView, last_position, entry_at, queue_actions, sent_positions, with_mark, with_given, with_result}
+use Rattle.sv_influence.specs.Lacking.{lacking_to_see, bases_to_see, latest_cut}
 
 -- Objects with their committed values in a queue.
 abbrev pub held_in : QueueView → List ℕ → List ObjectValue
@@ -17,17 +18,13 @@ held_in v xs = map (λ x. record { object = record { 0 = x }; value = slice_inde
 abbrev pub item_in : QueueView → ℕ → Item
 item_in v p = record { pos = p; client = (entry_at v p).author; seq = (entry_at v p).seq; action = (entry_at v p).action }
 
--- The greatest position at which a session can be shown objects.
-abbrev pub cut_for : QueueView → ℕ → List ℕ → ℕ
-cut_for v s xs = greatest_cut (queue_actions v) v.commit (sent_positions v s) xs
-
--- What it lacks of them there.
+-- What a session is shown of objects, at the greatest cut.
 abbrev pub seen_positions : QueueView → ℕ → List ℕ → List ℕ
-seen_positions v s xs = needed_to_see (queue_actions v) v.commit (sent_positions v s) xs (cut_for v s xs)
+seen_positions v s xs = lacking_to_see v s xs (latest_cut v s xs)
 
 -- The objects of the base values that go with it.
 abbrev pub seen_bases : QueueView → ℕ → List ℕ → List ℕ
-seen_bases v s xs = head_to_see v.shape.objects (queue_actions v) v.commit (sent_positions v s) (given_objects v s) xs (cut_for v s xs)
+seen_bases v s xs = bases_to_see v s xs (latest_cut v s xs)
 
 -- The queue once some positions were sent to a session.
 abbrev pub marked_all : QueueView → List ℕ → ℕ → QueueView

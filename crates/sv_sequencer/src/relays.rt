@@ -1,13 +1,13 @@
 //! What a relay takes from a queue, and what is seen of one; and their delivery.
-ghost use Rattle.std.specs.Prelude.{◌≡◌, ℕ, ◌<◌, ◌≤◌, true, [], ◌∷◌, map, length, All, IfOk};
+ghost use Rattle.std.specs.Prelude.{◌≡◌, ℕ, ◌^◌, ◌-◌, ◌<◌, ◌≤◌, true, [], ◌∷◌, map, length, All, IfOk};
 ghost use Rattle.sv_world.specs.declared.world.ObjectId.{ObjectId};
 ghost use Rattle.sv_world.specs.Faults.{may_be_observed};
 ghost use Rattle.sv_world.specs.Limits.{most_sessions};
 ghost use Rattle.sv_world.specs.Sets.{numbers_of};
 ghost use Rattle.sv_wire.specs.declared.message.ObjectValue.{ObjectValue};
 ghost use Rattle.sv_queue.specs.Queue.{IsUncommitted, last_position};
-ghost use Rattle.sv_influence.specs.Lacking.{lacking, base_objects, MarksAreClosed};
-ghost use Rattle.sv_sequencer.specs.Relays.{held_in, item_in, marked_all, given_all, cut_for, seen_positions, seen_bases};
+ghost use Rattle.sv_influence.specs.Lacking.{lacking, base_objects, latest_cut, MarksAreClosed};
+ghost use Rattle.sv_sequencer.specs.Relays.{held_in, item_in, marked_all, given_all, seen_positions, seen_bases};
 
 use std::alloc::{AllocError, Global};
 use std::marker::Brand;
@@ -74,9 +74,9 @@ pub fn seen_in(
     objects: &[ObjectId],
 ) -> Result<Seen, AllocError>
     requires objects { may_be_observed queue.now.shape.objects (numbers_of objects.now) ≡ true }
-    requires closed { MarksAreClosed queue.now session }
-    requires room { last_position queue.now < 4294967295 }
-    ensures last { IfOk result (λ r. r.last ≡ cut_for queue.now session (numbers_of objects.now)) }
+    requires marks { MarksAreClosed queue.now session }
+    requires room { last_position queue.now < 2 ^ 32 - 1 }
+    ensures last { IfOk result (λ r. r.last ≡ latest_cut queue.now session (numbers_of objects.now)) }
     ensures head { IfOk result (λ r. r.relayed.head ≡ held_in queue.now (seen_bases queue.now session (numbers_of objects.now))) }
     ensures positions { IfOk result (λ r. r.relayed.positions ≡ seen_positions queue.now session (numbers_of objects.now)) }
     ensures sent_head { IfOk result (λ r. r.relayed.sent_head ≡ held_in queue.now (seen_bases queue.now session (numbers_of objects.now))) }
@@ -96,9 +96,9 @@ fn seen_counted<L: Ledger>(
     requires parts { blank.parts ≡ L.parts }
     requires some { 0 < blank.parts }
     requires objects { may_be_observed queue.now.shape.objects (numbers_of objects.now) ≡ true }
-    requires closed { MarksAreClosed queue.now session }
-    requires room { last_position queue.now < 4294967295 }
-    ensures last { IfOk result (λ r. r.last ≡ cut_for queue.now session (numbers_of objects.now)) }
+    requires marks { MarksAreClosed queue.now session }
+    requires room { last_position queue.now < 2 ^ 32 - 1 }
+    ensures last { IfOk result (λ r. r.last ≡ latest_cut queue.now session (numbers_of objects.now)) }
     ensures head { IfOk result (λ r. r.relayed.head ≡ held_in queue.now (seen_bases queue.now session (numbers_of objects.now))) }
     ensures positions { IfOk result (λ r. r.relayed.positions ≡ seen_positions queue.now session (numbers_of objects.now)) }
     ensures sent_head { IfOk result (λ r. r.relayed.sent_head ≡ held_in queue.now (seen_bases queue.now session (numbers_of objects.now))) }

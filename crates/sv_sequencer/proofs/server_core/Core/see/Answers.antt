@@ -4,7 +4,7 @@ use Rattle.sv_world.specs.Control.{is_in, IsClosed, greatest_cut}
 use Rattle.sv_world.specs.Faults.{may_be_observed}
 use Rattle.sv_world.specs.Sets.{numbers_of}
 use Rattle.sv_world.specs.declared.world.Shape.{Shape}
-use Rattle.sv_world.proofs.Cuts.{see-closed}
+use Rattle.sv_world.proofs.Seeing.{see-closed}
 use Rattle.sv_wire.specs.declared.message.ObjectValue.{ObjectValue}
 use Rattle.sv_wire.specs.declared.message.Reply.TheVariants as replies
 use Rattle.sv_journal.specs.declared.entry.Logged.{Logged}
@@ -13,11 +13,12 @@ use Rattle.sv_journal.specs.History.{Authored, accepted, actions_of, result_at, 
 use Rattle.sv_journal.specs.Sessions.{positions_in, sent_to, named_to}
 use Rattle.sv_journal.specs.Answer.{seen_at}
 use Rattle.sv_queue.specs.Queue.{QueueView, IsUncommitted}
+use Rattle.sv_influence.specs.Lacking.{latest_cut}
 use Rattle.sv_sequencer.specs.declared.decision.Decision.TheVariants as decisions
 use Rattle.sv_sequencer.specs.Agreement.{Agrees}
 use Rattle.sv_sequencer.specs.Cores.{core_rules}
 use Rattle.sv_sequencer.specs.Decisions.{observed_in}
-use Rattle.sv_sequencer.specs.Relays.{held_in, item_in, cut_for, seen_positions, seen_bases}
+use Rattle.sv_sequencer.specs.Relays.{held_in, item_in, seen_positions, seen_bases}
 use Rattle.sv_sequencer.specs.Step.{entry_of}
 use Rattle.sv_sequencer.proofs.AgreeSends.{seen-sends, agree-sent}
 use Rattle.sv_sequencer.proofs.AgreeSteps.{AreAfter}
@@ -28,8 +29,8 @@ use Rattle.sv_sequencer.proofs.Relayed.{held-low}
 use Rattle.sv_sequencer.proofs.Stepped.{seen-whole}
 use Rattle.sv_sequencer.proofs.server_core.Core.see.Goals as goal
 
-pub seen_in-requires-clause-closed : goal.seen_in-requires-clause-closed
-seen_in-requires-clause-closed g c =
+pub seen_in-requires-clause-marks : goal.seen_in-requires-clause-marks
+seen_in-requires-clause-marks g c =
     let a = c.args.self.now in
     let h = g.h in
     let s = c.args.session in
@@ -71,9 +72,9 @@ returns-clause-ok g c =
     let cut = greatest_cut (actions_of h) (commit_of h) (sent_to h s) xs in
     let said : l ≡ seen_at (core_rules a) h s xs cut =
     ap (λ n. logged.Seen n v.commit x.relayed.head x.relayed.positions) found.last
-    ∙ ap (λ os. logged.Seen (cut_for v s (numbers_of c.observed_by.result.now)) v.commit os x.relayed.positions) found.head
-    ∙ ap (logged.Seen (cut_for v s (numbers_of c.observed_by.result.now)) v.commit (held_in v (seen_bases v s (numbers_of c.observed_by.result.now)))) found.positions
-    ∙ ap (λ ys. logged.Seen (cut_for v s ys) v.commit (held_in v (seen_bases v s ys)) (seen_positions v s ys)) asked
+    ∙ ap (λ os. logged.Seen (latest_cut v s (numbers_of c.observed_by.result.now)) v.commit os x.relayed.positions) found.head
+    ∙ ap (logged.Seen (latest_cut v s (numbers_of c.observed_by.result.now)) v.commit (held_in v (seen_bases v s (numbers_of c.observed_by.result.now)))) found.positions
+    ∙ ap (λ ys. logged.Seen (latest_cut v s ys) v.commit (held_in v (seen_bases v s ys)) (seen_positions v s ys)) asked
     ∙ seen-is (core_rules a) h v s xs small k.commit k.sound.sent f in
     let closed : IsClosed (actions_of h) (commit_of h) (sent_to h s) (λ p. is_in p x.relayed.positions) =
     subst (λ ps. IsClosed (actions_of h) (commit_of h) (sent_to h s) (λ p. is_in p ps)) (sym (ap positions_in said))
