@@ -587,8 +587,8 @@ function call(callback, ...words) {
     }
 }
 
-/** The action of sequence number 0, by which a client asks for its next number. */
-const NUMBER_ASKED = new Action([0], 0, [0, 0], []);
+/** By an action of number 0 a client asks for its next number. */
+const NUMBER_ASKED = { kind: "submit", number: 0, action: new Action([0], 0, [0, 0], []) };
 
 /** One player of a world. `connect` gives a link for each session. */
 export class Client {
@@ -742,9 +742,9 @@ export class Client {
         if (!link) return this.finish("closed", new Fault("closed"));
         link.onMessage = bytes => { if (link === this.link) this.receive(bytes); };
         link.onClose = fault => { if (link === this.link) this.lost(fault); };
-        this.say("joining");
         if (this.key) link.send(encodeRequest({ kind: "hello", key: this.key }));
         this.askToJoin(this.life + 1);
+        this.say("joining");
         return this.pump();
     }
 
@@ -780,8 +780,8 @@ export class Client {
     ask(request) {
         this.knowledge.outstanding.push(request);
         this.asked += 1;
-        this.link.send(encodeRequest(request.kind === "number" ? { kind: "submit", number: 0, action: NUMBER_ASKED } : request));
-        this.expect();
+        this.link.send(encodeRequest(request.kind === "number" ? NUMBER_ASKED : request));
+        if (this.knowledge.outstanding.length === 1) this.expect();
     }
 
     /** Takes the line as broken where a reply is due for longer than the client is patient. */
@@ -868,7 +868,7 @@ export class Client {
     /** A reply is refused: the session is given up, and none follows by itself. */
     refuse(fault) {
         const { code, detail } = fault.refused ?? {};
-        this.finish(code === 4 || (code === 11 && detail >= this.life) ? "pushed out" : "refused", fault);
+        this.finish(code === 4 || (this.knows && code === 11 && detail >= this.life) ? "pushed out" : "refused", fault);
     }
 
     /** The connection broke: the next session begins after a pause, which grows from try to try. */

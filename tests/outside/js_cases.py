@@ -19,7 +19,7 @@ import report
 import simulate
 import test_client
 import wire
-from actions import TextFault, action_text, evaluate, fault_of_action, read_action
+from actions import TextFault, Void, action_text, carry_out, evaluate, fault_of_action, read_action
 from counting import Count
 from random_scenario import Maker, scenario_text
 from scenario import scenario_of
@@ -184,6 +184,16 @@ def actions():
         yield {"text": text, "canonical": action_text(act), "bytes": wire.action_bytes(act).hex(), "shape": shape,
                "cause": fault_of_action(act, *shape), "values": [texts(value) for value in values.values()],
                "result": [texts(value) for value in evaluate(act, values)]}
+
+
+def is_void(text, values):
+    """Whether an action is void on these values of its reads."""
+    act = read_action(text)
+    try:
+        carry_out(act.body, {target: [int(number) for number in value] for target, value in zip(act.reads, values)})
+    except Void:
+        return True
+    return False
 
 
 # What the tests of the Python client do to clients and actions.

@@ -1,0 +1,234 @@
+#!/usr/bin/env python3
+"""Tests of the JavaScript client, by node, with no program of the product.
+
+    python3 tests/outside/test_js.py
+
+The cases of js_cases.py, which are those of the Python client's tests; the tests of clients/js/test; sessions over TCP
+with the stand-in for a server, through a relay that cuts connections, whose journals must be legal and whose clients
+must hold and tell serial values alone; the examples. Closes with `N passed, M failed`; where there is no node it says
+so.
+"""
+
+import json
+import os
+import random
+import re
+import shutil
+import signal
+import socket
+import subprocess
+import sys
+import tempfile
+import types
+
+import js_cases
+import test_client
+from counting import ROOT, Count
+from random_scenario import Maker
+from scenario import scenario_of
+from stand_in import StandIn
+from test_client import CLIENTS, judge, scenario
+
+LONGEST = 60
+JS = os.path.join(ROOT, "clients", "js")
+TESTS = os.path.join(JS, "test")
+
+
+def node(*words, **more):
+    """What a program of node printed."""
+    return subprocess.run(["node", *words], capture_output=True, text=True, timeout=LONGEST, check=False, **more)
+
+
+def run_tests(count, name, *words):
+    """Runs a program of tests, and adds what it counted."""
+    done = node(os.path.join(TESTS, name), *words)
+    found = re.search(r"^(\d+) passed, (\d+) failed\n\Z", done.stdout, re.M)
+    if done.returncode or done.stderr or not found or int(found[2]):
+        print((done.stdout[-4000:] + done.stderr[-4000:]).rstrip())
+    count.expect(bool(found) and not done.stderr and done.returncode == (found[2] != "0"), f"{name} comes to its end")
+    count.passed += int(found[1]) if found else 0
+    count.failed += int(found[2]) if found else 0
+
+
+def test_cases(count, room):
+    """The cases of the Python client's tests."""
+    path = os.path.join(room, "cases.json")
+    cases = js_cases.cases()
+    with open(path, "w", encoding="utf-8") as file:
+        json.dump(cases, file)
+    void = [each for each in cases["actions"] if each["result"] and js_cases.is_void(each["text"], each["values"])]
+    count.expect(len(cases["actions"]) >= 1000 and len(void) > 50, f"{len(void)} of {len(cases['actions'])} actions are void")
+    run_tests(count, "cases.js", path)
+
+
+# Sessions over TCP.
+
+def close_rest(server):
+    """Begins and ends the sessions that nobody used."""
+    while server.thread.is_alive():
+        try:
+            socket.create_connection(("127.0.0.1", server.port), timeout=1).close()
+        except OSError:
+            server.wait(0.05)
+
+
+def played(room, server, clients):
+    """What the players of a plan kept and were told."""
+    path = os.path.join(room, "plan.json")
+    with open(path, "w", encoding="utf-8") as file:
+        json.dump({"port": server.port, "clients": clients}, file)
+    done = node(os.path.join(TESTS, "play.js"), path)
+    if done.returncode or done.stderr:
+        raise AssertionError(done.stdout[-1000:] + done.stderr[-3000:])
+    return json.loads(done.stdout)
+
+
+def judged(found):
+    """A player as `judge` of test_client.py has a client, and the changes that it told."""
+    def value(texts):
+        return texts and tuple(map(int, texts))
+
+    views = [value(each) for each in found["views"]]
+    told = [(target, value(old), value(new)) for target, old, new in found["changes"]]
+    return types.SimpleNamespace(
+        number=found["number"], told=found["told"], view=lambda target: views[target],
+        versions={target: {place: value(each) for place, each in held} for target, held in found["versions"]},
+        shown=[(last, {target: value(each) for target, each in values}) for last, values in found["shown"]],
+        seen=dict.fromkeys(found["plan"]["world"]["interest"])), told
+
+
+def test_random_runs(count, room):
+    """Random players whose connections break: the journal is legal, and at last each sees the world as it is."""
+    shown = lost = dropped = 0
+    for seed in range(10):
+        chance, maker = random.Random(seed), Maker(seed)
+        drops = [chance.choice([0, 2, 5]) for _ in range(chance.choice([2, 2, 3]))]
+        opening = [[maker.number() for _ in range(maker.attributes)] for _ in range(maker.objects)]
+        plan = scenario(opening, maker.bound, drops, [], maker.reach)
+        server = StandIn(plan, at_once=True).start()
+        several = range(maker.objects)
+        clients = [{"drops": each, "seed": 100 * seed + number, "acts": [maker.act() for _ in range(12)],
+                    "watched": sorted(chance.sample(several, chance.choice([0, maker.objects]))),
+                    "world": {"number": number, "objects": maker.objects, "attributes": maker.attributes,
+                              "interest": sorted(chance.sample(several, chance.randrange(maker.objects + 1)))}}
+                   for number, each in enumerate(drops)]
+        name = f"random run {seed}"
+        try:
+            found = [{**each, "plan": one} for one, each in zip(clients, played(room, server, clients))]
+        except (AssertionError, subprocess.TimeoutExpired) as fault:
+            count.expect(False, f"{name}: {fault}")
+            continue
+        close_rest(server)
+        history, serial = judge(count, plan, server, [judged(each) for each in found], name)
+        if not history:
+            continue
+        last = len(history.accepted)
+        count.same(history.commit, last, f"{name}: all is committed")
+        for each in found:
+            number = each["number"]
+            count.same(len(history.outcomes.get(number, [])), 12, f"{name}: an outcome for each action of client {number}")
+            kinds = [{"accepted": "position", "dropped": "chain"}[one["kind"]] for one in each["outcomes"]]
+            count.expect(all(kind in one for kind, one in zip(kinds, each["outcomes"])), f"{name}: {each['outcomes']}")
+            places = [(one["number"], one["position"]) for one in each["outcomes"] if one["kind"] == "accepted"]
+            wanted = [(one.number, place) for place, one in enumerate(history.accepted, 1) if one.author == number]
+            count.same(places, wanted, f"{name}: what client {number} was told of its actions")
+            count.same([tuple(map(int, view)) for view in each["views"]], [serial.value(target, last) for target in several],
+                       f"{name}: the views of client {number} at last")
+            count.same(each["statuses"][-1], "left", f"{name}: client {number} left")
+            shown, lost = shown + len(each["shown"]), lost + sum("lost" in status for status in each["statuses"])
+            dropped += sum(one["kind"] == "dropped" for one in each["outcomes"])
+    count.expect(shown > 100 and lost > 20 and dropped > 5, f"shown {shown}, lost {lost}, dropped {dropped}")
+
+
+def test_taking_up(count):
+    """A place that is taken up without memory, a client that is pushed out, and one that goes on from what was saved."""
+    plan = scenario([[10], [20]], 8, (2,))
+    server = StandIn(plan, at_once=True).start()
+    done = node(os.path.join(TESTS, "take_up.js"), str(server.port))
+    count.same((done.returncode, done.stderr), (0, ""), "take_up.js")
+    if done.returncode:
+        return
+    found = json.loads(done.stdout)
+    close_rest(server)
+    journal = server.journal()
+    count.same(found["tookUp"], [2, 11], "the place is taken up: its life, and how many actions were made")
+    count.same(found["outcome"], {"number": 12, "kind": "accepted", "position": 12}, "its next action")
+    count.same(found["statuses"][0], ["joining", "joined", "pushed out over"], "the first one is pushed out")
+    count.same(found["statuses"][1][:2], ["joining", "joined"], "the second one joined")
+    count.same(found["statuses"][2], ["joining", "joined", "left"], "the third one goes on")
+    count.same((found["view"], found["seen"]), (["22"], ["24"]), "what the third one sees at first, pending actions and all")
+    count.same((found["last"], found["values"]), ([3, 14, 0], [[0, ["24"]], [1, ["20"]]]), "each action counts once")
+    for line in ("join c0 1 [0] -> refused 11 1", "join c0 2 [0] -> welcome", "submit 0 reads 0 writes { } -> refused 5 12",
+                 "-> refused 4 0", "join c0 3 [0] -> welcome"):
+        count.expect(line in journal, f"the journal has {line}")
+    test_client.history_of(plan, journal)
+
+
+# The examples.
+
+def test_mine(count):
+    """The game of two players, against the stand-in: both in JavaScript, and one of each."""
+    path = os.path.join(CLIENTS, "mine.json")
+    js, py = ["node", os.path.join(JS, "mine.js")], [sys.executable, os.path.join(CLIENTS, "mine.py")]
+    for programs in ((js, js), (py, js)):
+        server = subprocess.Popen([sys.executable, os.path.join(os.path.dirname(__file__), "stand_in.py"), path, "0"],
+                                  stdout=subprocess.PIPE, text=True)
+        port = server.stdout.readline().split()[1]
+        players = [subprocess.Popen([*program, str(number), port], stdout=subprocess.PIPE, stderr=subprocess.STDOUT, text=True)
+                   for number, program in enumerate(programs)]
+        shown = [player.communicate(timeout=LONGEST)[0] for player in players]
+        text = server.communicate(timeout=LONGEST)[0]
+        count.same([player.returncode for player in players] + [server.returncode], [0, 0, 0], "statuses of the game")
+        with open(path, "rb") as file:
+            history, serial = test_client.history_of(scenario_of(file.read()), text.rsplit("commit ", 1)[0])
+        last = [serial.value(target, len(history.accepted)) for target in range(3)]
+        count.same((last[0][0], last[1][0] + last[2][0]), (0, 21), "all nuggets are in the purses")
+        for number, lines in enumerate(shown):
+            if programs[number] is js:
+                seen = [[line for line in lines.split("\n") if f"player {number} sees object {target}: " in line] for target in range(3)]
+                wanted = [",".join(map(str, value)) for value in last]
+                count.same([each[-1].split(": ")[1] for each in seen], wanted, f"what player {number} sees at last")
+
+
+def test_package(count, room):
+    """The types name what the module exports; npm installs the folder, where there is npm."""
+    with open(os.path.join(JS, "dimboetu.d.ts"), encoding="utf-8") as file:
+        named = set(re.findall(r"^export (?:declare )?(?:class|function|const) (\w+)", file.read(), re.M))
+    done = node("--input-type=module", "-e", "console.log(Object.keys(await import('./dimboetu.js')).join(' '))", cwd=JS)
+    count.same(named, set(done.stdout.split()), "the types of dimboetu.d.ts")
+    if shutil.which("npm") is None:
+        print("npm is not there: nothing is installed")
+        return
+    done = subprocess.run(["npm", "install", "--offline", "--no-audit", "--no-fund", "--silent", JS], cwd=room,
+                          capture_output=True, text=True, timeout=LONGEST, check=False)
+    count.same((done.returncode, done.stderr), (0, ""), "npm install")
+    done = node("--input-type=module", "-e", "import { parseAction } from 'dimboetu'; import { nodeLink } from 'dimboetu/node-link.js';"
+                "console.log(String(parseAction('reads 0   writes { }')), typeof nodeLink)", cwd=room)
+    count.same((done.stdout, done.stderr), ("reads 0 writes { } function\n", ""), "the package is found by its name")
+
+
+def main():
+    """The status of all tests."""
+    signal.alarm(4 * LONGEST)
+    try:
+        version = subprocess.run(["node", "--version"], capture_output=True, text=True, check=True).stdout.strip()
+    except (OSError, subprocess.CalledProcessError):
+        print("node is not there: the JavaScript client is not tested")
+        return 0
+    if int(version.lstrip("v").split(".")[0]) < 20:
+        print(f"node is {version}, and 20 is needed: the JavaScript client is not tested")
+        return 0
+    count = Count()
+    with tempfile.TemporaryDirectory() as room:
+        test_cases(count, room)
+        for name in ("client.js", "links.js"):
+            run_tests(count, name)
+        test_random_runs(count, room)
+        test_taking_up(count)
+        test_mine(count)
+        test_package(count, room)
+    return count.close()
+
+
+if __name__ == "__main__":
+    sys.exit(main())
