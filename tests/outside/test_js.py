@@ -9,6 +9,7 @@ must hold and tell serial values alone; the examples. Closes with `N passed, M f
 so.
 """
 
+import importlib.util
 import json
 import os
 import random
@@ -191,11 +192,19 @@ def test_mine(count):
 
 
 def test_package(count, room):
-    """The types name what the module exports; npm installs the folder, where there is npm."""
+    """The types name what the module exports; pip and npm install the folders of the clients, where they are."""
     with open(os.path.join(JS, "dimboetu.d.ts"), encoding="utf-8") as file:
         named = set(re.findall(r"^export (?:declare )?(?:class|function|const) (\w+)", file.read(), re.M))
     done = node("--input-type=module", "-e", "console.log(Object.keys(await import('./dimboetu.js')).join(' '))", cwd=JS)
     count.same(named, set(done.stdout.split()), "the types of dimboetu.d.ts")
+    if importlib.util.find_spec("pip"):
+        place = os.path.join(room, "installed")
+        done = subprocess.run([sys.executable, "-m", "pip", "install", "--quiet", "--no-index", "--no-deps", "--target", place, CLIENTS],
+                              capture_output=True, text=True, timeout=LONGEST, check=False)
+        count.same(done.returncode, 0, f"pip install: {done.stderr}")
+        done = subprocess.run([sys.executable, "-c", "import dimboetu; print(dimboetu.__file__)"], capture_output=True,
+                              text=True, cwd=room, env={**os.environ, "PYTHONPATH": place}, check=False)
+        count.same(done.stdout, os.path.join(place, "dimboetu.py") + "\n", "the Python package is found by its name")
     if shutil.which("npm") is None:
         print("npm is not there: nothing is installed")
         return

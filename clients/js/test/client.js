@@ -6,8 +6,8 @@
  */
 
 import { setTimeout as pause } from "node:timers/promises";
-import { Client, Fault, action, number, obj, parseAction, when } from "../dimboetu.js";
-import { Count, TestLink, encodeReply } from "./count.js";
+import { Client, Fault, action, decodeReply, number, obj, parseAction, when } from "../dimboetu.js";
+import { Count, TestLink, bytesOf, encodeReply } from "./count.js";
 
 const count = new Count();
 const ADD_ONE = "reads 0 writes 0 { set @0.0 (@0.0 + 1); }";
@@ -108,6 +108,10 @@ async function tryPushedOut() {
     count.refuses(() => found.client.act(ADD_ONE), "outside", "nothing is made then");
     count.refuses(() => found.client.observe([0]), "outside", "nothing is observed then");
     count.same(found.client.pending, 1, "what is pending stays so");
+    found.said();
+    found.client.join();
+    count.same(found.said().map(each => each.slice(0, 2)), ["01", "06"], "who was told that it is over is not asked for again");
+    found.client.close();
 
     const again = await joined();
     again.link.onClose(new Error("broken"));
@@ -198,8 +202,11 @@ async function tryPauses() {
     };
     link.onClose(new Error("broken"));
     await pause(5);
+    client.link.say(encodeReply(welcome(0, 5, 7)));
+    client.link.onClose(new Error("broken"));
+    await pause(5);
     globalThis.setTimeout = kept;
-    const longest = [100, 200, 400, 800, 1000, 1000];
+    const longest = [100, 200, 400, 800, 1000, 1000, 100];
     count.same(asked.map((each, place) => longest[place] / 2 <= each && each <= longest[place]), longest.map(() => true), `growing pauses: ${asked}`);
     client.close();
 }
@@ -361,20 +368,22 @@ async function trySaving() {
     const { client, say } = await joined();
     client.act(ADD_ONE);
     client.act("reads 0 2 writes 0 at -3 4 { if [@2.0 < 5] { set @0.0 -9223372036854775808; } else { set @0.0 @2.0; } }");
+    client.act("reads 1 writes 1 { set @1.0 (@1.0 + 1); }");
     client.observe([2]);
     say(relay(1, 1, 0, ADD_ONE));
     const saved = JSON.parse(JSON.stringify(client.saved()));
     count.same(saved, client.saved(), "plain data, which JSON can write");
     const next = clientOf({}, saved);
     count.same(next.client.saved(), client.saved(), "the same again");
-    count.same([next.client.view(0), next.client.view(1), next.client.made, next.client.life], [null, [7n], 2, 1], "it sees the same");
+    count.same([next.client.view(0), next.client.view(1), next.client.made, next.client.life], [null, [8n], 3, 1], "it sees the same");
     count.refuses(() => next.client.act(ADD_ONE), "outside", "it is in no session yet");
     const entry = next.client.join();
-    count.same(next.said().map(each => each.slice(0, 14)), ["01000300000002", "06000000020200"], "the next life, and what is pending");
+    count.same(next.said().map(each => each.slice(0, 14)), ["01000300000002", "06000000020200", "06000000030100"],
+        "the next life, and what is pending");
     next.say(welcome(1, 6, 7));
     next.say({ kind: "dropped", number: 2, chain: 1, far: 2 });
     await entry;
-    count.same([next.client.view(0), next.client.pending, next.client.status], [[6n], 0, "joined"], "it goes on");
+    count.same([next.client.view(0), next.client.view(1), next.client.pending, next.client.status], [[6n], [8n], 1, "joined"], "it goes on");
     const fresh = clientOf({}, JSON.parse(JSON.stringify(clientOf().client.saved())));
     fresh.client.join();
     fresh.say({ kind: "refused", code: 11, detail: 3 });
@@ -413,10 +422,20 @@ async function tryPatience() {
     say({ kind: "seen", last: 0, commit: 0 });
     said();
     client.poll();
-    await pause(70);
-    count.same(["lost", "joining"].includes(client.status), true, "a reply is due for too long");
+    await pause(20);
+    client.poll();
+    await pause(20);
+    count.same(["lost", "joining"].includes(client.status), true, "the first one's reply is due for too long");
     count.same(links[0].isClosed, true, "the line counts as broken");
     client.close();
+}
+
+/** The byte of a node that is the 65th, and has 8 above it. */
+function tryLargeAndDeep() {
+    const start = "89 00000000 00000000 0000 01 00000001 0000 00000001 01 0000 0001 00000000 00000000 1d";
+    const before = `${start}${"100000 20 0000000000000001".repeat(28)} 11 ${"35".repeat(7)}`;
+    count.refuses(() => decodeReply(bytesOf(`${before} 30`)), `malformed ${bytesOf(before).length} 7`, "too many nodes, and too deep");
+    count.refuses(() => decodeReply(bytesOf(`${before} 20`)), `malformed ${bytesOf(before).length} 2`, "and of another kind");
 }
 
 function isTypeError(call) {
@@ -459,6 +478,6 @@ function tryBuilder() {
 }
 
 const tests = [tryTakingUp, tryPushedOut, tryJoiningAgain, tryPauses, tryLimits, tryOutcomes, tryObserving, tryWatching,
-    tryWatchingMore, tryKeys, trySaving, tryFaultyCallbacks, tryPatience, tryBuilder];
+    tryWatchingMore, tryKeys, trySaving, tryFaultyCallbacks, tryPatience, tryLargeAndDeep, tryBuilder];
 for (const each of tests) await each();
 count.close();
