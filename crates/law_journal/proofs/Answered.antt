@@ -14,7 +14,7 @@ use Rattle.sv_wire.specs.declared.message.Reply.TheVariants as replies
 use Rattle.sv_journal.specs.Serving.{is_poll}
 use Rattle.sv_client.specs.declared.trace.Event.{Event}
 use Rattle.sv_client.specs.declared.trace.Event.TheVariants as events
-use Rattle.sv_client.specs.Traces.{makes, held_of, with_reply, head_held, results_of, last_values, are_same, without_front, settled_by, pending_with, pending_of}
+use Rattle.sv_client.specs.Traces.{makes, held_of, with_reply, head_held, results_of, last_values, are_same, without_front, settled_by, has_news, pending_with, pending_of}
 use Rattle.sv_client.specs.Taking.{Identity, outstanding, allows, is_out_of_order, is_bad_head, is_for_front, ends_with_front, is_good_relay, is_bad_relay, has_bad_item, Unasked, fault_after}
 use Rattle.sv_client.specs.Proper.{AreProper}
 use Rattle.sv_client.proofs.Faultless.{kind-of, good-of}
@@ -51,6 +51,9 @@ with-numbered before more (replies.Relay seq commit head items) ps all =
     let own = last_values (results_of (before ++ head_held commit head) items) in
     cond_both (seq == 0) ps (settled_by more own ps) AreNumbered (λ e. all) (λ e. settled-numbered more own ps all)
 with-numbered before more (replies.Dropped seq chain far) ps all = redone-numbered more [] (without_front ps) tt (without-numbered ps all)
+with-numbered before more (replies.Seen last commit head items) ps all =
+    cond_both (has_news head items) (redone more ps) ps AreNumbered (λ e. redone-numbered more [] ps tt all) (λ e. all)
+with-numbered before more (replies.Denied seq object) ps all = redone-numbered more [] (without_front ps) tt (without-numbered ps all)
 with-numbered before more (replies.Settled seq pos) ps all = redone-numbered more [] (without_front ps) tt (without-numbered ps all)
 with-numbered before more (replies.Welcome commit head) ps all = all
 with-numbered before more (replies.Noted commit) ps all = all
@@ -67,6 +70,7 @@ pending-numbered (events.Make action ∷ t) =
 pending-numbered (events.Got s reply ∷ t) = with-numbered (held_of t) (with_reply (held_of t) reply) reply (pending_of t) (pending-numbered t)
 pending-numbered (events.Join s ∷ t) = pending-numbered t
 pending-numbered (events.Poll ∷ t) = pending-numbered t
+pending-numbered (events.Observe objects wait ∷ t) = pending-numbered t
 pending-numbered (events.Leave ∷ t) = pending-numbered t
 pending-numbered (events.Cut ∷ t) = pending-numbered t
 pending-numbered (events.Quit ∷ t) = pending-numbered t
@@ -101,6 +105,7 @@ module _ (who : Identity) (ps : List PendingAction) (all : AreNumbered ps) (seq 
       let some : 1 ≤ seq = front-some seq ps all front in
       ((λ (e : seq ≡ 0). absurd (omega arith)), (λ (e : requests.Submit n a ≡ requests.Poll). absurd (true≢false (sym (ap is_poll e)))))
   zero-for requests.Poll kind good = ((λ e. refl), (λ e. eqb-true seq 0 (for-request requests.Poll good)))
+  zero-for (requests.Observe objects wait) kind good = absurd (true≢false (sym kind))
   zero-for (requests.Join client life interest) kind good = absurd (true≢false (sym kind))
   zero-for (requests.Done results) kind good = absurd (true≢false (sym kind))
   zero-for requests.Leave kind good = absurd (true≢false (sym kind))
@@ -117,6 +122,8 @@ suits-zero : (who : Identity) (t : List Event) → Suits who t IsZeroForPolls
 suits-zero who t q (replies.Relay seq commit head items) kind good = zero-for who (pending_of t) (pending-numbered t) seq commit head items q kind good
 suits-zero who t q (replies.Welcome commit head) kind good = tt
 suits-zero who t q (replies.Dropped seq chain far) kind good = tt
+suits-zero who t q (replies.Seen last commit head items) kind good = tt
+suits-zero who t q (replies.Denied seq object) kind good = tt
 suits-zero who t q (replies.Settled seq pos) kind good = tt
 suits-zero who t q (replies.Noted commit) kind good = tt
 suits-zero who t q replies.Idle kind good = tt
@@ -127,6 +134,8 @@ suits-items : (who : Identity) (t : List Event) → Suits who t (λ q reply. Has
 suits-items who t q (replies.Relay seq commit head items) kind good = has-items who (pending_of t) (pending-numbered t) seq commit head items q good
 suits-items who t q (replies.Welcome commit head) kind good = tt
 suits-items who t q (replies.Dropped seq chain far) kind good = tt
+suits-items who t q (replies.Seen last commit head items) kind good = tt
+suits-items who t q (replies.Denied seq object) kind good = tt
 suits-items who t q (replies.Settled seq pos) kind good = tt
 suits-items who t q (replies.Noted commit) kind good = tt
 suits-items who t q replies.Idle kind good = tt
@@ -145,6 +154,7 @@ module _ (who : Identity) (first : ℕ) (P : Request → Reply → Type 0) (suit
   each-taken (events.Join s ∷ t) p = each-taken t p.1
   each-taken (events.Make action ∷ t) p = each-taken t p.1
   each-taken (events.Poll ∷ t) p = each-taken t p.1
+  each-taken (events.Observe objects wait ∷ t) p = each-taken t p.1
   each-taken (events.Leave ∷ t) p = each-taken t p.1
   each-taken (events.Cut ∷ t) p = each-taken t p.1
   each-taken (events.Quit ∷ t) p = each-taken t p.1

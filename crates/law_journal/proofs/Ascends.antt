@@ -39,6 +39,7 @@ added-by e h y (Some k) c (requests.Submit seq a) f =
 added-by e h y (Some k) c (requests.Join client life interest) f = inl refl
 added-by e h y (Some k) c (requests.Done results) f = inl refl
 added-by e h y (Some k) c requests.Poll f = inl refl
+added-by e h y (Some k) c (requests.Observe objects wait) f = inl refl
 added-by e h y (Some k) c requests.Leave f = inl refl
 added-by e h y (Some k) c requests.Bad f = inl refl
 added-by e h y (Some k) c requests.End f = inl refl
@@ -61,6 +62,7 @@ relay-one : (n : ℕ) (w : Logged) → is_relay w ≡ true → length (outcome_i
 relay-one n (logged.Relay seq commit head positions) y = refl
 relay-one n (logged.Welcome commit head) y = absurd (true≢false (sym y))
 relay-one n (logged.Dropped seq chain far) y = absurd (true≢false (sym y))
+relay-one n (logged.Seen last commit head positions) y = absurd (true≢false (sym y))
 relay-one n (logged.Settled seq pos) y = absurd (true≢false (sym y))
 relay-one n (logged.Noted commit) y = absurd (true≢false (sym y))
 relay-one n logged.Idle y = absurd (true≢false (sym y))

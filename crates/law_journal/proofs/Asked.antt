@@ -1,9 +1,14 @@
--- A relay brings what its request asks.
-use Rattle.std.proofs.Common.{◌≡◌, ℕ, suc, ◌<◌, ◌≤◌, true, false, List, [], ◌∷◌, ◌++◌, length, Some, refl, sym, ap, subst, ◌∙◌, arith, true≢false}
+-- A reply brings what its request asks.
+use Rattle.std.proofs.Common.{◌≡◌, ℕ, suc, ◌<◌, ◌≤◌, true, false, inl, inr, List, [], ◌∷◌, ◌++◌, length, Some, refl, sym, ap, subst, ◌∙◌, arith, true≢false}
+use Rattle.std.proofs.lemmas.Bool.{cases_Bool}
 use Rattle.std.proofs.lemmas.List.{length-map}
 use Rattle.sv_world.specs.declared.action.Action.{Action}
-use Rattle.sv_world.specs.Control.{is_in, needed_for}
-use Rattle.sv_world.proofs.Members.{is_in-head}
+use Rattle.sv_world.specs.declared.world.ObjectId.{ObjectId}
+use Rattle.sv_world.specs.Control.{is_in, last_writer, needed_for, needed_to_see}
+use Rattle.sv_world.specs.Sets.{numbers_of}
+use Rattle.sv_world.proofs.Greatest.{cut-low, cut-high, cut-few}
+use Rattle.sv_world.proofs.Members.{is_in-head, is_in-append_left, is_in-append_right}
+use Rattle.sv_world.proofs.Seeing.{see-bounds, see-direct}
 use Rattle.sv_wire.specs.declared.message.Request.{Request}
 use Rattle.sv_wire.specs.declared.message.Request.TheVariants as requests
 use Rattle.sv_journal.specs.declared.entry.Entry.{Entry}
@@ -14,8 +19,8 @@ use Rattle.sv_journal.specs.Sessions.{sent_to}
 use Rattle.sv_journal.specs.Answer.{Rules, relay_of}
 use Rattle.sv_journal.specs.Serving.{Keeping, reply_for, IsKeeping}
 use Rattle.sv_journal.proofs.Kept.{sent-kept, commit_within-kept}
-use Rattle.sv_journal.proofs.Replies.{each_reply}
-use Rattle.law_journal.specs.Brought.{IsMadeBy, EndsWith, AreUpTo, BringsUnlessSent, BringsFor, BringsBy, BringsWhatIsAsked, ServedRelaysBringWhatIsAsked}
+use Rattle.sv_journal.proofs.Replies.{cut_for, is_seen, each_reply}
+use Rattle.law_journal.specs.Brought.{IsMadeBy, EndsWith, AreUpTo, BringsUnlessSent, BringsFor, BringsSeen, BringsBy, BringsWhatIsAsked, ServedRelaysBringWhatIsAsked}
 use Rattle.law_journal.proofs.EveryEntry.{entry_of, each-entry}
 use Rattle.law_journal.proofs.Staying.{added}
 use Rattle.law_journal.proofs.Makers.{made-more, made-new, action-new, kept-made}
@@ -33,15 +38,16 @@ NeededUpTo = (A : List Action) (commit : ℕ) (sent : List ℕ) (i j : ℕ) → 
 abbrev pub NoneOfSent : Type 0
 NoneOfSent = (A : List Action) (commit : ℕ) (sent : List ℕ) (i : ℕ) → is_in i sent ≡ true → needed_for A commit sent i ≡ []
 
-not-relayed : (k : Keeping) (h : List Entry) (A : List Authored) (s : ℕ) (q : Request) (w : Logged) → is_relay w ≡ false → BringsBy k h A s q w
-not-relayed k h A s q (logged.Relay seq commit head positions) e = absurd (true≢false e)
-not-relayed k h A s q (logged.Welcome commit head) e = tt
-not-relayed k h A s q (logged.Dropped seq chain far) e = tt
-not-relayed k h A s q (logged.Settled seq pos) e = tt
-not-relayed k h A s q (logged.Noted commit) e = tt
-not-relayed k h A s q logged.Idle e = tt
-not-relayed k h A s q (logged.Refused code detail) e = tt
-not-relayed k h A s q logged.Bye e = tt
+not-sent : (k : Keeping) (h : List Entry) (A : List Authored) (s : ℕ) (q : Request) (w : Logged) → is_relay w ≡ false → is_seen w ≡ false → BringsBy k h A s q w
+not-sent k h A s q (logged.Relay seq commit head positions) e f = absurd (true≢false e)
+not-sent k h A s q (logged.Welcome commit head) e f = tt
+not-sent k h A s q (logged.Dropped seq chain far) e f = tt
+not-sent k h A s q (logged.Seen last commit head positions) e f = absurd (true≢false f)
+not-sent k h A s q (logged.Settled seq pos) e f = tt
+not-sent k h A s q (logged.Noted commit) e f = tt
+not-sent k h A s q logged.Idle e f = tt
+not-sent k h A s q (logged.Refused code detail) e f = tt
+not-sent k h A s q logged.Bye e f = tt
 
 module _ (ends : NeededEnds) (up_to : NeededUpTo) (none : NoneOfSent) (k : Keeping) (law : IsKeeping k) (r : Rules) (h : List Entry) (s : ℕ) where
   -- The positions of a relay of position p among the actions A.
@@ -80,9 +86,36 @@ module _ (ends : NeededEnds) (up_to : NeededUpTo) (none : NoneOfSent) (k : Keepi
       subst (λ (x : Request). BringsFor k h (accepted (entry_of s q w ∷ h)) s x (relayed (actions_of h) p)) (sym asked)
       (record { position = p; later = later; first = first; up_to = none-above (actions_of h) p above; ends = new-ends (actions_of h) p above free })
 
+  -- What is seen of objects at the greatest cut.
+  observed : (q : Request) (objects : List ObjectId) (wait : ℕ) → q ≡ requests.Observe objects wait →
+      BringsSeen k h s q (cut_for (k.kept h) (actions_of h) s (numbers_of objects))
+      (needed_to_see (actions_of h) (commit_of (k.kept h)) (sent_to (k.kept h) s) (numbers_of objects) (cut_for (k.kept h) (actions_of h) s (numbers_of objects)))
+  observed q objects wait asked =
+      let A = actions_of h in
+      let c = commit_of (k.kept h) in
+      let sent = sent_to (k.kept h) s in
+      let xs = numbers_of objects in
+      let n = cut_for (k.kept h) A s xs in
+      let ps = needed_to_see A c sent xs n in
+      let count : length A ≡ length (accepted h) = length-map (accepted h) (λ (x : Authored). x.action) in
+      let within : c ≤ length (accepted h) = commit_within-kept k law h in
+      let high : n ≤ length A = cut-high A c sent xs (omega arith) in
+      subst (λ (x : Request). BringsSeen k h s x n ps) (sym asked) (record {
+        low = cut-low A c sent xs;
+        high = omega arith;
+        up_to = λ p m. (see-bounds A c sent xs n p m).1;
+        few = cut-few A c sent xs;
+        writers = λ x m above. elim (cases_Bool (is_in (last_writer A x (suc n)) (sent_to h s))) [
+          | inl before ↦ is_in-append_left (last_writer A x (suc n)) (sent_to h s) ps before
+          | inr new ↦
+              is_in-append_right (last_writer A x (suc n)) (sent_to h s) ps
+              (see-direct A c sent xs n x high m above (ap (λ (l : List ℕ). is_in (last_writer A x (suc n)) l) (sym marks) ∙ new))
+        ];
+      })
+
   pub brings-here : (q : Request) → BringsWhatIsAsked k h (entry_of s q (reply_for k r h s q))
   brings-here q = each_reply k law r h s (λ (w : Logged). BringsBy k h (accepted (entry_of s q w ∷ h)) s q w) q (record {
-    other = λ w e. not-relayed k h (accepted (entry_of s q w ∷ h)) s q w e;
+    other = λ w e f. not-sent k h (accepted (entry_of s q w ∷ h)) s q w e f;
     fresh = λ j seq a client asked next good chain.
         let p = suc (length (actions_of h)) in
         let w = relay_of r (k.kept h) (actions_of h ++ a ∷ []) s seq p in
@@ -103,6 +136,7 @@ module _ (ends : NeededEnds) (up_to : NeededUpTo) (none : NoneOfSent) (k : Keepi
         let w = relay_of r (k.kept h) (actions_of h) s 0 p in
         let due : is_in p (k.due h s) ≡ true = subst (λ (l : List ℕ). is_in p l ≡ true) (sym first) (is_in-head p ps) in
         polled q w p ps asked first (law.above h s p due) (law.unsent h s p due open_still);
+    seen = λ j wait objects client asked open_still good. observed q objects wait asked;
   })
 
 pub served_bring : NeededEnds → NeededUpTo → NoneOfSent → ServedRelaysBringWhatIsAsked

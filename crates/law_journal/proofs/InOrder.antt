@@ -91,6 +91,7 @@ of-lower k g A s (requests.Submit m a) (logged.Relay seq commit head positions) 
   above = b.brings.up_to p named;
 }
 of-lower k g A s requests.Poll (logged.Relay seq commit head positions) n p b named low = absurd low
+of-lower k g A s (requests.Observe objects wait) (logged.Relay seq commit head positions) n p b named low = absurd low
 of-lower k g A s (requests.Join client life interest) (logged.Relay seq commit head positions) n p b named low = absurd b
 of-lower k g A s (requests.Done results) (logged.Relay seq commit head positions) n p b named low = absurd b
 of-lower k g A s requests.Leave (logged.Relay seq commit head positions) n p b named low = absurd b
@@ -98,6 +99,14 @@ of-lower k g A s requests.Bad (logged.Relay seq commit head positions) n p b nam
 of-lower k g A s requests.End (logged.Relay seq commit head positions) n p b named low = absurd b
 of-lower k g A s q (logged.Welcome commit head) n p b named low = absurd (true≢false (sym named))
 of-lower k g A s q (logged.Dropped seq chain far) n p b named low = absurd (true≢false (sym named))
+of-lower k g A s (requests.Submit m a) (logged.Seen last commit head positions) n p b named low = absurd b
+of-lower k g A s requests.Poll (logged.Seen last commit head positions) n p b named low = absurd b
+of-lower k g A s (requests.Observe objects wait) (logged.Seen last commit head positions) n p b named low = absurd low
+of-lower k g A s (requests.Join client life interest) (logged.Seen last commit head positions) n p b named low = absurd b
+of-lower k g A s (requests.Done results) (logged.Seen last commit head positions) n p b named low = absurd b
+of-lower k g A s requests.Leave (logged.Seen last commit head positions) n p b named low = absurd b
+of-lower k g A s requests.Bad (logged.Seen last commit head positions) n p b named low = absurd b
+of-lower k g A s requests.End (logged.Seen last commit head positions) n p b named low = absurd b
 of-lower k g A s q (logged.Settled seq pos) n p b named low = absurd (true≢false (sym named))
 of-lower k g A s q (logged.Noted commit) n p b named low = absurd (true≢false (sym named))
 of-lower k g A s q logged.Idle n p b named low = absurd (true≢false (sym named))

@@ -19,45 +19,12 @@ use Rattle.sv_journal.specs.Answer.{Rules}
 use Rattle.sv_journal.specs.Serving.{Keeping, reply_for, LegalFor, IsKeeping}
 use Rattle.sv_journal.specs.Text.{NamesAccepted}
 use Rattle.sv_journal.specs.Laws.{ServedRelaysNameAccepted}
+use Rattle.sv_journal.proofs.Named.{sent-within}
 use Rattle.law_journal.specs.Brought.{IsMadeBy, EndsWith, BringsFor, BringsBy, HasItems, AsksForNothingSent, HasItemsUnlessSent, ServedRelaysHaveItems}
 use Rattle.law_journal.proofs.EveryEntry.{entry_of, each-entry}
 use Rattle.law_journal.proofs.Staying.{added}
 use Rattle.law_journal.proofs.Makers.{made-less}
 use Rattle.law_journal.proofs.Asked.{NeededEnds, NeededUpTo, NoneOfSent, brings-here}
-
--- ---- What was sent was accepted
-
-abbrev AreWithin : ℕ → List ℕ → Type 0
-AreWithin n ps = AllByRecursion (λ (p : ℕ). (1 ≤ p) × (p ≤ n)) ps
-
-member-within : (n p : ℕ) (ps : List ℕ) → AreWithin n ps → is_in p ps ≡ true → p ≤ n
-member-within n p [] all m = absurd (true≢false (sym m))
-member-within n p (q ∷ ps) all m =
-    let last : q ≤ n = all.0.1 in
-    elim (is_in-cons_cases p q ps m) [
-      | inl same ↦ omega arith
-      | inr rest ↦ member-within n p ps all.1 rest
-    ]
-
-named-within : (n p : ℕ) (w : Logged) → NamesAccepted n w → is_in p (positions_in w) ≡ true → p ≤ n
-named-within n p (logged.Relay seq commit head positions) all m =
-    member-within n p positions (recursion_from_All (λ (q : ℕ). (1 ≤ q) × (q ≤ n)) positions all) m
-named-within n p (logged.Welcome commit head) all m = absurd (true≢false (sym m))
-named-within n p (logged.Dropped seq chain far) all m = absurd (true≢false (sym m))
-named-within n p (logged.Settled seq pos) all m = absurd (true≢false (sym m))
-named-within n p (logged.Noted commit) all m = absurd (true≢false (sym m))
-named-within n p logged.Idle all m = absurd (true≢false (sym m))
-named-within n p (logged.Refused code detail) all m = absurd (true≢false (sym m))
-named-within n p logged.Bye all m = absurd (true≢false (sym m))
-
-sent-within : (n : ℕ) (h : List Entry) (s p : ℕ) → AllByRecursion (λ (e : Entry). NamesAccepted n e.reply) h → is_in p (sent_to h s) ≡ true → p ≤ n
-sent-within n [] s p all m = absurd (true≢false (sym m))
-sent-within n (e ∷ h) s p all m =
-    let before = sent-within n h s p all.1 in
-    cond_both (e.session == s) (sent_to h s ++ positions_in e.reply) (sent_to h s) (λ (ps : List ℕ). is_in p ps ≡ true → p ≤ n)
-    (λ own f. elim (is_in-append_cases p (sent_to h s) (positions_in e.reply) f) [ inl l ↦ before l | inr l ↦ named-within n p e.reply all.0 l ])
-    (λ other f. before f)
-    m
 
 -- ---- Items
 
@@ -81,6 +48,7 @@ module _ (k : Keeping) (h : List Entry) (s : ℕ) (within : (p : ℕ) → is_in 
   some-positions (requests.Submit seq a) w positions asks b =
       ends-some b.position positions (b.brings.unsent (not-sent seq a w b.client b.position asks b.joined b.made))
   some-positions requests.Poll w positions asks b = ends-some b.position positions b.ends
+  some-positions (requests.Observe objects wait) w positions asks b = absurd b
   some-positions (requests.Join client life interest) w positions asks b = absurd b
   some-positions (requests.Done results) w positions asks b = absurd b
   some-positions requests.Leave w positions asks b = absurd b
@@ -95,6 +63,7 @@ module _ (k : Keeping) (h : List Entry) (s : ℕ) (within : (p : ℕ) → is_in 
       omega arith
   some-items q w (logged.Welcome commit head) A asks b = tt
   some-items q w (logged.Dropped seq chain far) A asks b = tt
+  some-items q w (logged.Seen last commit head positions) A asks b = tt
   some-items q w (logged.Settled seq pos) A asks b = tt
   some-items q w (logged.Noted commit) A asks b = tt
   some-items q w logged.Idle A asks b = tt

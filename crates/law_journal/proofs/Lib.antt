@@ -9,3 +9,4 @@ pub mod Items
 pub mod Ascends
 pub mod InOrder
 pub mod Answered
+pub mod Observed

@@ -91,6 +91,7 @@ tells-new e h k a client asked (logged.Relay seq commit head positions) is (suc 
 tells-new e h k a client asked (logged.Dropped seq chain far) is zero o at =
     (refl, subst (TellsOwn (accepted (e ∷ h)) k (next_seq h k)) (same_Some (Dropped chain far) o at) tt)
 tells-new e h k a client asked (logged.Dropped seq chain far) is (suc j) o at = absurd (none-some o at)
+tells-new e h k a client asked (logged.Seen last commit head positions) is j o at = absurd (none-some o at)
 tells-new e h k a client asked (logged.Welcome commit head) is j o at = absurd (none-some o at)
 tells-new e h k a client asked (logged.Settled seq pos) is j o at = absurd (none-some o at)
 tells-new e h k a client asked (logged.Noted commit) is j o at = absurd (none-some o at)

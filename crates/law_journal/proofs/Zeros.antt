@@ -12,7 +12,7 @@ use Rattle.sv_journal.specs.History.{is_relay, Outcome, Accepted, Authored, outc
 use Rattle.sv_journal.specs.Sessions.{kept_outcome}
 use Rattle.sv_journal.specs.Answer.{Rules}
 use Rattle.sv_journal.specs.Serving.{Keeping, is_poll, reply_for, IsKeeping}
-use Rattle.sv_journal.proofs.Replies.{each_reply}
+use Rattle.sv_journal.proofs.Replies.{is_seen, each_reply}
 use Rattle.sv_system.proofs.Histories.{kept-is}
 use Rattle.law_journal.specs.Numbered.{IsNumberFor, TellsNumber, IsZeroForPolls, OfEntry, ServedRelaysTellTheirNumbers, ServedRelaysOfZeroAnswerPolls}
 use Rattle.law_journal.proofs.EveryEntry.{entry_of, each-entry, each-map}
@@ -26,25 +26,27 @@ kept-some h k (suc n) o e = omega arith
 
 -- ---- Each reply
 
-not-relayed : (A : List Authored) (q : Request) (w : Logged) → is_relay w ≡ false → TellsNumber q (full_reply A w)
-not-relayed A q (logged.Relay seq commit head positions) e = absurd (true≢false e)
-not-relayed A q (logged.Welcome commit head) e = tt
-not-relayed A q (logged.Dropped seq chain far) e = tt
-not-relayed A q (logged.Settled seq pos) e = tt
-not-relayed A q (logged.Noted commit) e = tt
-not-relayed A q logged.Idle e = tt
-not-relayed A q (logged.Refused code detail) e = tt
-not-relayed A q logged.Bye e = tt
+not-sent : (A : List Authored) (q : Request) (w : Logged) → is_relay w ≡ false → is_seen w ≡ false → TellsNumber q (full_reply A w)
+not-sent A q (logged.Relay seq commit head positions) e f = absurd (true≢false e)
+not-sent A q (logged.Welcome commit head) e f = tt
+not-sent A q (logged.Dropped seq chain far) e f = tt
+not-sent A q (logged.Seen last commit head positions) e f = tt
+not-sent A q (logged.Settled seq pos) e f = tt
+not-sent A q (logged.Noted commit) e f = tt
+not-sent A q logged.Idle e f = tt
+not-sent A q (logged.Refused code detail) e f = tt
+not-sent A q logged.Bye e f = tt
 
 told : (k : Keeping) → IsKeeping k → (r : Rules) (h : List Entry) (s : ℕ) (q : Request) → OfEntry TellsNumber h (entry_of s q (reply_for k r h s q))
 told k law r h s q = each_reply k law r h s (λ (w : Logged). TellsNumber q (full_reply (accepted (entry_of s q w ∷ h)) w)) q (record {
-  other = λ w e. not-relayed (accepted (entry_of s q w ∷ h)) q w e;
+  other = λ w e f. not-sent (accepted (entry_of s q w ∷ h)) q w e f;
   fresh = λ j seq a client asked next good chain.
       let number : seq ≡ suc (length (outcomes_of h j)) = next in
       let some : 1 ≤ seq = omega arith in
       subst (λ (x : Request). IsNumberFor x seq) (sym asked) (refl, some);
   again = λ j seq p a client asked kept above. subst (λ (x : Request). IsNumberFor x seq) (sym asked) (refl, kept-some h j seq (Accepted p) kept);
   poll = λ j p ps client asked open_still first. subst (λ (x : Request). IsNumberFor x 0) (sym asked) refl;
+  seen = λ j wait objects client asked open_still good. tt;
 })
 
 pub served_tell_numbers : ServedRelaysTellTheirNumbers
@@ -57,6 +59,7 @@ zero-for (requests.Submit seq a) n is =
     let some : 1 ≤ n = is.1 in
     ((λ (e : n ≡ 0). absurd (omega arith)), (λ (e : requests.Submit seq a ≡ requests.Poll). absurd (true≢false (sym (ap is_poll e)))))
 zero-for requests.Poll n is = ((λ e. refl), (λ e. is))
+zero-for (requests.Observe objects wait) n is = absurd is
 zero-for (requests.Join client life interest) n is = absurd is
 zero-for (requests.Done results) n is = absurd is
 zero-for requests.Leave n is = absurd is
@@ -67,6 +70,8 @@ zero-of : (q : Request) (reply : Reply) → TellsNumber q reply → IsZeroForPol
 zero-of q (replies.Relay seq commit head items) is = zero-for q seq is
 zero-of q (replies.Welcome commit head) is = tt
 zero-of q (replies.Dropped seq chain far) is = tt
+zero-of q (replies.Seen last commit head items) is = tt
+zero-of q (replies.Denied seq object) is = tt
 zero-of q (replies.Settled seq pos) is = tt
 zero-of q (replies.Noted commit) is = tt
 zero-of q replies.Idle is = tt

@@ -1,8 +1,10 @@
--- What is said of the positions and items of relays.
+-- What is said of the positions and items of relays, and of what is seen.
 -- A history is the list of a journal's entries with the latest first.
-use Rattle.std.specs.Prelude.{◌≡◌, ◌⊎◌, ℕ, ◌<◌, ◌≤◌, true, false, All, List, [], ◌∷◌, ◌++◌, length, Some}
+use Rattle.std.specs.Prelude.{◌≡◌, ◌⊎◌, ℕ, suc, ◌<◌, ◌≤◌, true, false, All, List, [], ◌∷◌, ◌++◌, length, Some}
 use Rattle.sv_world.specs.declared.action.Action.{Action}
-use Rattle.sv_world.specs.Control.{is_in}
+use Rattle.sv_world.specs.Control.{is_in, last_writer}
+use Rattle.sv_world.specs.Limits.{most_items}
+use Rattle.sv_world.specs.Sets.{numbers_of}
 use Rattle.sv_wire.specs.declared.message.Request.{Request}
 use Rattle.sv_wire.specs.declared.message.Request.TheVariants as requests
 use Rattle.sv_wire.specs.declared.message.Reply.{Reply}
@@ -10,7 +12,7 @@ use Rattle.sv_wire.specs.declared.message.Reply.TheVariants as replies
 use Rattle.sv_journal.specs.declared.entry.Entry.{Entry}
 use Rattle.sv_journal.specs.declared.entry.Logged.{Logged}
 use Rattle.sv_journal.specs.declared.entry.Logged.TheVariants as logged
-use Rattle.sv_journal.specs.History.{Authored, client_of, next_seq, accepted, authored_at, full_reply}
+use Rattle.sv_journal.specs.History.{Authored, client_of, next_seq, accepted, authored_at, actions_of, commit_of, full_reply}
 use Rattle.sv_journal.specs.Sessions.{sent_to}
 use Rattle.sv_journal.specs.Serving.{Keeping, plain}
 use Rattle.sv_client.specs.declared.trace.Event.{Event}
@@ -58,17 +60,33 @@ pub record BringsDue (k : Keeping) (h : List Entry) (s : ℕ) (positions : List 
   pub up_to : AreUpTo position positions
   pub ends : EndsWith position positions
 
+-- What an Observe sees, after the entries h: its objects at a position from the commit to the last one. No position above it is sent, at most 33
+-- are, and with those that were sent before they have the last writer of each object at it, but for the committed ones.
+pub record BringsObserved (k : Keeping) (h : List Entry) (s : ℕ) (objects : List ℕ) (last : ℕ) (positions : List ℕ) : Type 0 where
+  pub low : commit_of (k.kept h) ≤ last
+  pub high : last ≤ length (accepted h)
+  pub up_to : AreUpTo last positions
+  pub few : length positions ≤ most_items
+  pub writers : (x : ℕ) → is_in x objects ≡ true → commit_of (k.kept h) < last_writer (actions_of h) x (suc last) →
+      is_in (last_writer (actions_of h) x (suc last)) (sent_to h s ++ positions) ≡ true
+
 -- What a relay brings by its request. Nothing else is answered by a relay.
 abbrev pub BringsFor : Keeping → List Entry → List Authored → ℕ → Request → List ℕ → Type 0
 BringsFor k h A s (requests.Submit seq action) positions = BringsSubmitted h A s seq action positions
 BringsFor k h A s requests.Poll positions = BringsDue k h s positions
 BringsFor k h A s _ positions = ⊥
 
+-- What is seen by a request. Nothing but an Observe sees.
+abbrev pub BringsSeen : Keeping → List Entry → ℕ → Request → ℕ → List ℕ → Type 0
+BringsSeen k h s (requests.Observe objects wait) last positions = BringsObserved k h s (numbers_of objects) last positions
+BringsSeen k h s _ last positions = ⊥
+
 abbrev pub BringsBy : Keeping → List Entry → List Authored → ℕ → Request → Logged → Type 0
 BringsBy k h A s request (logged.Relay seq commit head positions) = BringsFor k h A s request positions
+BringsBy k h A s request (logged.Seen last commit head positions) = BringsSeen k h s request last positions
 BringsBy k h A s request _ = Unit {0}
 
--- An entry's relay brings what its request asks.
+-- An entry's reply brings what its request asks.
 abbrev pub BringsWhatIsAsked : Keeping → List Entry → Entry → Type 0
 BringsWhatIsAsked k h e = BringsBy k h (accepted (e ∷ h)) e.session e.request e.reply
 
@@ -102,10 +120,11 @@ ServedRelaysHaveItems = HoldsInServed (λ k. HasItemsUnlessSent)
 
 -- ---- Sessions in order
 
--- What a session may have asked before it repeats a Submit of the number n: no Poll, and Submits of lower numbers alone.
+-- What a session may have asked before it repeats a Submit of the number n: no Poll and no Observe, and Submits of lower numbers alone.
 abbrev pub MayStandBefore : ℕ → Request → Type 0
 MayStandBefore n (requests.Submit seq action) = seq < n
 MayStandBefore n requests.Poll = ⊥
+MayStandBefore n (requests.Observe objects wait) = ⊥
 MayStandBefore n _ = Unit {0}
 
 -- A Submit has its client's next number, or repeats one in order.

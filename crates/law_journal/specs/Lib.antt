@@ -3,4 +3,5 @@ pub mod Committed
 pub mod Entries
 pub mod Numbered
 pub mod Brought
+pub mod Cuts
 pub mod Opened

@@ -20,7 +20,8 @@ pub fn relays_of_zero_answer_polls()
 }
 
 /// A relay ends with what was asked: the action of its Submit, or the first position that is due to the session that polls; and it is empty just
-/// where it answers a Submit whose action was sent to the session before.
+/// where it answers a Submit whose action was sent to the session before. What an Observe sees has, with what was sent before, the last writers
+/// of its objects at one position.
 ///
 /// So each relay to a session that asks for no such action has items. And no client took one that has none.
 pub fn relays_bring_what_is_asked()
@@ -37,7 +38,7 @@ pub fn relays_bring_what_is_asked()
 }
 
 /// A session that asks in order is never sent an empty relay: each of its Submits has its client's next number, or repeats one before the session
-/// polled, and after Submits of lower numbers alone.
+/// polled or observed, and after Submits of lower numbers alone.
 pub fn sessions_in_order_get_items()
     ensures legal { LegalSessionsInOrderGetItems }
     ensures served { ServedSessionsInOrderGetItems }

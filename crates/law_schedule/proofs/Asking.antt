@@ -16,6 +16,7 @@ elsewhere : (who : Identity) (first : ℕ) (t : List Event) (e : Event) (s : ℕ
 elsewhere who first t (events.Join n) s may f = cond-false (n == s) _ [] f
 elsewhere who first t (events.Make a) s may f = cond-false (is_session (current_session t) s) _ [] f
 elsewhere who first t events.Poll s may f = cond-false (is_session (current_session t) s) _ [] f
+elsewhere who first t (events.Observe objects wait) s may f = cond-false (is_session (current_session t) s) _ [] f
 elsewhere who first t events.Leave s may f = cond-false (is_session (current_session t) s) _ [] f
 elsewhere who first t (events.Got n reply) s may f = cond-false (n == s) _ [] (sym (ap (λ (o : Option ℕ). is_session o s) may.current) ∙ f)
 elsewhere who first t events.Cut s may f = refl

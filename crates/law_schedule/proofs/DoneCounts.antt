@@ -17,7 +17,7 @@ use Rattle.sv_scenario.specs.declared.scenario.Step.{Step}
 use Rattle.sv_scenario.specs.Sessions.{cuts_in}
 use Rattle.sv_script.specs.Following.{FollowsTo, must_join, is_welcomed}
 use Rattle.sv_script.proofs.Beginnings.{step-less, event-less}
-use Rattle.sv_script.proofs.Due.{due, due-joined, due-made, due-polled, due-left, due-got, due-cut, due-quit, due-shown, due-some}
+use Rattle.sv_script.proofs.Due.{due, due-joined, due-made, due-polled, due-observed, due-left, due-got, due-cut, due-quit, due-shown, due-some}
 use Rattle.sv_script.proofs.Cuts.{cuts-synced, cuts-done}
 use Rattle.sv_system.specs.Fits.{is_join_of}
 
@@ -65,6 +65,11 @@ module _ (who : Identity) (first : ℕ) (script : List Step) where
       let before = bounded t f.0 s p.1 f.1.0 c in
       let ends = due-polled who first t p.1 p.0.joined in
       let fewer = step-less who t f.0 events.Poll left f.1.1 in
+      omega (arith, before, ends, fewer)
+  bounded (events.Observe objects wait ∷ t) left s p f c =
+      let before = bounded t f.0 s p.1 f.1.0 c in
+      let ends = due-observed who first t objects wait p.1 p.0.joined in
+      let fewer = step-less who t f.0 (events.Observe objects wait) left f.1.1 in
       omega (arith, before, ends, fewer)
   bounded (events.Leave ∷ t) left s p f c =
       let before = bounded t f.0 s p.1 f.1.0 c in
@@ -134,6 +139,11 @@ joins-counted who script (events.Poll ∷ t) left f =
     let same = cuts-done who t f.0 events.Poll left f.1.1 in
     let none = ap one_if f.1.1.joined in
     omega (arith, before, same, none)
+joins-counted who script (events.Observe objects wait ∷ t) left f =
+    let before = joins-counted who script t f.0 f.1.0 in
+    let same = cuts-done who t f.0 (events.Observe objects wait) left f.1.1 in
+    let none = ap one_if f.1.1.joined in
+    omega (arith, before, same, none)
 joins-counted who script (events.Cut ∷ t) left f =
     let before = joins-counted who script t f.0 f.1.0 in
     let same = cuts-done who t f.0 events.Cut left f.1.1 in
@@ -164,6 +174,7 @@ current-there who first script (events.Join s ∷ t) left p f m = (s, refl)
 current-there who first script (events.Got s reply ∷ t) left p f m = (s, p.0.current)
 current-there who first script (events.Make action ∷ t) left p f m = some_current t p.0.joined
 current-there who first script (events.Poll ∷ t) left p f m = some_current t p.0.joined
+current-there who first script (events.Observe objects wait ∷ t) left p f m = some_current t p.0.joined
 current-there who first script (events.Leave ∷ t) left p f m = some_current t p.0.joined
 current-there who first script (events.Cut ∷ t) left p f m = cc
 current-there who first script (events.Quit ∷ t) left p f m = current-there who first script t f.0 p.1 f.1.0 f.1.1.joined
@@ -180,6 +191,7 @@ got-welcomed who first (events.Join m ∷ t) s p c l =
 got-welcomed who first (events.Got m reply ∷ t) s p c l = refl
 got-welcomed who first (events.Make action ∷ t) s p c l = got-welcomed who first t s p.1 c l
 got-welcomed who first (events.Poll ∷ t) s p c l = got-welcomed who first t s p.1 c l
+got-welcomed who first (events.Observe objects wait ∷ t) s p c l = got-welcomed who first t s p.1 c l
 got-welcomed who first (events.Leave ∷ t) s p c l = got-welcomed who first t s p.1 c l
 got-welcomed who first (events.Cut ∷ t) s p c l = got-welcomed who first t s p.1 c l
 got-welcomed who first (events.Quit ∷ t) s p c l = got-welcomed who first t s p.1 c l
@@ -198,6 +210,7 @@ joined-low who first (events.Join m ∷ t) s p h =
 joined-low who first (events.Got m reply ∷ t) s p h = joined-low who first t s p.1 h
 joined-low who first (events.Make action ∷ t) s p h = joined-low who first t s p.1 h
 joined-low who first (events.Poll ∷ t) s p h = joined-low who first t s p.1 h
+joined-low who first (events.Observe objects wait ∷ t) s p h = joined-low who first t s p.1 h
 joined-low who first (events.Leave ∷ t) s p h = joined-low who first t s p.1 h
 joined-low who first (events.Cut ∷ t) s p h = joined-low who first t s p.1 h
 joined-low who first (events.Quit ∷ t) s p h = joined-low who first t s p.1 h
@@ -215,6 +228,7 @@ low-joined who first (events.Join m ∷ t) s p a b =
 low-joined who first (events.Got m reply ∷ t) s p a b = low-joined who first t s p.1 a b
 low-joined who first (events.Make action ∷ t) s p a b = low-joined who first t s p.1 a b
 low-joined who first (events.Poll ∷ t) s p a b = low-joined who first t s p.1 a b
+low-joined who first (events.Observe objects wait ∷ t) s p a b = low-joined who first t s p.1 a b
 low-joined who first (events.Leave ∷ t) s p a b = low-joined who first t s p.1 a b
 low-joined who first (events.Cut ∷ t) s p a b = low-joined who first t s p.1 a b
 low-joined who first (events.Quit ∷ t) s p a b = low-joined who first t s p.1 a b

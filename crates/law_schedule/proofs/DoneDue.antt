@@ -40,6 +40,9 @@ done-asked : (held : List Held) (reply : Reply) → AreAsked (done_for held repl
 done-asked held (replies.Relay seq commit head items) = (refl, tt)
 done-asked held (replies.Welcome commit head) = tt
 done-asked held (replies.Dropped seq chain far) = tt
+done-asked held (replies.Denied seq object) = tt
+done-asked held (replies.Seen last commit head []) = tt
+done-asked held (replies.Seen last commit head (item ∷ items)) = (refl, tt)
 done-asked held (replies.Settled seq pos) = tt
 done-asked held (replies.Noted commit) = tt
 done-asked held replies.Idle = tt
@@ -51,6 +54,7 @@ event-asked client interest t (events.Join n) s =
     each-if (λ (q : Request). is_end q ≡ false) (n == s) (requests.Join client (suc (joins t)) interest ∷ map submit_of (pending_of t)) (refl, submits-asked (pending_of t))
 event-asked client interest t (events.Make action) s = each-if (λ (q : Request). is_end q ≡ false) (is_session (current_session t) s) (requests.Submit (suc (makes t)) action ∷ []) (refl, tt)
 event-asked client interest t events.Poll s = each-if (λ (q : Request). is_end q ≡ false) (is_session (current_session t) s) (requests.Poll ∷ []) (refl, tt)
+event-asked client interest t (events.Observe objects wait) s = each-if (λ (q : Request). is_end q ≡ false) (is_session (current_session t) s) (requests.Observe objects wait ∷ []) (refl, tt)
 event-asked client interest t events.Leave s = each-if (λ (q : Request). is_end q ≡ false) (is_session (current_session t) s) (requests.Leave ∷ []) (refl, tt)
 event-asked client interest t (events.Got n reply) s = each-if (λ (q : Request). is_end q ≡ false) (n == s) (done_for (held_of t) reply) (done-asked (held_of t) reply)
 event-asked client interest t events.Cut s = tt

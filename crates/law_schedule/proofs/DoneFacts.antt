@@ -20,6 +20,7 @@ use Rattle.sv_scenario.specs.Sessions.{sessions_of_plan, sessions_in, session_co
 use Rattle.sv_script.specs.Following.{FollowsTo, is_finished}
 use Rattle.sv_system.specs.Fronts.{IsFront}
 use Rattle.sv_system.specs.Fits.{requests_in, replies_in, IsEndLast, is_join_of, FitsOne, AreApart, AreAllApart}
+use Rattle.sv_asked.proofs.Spent.{accepted-few}
 use Rattle.sv_system.proofs.Asked.{any-reverse}
 use Rattle.sv_system.specs.Laws.{NeverRefused}
 use Rattle.sv_system.proofs.Places.{map_at}
@@ -139,6 +140,10 @@ module _ (scenario : Scenario) (good : IsGoodScenario scenario) (run : Run) (sou
         fits = fit-in;
       }
 
+  -- All accepted actions have their positions.
+  positions-few : length (accepted run.history) ≤ 4294967294
+  positions-few = (let most = accepted-few (rules_of scenario) run.history (session_count scenario) sound.legal sound.sessions in let few = good.sessions in omega (arith, most, few))
+
   -- The next reply of the player's latest session has no fault.
   pub next-taken : NeverRefused → (s : ℕ) (reply : Reply) → current_session p.events ≡ Some s → length (asked p.who.client p.who.interest p.events s) ≤ 1024 →
       slice_get (replies_in (accepted run.history) run.history s) (length (got p.events s)) ≡ Some reply → first_fault_of_reply p.who p.events reply ≡ None
@@ -149,7 +154,7 @@ module _ (scenario : Scenario) (good : IsGoodScenario scenario) (run : Run) (sou
       subst (λ (t : List Event). first_fault_of_reply p.who t reply ≡ None) (same-events p)
       (subst (λ (w : Identity). first_fault_of_reply w (reverse L.events) reply ≡ None) who-is
       (honest (rules_of scenario) h (traces_of run) i L s reply good.world.objects
-      good.world.attrs good.bound sound.legal sound.fits trace-at
+      good.world.attrs good.bound positions-few sound.legal sound.fits trace-at
       (subst (λ (t : List Event). current_session t ≡ Some s) back current)
       (subst (λ (t : List Event). length (asked p.who.client p.who.interest t s) ≤ 1024) back few)
       (subst (λ (t : List Event). slice_get (replies_in (accepted h) h s) (length (got t s)) ≡ Some reply) back next)))

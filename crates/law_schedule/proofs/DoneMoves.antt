@@ -131,6 +131,7 @@ step-moves p s proper o (steps.Act action ∷ ss) e =
     (λ x. and_from (nat_lt (length (pending_of p.events)) 8) (is_calm p) (room-settled p s proper o x) (calm-settled p x))
     (moved-by p s (steps.Act action) ss (events.Make action) o e refl refl refl)
 step-moves p s proper o (steps.Poll ∷ ss) e = free-or_waits p s o (is_calm p) events.Poll ss (calm-settled p) (moved-by p s steps.Poll ss events.Poll o e refl refl refl)
+step-moves p s proper o (steps.Observe objects ∷ ss) e = free-or_waits p s o (is_calm p) (events.Observe objects 0) ss (calm-settled p) (moved-by p s (steps.Observe objects) ss (events.Observe objects 0) o e refl refl refl)
 step-moves p s proper o (steps.Sync ∷ ss) e =
     settled-or_waits p (record p { left = ss }) s o
     (let all = before-step p steps.Sync ss e o.joined in

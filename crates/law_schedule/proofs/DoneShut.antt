@@ -59,6 +59,8 @@ near-step p c m (steps.Act action ∷ ss) =
     near-if _ p (does p (events.Make action) ss) p (record { joined = λ s h. h; opened = inr (open-is (does p (events.Make action) ss) c refl ∙ sym (open-is p c m)) }) (near-same p)
 near-step p c m (steps.Poll ∷ ss) =
     near-if _ p (does p events.Poll ss) p (record { joined = λ s h. h; opened = inr (open-is (does p events.Poll ss) c refl ∙ sym (open-is p c m)) }) (near-same p)
+near-step p c m (steps.Observe objects ∷ ss) =
+    near-if _ p (does p (events.Observe objects 0) ss) p (record { joined = λ s h. h; opened = inr (open-is (does p (events.Observe objects 0) ss) c refl ∙ sym (open-is p c m)) }) (near-same p)
 near-step p c m (steps.Sync ∷ ss) = near-if (is_settled p) p (record p { left = ss }) p (record { joined = λ s h. h; opened = inr refl }) (near-same p)
 near-step p c m (steps.Show objects ∷ ss) = record { joined = λ s h. h; opened = inr (open-is (does p (events.Show objects) ss) c refl ∙ sym (open-is p c m)) }
 near-step p c m (steps.Cut ∷ ss) = record { joined = λ s h. h; opened = inl (open-none (does p events.Cut ss) refl) }

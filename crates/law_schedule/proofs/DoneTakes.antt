@@ -44,6 +44,7 @@ is_done (requests.Done results) = true
 is_done (requests.Join client life interest) = false
 is_done (requests.Submit seq action) = false
 is_done requests.Poll = false
+is_done (requests.Observe objects wait) = false
 is_done requests.Leave = false
 is_done requests.End = false
 is_done requests.Bad = false
@@ -63,6 +64,9 @@ reply-dones : (held : List Held) (reply : Reply) → AreDones (done_for held rep
 reply-dones held (replies.Relay seq commit head items) = (refl, tt)
 reply-dones held (replies.Welcome commit head) = tt
 reply-dones held (replies.Dropped seq chain far) = tt
+reply-dones held (replies.Denied seq object) = tt
+reply-dones held (replies.Seen last commit head []) = tt
+reply-dones held (replies.Seen last commit head (item ∷ items)) = (refl, tt)
 reply-dones held (replies.Settled seq pos) = tt
 reply-dones held (replies.Noted commit) = tt
 reply-dones held replies.Idle = tt
@@ -74,15 +78,28 @@ relay-other (requests.Done results) seq commit head items d e = true≢false (sy
 relay-other (requests.Join client life interest) seq commit head items d e = true≢false (sym d)
 relay-other (requests.Submit n action) seq commit head items d e = true≢false (sym d)
 relay-other requests.Poll seq commit head items d e = true≢false (sym d)
+relay-other (requests.Observe objects wait) seq commit head items d e = true≢false (sym d)
 relay-other requests.Leave seq commit head items d e = true≢false (sym d)
 relay-other requests.End seq commit head items d e = true≢false (sym d)
 relay-other requests.Bad seq commit head items d e = true≢false (sym d)
+
+seen-other : (q : Request) (last commit : ℕ) (head : List _) (items : List _) → is_done q ≡ true → allows q (replies.Seen last commit head items) ≡ true → ⊥
+seen-other (requests.Done results) last commit head items d e = true≢false (sym e)
+seen-other (requests.Join client life interest) last commit head items d e = true≢false (sym d)
+seen-other (requests.Submit n action) last commit head items d e = true≢false (sym d)
+seen-other requests.Poll last commit head items d e = true≢false (sym d)
+seen-other (requests.Observe objects wait) last commit head items d e = true≢false (sym d)
+seen-other requests.Leave last commit head items d e = true≢false (sym d)
+seen-other requests.End last commit head items d e = true≢false (sym d)
+seen-other requests.Bad last commit head items d e = true≢false (sym d)
 
 -- The answer to a Done asks nothing.
 done-answered : (held : List Held) (q : Request) (reply : Reply) → is_done q ≡ true → allows q reply ≡ true → done_for held reply ≡ []
 done-answered held q (replies.Relay seq commit head items) d e = absurd (relay-other q seq commit head items d e)
 done-answered held q (replies.Welcome commit head) d e = refl
 done-answered held q (replies.Dropped seq chain far) d e = refl
+done-answered held q (replies.Denied seq object) d e = refl
+done-answered held q (replies.Seen last commit head items) d e = absurd (seen-other q last commit head items d e)
 done-answered held q (replies.Settled seq pos) d e = refl
 done-answered held q (replies.Noted commit) d e = refl
 done-answered held q replies.Idle d e = refl

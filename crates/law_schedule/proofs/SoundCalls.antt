@@ -4,12 +4,13 @@ use Rattle.std.specs.List.{AllByRecursion}
 use Rattle.std.proofs.lemmas.Bool.{false_from_ne_true}
 use Rattle.std.proofs.lemmas.Option.{none-some, same_Some}
 use Rattle.sv_world.specs.declared.action.Action.{Action}
+use Rattle.sv_world.specs.declared.world.ObjectId.{ObjectId}
 use Rattle.sv_world.specs.declared.world.Shape.{Shape}
 use Rattle.sv_journal.specs.declared.entry.Entry.{Entry}
 use Rattle.sv_client.specs.declared.trace.Event.{Event}
 use Rattle.sv_client.specs.Traces.{joins, pending_of}
 use Rattle.sv_client.specs.Taking.{Identity}
-use Rattle.sv_client.specs.Proper.{AreProper, MayFollow, MayJoin, MayMake, MayPoll, MayLeave, in_session}
+use Rattle.sv_client.specs.Proper.{AreProper, MayFollow, MayJoin, MayMake, MayPoll, MayObserve, MayLeave, in_session}
 use Rattle.sv_scenario.specs.declared.scenario.Plan.{Plan}
 use Rattle.sv_scenario.specs.declared.scenario.Scenario.{Scenario}
 use Rattle.sv_scenario.specs.declared.scenario.Step.{Step}
@@ -23,7 +24,7 @@ use Rattle.law_schedule.specs.Players.{Player, is_calm, is_settled, player_turn,
 use Rattle.law_schedule.specs.Serving.{Run, Server}
 use Rattle.law_schedule.specs.Sound.{IsPlaying, ArePlaying, has_joined}
 use Rattle.law_schedule.specs.Served.{IsSoundOver}
-use Rattle.law_schedule.proofs.SoundPlayers.{IsFitting, IsKept, IsUnused, may-join, may-make, may-poll, may-leave, turn-kept, take-kept}
+use Rattle.law_schedule.proofs.SoundPlayers.{IsFitting, IsKept, IsUnused, may-join, may-make, may-poll, may-observe, may-leave, turn-kept, take-kept}
 use Rattle.law_schedule.proofs.SoundEntries.{begun_by, unused-unless_begun}
 use Rattle.law_schedule.proofs.SoundRuns.{AreOwn, all-own}
 use Rattle.law_schedule.proofs.SoundLaws.{sound-stands}
@@ -95,6 +96,9 @@ module _ (server : Server) (shape : Shape) (sessions : ℕ) (h : List Entry) (p 
 
     pub call-poll : (ss : List Step) → p.left ≡ steps.Poll ∷ ss → is_calm p ≡ true → MayPoll p.who p.events
     call-poll = may-poll server shape h a.number a.first a.plan p a.playing a.fitting a.good o m v
+
+    pub call-observe : (objects : List ObjectId) (ss : List Step) → p.left ≡ steps.Observe objects ∷ ss → is_calm p ≡ true → MayObserve p.who p.events objects
+    call-observe = may-observe server shape h a.number a.first a.plan p a.playing a.fitting a.good o m v
 
     pub call-leave : is_settled p ≡ true → in_session p.events ≡ true → MayLeave p.who p.events
     call-leave = may-leave server shape h a.number a.first a.plan p a.playing a.fitting a.good o m v

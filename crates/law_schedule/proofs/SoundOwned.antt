@@ -45,6 +45,9 @@ done-joins : (k : ℕ) (held : List Held) (reply : Reply) → AllByRecursion (Jo
 done-joins k held (replies.Welcome commit head) = tt
 done-joins k held (replies.Relay seq commit head items) = (λ j e. absurd (none-some j e), tt)
 done-joins k held (replies.Dropped seq chain far) = tt
+done-joins k held (replies.Denied seq object) = tt
+done-joins k held (replies.Seen last commit head []) = tt
+done-joins k held (replies.Seen last commit head (item ∷ items)) = (λ j e. absurd (none-some j e), tt)
 done-joins k held (replies.Settled seq pos) = tt
 done-joins k held (replies.Noted commit) = tt
 done-joins k held replies.Idle = tt
@@ -56,6 +59,7 @@ event-joins client interest t (events.Join n) s =
     each-if (JoinsAs client.0) (n == s) _ (λ j e. sym (same_Some client.0 j e), submits-join client.0 (pending_of t))
 event-joins client interest t (events.Make a) s = each-if (JoinsAs client.0) (is_session (current_session t) s) _ (λ j e. absurd (none-some j e), tt)
 event-joins client interest t events.Poll s = each-if (JoinsAs client.0) (is_session (current_session t) s) _ (λ j e. absurd (none-some j e), tt)
+event-joins client interest t (events.Observe objects wait) s = each-if (JoinsAs client.0) (is_session (current_session t) s) _ (λ j e. absurd (none-some j e), tt)
 event-joins client interest t events.Leave s = each-if (JoinsAs client.0) (is_session (current_session t) s) _ (λ j e. absurd (none-some j e), tt)
 event-joins client interest t (events.Got n reply) s = each-if (JoinsAs client.0) (n == s) _ (done-joins client.0 (held_of t) reply)
 event-joins client interest t events.Cut s = tt
@@ -72,6 +76,7 @@ end-joins (requests.Join client life interest) e = absurd (true≢false (sym e))
 end-joins (requests.Submit seq action) e = refl
 end-joins (requests.Done results) e = refl
 end-joins requests.Poll e = refl
+end-joins (requests.Observe objects wait) e = refl
 end-joins requests.Leave e = refl
 end-joins requests.Bad e = refl
 end-joins requests.End e = refl

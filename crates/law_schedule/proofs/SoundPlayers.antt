@@ -7,7 +7,9 @@ use Rattle.std.proofs.lemmas.Option.{none-some}
 use Rattle.std.proofs.lemmas.List.{nil_from_length}
 use Rattle.sv_world.specs.declared.action.Action.{Action}
 use Rattle.sv_world.specs.declared.world.Shape.{Shape}
-use Rattle.sv_world.specs.Faults.{first_fault_of_action}
+use Rattle.sv_world.specs.Faults.{first_fault_of_action, may_be_observed}
+use Rattle.sv_world.specs.Sets.{numbers_of}
+use Rattle.sv_world.specs.declared.world.ObjectId.{ObjectId}
 use Rattle.sv_world.proofs.Good.{none_of_good}
 use Rattle.sv_wire.specs.declared.message.Reply.{Reply}
 use Rattle.sv_wire.specs.declared.message.Request.{Request}
@@ -19,7 +21,7 @@ use Rattle.sv_client.specs.declared.trace.Event.{Event}
 use Rattle.sv_client.specs.declared.trace.Event.TheVariants as events
 use Rattle.sv_client.specs.Traces.{joins, makes, current_session, pending_of, asked, asked_by_event, got}
 use Rattle.sv_client.specs.Taking.{Identity, Fault, Unasked, outstanding, fault_after, first_fault_of_reply}
-use Rattle.sv_client.specs.Proper.{AreProper, MayFollow, MayJoin, MayMake, MayPoll, MayLeave, IsGoodIdentity, in_session}
+use Rattle.sv_client.specs.Proper.{AreProper, MayFollow, MayJoin, MayMake, MayPoll, MayObserve, MayLeave, IsGoodIdentity, in_session}
 use Rattle.sv_client.proofs.Sessions.{no_got}
 use Rattle.sv_scenario.specs.declared.scenario.Plan.{Plan}
 use Rattle.sv_scenario.specs.declared.scenario.Step.{Step}
@@ -311,6 +313,15 @@ module _ (server : Server) (shape : Shape) (h : List Entry) (k s : ℕ) (plan : 
     pub may-poll : (ss : List Step) → p.left ≡ steps.Poll ∷ ss → is_calm p ≡ true → MayPoll p.who p.events
     may-poll ss l t = record { joined = still-in steps.Poll ss m l; calm = ltb-true (length (outstanding p.who p.events)) 16 t }
 
+    good-objects : (objects : List ObjectId) (ss : List Step) → p.left ≡ steps.Observe objects ∷ ss → may_be_observed p.who.shape.objects (numbers_of objects) ≡ true
+    good-objects objects ss l =
+        let all = subst (AllByRecursion (IsGoodStep shape)) l (all-in_left (IsGoodStep shape) good.steps) in
+        subst (λ (x : Shape). may_be_observed x.objects (numbers_of objects) ≡ true) (sym (ap (λ (x : Identity). x.shape) w.who)) all.0
+
+    pub may-observe : (objects : List ObjectId) (ss : List Step) → p.left ≡ steps.Observe objects ∷ ss → is_calm p ≡ true → MayObserve p.who p.events objects
+    may-observe objects ss l t =
+        record { joined = still-in (steps.Observe objects) ss m l; good = good-objects objects ss l; calm = ltb-true (length (outstanding p.who p.events)) 16 t }
+
     settled-nil : is_settled p ≡ true → outstanding p.who p.events ≡ []
     settled-nil t = nil_from_length (outstanding p.who p.events) (eqb-true (length (outstanding p.who p.events)) 0 t)
 
@@ -323,6 +334,10 @@ module _ (server : Server) (shape : Shape) (h : List Entry) (k s : ℕ) (plan : 
 
     polling : (ss : List Step) → p.left ≡ steps.Poll ∷ ss → is_calm p ≡ true → Kept (does p events.Poll ss)
     polling ss l t = stepped events.Poll ss (does-step events.Poll steps.Poll ss l refl refl) (may-poll ss l t) (λ n. refl) (λ n. refl) refl
+
+    observing : (objects : List ObjectId) (ss : List Step) → p.left ≡ steps.Observe objects ∷ ss → is_calm p ≡ true → Kept (does p (events.Observe objects 0) ss)
+    observing objects ss l t =
+        stepped (events.Observe objects 0) ss (does-step (events.Observe objects 0) (steps.Observe objects) ss l refl refl) (may-observe objects ss l t) (λ n. refl) (λ n. refl) refl
 
     quitting : (ss : List Step) → p.left ≡ steps.Quit ∷ ss → Kept (record (does p events.Quit ss) { closed = true })
     quitting ss l = record {
@@ -400,6 +415,7 @@ module _ (server : Server) (shape : Shape) (h : List Entry) (k s : ℕ) (plan : 
     next-kept (steps.Act action ∷ ss) l =
         cond_both (nat_lt (length (pending_of p.events)) 8 && is_calm p) (does p (events.Make action) ss) p Kept (making action ss l) (λ _. stays)
     next-kept (steps.Poll ∷ ss) l = cond_both (is_calm p) (does p events.Poll ss) p Kept (polling ss l) (λ _. stays)
+    next-kept (steps.Observe objects ∷ ss) l = cond_both (is_calm p) (does p (events.Observe objects 0) ss) p Kept (observing objects ss l) (λ _. stays)
     next-kept (steps.Sync ∷ ss) l = cond_both (is_settled p) (record p { left = ss }) p Kept (passing ss l) (λ _. stays)
     next-kept (steps.Show objects ∷ ss) l =
         stepped (events.Show objects) ss (does-step (events.Show objects) (steps.Show objects) ss l refl refl) tt (λ n. refl) (λ n. refl) refl

@@ -6,7 +6,9 @@ use Rattle.std.proofs.lemmas.Bool.{cond-true}
 use Rattle.std.proofs.lemmas.List.{length-append, length-map}
 use Rattle.std.proofs.lemmas.List.Elements.{All-from_recursion}
 use Rattle.sv_world.specs.Control.{is_in}
+use Rattle.sv_world.specs.Sets.{numbers_of}
 use Rattle.sv_world.proofs.Needs.{needed-bounds}
+use Rattle.sv_world.proofs.Seeing.{see-bounds}
 use Rattle.sv_wire.specs.declared.message.Reply.{Reply}
 use Rattle.sv_journal.specs.declared.entry.Entry.{Entry}
 use Rattle.sv_journal.specs.declared.entry.Logged.{Logged}
@@ -47,6 +49,13 @@ names-here r e h l = go e.reply refl (legal-tells r e h l)
         let b = needed-bounds (actions_of h ++ new_of h e.session e.request) (commit_of h) (sent_to h e.session) t.target t.above j
         (subst (λ (ps : List ℕ). is_in j ps ≡ true) t.positions_are m) in
         (omega (arith, b.0), omega (arith, b.1, t.accepted_to, accepted-with e h (ap is_relay is)))))
+    go (logged.Seen last commit head positions) is t =
+        let count = length (accepted (e ∷ h)) in
+        All-from_recursion (λ p. (1 ≤ p) × (p ≤ count)) positions
+        (each-member (λ p. (1 ≤ p) × (p ≤ count)) positions (λ j m.
+        let b = see-bounds (actions_of h) (commit_of h) (sent_to h e.session) (numbers_of t.objects) last j
+        (subst (λ (ps : List ℕ). is_in j ps ≡ true) t.positions_are m) in
+        (omega (arith, b.0), omega (arith, b.1, t.within, actions-count h, accepted-grows h (e ∷ h) (after e same)))))
     go (logged.Welcome commit head) is t = tt
     go (logged.Dropped seq chain far) is t = tt
     go (logged.Settled seq pos) is t = tt

@@ -13,7 +13,7 @@ use Rattle.sv_client.specs.declared.trace.Event.TheVariants as events
 use Rattle.sv_client.specs.Traces.{joins, makes, current_session, is_session, held_of, pending_of, done_for, asked}
 use Rattle.sv_client.specs.Taking.{Identity, outstanding, allows, fault_after}
 use Rattle.sv_client.specs.Proper.{AreProper, in_session}
-use Rattle.sv_client.proofs.Outstanding.{outstanding_joined, outstanding_made, outstanding_polled, outstanding_left, outstanding_cut, outstanding_quit, outstanding_shown, outstanding_got}
+use Rattle.sv_client.proofs.Outstanding.{outstanding_joined, outstanding_made, outstanding_polled, outstanding_observed, outstanding_left, outstanding_cut, outstanding_quit, outstanding_shown, outstanding_got}
 use Rattle.sv_scenario.specs.declared.scenario.Step.{Step}
 use Rattle.sv_client.proofs.Faultless.{kind-of}
 use Rattle.sv_script.specs.Following.{FollowsTo, must_join, is_finished}
@@ -32,6 +32,7 @@ nothing-left who first script (events.Leave ∷ t) left p f i m = f.1.1.same
 nothing-left who first script (events.Got s reply ∷ t) left p f i m = f.1.1.same ∙ nothing-left who first script t f.0 p.1 f.1.0 i f.1.1.joined
 nothing-left who first script (events.Make action ∷ t) left p f i m = absurd (true≢false (sym p.0.joined ∙ i))
 nothing-left who first script (events.Poll ∷ t) left p f i m = absurd (true≢false (sym p.0.joined ∙ i))
+nothing-left who first script (events.Observe objects wait ∷ t) left p f i m = absurd (true≢false (sym p.0.joined ∙ i))
 nothing-left who first script (events.Cut ∷ t) left p f i m = absurd (true≢false m)
 nothing-left who first script (events.Quit ∷ t) left p f i m =
     absurd (no-step who t f.0 events.Quit left f.1.1 (nothing-left who first script t f.0 p.1 f.1.0 i f.1.1.joined))
@@ -53,6 +54,9 @@ leave-out who first (events.Make action ∷ t) p h =
 leave-out who first (events.Poll ∷ t) p h =
     let now : has_leave (outstanding who t ++ requests.Poll ∷ []) ≡ true = sym (ap has_leave (outstanding_polled who first t p.1 p.0.joined)) ∙ h in
     leave-out who first t p.1 (leave-append (outstanding who t) (requests.Poll ∷ []) refl now)
+leave-out who first (events.Observe objects wait ∷ t) p h =
+    let now : has_leave (outstanding who t ++ requests.Observe objects wait ∷ []) ≡ true = sym (ap has_leave (outstanding_observed who first t objects wait p.1 p.0.joined)) ∙ h in
+    leave-out who first t p.1 (leave-append (outstanding who t) (requests.Observe objects wait ∷ []) refl now)
 leave-out who first (events.Cut ∷ t) p h = leave-out who first t p.1 (sym (ap has_leave (outstanding_cut who t)) ∙ h)
 leave-out who first (events.Quit ∷ t) p h = leave-out who first t p.1 (sym (ap has_leave (outstanding_quit who t)) ∙ h)
 leave-out who first (events.Show objects ∷ t) p h = leave-out who first t p.1 (sym (ap has_leave (outstanding_shown who t objects)) ∙ h)
@@ -62,6 +66,8 @@ only-bye s t replies.Bye e = refl
 only-bye s t (replies.Relay seq commit head items) e = absurd (true≢false (sym e))
 only-bye s t (replies.Welcome commit head) e = absurd (true≢false (sym e))
 only-bye s t (replies.Dropped seq chain far) e = absurd (true≢false (sym e))
+only-bye s t (replies.Denied seq object) e = absurd (true≢false (sym e))
+only-bye s t (replies.Seen last commit head items) e = absurd (true≢false (sym e))
 only-bye s t (replies.Settled seq pos) e = absurd (true≢false (sym e))
 only-bye s t (replies.Noted commit) e = absurd (true≢false (sym e))
 only-bye s t replies.Idle e = absurd (true≢false (sym e))
@@ -85,6 +91,7 @@ left-or_finished who first script (events.Got s reply ∷ t) left p f i m =
     ]
 left-or_finished who first script (events.Make action ∷ t) left p f i m = absurd (true≢false (sym p.0.joined ∙ i))
 left-or_finished who first script (events.Poll ∷ t) left p f i m = absurd (true≢false (sym p.0.joined ∙ i))
+left-or_finished who first script (events.Observe objects wait ∷ t) left p f i m = absurd (true≢false (sym p.0.joined ∙ i))
 left-or_finished who first script (events.Cut ∷ t) left p f i m = absurd (true≢false m)
 left-or_finished who first script (events.Quit ∷ t) left p f i m = inr refl
 left-or_finished who first script (events.Show objects ∷ t) left p f i m =
@@ -116,6 +123,8 @@ finished-settled who first script (events.Got s replies.Bye ∷ t) left p f n h 
 finished-settled who first script (events.Got s (replies.Welcome commit head) ∷ t) left p f n h = absurd (true≢false (sym h))
 finished-settled who first script (events.Got s (replies.Relay seq commit head items) ∷ t) left p f n h = absurd (true≢false (sym h))
 finished-settled who first script (events.Got s (replies.Dropped seq chain far) ∷ t) left p f n h = absurd (true≢false (sym h))
+finished-settled who first script (events.Got s (replies.Denied seq object) ∷ t) left p f n h = absurd (true≢false (sym h))
+finished-settled who first script (events.Got s (replies.Seen last commit head items) ∷ t) left p f n h = absurd (true≢false (sym h))
 finished-settled who first script (events.Got s (replies.Settled seq pos) ∷ t) left p f n h = absurd (true≢false (sym h))
 finished-settled who first script (events.Got s (replies.Noted commit) ∷ t) left p f n h = absurd (true≢false (sym h))
 finished-settled who first script (events.Got s replies.Idle ∷ t) left p f n h = absurd (true≢false (sym h))
@@ -123,6 +132,7 @@ finished-settled who first script (events.Got s (replies.Refused code detail) �
 finished-settled who first script (events.Join s ∷ t) left p f n h = absurd (true≢false (sym h))
 finished-settled who first script (events.Make action ∷ t) left p f n h = absurd (true≢false (sym h))
 finished-settled who first script (events.Poll ∷ t) left p f n h = absurd (true≢false (sym h))
+finished-settled who first script (events.Observe objects wait ∷ t) left p f n h = absurd (true≢false (sym h))
 finished-settled who first script (events.Leave ∷ t) left p f n h = absurd (true≢false (sym h))
 finished-settled who first script (events.Cut ∷ t) left p f n h = absurd (true≢false (sym h))
 finished-settled who first script (events.Show objects ∷ t) left p f n h = absurd (true≢false (sym h))
@@ -136,6 +146,7 @@ makes-within who script (events.Got s reply ∷ t) left f = omega (arith, makes-
 makes-within who script (events.Leave ∷ t) left f = omega (arith, makes-within who script t f.0 f.1.0, event-less who t f.0 events.Leave left f.1.1)
 makes-within who script (events.Make action ∷ t) left f = omega (arith, makes-within who script t f.0 f.1.0, step-less who t f.0 (events.Make action) left f.1.1)
 makes-within who script (events.Poll ∷ t) left f = omega (arith, makes-within who script t f.0 f.1.0, event-less who t f.0 events.Poll left f.1.1)
+makes-within who script (events.Observe objects wait ∷ t) left f = omega (arith, makes-within who script t f.0 f.1.0, event-less who t f.0 (events.Observe objects wait) left f.1.1)
 makes-within who script (events.Cut ∷ t) left f = omega (arith, makes-within who script t f.0 f.1.0, event-less who t f.0 events.Cut left f.1.1)
 makes-within who script (events.Quit ∷ t) left f = omega (arith, makes-within who script t f.0 f.1.0, event-less who t f.0 events.Quit left f.1.1)
 makes-within who script (events.Show objects ∷ t) left f = omega (arith, makes-within who script t f.0 f.1.0, event-less who t f.0 (events.Show objects) left f.1.1)
@@ -158,6 +169,7 @@ joined-within who first (events.Join s ∷ t) n p h =
     ]
 joined-within who first (events.Make action ∷ t) n p h = joined-within who first t n p.1 h
 joined-within who first (events.Poll ∷ t) n p h = joined-within who first t n p.1 h
+joined-within who first (events.Observe objects wait ∷ t) n p h = joined-within who first t n p.1 h
 joined-within who first (events.Leave ∷ t) n p h = joined-within who first t n p.1 h
 joined-within who first (events.Got s reply ∷ t) n p h = joined-within who first t n p.1 h
 joined-within who first (events.Cut ∷ t) n p h = joined-within who first t n p.1 h
@@ -169,6 +181,7 @@ not-current [] n h = refl
 not-current (events.Join s ∷ t) n h = (or_parts (s == n) (list_any (is_join_of n) t) h).0
 not-current (events.Make action ∷ t) n h = not-current t n h
 not-current (events.Poll ∷ t) n h = not-current t n h
+not-current (events.Observe objects wait ∷ t) n h = not-current t n h
 not-current (events.Leave ∷ t) n h = not-current t n h
 not-current (events.Got s reply ∷ t) n h = not-current t n h
 not-current (events.Cut ∷ t) n h = not-current t n h
@@ -188,6 +201,8 @@ none-asked who first (events.Join s ∷ t) n p h =
 none-asked who first (events.Make action ∷ t) n p h =
     none-more (is_session (current_session t) n) (asked who.client who.interest t n) _ (none-asked who first t n p.1 h) (not-current t n h)
 none-asked who first (events.Poll ∷ t) n p h =
+    none-more (is_session (current_session t) n) (asked who.client who.interest t n) _ (none-asked who first t n p.1 h) (not-current t n h)
+none-asked who first (events.Observe objects wait ∷ t) n p h =
     none-more (is_session (current_session t) n) (asked who.client who.interest t n) _ (none-asked who first t n p.1 h) (not-current t n h)
 none-asked who first (events.Leave ∷ t) n p h =
     none-more (is_session (current_session t) n) (asked who.client who.interest t n) _ (none-asked who first t n p.1 h) (not-current t n h)

@@ -54,6 +54,7 @@ abbrev pub next_step : Player → List Step → Player
 next_step p [] = last_steps p
 next_step p (steps.Act action ∷ ss) = if_free p (nat_lt (length (pending_of p.events)) most_pending && is_calm p) (events.Make action) ss
 next_step p (steps.Poll ∷ ss) = if_free p (is_calm p) events.Poll ss
+next_step p (steps.Observe objects ∷ ss) = if_free p (is_calm p) (events.Observe objects 0) ss
 next_step p (steps.Sync ∷ ss) = if is_settled p then record p { left = ss } else p
 next_step p (steps.Show objects ∷ ss) = does p (events.Show objects) ss
 next_step p (steps.Cut ∷ ss) = does p events.Cut ss

@@ -208,6 +208,7 @@ pub may_follow : (who : Identity) (t : List Event) (e : Event) → is_other e �
 may_follow who t (events.Join s) o m = absurd (true≢false (sym o))
 may_follow who t (events.Make action) o m = m
 may_follow who t events.Poll o m = m
+may_follow who t (events.Observe objects wait) o m = m
 may_follow who t events.Leave o m = m
 may_follow who t (events.Got s reply) o m = absurd (true≢false (sym o))
 may_follow who t events.Cut o m = tt
@@ -230,6 +231,8 @@ other_is first t (events.Join s) o = absurd (true≢false (sym o))
 other_is first t (events.Make action) o =
     record { got_none = refl; current = refl; current_up = refl; got_same = λ s. refl; welcomed = refl; must = refl; finished = refl; joined_same = λ s. refl }
 other_is first t events.Poll o =
+    record { got_none = refl; current = refl; current_up = refl; got_same = λ s. refl; welcomed = refl; must = refl; finished = refl; joined_same = λ s. refl }
+other_is first t (events.Observe objects wait) o =
     record { got_none = refl; current = refl; current_up = refl; got_same = λ s. refl; welcomed = refl; must = refl; finished = refl; joined_same = λ s. refl }
 other_is first t events.Leave o =
     record { got_none = refl; current = refl; current_up = refl; got_same = λ s. refl; welcomed = refl; must = refl; finished = refl; joined_same = λ s. refl }
@@ -265,6 +268,7 @@ begun who script [] left f m = absurd (true≢false m)
 begun who script (events.Join s ∷ t) left f m = (s, refl)
 begun who script (events.Make action ∷ t) left f m = begun who script t f.0 f.1.0 f.1.1.joined
 begun who script (events.Poll ∷ t) left f m = begun who script t f.0 f.1.0 f.1.1.joined
+begun who script (events.Observe objects wait ∷ t) left f m = begun who script t f.0 f.1.0 f.1.1.joined
 begun who script (events.Leave ∷ t) left f m = begun who script t f.0 f.1.0 f.1.1.joined
 begun who script (events.Got s reply ∷ t) left f m = begun who script t f.0 f.1.0 f.1.1.joined
 begun who script (events.Cut ∷ t) left f m = absurd (true≢false m)
@@ -312,6 +316,7 @@ other_place : (entries : List Entry) (first place : ℕ) (e : Event) → is_othe
 other_place entries first place (events.Join s) o = absurd (true≢false (sym o))
 other_place entries first place (events.Make action) o = refl
 other_place entries first place events.Poll o = refl
+other_place entries first place (events.Observe objects wait) o = refl
 other_place entries first place events.Leave o = refl
 other_place entries first place (events.Got s reply) o = absurd (true≢false (sym o))
 other_place entries first place events.Cut o = refl

@@ -34,6 +34,9 @@ full_text (replies.Welcome commit head) = codes "welcome " ++ decimal commit ++ 
 full_text (replies.Relay seq commit head items) =
     codes "relay " ++ decimal seq ++ codes " at " ++ decimal commit ++ codes " " ++ head_text head ++ codes " " ++ bracketed item_full items
 full_text (replies.Dropped seq chain far) = codes "dropped " ++ decimal seq ++ codes " chain " ++ decimal chain ++ codes " far " ++ decimal far
+full_text (replies.Denied seq object) = codes "denied " ++ decimal seq ++ codes " object " ++ decimal object.0
+full_text (replies.Seen last commit head items) =
+    codes "seen " ++ decimal last ++ codes " at " ++ decimal commit ++ codes " " ++ head_text head ++ codes " " ++ bracketed item_full items
 full_text (replies.Settled seq pos) = codes "settled " ++ decimal seq ++ codes " at " ++ decimal pos
 full_text (replies.Noted commit) = codes "noted " ++ decimal commit
 full_text replies.Idle = codes "idle"
@@ -53,6 +56,8 @@ full_text_is A (logged.Welcome commit head) = refl
 full_text_is A (logged.Relay seq commit head positions) =
     ap (λ (l : List ℕ). codes "relay " ++ decimal seq ++ codes " at " ++ decimal commit ++ codes " " ++ head_text head ++ codes " " ++ (codes "[" ++ l ++ codes "]")) (items_are A positions)
 full_text_is A (logged.Dropped seq chain far) = refl
+full_text_is A (logged.Seen last commit head positions) =
+    ap (λ (l : List ℕ). codes "seen " ++ decimal last ++ codes " at " ++ decimal commit ++ codes " " ++ head_text head ++ codes " " ++ (codes "[" ++ l ++ codes "]")) (items_are A positions)
 full_text_is A (logged.Settled seq pos) = refl
 full_text_is A (logged.Noted commit) = refl
 full_text_is A logged.Idle = refl

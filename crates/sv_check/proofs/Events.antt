@@ -45,6 +45,7 @@ not_finished (events.Cut ∷ t) m = refl
 not_finished (events.Join s ∷ t) m = absurd (true≢false (sym m))
 not_finished (events.Make action ∷ t) m = absurd (true≢false (sym m))
 not_finished (events.Poll ∷ t) m = absurd (true≢false (sym m))
+not_finished (events.Observe objects wait ∷ t) m = absurd (true≢false (sym m))
 not_finished (events.Leave ∷ t) m = absurd (true≢false (sym m))
 not_finished (events.Got s reply ∷ t) m = absurd (true≢false (sym m))
 not_finished (events.Quit ∷ t) m = absurd (true≢false (sym m))
@@ -60,6 +61,7 @@ module _ (who : Identity) (first : ℕ) (R : ℕ → List Reply) (t : List Event
   joined_at events.Leave left m = sym m.joined
   joined_at (events.Make action) left m = sym m.joined
   joined_at events.Poll left m = sym m.joined
+  joined_at (events.Observe objects wait) left m = sym m.joined
   joined_at events.Cut left m = sym m.joined
   joined_at events.Quit left m = sym m.joined
   joined_at (events.Show objects) left m = sym m.joined
@@ -70,6 +72,7 @@ module _ (who : Identity) (first : ℕ) (R : ℕ → List Reply) (t : List Event
   here_at events.Leave left m = m.here
   here_at (events.Make action) left m = m.here
   here_at events.Poll left m = m.here
+  here_at (events.Observe objects wait) left m = m.here
   here_at events.Cut left m = m.here
   here_at events.Quit left m = m.here
   here_at (events.Show objects) left m = m.here
@@ -80,6 +83,7 @@ module _ (who : Identity) (first : ℕ) (R : ℕ → List Reply) (t : List Event
   join_is events.Leave j m = absurd (true≢false (sym j))
   join_is (events.Make action) j m = absurd (true≢false (sym j))
   join_is events.Poll j m = absurd (true≢false (sym j))
+  join_is (events.Observe objects wait) j m = absurd (true≢false (sym j))
   join_is events.Cut j m = absurd (true≢false (sym j))
   join_is events.Quit j m = absurd (true≢false (sym j))
   join_is (events.Show objects) j m = absurd (true≢false (sym j))
@@ -90,6 +94,7 @@ module _ (who : Identity) (first : ℕ) (R : ℕ → List Reply) (t : List Event
   got_is events.Leave g m n = absurd (true≢false (sym g))
   got_is (events.Make action) g m n = absurd (true≢false (sym g))
   got_is events.Poll g m n = absurd (true≢false (sym g))
+  got_is (events.Observe objects wait) g m n = absurd (true≢false (sym g))
   got_is events.Cut g m n = absurd (true≢false (sym g))
   got_is events.Quit g m n = absurd (true≢false (sym g))
   got_is (events.Show objects) g m n = absurd (true≢false (sym g))
@@ -100,6 +105,7 @@ module _ (who : Identity) (first : ℕ) (R : ℕ → List Reply) (t : List Event
   leave_is (events.Got s reply) l = absurd (true≢false (sym l))
   leave_is (events.Make action) l = absurd (true≢false (sym l))
   leave_is events.Poll l = absurd (true≢false (sym l))
+  leave_is (events.Observe objects wait) l = absurd (true≢false (sym l))
   leave_is events.Cut l = absurd (true≢false (sym l))
   leave_is events.Quit l = absurd (true≢false (sym l))
   leave_is (events.Show objects) l = absurd (true≢false (sym l))
@@ -107,6 +113,7 @@ module _ (who : Identity) (first : ℕ) (R : ℕ → List Reply) (t : List Event
   step_is : (e : Event) (left : List Step) → is_join e ≡ false → is_got e ≡ false → is_leave e ≡ false → MayCome who t before e left → DoesStep who t before e left
   step_is (events.Make action) left j g l m = m
   step_is events.Poll left j g l m = m
+  step_is (events.Observe objects wait) left j g l m = m
   step_is events.Cut left j g l m = m
   step_is events.Quit left j g l m = m
   step_is (events.Show objects) left j g l m = m
@@ -158,6 +165,7 @@ module _ (who : Identity) (first : ℕ) (R : ℕ → List Reply) (t : List Event
   same_left events.Leave left more m n = m.same ∙ sym n.same
   same_left (events.Make action) left more m n = (same_steps (events.Make action) (events.Make action) left more m n).1
   same_left events.Poll left more m n = (same_steps events.Poll events.Poll left more m n).1
+  same_left (events.Observe objects wait) left more m n = (same_steps (events.Observe objects wait) (events.Observe objects wait) left more m n).1
   same_left events.Cut left more m n = (same_steps events.Cut events.Cut left more m n).1
   same_left events.Quit left more m n = (same_steps events.Quit events.Quit left more m n).1
   same_left (events.Show objects) left more m n = (same_steps (events.Show objects) (events.Show objects) left more m n).1
@@ -169,6 +177,7 @@ module _ (who : Identity) (first : ℕ) (R : ℕ → List Reply) (t : List Event
   letter entries (events.Join s) x = refl
   letter entries (events.Make action) x = refl
   letter entries events.Poll x = refl
+  letter entries (events.Observe objects wait) x = refl
   letter entries events.Leave x = refl
   letter entries (events.Got s reply) x = refl
   letter entries events.Cut x = refl

@@ -37,6 +37,7 @@ no_cuts : (ss : List Step) → events_of ss ≡ [] → cuts_in ss ≡ 0
 no_cuts [] e = refl
 no_cuts (steps.Act action ∷ ss) e = cc
 no_cuts (steps.Poll ∷ ss) e = cc
+no_cuts (steps.Observe objects ∷ ss) e = cc
 no_cuts (steps.Sync ∷ ss) e = omega (arith, no_cuts ss e)
 no_cuts (steps.Show objects ∷ ss) e = cc
 no_cuts (steps.Cut ∷ ss) e = cc

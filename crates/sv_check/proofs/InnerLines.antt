@@ -30,6 +30,8 @@ event_inner entries t (events.Make action) =
     (then_inner (codes "make " ++ number) (codes " kept ") (then_inner (codes "make ") number refl (inner_decimal (suc (makes t)))) refl)
     (kept_inner (write_set action) kept)
 event_inner entries t events.Poll = refl
+event_inner entries t (events.Observe objects wait) =
+    then_inner (codes "observe ") (bracketed (λ (o : ObjectId). decimal o.0) objects) refl (inner_bracketed (λ (o : ObjectId). decimal o.0) (λ o. inner_decimal o.0) objects)
 event_inner entries t events.Leave = refl
 event_inner entries t (events.Got s reply) =
     let n = entry_number entries s (length (got t s)) 1 in

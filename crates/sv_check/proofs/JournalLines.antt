@@ -194,6 +194,7 @@ told_fits shape (requests.Join client life interest) t = t
 told_fits shape (requests.Submit seq action) t = t.0
 told_fits shape (requests.Done results) t = t
 told_fits shape requests.Poll t = t
+told_fits shape (requests.Observe objects wait) t = t
 told_fits shape requests.Leave t = t
 told_fits shape requests.Bad t = absurd t
 told_fits shape requests.End t = t

@@ -175,6 +175,7 @@ plain_is entries first place t (events.Join s) o = absurd (true≢false (sym o))
 plain_is entries first place t (events.Got s reply) o = absurd (true≢false (sym o))
 plain_is entries first place t (events.Make action) o = record { same = refl; again_is = refl; number = refl }
 plain_is entries first place t events.Poll o = record { same = refl; again_is = refl; number = refl }
+plain_is entries first place t (events.Observe objects wait) o = record { same = refl; again_is = refl; number = refl }
 plain_is entries first place t events.Leave o = record { same = refl; again_is = refl; number = refl }
 plain_is entries first place t events.Cut o = record { same = refl; again_is = refl; number = refl }
 plain_is entries first place t events.Quit o = record { same = refl; again_is = refl; number = refl }

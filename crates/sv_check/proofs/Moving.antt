@@ -19,6 +19,8 @@ comes who t before (steps.Act action) left e j w h n v =
     subst (λ (x : Event). MayCome who t before x left) (same_Some _ _ v) (record { joined = j; welcomed = w; here = h; step = steps.Act action; next = n; event = refl })
 comes who t before steps.Poll left e j w h n v =
     subst (λ (x : Event). MayCome who t before x left) (same_Some _ _ v) (record { joined = j; welcomed = w; here = h; step = steps.Poll; next = n; event = refl })
+comes who t before (steps.Observe objects) left e j w h n v =
+    subst (λ (x : Event). MayCome who t before x left) (same_Some _ _ v) (record { joined = j; welcomed = w; here = h; step = steps.Observe objects; next = n; event = refl })
 comes who t before steps.Sync left e j w h n v = cc
 comes who t before (steps.Show objects) left e j w h n v =
     subst (λ (x : Event). MayCome who t before x left) (same_Some _ _ v) (record { joined = j; welcomed = w; here = h; step = steps.Show objects; next = n; event = refl })
@@ -30,6 +32,7 @@ comes who t before steps.Quit left e j w h n v =
 other : (step : Step) (e : Event) → event_of step ≡ Some e → is_other e ≡ true
 other (steps.Act action) e v = ap is_other (sym (same_Some _ _ v))
 other steps.Poll e v = ap is_other (sym (same_Some _ _ v))
+other (steps.Observe objects) e v = ap is_other (sym (same_Some _ _ v))
 other steps.Sync e v = cc
 other (steps.Show objects) e v = ap is_other (sym (same_Some _ _ v))
 other steps.Cut e v = ap is_other (sym (same_Some _ _ v))
@@ -71,6 +74,7 @@ module _ (who : Identity) (t : List Event) (before : List Step) where
   none_leaves none stays events.Leave left n = stays n.may
   none_leaves none stays (events.Make action) left n = no_step (events.Make action) left none n.comes
   none_leaves none stays events.Poll left n = no_step events.Poll left none n.comes
+  none_leaves none stays (events.Observe objects wait) left n = no_step (events.Observe objects wait) left none n.comes
   none_leaves none stays events.Cut left n = no_step events.Cut left none n.comes
   none_leaves none stays events.Quit left n = no_step events.Quit left none n.comes
   none_leaves none stays (events.Show objects) left n = no_step (events.Show objects) left none n.comes
@@ -83,6 +87,7 @@ module _ (who : Identity) (t : List Event) (before : List Step) where
       none_first step rest (sym none ∙ next)
   none_does step rest next not_now (events.Make action) left n = not_done step rest (events.Make action) left next not_now n.may n.comes
   none_does step rest next not_now events.Poll left n = not_done step rest events.Poll left next not_now n.may n.comes
+  none_does step rest next not_now (events.Observe objects wait) left n = not_done step rest (events.Observe objects wait) left next not_now n.may n.comes
   none_does step rest next not_now events.Cut left n = not_done step rest events.Cut left next not_now n.may n.comes
   none_does step rest next not_now events.Quit left n = not_done step rest events.Quit left next not_now n.may n.comes
   none_does step rest next not_now (events.Show objects) left n = not_done step rest (events.Show objects) left next not_now n.may n.comes

@@ -42,6 +42,8 @@ never_taken who t (replies.Refused code detail) r e = refused_after who t (outst
 never_taken who t (replies.Welcome commit head) r e = true≢false (sym r)
 never_taken who t (replies.Relay seq commit head items) r e = true≢false (sym r)
 never_taken who t (replies.Dropped seq chain far) r e = true≢false (sym r)
+never_taken who t (replies.Denied seq object) r e = true≢false (sym r)
+never_taken who t (replies.Seen last commit head items) r e = true≢false (sym r)
 never_taken who t (replies.Settled seq pos) r e = true≢false (sym r)
 never_taken who t (replies.Noted commit) r e = true≢false (sym r)
 never_taken who t replies.Idle r e = true≢false (sym r)
@@ -55,6 +57,7 @@ ended_by r h s (requests.Join client life interest) e = absurd (true≢false (sy
 ended_by r h s (requests.Submit seq action) e = absurd (true≢false (sym e))
 ended_by r h s (requests.Done results) e = absurd (true≢false (sym e))
 ended_by r h s requests.Poll e = absurd (true≢false (sym e))
+ended_by r h s (requests.Observe objects wait) e = absurd (true≢false (sym e))
 ended_by r h s requests.Leave e = absurd (true≢false (sym e))
 ended_by r h s requests.Bad e = absurd (true≢false (sym e))
 
@@ -64,6 +67,7 @@ refused_by r h s (requests.Join client life interest) e o = cond-true (is_over h
 refused_by r h s (requests.Submit seq action) e o = cond-true (is_over h s) _ _ o
 refused_by r h s (requests.Done results) e o = cond-true (is_over h s) _ _ o
 refused_by r h s requests.Poll e o = cond-true (is_over h s) _ _ o
+refused_by r h s (requests.Observe objects wait) e o = cond-true (is_over h s) _ _ o
 refused_by r h s requests.Leave e o = cond-true (is_over h s) _ _ o
 refused_by r h s requests.Bad e o = cond-true (is_over h s) _ _ o
 

@@ -69,6 +69,7 @@ got_one (events.Got n reply) t s =
 got_one (events.Join n) t s = front-all (got t s)
 got_one (events.Make action) t s = front-all (got t s)
 got_one events.Poll t s = front-all (got t s)
+got_one (events.Observe objects wait) t s = front-all (got t s)
 got_one events.Leave t s = front-all (got t s)
 got_one events.Cut t s = front-all (got t s)
 got_one events.Quit t s = front-all (got t s)
@@ -87,6 +88,7 @@ module _ (who : Identity) (first : ℕ) (R : ℕ → List Reply) where
   gets_next (events.Join s) t m g = tt
   gets_next (events.Make action) t m g = tt
   gets_next events.Poll t m g = tt
+  gets_next (events.Observe objects wait) t m g = tt
   gets_next events.Leave t m g = tt
   gets_next events.Cut t m g = tt
   gets_next events.Quit t m g = tt

@@ -20,7 +20,7 @@ use crate::journal::Served;
 use crate::moves::next_event;
 use crate::settled::is_settled;
 use std::alloc::{AllocError, Global};
-use sv_client::{Client, Event, MakeFault, PollFault, TakeFault, Trace, TraceMark};
+use sv_client::{Client, Event, MakeFault, ObserveFault, PollFault, TakeFault, Trace, TraceMark};
 use sv_journal::{Entry, is_end};
 use sv_lines::{LineStop, take_line};
 use sv_report::{append_after, append_before};
@@ -248,6 +248,21 @@ impl<'a> Actor<'a> {
         }
     }
 
+    fn observe(&mut self, alloc: Global, objects: &[ObjectId], wait: u16) -> Result<(), AllocError>
+        requires { MayDo self.old.client.who self.old.client.events (events.Observe objects.now wait) }
+        ensures { OnOk result (DidEvent (events.Observe objects.now wait) self.old self.new) }
+    {
+        let copy = copy_objects(alloc, objects)?;
+        match self.client.observe(copy, wait) {
+            Ok(request) => {
+                self.asked.push(request)?;
+                Ok(())
+            }
+            Err(ObserveFault::Memory) => Err(AllocError),
+            Err(_) => unreachable!(),
+        }
+    }
+
     fn leave(&mut self) -> Result<(), AllocError>
         requires { MayDo self.old.client.who self.old.client.events events.Leave }
         ensures { OnOk result (DidEvent events.Leave self.old self.new) }
@@ -289,6 +304,7 @@ impl<'a> Actor<'a> {
         match event {
             Event::Make(action) => self.make(alloc, action),
             Event::Poll => self.poll(),
+            Event::Observe(objects, wait) => self.observe(alloc, objects.as_slice(), *wait),
             Event::Leave => self.leave(),
             Event::Show(objects) => self.show(alloc, objects.as_slice()),
             Event::Cut => self.cut(),

@@ -4,7 +4,7 @@ ghost use Rattle.sv_world.specs.Limits.{most_outstanding};
 ghost use Rattle.sv_world.specs.Faults.{first_fault_of_action};
 ghost use Rattle.sv_client.specs.declared.trace.Event.TheVariants as events;
 ghost use Rattle.sv_client.specs.Taking.{outstanding};
-ghost use Rattle.sv_client.specs.Proper.{MayMake, MayPoll, MayLeave, in_session};
+ghost use Rattle.sv_client.specs.Proper.{MayMake, MayPoll, MayObserve, MayLeave, in_session};
 ghost use Rattle.sv_script.specs.Following.{event_of, must_join, is_welcomed, is_finished};
 ghost use Rattle.sv_report.specs.Again.{MayDo};
 ghost use Rattle.sv_check.specs.Acting.{IsNextEvent, NoNextEvent, NotNow};
@@ -14,7 +14,8 @@ use sv_client::{Client, Event, MOST_MADE};
 use sv_scenario::Step;
 use sv_script::unsynced;
 use sv_world::{
-    Action, MOST_OUTSTANDING, MOST_PENDING, Shape, check_action, copy_action, copy_objects,
+    Action, List, MOST_OUTSTANDING, MOST_PENDING, ObjectId, Shape, check_action, copy_action,
+    copy_objects, may_be_observed,
 };
 
 fn may_ask(client: &Client) -> bool
@@ -70,6 +71,29 @@ fn polled(client: &Client) -> Option<Event>
     }
 }
 
+fn may_look(client: &Client, shape: Shape, objects: &List<ObjectId>) -> bool
+    requires shape { shape ≡ client.now.who.shape }
+    ensures all { MayObserve client.now.who client.now.events objects.now → result ≡ true }
+    ensures right { result ≡ true → MayObserve client.now.who client.now.events objects.now }
+{
+    may_ask(client) && may_be_observed(shape.objects, objects.as_slice())
+}
+
+fn observed(
+    alloc: Global,
+    shape: Shape,
+    client: &Client,
+    objects: &List<ObjectId>,
+) -> Result<Option<Event>, AllocError>
+    requires shape { shape ≡ client.now.who.shape }
+    ensures { IfOk result (λ found. MatchOption found (MayObserve client.now.who client.now.events objects.now → ⊥) (λ e. (e ≡ events.Observe objects.now 0) × MayDo client.now.who client.now.events e)) }
+{
+    if !may_look(client, shape, objects) {
+        return Ok(None);
+    }
+    Ok(Some(Event::Observe(copy_objects(alloc, objects.as_slice())?, 0)))
+}
+
 /// The event of a step, where it may be done now. A sync does none.
 fn event_of(
     alloc: Global,
@@ -83,6 +107,7 @@ fn event_of(
     match step {
         Step::Act(action) => made(alloc, shape, client, action),
         Step::Poll => Ok(polled(client)),
+        Step::Observe(objects) => observed(alloc, shape, client, objects),
         Step::Sync => Ok(None),
         Step::Show(objects) => Ok(Some(Event::Show(copy_objects(alloc, objects.as_slice())?))),
         Step::Cut => Ok(Some(Event::Cut)),

@@ -1,5 +1,5 @@
 -- No value is held of an object that the world does not have.
-use Rattle.std.proofs.Common.{◌≡◌, ℕ, ◌+◌, ◌<◌, ◌≤◌, eqb, nat_le, List, [], ◌∷◌, ◌++◌, map, None, option_map, refl, ap, ◌∙◌, arith}
+use Rattle.std.proofs.Common.{◌≡◌, ℕ, ◌<◌, ◌≤◌, eqb, nat_le, List, [], ◌∷◌, ◌++◌, map, None, option_map, refl, ap, ◌∙◌, arith}
 use Rattle.std.specs.Prelude.{ℤ, All}
 use Rattle.std.specs.List.{count_by}
 use Rattle.std.proofs.lemmas.Bool.{ne_eqb}
@@ -61,7 +61,9 @@ module _ (n x : ℕ) (over : n ≤ x) where
   reply_free : (commit : ℕ) (held : List Held) (reply : Reply) → IsFree x held → IsFitting n commit reply → IsFree x (with_reply held reply)
   reply_free t held (replies.Welcome c h) e f = free-append x held (head_held c h) e (head_free c h f.head)
   reply_free t held (replies.Relay s c h is) e f = items_free (held ++ head_held c h) is (free-append x held (head_held c h) e (head_free c h f.head)) f.reads
+  reply_free t held (replies.Seen l c h is) e f = items_free (held ++ head_held c h) is (free-append x held (head_held c h) e (head_free c h f.head)) f.reads
   reply_free t held (replies.Dropped s c a) e f = e
+  reply_free t held (replies.Denied s o) e f = e
   reply_free t held (replies.Settled s p) e f = e
   reply_free t held (replies.Noted c) e f = e
   reply_free t held replies.Idle e f = e
@@ -73,6 +75,7 @@ none_held who first [] p x l = refl
 none_held who first (events.Join s ∷ t) p x l = none_held who first t p.1 x l
 none_held who first (events.Make a ∷ t) p x l = none_held who first t p.1 x l
 none_held who first (events.Poll ∷ t) p x l = none_held who first t p.1 x l
+none_held who first (events.Observe os wait ∷ t) p x l = none_held who first t p.1 x l
 none_held who first (events.Leave ∷ t) p x l = none_held who first t p.1 x l
 none_held who first (events.Got s reply ∷ t) p x l = reply_free who.shape.objects x l (told t) (held_of t) reply (none_held who first t p.1 x l) (got_fits who t reply p.0.taken)
 none_held who first (events.Cut ∷ t) p x l = none_held who first t p.1 x l

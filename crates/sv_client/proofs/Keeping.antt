@@ -4,6 +4,7 @@ use Rattle.std.specs.Prelude.{if◌then◌else◌, replicate, unwrap_or}
 use Rattle.std.proofs.lemmas.Bool.{eq-eqb}
 use Rattle.std.proofs.lemmas.List.{length-append, map-append, reverse-append, length-replicate}
 use Rattle.sv_world.specs.declared.action.Action.{Action}
+use Rattle.sv_world.specs.declared.world.ObjectId.{ObjectId}
 use Rattle.sv_versions.specs.Held.{Store}
 use Rattle.sv_pending.specs.Made.{PendingList}
 use Rattle.sv_pending.specs.Pending.{PendingAction, kept_of}
@@ -18,13 +19,13 @@ use Rattle.sv_client.specs.declared.trace.TraceMark.{TraceMark}
 use Rattle.sv_client.specs.declared.trace.TraceMark.TheVariants as marks
 use Rattle.sv_client.specs.Traces.{joins, makes, current_session, is_session, held_of, pending_of, submit_of}
 use Rattle.sv_client.specs.Taking.{Identity, outstanding, unanswered, told, first_fault_of_reply}
-use Rattle.sv_client.specs.Proper.{AreProper, MayMake, MayPoll, MayLeave, in_session}
+use Rattle.sv_client.specs.Proper.{AreProper, MayMake, MayPoll, MayObserve, MayLeave, in_session}
 use Rattle.sv_client.specs.Kinds.{kind_of}
 use Rattle.sv_client.specs.Seen.{latest_session, event_of_mark}
 use Rattle.sv_client.specs.Invariant.{StandsFor, AreAwaited, IsClientOf}
 use Rattle.sv_client.specs.Answers.{got_now}
 use Rattle.sv_client.proofs.Sessions.{session_after, current_is, some_current}
-use Rattle.sv_client.proofs.Outstanding.{when, answers_some, outstanding_joined, outstanding_made, outstanding_polled, outstanding_left, outstanding_cut, outstanding_quit, outstanding_shown}
+use Rattle.sv_client.proofs.Outstanding.{when, answers_some, outstanding_joined, outstanding_made, outstanding_polled, outstanding_observed, outstanding_left, outstanding_cut, outstanding_quit, outstanding_shown}
 use Rattle.sv_client.proofs.Standing.{kept_same}
 
 pub reverse_push : (es fs : List Event) (e : Event) → fs ≡ es ++ e ∷ [] → reverse fs ≡ e ∷ reverse es
@@ -82,6 +83,24 @@ module _ (who : Identity) (t : List Event) (store : Store) (pending : PendingLis
     held = record { shape = is.held.shape; answers = is.held.answers; few = is.held.few };
     actions = is.actions;
     awaited = awaited_more who t events.Poll ks ls kinds.Poll requests.Poll is.awaited l h (outstanding_polled who 0 t is.proper may.joined) refl;
+    counts = record {
+      sessions_are = is.counts.sessions_are;
+      few_sessions = is.counts.few_sessions;
+      made_are = is.counts.made_are;
+      few_made = is.counts.few_made;
+      commit_is = is.counts.commit_is;
+      joined_is = is.counts.joined_is;
+    };
+  }
+
+  pub observed_keeps : (os : List ObjectId) (wait : ℕ) (ls : List Awaited) → MayObserve who t os → ls ≡ ks ++ kinds.Observe os ∷ [] → length ks < 16
+      → IsClientOf who (events.Observe os wait ∷ t) store pending ls sessions made commit joined
+  observed_keeps os wait ls may h l = record {
+    identity = is.identity;
+    proper = (may, is.proper);
+    held = record { shape = is.held.shape; answers = is.held.answers; few = is.held.few };
+    actions = is.actions;
+    awaited = awaited_more who t (events.Observe os wait) ks ls (kinds.Observe os) (requests.Observe os wait) is.awaited l h (outstanding_observed who 0 t os wait is.proper may.joined) refl;
     counts = record {
       sessions_are = is.counts.sessions_are;
       few_sessions = is.counts.few_sessions;

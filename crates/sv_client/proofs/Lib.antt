@@ -2,6 +2,7 @@
 pub mod Sessions
 pub mod Outstanding
 pub mod Standing
+pub mod Within
 pub mod Lasts
 pub mod Keeping
 pub mod Equal

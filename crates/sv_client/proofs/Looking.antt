@@ -1,11 +1,13 @@
 -- What is looked at in a reply before any item is evaluated.
 use Rattle.std.proofs.Common.{◌≡◌, ℕ, ◌<◌, ◌≤◌, ◌⊎◌, inl, inr, Bool, true, false, not, ◌&&◌, ◌||◌, eqb, nat_le, nat_lt, List, [], ◌∷◌, length, map, slice_get, Option, Some, None, refl, sym, ap, ◌∙◌, arith}
 use Rattle.std.specs.Prelude.{if◌then◌else◌, is_none}
+use Rattle.std.specs.List.{list_any}
 use Rattle.std.proofs.lemmas.Bool.{leb-false, ltb-true, lt-ltb, cases_lt, both_ways}
 use Rattle.std.proofs.lemmas.List.Elements.{All-nil, All-cons}
 use Rattle.sv_world.specs.declared.check.BadAction.{BadAction}
 use Rattle.sv_world.specs.declared.world.Shape.{Shape}
 use Rattle.sv_world.specs.Faults.{first_fault_of_action}
+use Rattle.sv_world.specs.Limits.{most_positions}
 use Rattle.sv_world.proofs.Good.{good_of_none}
 use Rattle.sv_pending.specs.Made.{ReadsWithin}
 use Rattle.sv_pending.specs.Pending.{PendingAction}
@@ -18,7 +20,7 @@ use Rattle.sv_wire.specs.declared.message.Request.{Request}
 use Rattle.sv_client.specs.declared.kinds.Awaited.{Awaited}
 use Rattle.sv_client.specs.declared.trace.Event.{Event}
 use Rattle.sv_client.specs.Traces.{held_of, pending_of}
-use Rattle.sv_client.specs.Taking.{Identity, outstanding, told, allows, is_out_of_order, head_ascends, items_ascend, begins_by, is_bad_head, has_bad_action, is_bad_relay, is_good_relay, is_unfit, has_bad_item, missing_in, Fault, Unasked, WrongKind, BadOrder, BadItem, missing_fault, fault_for, fault_after, first_fault_of_reply}
+use Rattle.sv_client.specs.Taking.{Identity, outstanding, told, allows, is_out_of_order, head_ascends, items_ascend, begins_by, is_badly_cut, is_bad_head, has_bad_action, is_bad_relay, is_good_relay, is_unfit, has_bad_item, missing_in, Fault, Unasked, WrongKind, BadOrder, BadItem, missing_fault, fault_for, fault_after, first_fault_of_reply}
 use Rattle.sv_client.specs.Kinds.{kind_of, allows_kind, allows_awaited}
 use Rattle.sv_client.specs.Evaluating.{IsHeadWithin, ItemsReadWithin, ItemsAreAbove, IsFitting}
 use Rattle.sv_client.specs.Answers.{IsFine}
@@ -86,18 +88,18 @@ last_chosen true false false m e h g = refl
 
 module _ (who : Identity) (t : List Event) (reply : Reply) (r : Request) (rs : List Request) (is : outstanding who t ≡ r ∷ rs) where
   pub wrong_kind : allows r reply ≡ false → first_fault_of_reply who t reply ≡ Some WrongKind
-  wrong_kind a = asked_fault who t reply r rs is ∙ first_chosen (allows r reply) (is_out_of_order t reply) (has_bad_item who (pending_of t) r reply) (missing_fault (missing_in (held_of t) reply)) a
+  wrong_kind a = asked_fault who t reply r rs is ∙ first_chosen (allows r reply) (is_out_of_order t reply) (has_bad_item who (pending_of t) r reply) (missing_fault (missing_in (held_of t) (kind_of r) reply)) a
 
   pub bad_order : allows r reply ≡ true → is_out_of_order t reply ≡ true → first_fault_of_reply who t reply ≡ Some BadOrder
-  bad_order a o = asked_fault who t reply r rs is ∙ second_chosen (allows r reply) (is_out_of_order t reply) (has_bad_item who (pending_of t) r reply) (missing_fault (missing_in (held_of t) reply)) a o
+  bad_order a o = asked_fault who t reply r rs is ∙ second_chosen (allows r reply) (is_out_of_order t reply) (has_bad_item who (pending_of t) r reply) (missing_fault (missing_in (held_of t) (kind_of r) reply)) a o
 
   pub bad_item : allows r reply ≡ true → is_out_of_order t reply ≡ false → has_bad_item who (pending_of t) r reply ≡ true → first_fault_of_reply who t reply ≡ Some BadItem
-  bad_item a o i = asked_fault who t reply r rs is ∙ third_chosen (allows r reply) (is_out_of_order t reply) (has_bad_item who (pending_of t) r reply) (missing_fault (missing_in (held_of t) reply)) a o i
+  bad_item a o i = asked_fault who t reply r rs is ∙ third_chosen (allows r reply) (is_out_of_order t reply) (has_bad_item who (pending_of t) r reply) (missing_fault (missing_in (held_of t) (kind_of r) reply)) a o i
 
-  pub only_missing : allows r reply ≡ true → is_out_of_order t reply ≡ false → has_bad_item who (pending_of t) r reply ≡ false → first_fault_of_reply who t reply ≡ missing_fault (missing_in (held_of t) reply)
-  only_missing a o i = asked_fault who t reply r rs is ∙ last_chosen (allows r reply) (is_out_of_order t reply) (has_bad_item who (pending_of t) r reply) (missing_fault (missing_in (held_of t) reply)) a o i
+  pub only_missing : allows r reply ≡ true → is_out_of_order t reply ≡ false → has_bad_item who (pending_of t) r reply ≡ false → first_fault_of_reply who t reply ≡ missing_fault (missing_in (held_of t) (kind_of r) reply)
+  only_missing a o i = asked_fault who t reply r rs is ∙ last_chosen (allows r reply) (is_out_of_order t reply) (has_bad_item who (pending_of t) r reply) (missing_fault (missing_in (held_of t) (kind_of r) reply)) a o i
 
-pub fine_misses : (who : Identity) (t : List Event) (reply : Reply) → IsFine who t reply → first_fault_of_reply who t reply ≡ missing_fault (missing_in (held_of t) reply)
+pub fine_misses : (who : Identity) (t : List Event) (reply : Reply) (f : IsFine who t reply) → first_fault_of_reply who t reply ≡ missing_fault (missing_in (held_of t) (kind_of f.request) reply)
 fine_misses who t reply f = only_missing who t reply f.request f.rest f.asked f.allowed f.ordered f.good
 
 -- ---- What a fine reply names
@@ -161,26 +163,46 @@ no_reads n = All-nil (λ (i : Item). ReadsWithin n i.action)
 none_above : (n : ℕ) → ItemsAreAbove n []
 none_above n = All-nil (λ (j : Item). n < j.pos)
 
+-- The head and the items are in order, and none of the items stands at or below what was told.
+ordered_above : (c told : ℕ) (h : List Sent) (is : List Item) → (not (head_ascends h) || not (items_ascend is) || begins_by c is || nat_lt c told) ≡ false → (told ≤ c) × ItemsAreAbove told is
+ordered_above c told h is o =
+    let u = neither (not (head_ascends h) || not (items_ascend is) || begins_by c is) (nat_lt c told) o in
+    let v = neither (not (head_ascends h) || not (items_ascend is)) (begins_by c is) u.0 in
+    let w = neither (not (head_ascends h)) (not (items_ascend is)) v.0 in
+    (not_below c told u.1, items_above c told is (not_below c told u.1) (not_not (items_ascend is) w.1) v.1)
+
 fitting_by : (who : Identity) (t : List Event) (r : Request) (reply : Reply) → is_out_of_order t reply ≡ false → has_bad_item who (pending_of t) r reply ≡ false → IsFitting who.shape.objects (told t) reply
-fitting_by who t r (replies.Welcome c h) o b = record { head = head_within who.shape h b; reads = no_reads who.shape.objects; above = none_above (told t) }
+fitting_by who t r (replies.Welcome c h) o b = record { head = head_within who.shape h b; reads = no_reads who.shape.objects; above = none_above (told t); cut = tt }
 fitting_by who t r (replies.Relay n c h is) o b =
     let f = neither (is_bad_head who.shape h) (is_bad_relay who (pending_of t) r n is) b in
     let g = neither (eqb (length is) 0 || has_bad_action who.shape is) (not (is_good_relay who (pending_of t) r n is)) f.1 in
     let k = neither (eqb (length is) 0) (has_bad_action who.shape is) g.0 in
-    let u = neither (not (head_ascends h) || not (items_ascend is) || begins_by c is) (nat_lt c (told t)) o in
-    let v = neither (not (head_ascends h) || not (items_ascend is)) (begins_by c is) u.0 in
-    let w = neither (not (head_ascends h)) (not (items_ascend is)) v.0 in
+    let u = neither (not (head_ascends h) || not (items_ascend is) || begins_by c is || nat_lt c (told t)) false o in
     record {
       head = head_within who.shape h f.0;
       reads = items_read who.shape is k.1;
-      above = items_above c (told t) is (not_below c (told t) u.1) (not_not (items_ascend is) w.1) v.1;
+      above = (ordered_above c (told t) h is u.0).1;
+      cut = tt;
     }
-fitting_by who t r (replies.Dropped n c f) o b = record { head = no_head who.shape.objects; reads = no_reads who.shape.objects; above = none_above (told t) }
-fitting_by who t r (replies.Settled n p) o b = record { head = no_head who.shape.objects; reads = no_reads who.shape.objects; above = none_above (told t) }
-fitting_by who t r (replies.Noted c) o b = record { head = no_head who.shape.objects; reads = no_reads who.shape.objects; above = none_above (told t) }
-fitting_by who t r replies.Idle o b = record { head = no_head who.shape.objects; reads = no_reads who.shape.objects; above = none_above (told t) }
-fitting_by who t r (replies.Refused c d) o b = record { head = no_head who.shape.objects; reads = no_reads who.shape.objects; above = none_above (told t) }
-fitting_by who t r replies.Bye o b = record { head = no_head who.shape.objects; reads = no_reads who.shape.objects; above = none_above (told t) }
+fitting_by who t r (replies.Seen last c h is) o b =
+    let f = neither (is_bad_head who.shape h) (has_bad_action who.shape is) b in
+    let u = neither (not (head_ascends h) || not (items_ascend is) || begins_by c is || nat_lt c (told t)) (is_badly_cut (replies.Seen last c h is)) o in
+    let a = ordered_above c (told t) h is u.0 in
+    let v = neither (nat_lt last c || list_any (λ (i : Item). nat_lt last i.pos) is) (nat_lt most_positions last) u.1 in
+    let w = neither (nat_lt last c) (list_any (λ (i : Item). nat_lt last i.pos) is) v.0 in
+    record {
+      head = head_within who.shape h f.0;
+      reads = items_read who.shape is f.1;
+      above = a.1;
+      cut = (omega (arith, a.0, not_below last c w.0), not_below most_positions last v.1);
+    }
+fitting_by who t r (replies.Dropped n c f) o b = record { head = no_head who.shape.objects; reads = no_reads who.shape.objects; above = none_above (told t); cut = tt }
+fitting_by who t r (replies.Denied n x) o b = record { head = no_head who.shape.objects; reads = no_reads who.shape.objects; above = none_above (told t); cut = tt }
+fitting_by who t r (replies.Settled n p) o b = record { head = no_head who.shape.objects; reads = no_reads who.shape.objects; above = none_above (told t); cut = tt }
+fitting_by who t r (replies.Noted c) o b = record { head = no_head who.shape.objects; reads = no_reads who.shape.objects; above = none_above (told t); cut = tt }
+fitting_by who t r replies.Idle o b = record { head = no_head who.shape.objects; reads = no_reads who.shape.objects; above = none_above (told t); cut = tt }
+fitting_by who t r (replies.Refused c d) o b = record { head = no_head who.shape.objects; reads = no_reads who.shape.objects; above = none_above (told t); cut = tt }
+fitting_by who t r replies.Bye o b = record { head = no_head who.shape.objects; reads = no_reads who.shape.objects; above = none_above (told t); cut = tt }
 
 pub fitting : (who : Identity) (t : List Event) (reply : Reply) → IsFine who t reply → IsFitting who.shape.objects (told t) reply
 fitting who t reply f = fitting_by who t f.request reply f.ordered f.good
@@ -198,5 +220,5 @@ got_fits who t reply e = go (outstanding who t) e
     go : (os : List Request) → fault_after who t os reply ≡ None → IsFitting who.shape.objects (told t) reply
     go [] h = cc
     go (r ∷ rs) h =
-        let f = chosen_none (allows r reply) (is_out_of_order t reply) (has_bad_item who (pending_of t) r reply) (missing_fault (missing_in (held_of t) reply)) h in
+        let f = chosen_none (allows r reply) (is_out_of_order t reply) (has_bad_item who (pending_of t) r reply) (missing_fault (missing_in (held_of t) (kind_of r) reply)) h in
         fitting_by who t r reply f.0 f.1

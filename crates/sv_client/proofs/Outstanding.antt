@@ -49,6 +49,7 @@ got_within who first [] p k = omega arith
 got_within who first (events.Join s ∷ t) p k = more_asked (length (got t k)) (asked who.client who.interest t k) (asked_by_event who.client who.interest t (events.Join s) k) (got_within who first t p.1 k)
 got_within who first (events.Make a ∷ t) p k = more_asked (length (got t k)) (asked who.client who.interest t k) (asked_by_event who.client who.interest t (events.Make a) k) (got_within who first t p.1 k)
 got_within who first (events.Poll ∷ t) p k = more_asked (length (got t k)) (asked who.client who.interest t k) (asked_by_event who.client who.interest t events.Poll k) (got_within who first t p.1 k)
+got_within who first (events.Observe os wait ∷ t) p k = more_asked (length (got t k)) (asked who.client who.interest t k) (asked_by_event who.client who.interest t (events.Observe os wait) k) (got_within who first t p.1 k)
 got_within who first (events.Leave ∷ t) p k = more_asked (length (got t k)) (asked who.client who.interest t k) (asked_by_event who.client who.interest t events.Leave k) (got_within who first t p.1 k)
 got_within who first (events.Got s reply ∷ t) p k =
     more_asked (length (got (events.Got s reply ∷ t) k)) (asked who.client who.interest t k) (asked_by_event who.client who.interest t (events.Got s reply) k)
@@ -98,6 +99,13 @@ outstanding_polled who first t p j =
     ap (unanswered who (events.Poll ∷ t)) c.1
     ∙ asked_more who first t p c.0 c.1 events.Poll (requests.Poll ∷ []) (when (is_session (current_session t) c.0) _ _ (is_current t c.0 c.1))
 
+pub outstanding_observed : (who : Identity) (first : ℕ) (t : List Event) (os : List ObjectId) (wait : ℕ) → AreProper who first t → in_session t ≡ true
+    → outstanding who (events.Observe os wait ∷ t) ≡ outstanding who t ++ requests.Observe os wait ∷ []
+outstanding_observed who first t os wait p j =
+    let c = some_current t j in
+    ap (unanswered who (events.Observe os wait ∷ t)) c.1
+    ∙ asked_more who first t p c.0 c.1 (events.Observe os wait) (requests.Observe os wait ∷ []) (when (is_session (current_session t) c.0) _ _ (is_current t c.0 c.1))
+
 pub outstanding_left : (who : Identity) (first : ℕ) (t : List Event) → AreProper who first t → in_session t ≡ true
     → outstanding who (events.Leave ∷ t) ≡ outstanding who t ++ requests.Leave ∷ []
 outstanding_left who first t p j =
@@ -120,7 +128,7 @@ outstanding_quit who t = no_more who t events.Quit (current_session t) (λ s. re
 pub outstanding_shown : (who : Identity) (t : List Event) (os : List ObjectId) → outstanding who (events.Show os ∷ t) ≡ outstanding who t
 outstanding_shown who t os = no_more who t (events.Show os) (current_session t) (λ s. refl) (λ s. refl)
 
--- A reply takes the oldest request out, and a relay puts its Done behind the others.
+-- A reply takes the oldest request out, and puts its Done, if it has one, behind the others.
 pub outstanding_got : (who : Identity) (first : ℕ) (t : List Event) (s : ℕ) (reply : Reply) → AreProper who first t → MayGet who t s reply
     → outstanding who (events.Got s reply ∷ t) ≡ drop 1 (outstanding who t) ++ done_for (held_of t) reply
 outstanding_got who first t s reply p m =

@@ -18,6 +18,7 @@ current_is who first [] p = refl
 current_is who first (events.Join s ∷ t) p = ap (λ n. Some n) p.0.next
 current_is who first (events.Make a ∷ t) p = current_is who first t p.1
 current_is who first (events.Poll ∷ t) p = current_is who first t p.1
+current_is who first (events.Observe os wait ∷ t) p = current_is who first t p.1
 current_is who first (events.Leave ∷ t) p = current_is who first t p.1
 current_is who first (events.Got s reply ∷ t) p = current_is who first t p.1
 current_is who first (events.Cut ∷ t) p = current_is who first t p.1
@@ -56,6 +57,7 @@ no_got who first [] p k l = refl
 no_got who first (events.Join s ∷ t) p k l = no_got who first t p.1 k (omega arith)
 no_got who first (events.Make a ∷ t) p k l = no_got who first t p.1 k l
 no_got who first (events.Poll ∷ t) p k l = no_got who first t p.1 k l
+no_got who first (events.Observe os wait ∷ t) p k l = no_got who first t p.1 k l
 no_got who first (events.Leave ∷ t) p k l = no_got who first t p.1 k l
 no_got who first (events.Got s reply ∷ t) p k l = rw (apart s k (current_below who first t p.1 s k p.0.current l)) (no_got who first t p.1 k l)
 no_got who first (events.Cut ∷ t) p k l = no_got who first t p.1 k l
@@ -71,6 +73,8 @@ no_asked who first (events.Make a ∷ t) p k l =
     both_empty _ _ (no_asked who first t p.1 k l) (no_ask (is_session (current_session t) k) _ (not_current who first t p.1 k l))
 no_asked who first (events.Poll ∷ t) p k l =
     both_empty _ _ (no_asked who first t p.1 k l) (no_ask (is_session (current_session t) k) _ (not_current who first t p.1 k l))
+no_asked who first (events.Observe os wait ∷ t) p k l =
+    both_empty _ _ (no_asked who first t p.1 k l) (no_ask (is_session (current_session t) k) _ (not_current who first t p.1 k l))
 no_asked who first (events.Leave ∷ t) p k l =
     both_empty _ _ (no_asked who first t p.1 k l) (no_ask (is_session (current_session t) k) _ (not_current who first t p.1 k l))
 no_asked who first (events.Got s reply ∷ t) p k l =
@@ -85,6 +89,7 @@ some_current [] h = cc
 some_current (events.Join s ∷ t) h = (s, refl)
 some_current (events.Make a ∷ t) h = some_current t h
 some_current (events.Poll ∷ t) h = some_current t h
+some_current (events.Observe os wait ∷ t) h = some_current t h
 some_current (events.Leave ∷ t) h = cc
 some_current (events.Got s reply ∷ t) h = some_current t h
 some_current (events.Cut ∷ t) h = some_current t h
@@ -97,6 +102,7 @@ few_makes who first [] p = omega arith
 few_makes who first (events.Join s ∷ t) p = few_makes who first t p.1
 few_makes who first (events.Make a ∷ t) p = omega (arith, p.0.few)
 few_makes who first (events.Poll ∷ t) p = few_makes who first t p.1
+few_makes who first (events.Observe os wait ∷ t) p = few_makes who first t p.1
 few_makes who first (events.Leave ∷ t) p = few_makes who first t p.1
 few_makes who first (events.Got s reply ∷ t) p = few_makes who first t p.1
 few_makes who first (events.Cut ∷ t) p = few_makes who first t p.1

@@ -31,6 +31,7 @@ module _ (first : ℕ) where
   up_joins (events.Join s ∷ t) = ap suc (up_joins t)
   up_joins (events.Make a ∷ t) = up_joins t
   up_joins (events.Poll ∷ t) = up_joins t
+  up_joins (events.Observe os wait ∷ t) = up_joins t
   up_joins (events.Leave ∷ t) = up_joins t
   up_joins (events.Got s reply ∷ t) = up_joins t
   up_joins (events.Cut ∷ t) = up_joins t
@@ -42,6 +43,7 @@ module _ (first : ℕ) where
   up_makes (events.Join s ∷ t) = up_makes t
   up_makes (events.Make a ∷ t) = ap suc (up_makes t)
   up_makes (events.Poll ∷ t) = up_makes t
+  up_makes (events.Observe os wait ∷ t) = up_makes t
   up_makes (events.Leave ∷ t) = up_makes t
   up_makes (events.Got s reply ∷ t) = up_makes t
   up_makes (events.Cut ∷ t) = up_makes t
@@ -53,6 +55,7 @@ module _ (first : ℕ) where
   up_session (events.Join s ∷ t) = refl
   up_session (events.Make a ∷ t) = up_session t
   up_session (events.Poll ∷ t) = up_session t
+  up_session (events.Observe os wait ∷ t) = up_session t
   up_session (events.Leave ∷ t) = refl
   up_session (events.Got s reply ∷ t) = up_session t
   up_session (events.Cut ∷ t) = up_session t
@@ -64,6 +67,7 @@ module _ (first : ℕ) where
   up_told (events.Join s ∷ t) = up_told t
   up_told (events.Make a ∷ t) = up_told t
   up_told (events.Poll ∷ t) = up_told t
+  up_told (events.Observe os wait ∷ t) = up_told t
   up_told (events.Leave ∷ t) = up_told t
   up_told (events.Got s reply ∷ t) = ap (told_by reply) (up_told t)
   up_told (events.Cut ∷ t) = up_told t
@@ -75,6 +79,7 @@ module _ (first : ℕ) where
   up_held (events.Join s ∷ t) = up_held t
   up_held (events.Make a ∷ t) = up_held t
   up_held (events.Poll ∷ t) = up_held t
+  up_held (events.Observe os wait ∷ t) = up_held t
   up_held (events.Leave ∷ t) = up_held t
   up_held (events.Got s reply ∷ t) = ap (λ (hs : List Held). with_reply hs reply) (up_held t)
   up_held (events.Cut ∷ t) = up_held t
@@ -86,6 +91,7 @@ module _ (first : ℕ) where
   up_pending (events.Join s ∷ t) = up_pending t
   up_pending (events.Make a ∷ t) = rw (up_pending t, up_makes t, up_held t) refl
   up_pending (events.Poll ∷ t) = up_pending t
+  up_pending (events.Observe os wait ∷ t) = up_pending t
   up_pending (events.Leave ∷ t) = up_pending t
   up_pending (events.Got s reply ∷ t) = rw (up_pending t, up_held t) refl
   up_pending (events.Cut ∷ t) = up_pending t
@@ -97,6 +103,7 @@ module _ (first : ℕ) where
   up_current (events.Join s ∷ t) = refl
   up_current (events.Make a ∷ t) = up_current t
   up_current (events.Poll ∷ t) = up_current t
+  up_current (events.Observe os wait ∷ t) = up_current t
   up_current (events.Leave ∷ t) = up_current t
   up_current (events.Got s reply ∷ t) = up_current t
   up_current (events.Cut ∷ t) = up_current t
@@ -111,6 +118,7 @@ module _ (first : ℕ) where
   up_got (events.Join s ∷ t) k = up_got t k
   up_got (events.Make a ∷ t) k = up_got t k
   up_got (events.Poll ∷ t) k = up_got t k
+  up_got (events.Observe os wait ∷ t) k = up_got t k
   up_got (events.Leave ∷ t) k = up_got t k
   up_got (events.Got s reply ∷ t) k = up_got_one s k (got (Up t) (k + first)) (got t k) reply (up_got t k)
   up_got (events.Cut ∷ t) k = up_got t k
@@ -129,6 +137,7 @@ module _ (first : ℕ) where
   up_asked who (events.Join s ∷ t) k = rw (up_asked who t k, shifted s k first, up_joins t, up_pending t) refl
   up_asked who (events.Make a ∷ t) k = rw (up_asked who t k, up_is t k, up_makes t) refl
   up_asked who (events.Poll ∷ t) k = rw (up_asked who t k, up_is t k) refl
+  up_asked who (events.Observe os wait ∷ t) k = rw (up_asked who t k, up_is t k) refl
   up_asked who (events.Leave ∷ t) k = rw (up_asked who t k, up_is t k) refl
   up_asked who (events.Got s reply ∷ t) k = rw (up_asked who t k, shifted s k first, up_held t) refl
   up_asked who (events.Cut ∷ t) k = rw (up_asked who t k) refl
@@ -165,6 +174,7 @@ module _ (first : ℕ) where
     few = rw (up_makes t) m.few;
   }
   up_follows who t events.Poll m = record { joined = up_session t ∙ m.joined; calm = rw (up_outstanding who t) m.calm }
+  up_follows who t (events.Observe os wait) m = record { joined = up_session t ∙ m.joined; good = m.good; calm = rw (up_outstanding who t) m.calm }
   up_follows who t events.Leave m = record { joined = up_session t ∙ m.joined; settled = up_outstanding who t ∙ m.settled }
   up_follows who t (events.Got s reply) m = record {
     current = up_current t ∙ ap (option_map (λ (k : ℕ). k + first)) m.current;
@@ -185,6 +195,7 @@ joins_few who [] p = omega arith
 joins_few who (events.Join s ∷ t) p = omega (arith, p.0.few)
 joins_few who (events.Make a ∷ t) p = joins_few who t p.1
 joins_few who (events.Poll ∷ t) p = joins_few who t p.1
+joins_few who (events.Observe os wait ∷ t) p = joins_few who t p.1
 joins_few who (events.Leave ∷ t) p = joins_few who t p.1
 joins_few who (events.Got s reply ∷ t) p = joins_few who t p.1
 joins_few who (events.Cut ∷ t) p = joins_few who t p.1
@@ -196,6 +207,7 @@ names_below who [] p = All-nil (NamesBelow 64)
 names_below who (events.Join s ∷ t) p = All-cons (NamesBelow 64) (events.Join s) t (omega (arith, p.0.next, p.0.few)) (names_below who t p.1)
 names_below who (events.Make a ∷ t) p = All-cons (NamesBelow 64) (events.Make a) t tt (names_below who t p.1)
 names_below who (events.Poll ∷ t) p = All-cons (NamesBelow 64) events.Poll t tt (names_below who t p.1)
+names_below who (events.Observe os wait ∷ t) p = All-cons (NamesBelow 64) (events.Observe os wait) t tt (names_below who t p.1)
 names_below who (events.Leave ∷ t) p = All-cons (NamesBelow 64) events.Leave t tt (names_below who t p.1)
 names_below who (events.Got s reply ∷ t) p = All-cons (NamesBelow 64) (events.Got s reply) t (current_below who 0 t p.1 s 64 p.0.current (omega (arith, joins_few who t p.1))) (names_below who t p.1)
 names_below who (events.Cut ∷ t) p = All-cons (NamesBelow 64) events.Cut t tt (names_below who t p.1)

@@ -1,5 +1,5 @@
 -- What a reply makes of a client, from what its parts say.
-use Rattle.std.proofs.Common.{◌≡◌, ℕ, ◌+◌, ◌-◌, ◌<◌, ◌≤◌, Bool, List, [], ◌∷◌, ◌++◌, length, drop, map, Option, Some, None, Ok, refl, sym, ap, subst, ◌∙◌, arith}
+use Rattle.std.proofs.Common.{◌≡◌, ℕ, ◌+◌, ◌-◌, ◌<◌, ◌≤◌, Bool, List, [], ◌∷◌, ◌++◌, length, drop, map, slice_get, Option, Some, None, Ok, refl, sym, ap, subst, ◌∙◌, arith}
 use Rattle.std.specs.Prelude.{IfSome}
 use Rattle.std.proofs.lemmas.Bool.{eq-eqb}
 use Rattle.std.proofs.lemmas.List.{length-append, length-drop, map-append}
@@ -20,7 +20,7 @@ use Rattle.sv_client.specs.Evaluating.{IsApplied, IsMissing}
 use Rattle.sv_client.specs.Invariant.{AreAwaited, IsClientOf}
 use Rattle.sv_client.specs.declared.fault.TakeFault.{TakeFault}
 use Rattle.sv_client.specs.Answers.{IsFine, IsTaken, IsTakeFault, got_now}
-use Rattle.sv_client.proofs.Looking.{fine_misses}
+use Rattle.sv_client.proofs.Looking.{fine_misses, Oldest, oldest}
 use Rattle.sv_client.proofs.Outstanding.{outstanding_got}
 use Rattle.sv_client.proofs.Keeping.{latest_is, latest_in, latest_count, same_long}
 
@@ -31,11 +31,14 @@ told_more (Some c) n = omega arith
 pub told_least : (reply : Reply) (n : ℕ) → n ≤ told_by reply n
 told_least reply n = told_more (commit_in reply) n
 
--- The Done of a relay is awaited.
+-- The Done of a reply is awaited.
 kinds_done : (held : List Held) (reply : Reply) → map (λ k. Some k) (done_kinds reply) ≡ map kind_of (done_for held reply)
 kinds_done held (replies.Welcome c h) = refl
 kinds_done held (replies.Relay n c h is) = refl
+kinds_done held (replies.Seen l c h []) = refl
+kinds_done held (replies.Seen l c h (i ∷ is)) = refl
 kinds_done held (replies.Dropped n c f) = refl
+kinds_done held (replies.Denied n o) = refl
 kinds_done held (replies.Settled n p) = refl
 kinds_done held (replies.Noted c) = refl
 kinds_done held replies.Idle = refl
@@ -45,7 +48,10 @@ kinds_done held replies.Bye = refl
 done_few : (reply : Reply) → length (done_kinds reply) ≤ 1
 done_few (replies.Welcome c h) = omega arith
 done_few (replies.Relay n c h is) = omega arith
+done_few (replies.Seen l c h []) = omega arith
+done_few (replies.Seen l c h (i ∷ is)) = omega arith
 done_few (replies.Dropped n c f) = omega arith
+done_few (replies.Denied n o) = omega arith
 done_few (replies.Settled n p) = omega arith
 done_few (replies.Noted c) = omega arith
 done_few replies.Idle = omega arith
@@ -76,9 +82,9 @@ asked_some : (os : List Request) (r : Request) (rs : List Request) → os ≡ r 
 asked_some os r rs e = rw e (omega arith)
 
 pub taken_is : (who : Identity) (t : List Event) (reply : Reply) (store : Store) (pending : PendingList) (ks : List Awaited) (sessions made commit : ℕ) (joined : Bool)
-    → IsClientOf who t store pending ks sessions made commit joined → IsFine who t reply
+    → IsClientOf who t store pending ks sessions made commit joined → (fine : IsFine who t reply)
     → (done : Option Request) (store_after : Store) (pending_after : PendingList) (kinds : List Awaited) (commit_after : ℕ) (kept : List Held)
-    → IsApplied (told t) (held_of t) reply (pending_of t) (Ok done) kept pending_after.items
+    → IsApplied (told t) (held_of t) (kind_of fine.request) reply (pending_of t) (Ok done) kept pending_after.items
     → pending_after.shape ≡ who.shape → store_after.shape ≡ who.shape
     → ((n : ℕ) (all : List Held) → n ≤ commit_after → AnswersAbove n kept all → AnswersAbove commit_after store_after.held all)
     → ((x : ℕ) → count_up_to store_after.held x commit_after ≤ 1)
@@ -107,8 +113,18 @@ pub awaits_one : (who : Identity) (t : List Event) (reply : Reply) (store : Stor
 awaits_one who t reply store pending ks sessions made commit joined is fine =
     omega (arith, same_long ks (outstanding who t) is.awaited.same, asked_some (outstanding who t) fine.request fine.rest fine.asked)
 
+-- What a reply answers is the front of what is awaited.
+pub answers_front : (who : Identity) (t : List Event) (reply : Reply) (k : Awaited) (ks : List Awaited) → AreAwaited who t ks → slice_get ks 0 ≡ Some k → (fine : IsFine who t reply) → Some k ≡ kind_of fine.request
+answers_front who t reply k ks a e fine = go (oldest ks (outstanding who t) k a.same e)
+  where
+    go : Oldest (outstanding who t) k → Some k ≡ kind_of fine.request
+    go o =
+        let same : o.request ∷ o.rest ≡ fine.request ∷ fine.rest = sym o.is ∙ fine.asked in
+        let first : o.request ≡ fine.request = cc in
+        sym o.kind ∙ ap kind_of first
+
 -- A value that is missing is the fault of a reply in which nothing else is wrong.
-pub missing_is : (who : Identity) (t : List Event) (reply : Reply) (fault : TakeFault) → IsFine who t reply → IsMissing (missing_in (held_of t) reply) fault → IsTakeFault who t reply fault
+pub missing_is : (who : Identity) (t : List Event) (reply : Reply) (fault : TakeFault) (fine : IsFine who t reply) → IsMissing (missing_in (held_of t) (kind_of fine.request) reply) fault → IsTakeFault who t reply fault
 missing_is who t reply fault fine m = subst (λ (o : Option Fault). IfSome (fault_named fault) (λ f. o ≡ Some f)) (sym (fine_misses who t reply fine)) m
 
 -- A client that takes a reply has begun one session more than the number of the latest.

@@ -2,13 +2,17 @@
 use Rattle.std.specs.Prelude.{◌≡◌, ℕ, ◌<◌, true, false, ℤ, List, ◌∷◌, length, Option, Some, None, IfSome, option_to_list}
 use Rattle.sv_world.specs.Limits.{most_outstanding, most_pending}
 use Rattle.sv_world.specs.declared.action.Action.{Action}
-use Rattle.sv_world.specs.Faults.{first_fault_of_action}
+use Rattle.sv_world.specs.declared.world.ObjectId.{ObjectId}
+use Rattle.sv_world.specs.Sets.{numbers_of}
+use Rattle.sv_world.specs.Faults.{first_fault_of_action, may_be_observed}
 use Rattle.sv_versions.specs.Held.{Store}
 use Rattle.sv_pending.specs.Made.{PendingList}
 use Rattle.sv_wire.specs.declared.message.Reply.{Reply}
 use Rattle.sv_wire.specs.declared.message.Request.{Request}
 use Rattle.sv_client.specs.declared.fault.MakeFault.{MakeFault}
 use Rattle.sv_client.specs.declared.fault.MakeFault.TheVariants as make_faults
+use Rattle.sv_client.specs.declared.fault.ObserveFault.{ObserveFault}
+use Rattle.sv_client.specs.declared.fault.ObserveFault.TheVariants as observe_faults
 use Rattle.sv_client.specs.declared.fault.PollFault.{PollFault}
 use Rattle.sv_client.specs.declared.fault.PollFault.TheVariants as poll_faults
 use Rattle.sv_client.specs.declared.fault.TakeFault.{TakeFault}
@@ -37,6 +41,13 @@ IsMakeFault who t action make_faults.Memory = Unit {0}
 abbrev pub IsPollFault : Identity → List Event → PollFault → Type 0
 IsPollFault who t poll_faults.Busy = length (outstanding who t) ≡ most_outstanding
 IsPollFault who t poll_faults.Memory = Unit {0}
+
+-- Why objects were not observed: the first of these that applies, or memory ran out.
+abbrev pub IsObserveFault : Identity → List Event → List ObjectId → ObserveFault → Type 0
+IsObserveFault who t objects observe_faults.BadObjects = may_be_observed who.shape.objects (numbers_of objects) ≡ false
+IsObserveFault who t objects observe_faults.Busy =
+    (may_be_observed who.shape.objects (numbers_of objects) ≡ true) × (length (outstanding who t) ≡ most_outstanding)
+IsObserveFault who t objects observe_faults.Memory = Unit {0}
 
 -- A reply was not taken: for the first of its faults, or because memory ran out.
 abbrev pub IsTakeFault : Identity → List Event → Reply → TakeFault → Type 0

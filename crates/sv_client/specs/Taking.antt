@@ -193,6 +193,15 @@ abbrev pub observed_by : Option Awaited → List ℕ
 observed_by (Some (kinds.Observe objects)) = numbers_of objects
 observed_by _ = []
 
+-- The objects that the first of some requests observes.
+abbrev pub observed_first : List Request → List ℕ
+observed_first [] = []
+observed_first (request ∷ requests) = observed_by (kind_of request)
+
+-- The objects that the oldest outstanding request observes: those that are seen by the next reply.
+abbrev pub observed_now : Identity → List Event → List ℕ
+observed_now who t = observed_first (outstanding who t)
+
 -- The first item that lacks a value, and the first object of which it does; and where none does, the first of the objects that are seen of which no
 -- value at or below `last` is held.
 abbrev pub first_missing_seen : List Held → List Item → ℕ → List ℕ → Option (ℕ × ℕ)

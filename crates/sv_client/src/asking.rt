@@ -90,8 +90,10 @@ fn asks_for_done(reply: &Reply) -> bool
 {
     match reply {
         Reply::Relay { .. } => true,
+        Reply::Seen { items, .. } => items.len() > 0,
         Reply::Welcome { .. }
         | Reply::Dropped { .. }
+        | Reply::Denied { .. }
         | Reply::Settled { .. }
         | Reply::Noted { .. }
         | Reply::Idle
@@ -100,7 +102,7 @@ fn asks_for_done(reply: &Reply) -> bool
     }
 }
 
-/// Takes the oldest request off, and awaits the Done of a relay.
+/// Takes the oldest request off, and awaits the Done of a reply that has one.
 pub(crate) fn await_after(awaited: &mut Vec<Awaited>, reply: &Reply)
     requires { 0 < length awaited.old.items }
     ensures { awaited.new.items ≡ drop 1 awaited.old.items ++ done_kinds reply.now }

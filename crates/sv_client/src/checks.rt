@@ -1,14 +1,16 @@
 //! What is looked at in a reply before anything of it is evaluated.
-ghost use Rattle.std.specs.Prelude.{◌≡◌, Some};
+ghost use Rattle.std.specs.Prelude.{◌≡◌, nat_lt, Some, []};
+ghost use Rattle.std.specs.List.{list_any};
 ghost use Rattle.sv_pending.specs.Seen.{item_seen};
-ghost use Rattle.sv_client.specs.Taking.{head_ascends, items_ascend, begins_by, is_disordered, is_bad_head, is_for_front, is_own, ends_as_own};
+ghost use Rattle.sv_wire.specs.declared.message.Reply.TheVariants as replies;
+ghost use Rattle.sv_client.specs.Taking.{head_ascends, items_ascend, begins_by, is_badly_cut, is_disordered, is_bad_head, is_for_front, is_own, ends_as_own};
 ghost use Rattle.sv_client.specs.Taking.{has_bad_action, is_good_answer, is_unfit};
 
 use crate::kinds::Awaited;
 use crate::same::same_action;
 use sv_pending::{Pending, PendingItem};
 use sv_wire::{Item, ObjectValue, Reply};
-use sv_world::{ClientId, Shape, check_action};
+use sv_world::{ClientId, MOST_POSITIONS, Shape, check_action};
 
 fn head_ascends(head: &[ObjectValue]) -> bool
     ensures { result ≡ head_ascends head.now }
@@ -51,6 +53,24 @@ fn begins_by(commit: u32, items: &[Item]) -> bool
     }
 }
 
+fn stand_above(last: u32, items: &[Item]) -> bool
+    ensures { result ≡ list_any (λ i. nat_lt last i.pos) items.now }
+{
+    for item in items {
+        if item.pos > last {
+            return true;
+        }
+    }
+    false
+}
+
+/// Whether what is known at a position stands below its commit or below an item, or where no action may stand.
+fn is_badly_cut(last: u32, commit: u32, items: &[Item]) -> bool
+    ensures { result ≡ is_badly_cut (replies.Seen last commit [] items.now) }
+{
+    last < commit || stand_above(last, items) || last > MOST_POSITIONS
+}
+
 /// Whether positions stand out of order, or the commit is below one that the client was told.
 pub(crate) fn is_out_of_order(told: u32, reply: &Reply) -> bool
     ensures { result ≡ is_disordered told reply.now }
@@ -68,8 +88,21 @@ pub(crate) fn is_out_of_order(told: u32, reply: &Reply) -> bool
                 || begins_by(*commit, items.as_slice())
                 || *commit < told
         }
+        Reply::Seen {
+            last,
+            commit,
+            head,
+            items,
+        } => {
+            !head_ascends(head.as_slice())
+                || !items_ascend(items.as_slice())
+                || begins_by(*commit, items.as_slice())
+                || *commit < told
+                || is_badly_cut(*last, *commit, items.as_slice())
+        }
         Reply::Noted { commit } => *commit < told,
         Reply::Dropped { .. }
+        | Reply::Denied { .. }
         | Reply::Settled { .. }
         | Reply::Idle
         | Reply::Refused { .. }
@@ -131,17 +164,16 @@ fn is_own(id: ClientId, front: &PendingItem<'_>, item: &Item) -> bool
 fn is_good_answer(
     id: ClientId,
     pending: &Pending,
-    awaited: Awaited,
+    awaited: &Awaited,
     seq: u32,
     items: &[Item],
 ) -> bool
-    ensures { result ≡ is_good_answer id pending.now.items (Some awaited) seq items.now }
+    ensures { result ≡ is_good_answer id pending.now.items (Some awaited.now) seq items.now }
 {
     match awaited {
         Awaited::Poll => seq == 0,
-        Awaited::Join | Awaited::Submit | Awaited::Done | Awaited::Leave => {
-            is_for_front(pending, seq) && ends_as_own(id, pending, items)
-        }
+        Awaited::Join | Awaited::Submit | Awaited::Done | Awaited::Observe(_) | Awaited::Leave =>
+            is_for_front(pending, seq) && ends_as_own(id, pending, items),
     }
 }
 
@@ -150,10 +182,10 @@ pub(crate) fn is_unfit(
     id: ClientId,
     shape: Shape,
     pending: &Pending,
-    awaited: Awaited,
+    awaited: &Awaited,
     reply: &Reply,
 ) -> bool
-    ensures { result ≡ is_unfit id shape pending.now.items (Some awaited) reply.now }
+    ensures { result ≡ is_unfit id shape pending.now.items (Some awaited.now) reply.now }
 {
     match reply {
         Reply::Welcome { commit: _, head } => is_bad_head(shape, head.as_slice()),
@@ -168,7 +200,14 @@ pub(crate) fn is_unfit(
                 || has_bad_action(shape, items.as_slice())
                 || !is_good_answer(id, pending, awaited, *seq, items.as_slice())
         }
+        Reply::Seen {
+            last: _,
+            commit: _,
+            head,
+            items,
+        } => is_bad_head(shape, head.as_slice()) || has_bad_action(shape, items.as_slice()),
         Reply::Dropped { seq, .. } => !is_for_front(pending, *seq),
+        Reply::Denied { seq, .. } => !is_for_front(pending, *seq),
         Reply::Settled { seq, .. } => !is_for_front(pending, *seq),
         Reply::Noted { .. } | Reply::Idle | Reply::Refused { .. } | Reply::Bye => false,
     }

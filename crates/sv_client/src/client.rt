@@ -6,13 +6,13 @@ ghost use Rattle.sv_pending.specs.Seen.{item_seen};
 ghost use Rattle.sv_client.specs.declared.trace.Event.TheVariants as events;
 ghost use Rattle.sv_client.specs.Traces.{joins, makes, held_of, pending_of, view_of};
 ghost use Rattle.sv_client.specs.Taking.{outstanding, told, first_fault_of_reply};
-ghost use Rattle.sv_client.specs.Proper.{IsGoodIdentity, MayMake, MayPoll, MayLeave, Proper, in_session, most_made};
+ghost use Rattle.sv_client.specs.Proper.{IsGoodIdentity, MayMake, MayPoll, MayObserve, MayLeave, Proper, in_session, most_made};
 ghost use Rattle.sv_client.specs.Seen.{new_client, with_event, newly_asked, event_of_mark, trace_from};
-ghost use Rattle.sv_client.specs.Answers.{view_seen, IsMakeFault, IsPollFault, IsTakeFault, IsFine, got_now};
+ghost use Rattle.sv_client.specs.Answers.{view_seen, IsMakeFault, IsPollFault, IsObserveFault, IsTakeFault, IsFine, got_now};
 
 use crate::asking::{awaited_at_join, joining, note_asked};
 use crate::checks::{is_out_of_order, is_unfit};
-use crate::fault::{MakeFault, PollFault, TakeFault};
+use crate::fault::{MakeFault, ObserveFault, PollFault, TakeFault};
 use crate::kinds::{Awaited, allows_kind};
 use crate::raising::raise_events;
 use crate::taken::take_reply;
@@ -25,7 +25,7 @@ use sv_versions::Versions;
 use sv_wire::{Reply, Request};
 use sv_world::{
     Action, ClientId, List, MOST_OUTSTANDING, MOST_PENDING, ObjectId, Shape, check_action,
-    copy_action, copy_objects,
+    copy_action, copy_objects, may_be_observed,
 };
 
 /// A client of a world, which is its trace.
@@ -297,6 +297,31 @@ impl Client {
         Ok(Request::Poll)
     }
 
+    /// Asks what these objects are, and would wait for news of them for so many milliseconds.
+    pub fn observe(&mut self, objects: List<ObjectId>, wait: u16) -> Result<Request, ObserveFault>
+        requires { in_session self.old.events ≡ true }
+        ensures request { IfOk result (λ request. request ∷ [] ≡ newly_asked self.old.who self.old.events (events.Observe objects wait)) }
+        ensures ok { OnOk result (self.new ≡ with_event self.old (events.Observe objects wait)) }
+        ensures err { OnErr result (self.new ≡ self.old) }
+        ensures cause { MatchResult result (λ _. MayObserve self.old.who self.old.events objects) (IsObserveFault self.old.who self.old.events objects) }
+    {
+        if !may_be_observed(self.shape.objects, objects.as_slice()) {
+            return Err(ObserveFault::BadObjects);
+        }
+        if self.awaited.len() >= MOST_OUTSTANDING {
+            return Err(ObserveFault::Busy);
+        }
+        let noted = copy_objects(self.alloc, objects.as_slice())?;
+        let awaited = copy_objects(self.alloc, objects.as_slice())?;
+        note_asked(
+            &mut self.events,
+            &mut self.awaited,
+            Event::Observe(noted, wait),
+            Awaited::Observe(awaited),
+        )?;
+        Ok(Request::Observe { objects, wait })
+    }
+
     /// Leaves the session.
     pub fn leave(&mut self) -> Result<Request, AllocError>
         requires { MayLeave self.old.who self.old.events }
@@ -314,7 +339,7 @@ impl Client {
         Ok(Request::Leave)
     }
 
-    /// Takes the reply to the oldest outstanding request, and answers the Done of a relay.
+    /// Takes the reply to the oldest outstanding request, and answers the Done of its items, if it has any.
     ///
     /// Values at or below the greatest commit told are dropped, but for the last one of each object. The reply itself stands in the trace; one that is refused is let go.
     pub fn take(&mut self, reply: Reply) -> Result<Option<Request>, TakeFault>
@@ -349,7 +374,6 @@ impl Client {
         let Some(awaited) = self.awaited.first() else {
             return Err(TakeFault::Unasked);
         };
-        let awaited = *awaited;
         if !allows_kind(awaited, reply) {
             return Err(TakeFault::WrongKind);
         }

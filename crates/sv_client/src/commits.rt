@@ -9,10 +9,12 @@ pub(crate) fn told_by(reply: &Reply, told: u32) -> u32
     ensures { result ≡ told_by reply.now told }
 {
     match reply {
-        Reply::Welcome { commit, .. } | Reply::Relay { commit, .. } | Reply::Noted { commit } => {
-            told.max(*commit)
-        }
+        Reply::Welcome { commit, .. }
+        | Reply::Relay { commit, .. }
+        | Reply::Seen { commit, .. }
+        | Reply::Noted { commit } => told.max(*commit),
         Reply::Dropped { .. }
+        | Reply::Denied { .. }
         | Reply::Settled { .. }
         | Reply::Idle
         | Reply::Refused { .. }

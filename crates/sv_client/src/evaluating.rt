@@ -60,7 +60,7 @@ fn hold_values(
 }
 
 /// The first of the objects that has no value below a position.
-fn first_unheld(versions: &Versions, pos: u32, objects: &[ObjectId]) -> Option<ObjectId>
+pub(crate) fn first_unheld(versions: &Versions, pos: u32, objects: &[ObjectId]) -> Option<ObjectId>
     requires { AreWithin versions.now.shape.objects objects.now }
     ensures { option_map (λ o. o.0) result ≡ first_unheld versions.now.held pos (numbers_of objects.now) }
 {

@@ -1,6 +1,9 @@
 //! Which replies a request may have.
-ghost use Rattle.std.specs.Prelude.{◌≡◌};
+ghost use Rattle.std.specs.Prelude.{◌≡◌, Some};
+ghost use Rattle.sv_world.specs.Sets.{numbers_of};
 ghost use Rattle.sv_client.specs.Kinds.{allows_kind};
+ghost use Rattle.sv_client.specs.Taking.{observed_by};
+ghost use Rattle.sv_client.specs.Evaluating.{objects_of};
 
 use sv_wire::Reply;
 use sv_world::{List, ObjectId};
@@ -32,5 +35,16 @@ pub(crate) fn allows_kind(awaited: &Awaited, reply: &Reply) -> bool
         Reply::Seen { .. } => matches!(awaited, Awaited::Observe(_)),
         Reply::Bye => matches!(awaited, Awaited::Leave),
         Reply::Refused { .. } => false,
+    }
+}
+
+/// The objects that are observed by what is awaited.
+pub(crate) fn observed_by(awaited: &Awaited) -> &[ObjectId]
+    ensures objects { result.now ≡ objects_of awaited.now }
+    ensures numbers { numbers_of result.now ≡ observed_by (Some awaited.now) }
+{
+    match awaited {
+        Awaited::Observe(objects) => objects.as_slice(),
+        Awaited::Join | Awaited::Submit | Awaited::Done | Awaited::Poll | Awaited::Leave => &[],
     }
 }

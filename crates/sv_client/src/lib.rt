@@ -17,7 +17,7 @@ mod trace;
 mod view;
 
 pub use client::Client;
-pub use fault::{MakeFault, PollFault, TakeFault};
+pub use fault::{MakeFault, ObserveFault, PollFault, TakeFault};
 pub use limits::MOST_MADE;
 pub use same::{are_same_values, same_action, same_actions_are_equal, same_values_are_equal};
 pub use trace::{Event, Trace, TraceMark, is_make};

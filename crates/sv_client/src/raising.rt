@@ -13,8 +13,13 @@ fn raise_event(event: &mut Event, first: u16)
     match event {
         Event::Join(session) => *session += first,
         Event::Got(session, _) => *session += first,
-        Event::Make(_) | Event::Poll | Event::Leave | Event::Cut | Event::Quit | Event::Show(_) =>
-            {}
+        Event::Make(_)
+        | Event::Poll
+        | Event::Observe(..)
+        | Event::Leave
+        | Event::Cut
+        | Event::Quit
+        | Event::Show(_) => {}
     }
 }
 

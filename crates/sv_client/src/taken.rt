@@ -1,8 +1,8 @@
 //! Taking a reply that has passed all looks.
-ghost use Rattle.std.specs.Prelude.{◌≡◌, ◌<◌, ℕ, Bool, List, length, IfOk, IfErr, OnErr};
+ghost use Rattle.std.specs.Prelude.{◌≡◌, ◌<◌, ℕ, Bool, List, length, All, IfOk, IfErr, OnErr};
 ghost use Rattle.sv_client.specs.declared.trace.Event.{Event};
 ghost use Rattle.sv_client.specs.Taking.{Identity};
-ghost use Rattle.sv_client.specs.Evaluating.{IsFitting};
+ghost use Rattle.sv_client.specs.Evaluating.{IsFitting, AsksWithin};
 ghost use Rattle.sv_client.specs.Invariant.{IsClientOf};
 ghost use Rattle.sv_client.specs.Answers.{IsFine, IsTaken, IsTakeFault};
 
@@ -15,7 +15,7 @@ use sv_pending::Pending;
 use sv_versions::Versions;
 use sv_wire::{Reply, Request};
 
-/// Takes a reply, in which nothing but a missing value can still be wrong, and answers the Done of a relay.
+/// Takes a reply, in which nothing but a missing value can still be wrong, and answers the Done of its items, if it has any.
 ///
 /// All is changed in its place. After a refusal it is as before.
 pub(crate) fn take_reply(
@@ -28,6 +28,7 @@ pub(crate) fn take_reply(
     requires shape { versions.old.shape ≡ pending.old.shape }
     requires fits { IsFitting versions.old.shape.objects told.old reply.now }
     requires awaited { 0 < length awaited.old.items }
+    requires within { All (AsksWithin versions.old.shape.objects) awaited.old.items }
     ensures ok { (who : Identity) (t : List Event) (sessions made : ℕ) (joined : Bool) → IsClientOf who t versions.old pending.old awaited.old.items sessions made told.old joined → IsFine who t reply.now → IfOk result (λ done. IsTaken who t reply.now done versions.new pending.new awaited.new.items told.new) }
     ensures fault { (who : Identity) (t : List Event) (sessions made : ℕ) (joined : Bool) → IsClientOf who t versions.old pending.old awaited.old.items sessions made told.old joined → IsFine who t reply.now → IfErr result (IsTakeFault who t reply.now) }
     ensures versions { OnErr result (versions.new ≡ versions.old) }
@@ -35,7 +36,7 @@ pub(crate) fn take_reply(
     ensures awaited { OnErr result (awaited.new.items ≡ awaited.old.items) }
     ensures told { OnErr result (told.new ≡ told.old) }
 {
-    let done = try_apply(versions, pending, *told, reply)?;
+    let done = try_apply(versions, pending, *told, &awaited[0], reply)?;
     await_after(awaited, reply);
     let commit = told_by(reply, *told);
     versions.prune(commit);

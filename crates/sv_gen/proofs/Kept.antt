@@ -27,6 +27,7 @@ use Rattle.sv_gen.proofs.Transfers.{good_act}
 abbrev stays : Step → Bool
 stays (steps.Act action) = true
 stays steps.Poll = true
+stays (steps.Observe objects) = true
 stays steps.Sync = true
 stays (steps.Show objects) = true
 stays steps.Cut = false
@@ -56,6 +57,7 @@ stays_last [] all = refl
 stays_last (step ∷ []) all = refl
 stays_last (steps.Act action ∷ next ∷ ss) all = stays_last (next ∷ ss) all.1
 stays_last (steps.Poll ∷ next ∷ ss) all = stays_last (next ∷ ss) all.1
+stays_last (steps.Observe objects ∷ next ∷ ss) all = stays_last (next ∷ ss) all.1
 stays_last (steps.Sync ∷ next ∷ ss) all = stays_last (next ∷ ss) all.1
 stays_last (steps.Show objects ∷ next ∷ ss) all = stays_last (next ∷ ss) all.1
 stays_last (steps.Cut ∷ next ∷ ss) all = stays_last (next ∷ ss) all.1
@@ -67,6 +69,7 @@ cuts_none (step ∷ ss) all = omega (arith, one step all.0, cuts_none ss all.1) 
   one : (step : Step) → stays step ≡ true → cuts_by step ≡ 0
   one (steps.Act action) is = refl
   one steps.Poll is = refl
+  one (steps.Observe objects) is = refl
   one steps.Sync is = refl
   one (steps.Show objects) is = refl
   one steps.Cut is = cc

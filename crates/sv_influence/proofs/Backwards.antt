@@ -11,7 +11,7 @@ use Rattle.sv_world.proofs.Writers.{last_writer-most, last_writer-writes, last_w
 use Rattle.sv_world.proofs.Needs.{needed-target, needed-sound, needed-closed, needed-closed_writer, needed-ascending, needed-sent}
 use Rattle.sv_world.proofs.Bases.{reads_committed-from, reads_committed-parts}
 use Rattle.sv_influence.proofs.Counts.{above, above-in, above-parts, above-taken, above-left}
-use Rattle.sv_influence.proofs.Walks.{written_is_read}
+use Rattle.sv_world.proofs.Written.{written_is_read}
 
 -- Each position needed but the target is a missing writer of one needed.
 needed_from : (A : List Action) (c : ℕ) (s : List ℕ) (i : ℕ) → 0 < i → is_in i s ≡ false → (j : ℕ) → is_in j (needed_for A c s i) ≡ true →

@@ -8,6 +8,7 @@ pub mod Looks
 pub mod Placed
 pub mod Places
 pub mod ReadSets
+pub mod Sights
 pub mod Takes
 pub mod Visits
 pub mod Walks

@@ -1,5 +1,5 @@
 -- What one look-up of an object's last writer adds.
-use Rattle.std.proofs.Common.{◌≡◌, ℕ, ◌<◌, ◌≤◌, inl, inr, Bool, true, false, ◌||◌, ◌&&◌, not, List, [], ◌∷◌, ◌++◌, map, length, replicate, sym, ◌∙◌, ap, subst, nat_lt, nat_le, arith, length-append, le-leb, lt-ltb}
+use Rattle.std.proofs.Common.{◌≡◌, ◌≢◌, ℕ, ◌+◌, ◌<◌, ◌≤◌, inl, inr, Bool, true, false, ◌||◌, ◌&&◌, not, List, [], ◌∷◌, ◌++◌, map, length, replicate, sym, ◌∙◌, ap, subst, nat_lt, nat_le, arith, length-append, le-leb, lt-ltb}
 use Rattle.std.proofs.lemmas.Bool.{cond-true, cond-false, and_from, and_left, and_right, not_from_false, not_from_true, lt-leb, cases_lt}
 use Rattle.std.proofs.lemmas.List.{length-replicate, length-map}
 use Rattle.std.proofs.lemmas.List.Elements.{filter-append}
@@ -14,7 +14,7 @@ use Rattle.sv_queue.specs.Pairs.{is_pair}
 use Rattle.sv_queue.specs.Queue.{QueueView, IsUncommitted, last_position, queue_actions, entry_actions, sent_positions, given_objects}
 use Rattle.sv_queue.proofs.Members.{is_in-append}
 use Rattle.sv_queue.proofs.SourceLists.{committed_blank}
-use Rattle.sv_influence.specs.Lacking.{lacking_writers, committed_reads}
+use Rattle.sv_influence.specs.Lacking.{lacking_of, lacking_writers, base_of, committed_reads}
 use Rattle.sv_influence.proofs.ReadSets.{or_move}
 
 pub queue_length : (v : QueueView) → length (queue_actions v) ≡ last_position v
@@ -34,14 +34,6 @@ writer-above v x i low =
           cc)
     ]
 
-pub writer-uncommitted : (v : QueueView) (x i w : ℕ) → IsUncommitted v i → w ≡ last_writer (queue_actions v) x i → (w ≡ 0 → ⊥) → IsUncommitted v w
-writer-uncommitted v x i w within is some' =
-    let low : 0 < last_writer (queue_actions v) x i = omega arith in
-    let b : last_writer (queue_actions v) x i < i = last_writer-below (queue_actions v) x i low in
-    let over' = writer-above v x i low in
-    let high : i ≤ last_position v = within.1 in
-    (omega arith, omega arith)
-
 pub given-is : (v : QueueView) (x s : ℕ) → x < v.shape.objects → is_in x (given_objects v s) ≡ is_pair x s v.given
 given-is v x s low =
     same_test (is_in x (given_objects v s)) (is_pair x s v.given)
@@ -49,44 +41,47 @@ given-is v x s low =
     (λ h. is_in-filter (λ (y : ℕ). is_pair y s v.given) x (below v.shape.objects) (is_in-below v.shape.objects x low) h)
 
 -- The object's last writer is committed, and it was not given.
-pub look-base : (v : QueueView) (s pos o : ℕ) (old new' : List ℕ) → o < v.shape.objects → last_writer (queue_actions v) o pos ≡ 0 → is_pair o s v.given ≡ false →
-    ((x : ℕ) → is_in x new' ≡ is_in x (o ∷ old)) → (x : ℕ) → is_in x new' ≡ is_in x (committed_reads v s pos (o ∷ []) ++ old)
-look-base v s pos o old new' low none ungiven h x =
+pub look-base : (v : QueueView) (s o w : ℕ) (old new' : List ℕ) → o < v.shape.objects → w ≡ 0 → is_pair o s v.given ≡ false →
+    ((x : ℕ) → is_in x new' ≡ is_in x (o ∷ old)) → (x : ℕ) → is_in x new' ≡ is_in x (base_of v s w o ++ old)
+look-base v s o w old new' low none ungiven h x =
     h x ∙ ap (λ (ys : List ℕ). is_in x (ys ++ old))
-    (sym (cond-true (nat_le (last_writer (queue_actions v) o pos) v.commit && not (is_in o (given_objects v s))) (o ∷ []) []
-    (and_from (nat_le (last_writer (queue_actions v) o pos) v.commit) (not (is_in o (given_objects v s)))
-    (le-leb (last_writer (queue_actions v) o pos) v.commit (omega arith))
+    (sym (cond-true (nat_le w v.commit && not (is_in o (given_objects v s))) (o ∷ []) []
+    (and_from (nat_le w v.commit) (not (is_in o (given_objects v s)))
+    (le-leb w v.commit (omega arith))
     (not_from_false (is_in o (given_objects v s)) (given-is v o s low ∙ ungiven)))))
 
 -- It was given.
-pub look-given : (v : QueueView) (s pos o : ℕ) (old : List ℕ) → o < v.shape.objects → is_pair o s v.given ≡ true →
-    (x : ℕ) → is_in x old ≡ is_in x (committed_reads v s pos (o ∷ []) ++ old)
-look-given v s pos o old low given x =
+pub look-given : (v : QueueView) (s o w : ℕ) (old : List ℕ) → o < v.shape.objects → is_pair o s v.given ≡ true →
+    (x : ℕ) → is_in x old ≡ is_in x (base_of v s w o ++ old)
+look-given v s o w old low given x =
     ap (λ (ys : List ℕ). is_in x (ys ++ old))
-    (sym (cond-false (nat_le (last_writer (queue_actions v) o pos) v.commit && not (is_in o (given_objects v s))) (o ∷ []) []
-    (and_right (nat_le (last_writer (queue_actions v) o pos) v.commit) (not (is_in o (given_objects v s)))
+    (sym (cond-false (nat_le w v.commit && not (is_in o (given_objects v s))) (o ∷ []) []
+    (and_right (nat_le w v.commit) (not (is_in o (given_objects v s)))
     (not_from_true (is_in o (given_objects v s)) (given-is v o s low ∙ given)))))
 
 -- It is not committed.
-pub look-late : (v : QueueView) (s pos o w : ℕ) (old : List ℕ) → w ≡ last_writer (queue_actions v) o pos → v.commit < w →
-    (x : ℕ) → is_in x old ≡ is_in x (committed_reads v s pos (o ∷ []) ++ old)
-look-late v s pos o w old is late x =
+pub look-late : (v : QueueView) (s o w : ℕ) (old : List ℕ) → v.commit < w → (x : ℕ) → is_in x old ≡ is_in x (base_of v s w o ++ old)
+look-late v s o w old late x =
     ap (λ (ys : List ℕ). is_in x (ys ++ old))
-    (sym (cond-false (nat_le (last_writer (queue_actions v) o pos) v.commit && not (is_in o (given_objects v s))) (o ∷ []) []
-    (and_left (nat_le (last_writer (queue_actions v) o pos) v.commit) (not (is_in o (given_objects v s)))
-    (lt-leb (last_writer (queue_actions v) o pos) v.commit (subst (λ (n : ℕ). v.commit < n) is late)))))
+    (sym (cond-false (nat_le w v.commit && not (is_in o (given_objects v s))) (o ∷ []) []
+    (and_left (nat_le w v.commit) (not (is_in o (given_objects v s))) (lt-leb w v.commit late))))
 
 -- Nor was it sent.
-pub look-unsent : (v : QueueView) (s pos o w : ℕ) (old new' : List ℕ) → w ≡ last_writer (queue_actions v) o pos → v.commit < w → is_in w (sent_positions v s) ≡ false →
-    ((x : ℕ) → is_in x new' ≡ is_in x (w ∷ old)) → (x : ℕ) → is_in x new' ≡ is_in x (lacking_writers v s pos (o ∷ []) ++ old)
-look-unsent v s pos o w old new' is late unsent h x =
-    let j = last_writer (queue_actions v) o pos in
-    h x ∙ ap (λ (n : ℕ). is_in x (n ∷ old)) is
-    ∙ ap (λ (ys : List ℕ). is_in x (ys ++ old))
-    (sym (cond-true (nat_lt v.commit j && not (is_in j (sent_positions v s))) (j ∷ []) []
-    (and_from (nat_lt v.commit j) (not (is_in j (sent_positions v s)))
-    (lt-ltb v.commit j (subst (λ (n : ℕ). v.commit < n) is late))
-    (not_from_false (is_in j (sent_positions v s)) (subst (λ (n : ℕ). is_in n (sent_positions v s) ≡ false) is unsent)))))
+pub look-unsent : (v : QueueView) (s w : ℕ) (old new' : List ℕ) → v.commit < w → is_in w (sent_positions v s) ≡ false →
+    ((x : ℕ) → is_in x new' ≡ is_in x (w ∷ old)) → (x : ℕ) → is_in x new' ≡ is_in x (lacking_of v s (w ∷ []) ++ old)
+look-unsent v s w old new' late unsent h x =
+    h x ∙ ap (λ (ys : List ℕ). is_in x (ys ++ old))
+    (sym (cond-true (nat_lt v.commit w && not (is_in w (sent_positions v s))) (w ∷ []) []
+    (and_from (nat_lt v.commit w) (not (is_in w (sent_positions v s))) (lt-ltb v.commit w late)
+    (not_from_false (is_in w (sent_positions v s)) unsent))))
+
+-- The last writer of an object below a position that is not above the next one.
+pub writer-queued : (v : QueueView) (x i w : ℕ) → i ≤ last_position v + 1 → w ≡ last_writer (queue_actions v) x i → w ≢ 0 → IsUncommitted v w
+writer-queued v x i w within is some' =
+    let low : 0 < last_writer (queue_actions v) x i = omega arith in
+    let b : last_writer (queue_actions v) x i < i = last_writer-below (queue_actions v) x i low in
+    let over' = writer-above v x i low in
+    (omega arith, omega arith)
 
 -- The first part of what is left to add goes over to what was added.
 pub members-move : (j : ℕ) (first rest old new' : List ℕ) → is_in j new' ≡ is_in j (first ++ old) → is_in j (rest ++ new') ≡ is_in j ((first ++ rest) ++ old)

@@ -51,41 +51,49 @@ next-within v s pos next wanted rest new' within e same j m =
       | inr b ↦ within j (subst (λ (xs : List ℕ). is_in j xs ≡ true) (sym e) (is_in-append_left j rest (next ∷ []) b))
     ]
 
-pub next-whole : (v : QueueView) (s pos next : ℕ) (wanted rest new' items : List ℕ) → ((j : ℕ) → is_in j wanted ≡ true → (v.commit < j) × (j ≤ pos)) →
+-- `all` is what is to be taken.
+pub next-whole : (v : QueueView) (s pos next : ℕ) (all wanted rest new' items : List ℕ) → ((j : ℕ) → is_in j wanted ≡ true → (v.commit < j) × (j ≤ pos)) →
     is_ascending wanted ≡ true → wanted ≡ rest ++ next ∷ [] → ((j : ℕ) → is_in j new' ≡ is_in j (makes_wanted v s next ++ rest)) →
-    wanted_up_to (queue_actions v) v.commit (sent_positions v s) pos wanted ++ reverse items ≡ lacking v s pos →
-    wanted_up_to (queue_actions v) v.commit (sent_positions v s) pos new' ++ reverse (items ++ next ∷ []) ≡ lacking v s pos
-next-whole v s pos next wanted rest new' items within up e same whole =
+    wanted_up_to (queue_actions v) v.commit (sent_positions v s) pos wanted ++ reverse items ≡ all →
+    wanted_up_to (queue_actions v) v.commit (sent_positions v s) pos new' ++ reverse (items ++ next ∷ []) ≡ all
+next-whole v s pos next all wanted rest new' items within up e same whole =
     let b = next-bounds v pos next wanted rest within e in
     let low : v.commit < next = b.0 in
-    whole-pop (makes_wanted v s) (missing_writers-lower (queue_actions v) v.commit (sent_positions v s)) pos rest new' next items (lacking v s pos)
+    whole-pop (makes_wanted v s) (missing_writers-lower (queue_actions v) v.commit (sent_positions v s)) pos rest new' next items all
     (omega arith) b.1 (rest-below v pos next wanted rest within up e)
     (λ j. same j ∙ is_in-swap j (makes_wanted v s next) rest)
     (ap (λ (xs : List ℕ). sweep (makes_wanted v s) pos xs ++ reverse items) (sym e) ∙ whole)
 
-pub next-room : (v : QueueView) (s pos next : ℕ) (wanted rest items : List ℕ) → ((j : ℕ) → is_in j wanted ≡ true → (v.commit < j) × (j ≤ pos)) →
+pub next-room : (v : QueueView) (s pos next : ℕ) (all wanted rest items : List ℕ) → ((j : ℕ) → is_in j wanted ≡ true → (v.commit < j) × (j ≤ pos)) →
     is_ascending wanted ≡ true → wanted ≡ rest ++ next ∷ [] →
-    wanted_up_to (queue_actions v) v.commit (sent_positions v s) pos wanted ++ reverse items ≡ lacking v s pos →
-    length items + 1 ≤ length (lacking v s pos)
-next-room v s pos next wanted rest items within up e whole =
+    wanted_up_to (queue_actions v) v.commit (sent_positions v s) pos wanted ++ reverse items ≡ all →
+    length items + 1 ≤ length all
+next-room v s pos next all wanted rest items within up e whole =
     let after = makes_wanted v s next ++ rest in
     let left = sweep (makes_wanted v s) pos after in
-    let h = next-whole v s pos next wanted rest after items within up e (λ j. refl) whole in
-    let a : length (left ++ reverse (items ++ next ∷ [])) ≡ length (lacking v s pos) = ap length h in
+    let h = next-whole v s pos next all wanted rest after items within up e (λ j. refl) whole in
+    let a : length (left ++ reverse (items ++ next ∷ [])) ≡ length all = ap length h in
     let b : length (left ++ reverse (items ++ next ∷ [])) ≡ length left + length (reverse (items ++ next ∷ [])) = length-append left (reverse (items ++ next ∷ [])) in
     let d : length (reverse (items ++ next ∷ [])) ≡ length (items ++ next ∷ []) = length-reverse (items ++ next ∷ []) in
     let f : length (items ++ next ∷ []) ≡ length items + 1 = length-append items (next ∷ []) in
     omega arith
 
 -- Where none is left, all were taken.
-pub all-taken : (v : QueueView) (s pos : ℕ) (wanted items : List ℕ) (next : Option ℕ) → next ≡ None → IfNone next (wanted ≡ []) →
-    wanted_up_to (queue_actions v) v.commit (sent_positions v s) pos (wanted ++ option_to_list next) ++ reverse items ≡ lacking v s pos → reverse items ≡ lacking v s pos
-all-taken v s pos wanted items next none last whole =
+pub all-taken : (v : QueueView) (s pos : ℕ) (all wanted items : List ℕ) (next : Option ℕ) → next ≡ None → IfNone next (wanted ≡ []) →
+    wanted_up_to (queue_actions v) v.commit (sent_positions v s) pos (wanted ++ option_to_list next) ++ reverse items ≡ all → reverse items ≡ all
+all-taken v s pos all wanted items next none last whole =
     let empty : wanted ≡ [] = subst (λ (o : Option ℕ). IfNone o (wanted ≡ [])) none last in
     let both : wanted ++ option_to_list next ≡ [] = ap (λ (o : Option ℕ). wanted ++ option_to_list o) none ∙ append-nil wanted ∙ empty in
     sym (ap (λ (xs : List ℕ). xs ++ reverse items)
     (ap (λ (xs : List ℕ). wanted_up_to (queue_actions v) v.commit (sent_positions v s) pos xs) both ∙ whole-nil (makes_wanted v s) pos))
     ∙ whole
+
+-- The same, where the last was to be taken off the wanted ones.
+pub seen-all : (v : QueueView) (s pos : ℕ) (all wanted rest items : List ℕ) (next : Option ℕ) → next ≡ None → wanted ≡ rest ++ option_to_list next → IfNone next (rest ≡ []) →
+    wanted_up_to (queue_actions v) v.commit (sent_positions v s) pos wanted ++ reverse items ≡ all → reverse items ≡ all
+seen-all v s pos all wanted rest items next none is last whole =
+    all-taken v s pos all rest items next none last
+    (ap (λ (xs : List ℕ). wanted_up_to (queue_actions v) v.commit (sent_positions v s) pos xs ++ reverse items) (sym is) ∙ whole)
 
 -- How it begins.
 pub start-unsent : (v : QueueView) (s pos : ℕ) (wanted : List ℕ) → IsUncommitted v pos → is_in pos (sent_positions v s) ≡ false →

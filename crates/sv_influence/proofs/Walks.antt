@@ -1,12 +1,13 @@
 -- The walk from the last position downwards with the set of the objects read so far meets just the positions of the influence.
 use Rattle.std.proofs.Common.{◌≡◌, ℕ, zero, suc, ◌<◌, ◌≤◌, ◌+◌, ◌-◌, inl, inr, Bool, true, false, ◌||◌, List, [], ◌∷◌, length, refl, sym, ◌∙◌, ap, subst, arith}
-use Rattle.std.proofs.lemmas.Bool.{cases_eq, cases_lt, false_from_ne_true, or_cases, or_left, or_right, cond_both}
+use Rattle.std.proofs.lemmas.Bool.{cases_eq, cases_lt, false_from_ne_true, or_cases, or_left, or_right}
 use Rattle.std.specs.List.{list_any}
 use Rattle.sv_world.specs.declared.action.Action.{Action}
-use Rattle.sv_world.specs.Sets.{read_set, write_set, at_mask, is_in_mask}
+use Rattle.sv_world.specs.Sets.{read_set, write_set}
 use Rattle.sv_world.specs.Control.{is_in, action_at, last_writer, influence, IsInfluence, direct, further}
 use Rattle.sv_world.proofs.Members.{is_in-head, is_in-tail, is_in-cons_cases, same_test, any_from, any_parts}
 use Rattle.sv_world.proofs.Writers.{last_writer-below, last_writer-writes, last_writer-unwritten}
+use Rattle.sv_world.proofs.Written.{written_is_read}
 use Rattle.sv_world.proofs.Influences.{influence-iff, influence-bounds, influence-direct, influence-closed, influence-ascending}
 use Rattle.sv_influence.proofs.Counts.{above, above-in, above-parts, above-ascending, above-none, above-all, above-miss, ascending-few}
 use Rattle.sv_influence.proofs.Places.{or_swap}
@@ -31,22 +32,6 @@ are_read-parts A x (m ∷ ms) h =
       | inl e ↦ (m, (is_in-head m ms, e))
       | inr r ↦ (let p = are_read-parts A x ms r in (p.0, (is_in-tail p.0 m ms p.1.0, p.1.1)))
     ]
-
--- What an action writes it reads.
-masked_in : (mask k x : ℕ) (xs : List ℕ) → is_in x (at_mask mask k xs) ≡ true → is_in x xs ≡ true
-masked_in mask k x [] h = h
-masked_in mask k x (y ∷ ys) h =
-    let rest = masked_in mask (k + 1) x ys in
-    cond_both (is_in_mask mask k) (y ∷ at_mask mask (k + 1) ys) (at_mask mask (k + 1) ys) (λ (zs : List ℕ). is_in x zs ≡ true → is_in x (y ∷ ys) ≡ true)
-    (λ e g. elim (is_in-cons_cases x y (at_mask mask (k + 1) ys) g) [
-      | inl s ↦ subst (λ (z : ℕ). is_in x (z ∷ ys) ≡ true) s (is_in-head x ys)
-      | inr r ↦ is_in-tail x y ys (rest r)
-    ])
-    (λ e g. is_in-tail x y ys (rest g))
-    h
-
-pub written_is_read : (a : Action) (x : ℕ) → is_in x (write_set a) ≡ true → is_in x (read_set a) ≡ true
-written_is_read a x h = masked_in a.mask 0 x (read_set a) h
 
 -- A position writes an object that a later one of the influence, or the action, reads: then it is in the influence, or another one between is, which reads the object too.
 -- `most` bounds how far the reader is.

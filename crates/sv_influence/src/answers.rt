@@ -10,6 +10,17 @@ pub struct Closure {
     pub head: List<ObjectId>,
 }
 
+/// What objects are at one position, for a session that acts on none of them.
+#[derive(Debug, Drop)]
+pub struct Cut {
+    /// The position.
+    pub last: u32,
+    /// The positions of the actions that the session lacks, ascending.
+    pub items: List<u32>,
+    /// The objects of the base values, ascending.
+    pub head: List<ObjectId>,
+}
+
 /// How much influences a new action.
 #[derive(Clone, Copy, Debug, Drop, PartialEq, Eq)]
 pub struct Chain {

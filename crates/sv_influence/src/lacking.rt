@@ -1,9 +1,11 @@
 //! What a session lacks of a position, by the sources of what it reads.
-ghost use Rattle.std.specs.Prelude.{◌≡◌, ℕ, ◌+◌, ◌*◌, ◌<◌, ◌≤◌, true, [], ◌∷◌, ◌++◌, map, length, slice_index_or, option_to_list, IfOk, OnOk, All};
+ghost use Rattle.std.specs.Prelude.{◌≡◌, ◌≢◌, ℕ, ◌+◌, ◌*◌, ◌<◌, ◌≤◌, true, [], ◌∷◌, ◌++◌, map, length, slice_index_or, option_to_list, IfOk, OnOk, All};
 ghost use Rattle.sv_world.specs.declared.world.ObjectId.{ObjectId};
 ghost use Rattle.sv_world.specs.Control.{is_in, action_at, wanted_up_to};
-ghost use Rattle.sv_queue.specs.Queue.{IsUncommitted, queue_actions, sent_positions};
-ghost use Rattle.sv_influence.specs.Lacking.{lacking, base_objects, lacking_writers, committed_reads, reads_at};
+ghost use Rattle.sv_world.specs.Faults.{is_ascending};
+ghost use Rattle.sv_world.specs.Sets.{numbers_of};
+ghost use Rattle.sv_queue.specs.Queue.{IsUncommitted, last_position, queue_actions, sent_positions};
+ghost use Rattle.sv_influence.specs.Lacking.{lacking, base_objects, lacking_of, lacking_writers, base_of, committed_reads, reads_at};
 ghost use Rattle.sv_influence.specs.Writers.{most_look_ups};
 
 use crate::answers::Closure;
@@ -31,14 +33,9 @@ pub fn closure<L: Ledger>(
     ensures ticks { steps.new ≤ steps.old + most_look_ups * length (lacking queue.now session pos) + 1 }
 {
     let found = expand_all(alloc, queue, session, pos, steps)?;
-    let Found { items, bases } = found;
     let shape = queue.shape();
     prove!(shape.objects <= MOST_OBJECTS);
-    let head = objects_of(alloc, bases.as_slice())?;
-    Ok(Closure {
-        items: List::from_vec(items),
-        head,
-    })
+    listed(alloc, found)
 }
 
 /// The position itself, where the session lacks it.
@@ -62,9 +59,24 @@ fn first_wanted<L: Ledger>(
 
 /// The positions that were wanted, and the objects that these read as committed; both ascending.
 #[derive(Drop)]
-struct Found {
-    items: Vec<u32>,
-    bases: Numbers,
+pub struct Found {
+    pub items: Vec<u32>,
+    pub bases: Numbers,
+}
+
+/// The positions and the objects as lists.
+pub fn listed(alloc: Global, found: Found) -> Result<Closure, AllocError>
+    requires { All (λ x. x < 65536) found.bases }
+    ensures items { IfOk result (λ c. c.items ≡ found.items.items) }
+    ensures head { IfOk result (λ c. map (λ (o : ObjectId). o.0) c.head ≡ found.bases) }
+    ensures ascending { is_ascending found.bases ≡ true }
+{
+    let Found { items, bases } = found;
+    let head = objects_of(alloc, bases.as_slice())?;
+    Ok(Closure {
+        items: List::from_vec(items),
+        head,
+    })
 }
 
 /// Takes the greatest wanted position, until there is none. What it makes wanted lies below it, so each comes once. The greatest is held
@@ -97,9 +109,9 @@ fn expand_all<L: Ledger>(
 
 /// The positions that are wanted and not looked at yet, and the objects that are read as committed.
 #[derive(Drop)]
-struct Missing {
-    wanted: Numbers,
-    bases: Numbers,
+pub struct Missing {
+    pub wanted: Numbers,
+    pub bases: Numbers,
 }
 
 /// What a position reads in a slot.
@@ -111,7 +123,7 @@ struct ReadSlot {
 }
 
 impl Missing {
-    fn new(alloc: Global) -> Missing
+    pub fn new(alloc: Global) -> Missing
         ensures wanted { result.wanted ≡ [] }
         ensures bases { result.bases ≡ [] }
     {
@@ -122,7 +134,7 @@ impl Missing {
     }
 
     /// Looks at each object that a position reads.
-    fn expand<L: Ledger>(
+    pub fn expand<L: Ledger>(
         &mut self,
         queue: &Queue,
         session: u16,
@@ -147,8 +159,28 @@ impl Missing {
         Ok(())
     }
 
-    /// Where the last writer of an object that is read is committed the object is needed, unless it was given; where it is not, the writer is,
-    /// unless it was sent.
+    /// Looks at each of these objects, as they are read below a position.
+    pub fn read_below<L: Ledger>(
+        &mut self,
+        queue: &Queue,
+        session: u16,
+        objects: &[ObjectId],
+        pos: u32,
+        steps: &mut Steps<L>,
+    ) -> Result<(), AllocError>
+        requires objects { All (λ x. x < queue.now.shape.objects) (numbers_of objects.now) }
+        requires pos { pos ≤ last_position queue.now + 1 }
+        ensures wanted { OnOk result ((j : ℕ) → is_in j self.new.wanted ≡ is_in j (lacking_writers queue.now session pos (numbers_of objects.now) ++ self.old.wanted)) }
+        ensures bases { OnOk result ((x : ℕ) → is_in x self.new.bases ≡ is_in x (committed_reads queue.now session pos (numbers_of objects.now) ++ self.old.bases)) }
+        ensures ticks { steps.new ≤ steps.old + 2 * length objects.now }
+    {
+        for object in objects {
+            let writer = queue.last_writer(*object, pos, steps);
+            self.add_writer(queue, session, *object, writer, steps)?;
+        }
+        Ok(())
+    }
+
     fn look_up<L: Ledger>(
         &mut self,
         queue: &Queue,
@@ -164,8 +196,26 @@ impl Missing {
         ensures bases { OnOk result ((x : ℕ) → is_in x self.new.bases ≡ is_in x (committed_reads queue.now session read.pos (read.object.0 ∷ []) ++ self.old.bases)) }
         ensures ticks { steps.new ≤ steps.old + 2 }
     {
-        let object = read.object;
         let writer = queue.source(read.pos, read.slot, steps);
+        self.add_writer(queue, session, read.object, writer, steps)
+    }
+
+    /// Where the last writer of an object that is read is committed the object is needed, unless it was given; where it is not, the writer is,
+    /// unless it was sent.
+    fn add_writer<L: Ledger>(
+        &mut self,
+        queue: &Queue,
+        session: u16,
+        object: ObjectId,
+        writer: u32,
+        steps: &mut Steps<L>,
+    ) -> Result<(), AllocError>
+        requires object { object.0 < queue.now.shape.objects }
+        requires writer { writer ≢ 0 → IsUncommitted queue.now writer }
+        ensures wanted { OnOk result ((j : ℕ) → is_in j self.new.wanted ≡ is_in j (lacking_of queue.now session (writer ∷ []) ++ self.old.wanted)) }
+        ensures bases { OnOk result ((x : ℕ) → is_in x self.new.bases ≡ is_in x (base_of queue.now session writer object.0 ++ self.old.bases)) }
+        ensures ticks { steps.new ≤ steps.old + 1 }
+    {
         if writer == 0 {
             if !queue.is_given(object, session) {
                 self.bases.insert(u32::from(object.0))?;

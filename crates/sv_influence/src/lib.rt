@@ -2,6 +2,7 @@
 #![tactic(auto)]
 
 mod answers;
+mod cuts;
 mod influence;
 mod lacking;
 mod numbers;
@@ -9,7 +10,8 @@ mod objects;
 mod plain;
 mod wanted;
 
-pub use answers::{Chain, Closure};
+pub use answers::{Chain, Closure, Cut};
+pub use cuts::cut;
 pub use influence::chain;
 pub use lacking::closure;
 pub use plain::plain_closure;

@@ -1,21 +1,21 @@
 -- The actions that a server accepted are good, whatever results it keeps.
-use Rattle.std.proofs.Common.{◌≡◌, ℕ, suc, List, [], ◌∷◌, ◌++◌, length, None, refl, sym, subst, arith}
+use Rattle.std.proofs.Common.{◌≡◌, ℕ, suc, List, [], ◌∷◌, ◌++◌, length, None, refl, sym, subst}
 use Rattle.std.specs.List.{AllByRecursion}
-use Rattle.std.proofs.lemmas.Bool.{eq-eqb, ne_eqb}
 use Rattle.std.proofs.lemmas.List.Elements.{All-from_recursion}
 use Rattle.sv_world.specs.declared.world.Shape.{Shape}
 use Rattle.sv_world.specs.Faults.{first_fault_of_action}
+use Rattle.sv_world.specs.Sets.{numbers_of}
 use Rattle.sv_wire.specs.declared.message.Request.{Request}
 use Rattle.sv_journal.specs.declared.entry.Entry.{Entry}
 use Rattle.sv_journal.specs.declared.entry.Logged.{Logged}
-use Rattle.sv_journal.specs.History.{client_of, outcomes_of, Accepted, Authored, accepted, actions_of, next_seq}
+use Rattle.sv_journal.specs.History.{Authored, accepted, actions_of}
 use Rattle.sv_journal.specs.Answer.{Rules, relay_of}
 use Rattle.sv_journal.specs.Serving.{Keeping, plain, reply_for, LegalFor, IsKeeping}
 use Rattle.sv_journal.specs.Laws.{LegalActionsAreGood, ServedActionsAreGood}
 use Rattle.sv_journal.proofs.Commits.{new_by}
 use Rattle.sv_journal.proofs.Plain.{plain-keeping, plain-legal}
-use Rattle.sv_journal.proofs.Replies.{each_reply}
-use Rattle.sv_journal.proofs.Sizes.{entry_of, kept_known, not_by_poll}
+use Rattle.sv_journal.proofs.Replies.{seen_now, each_reply}
+use Rattle.sv_journal.proofs.Sizes.{entry_of, none_again, none_polled, one_fresh}
 
 abbrev pub IsGood : Shape → Authored → Type 0
 IsGood shape a = first_fault_of_action shape a.action ≡ None
@@ -34,16 +34,18 @@ with_new shape e h new is good inv =
 good_kept : (k : Keeping) → IsKeeping k → (r : Rules) (h : List Entry) (s : ℕ) (q : Request) → AreGood r.world.shape h →
     AreGood r.world.shape (entry_of s q (reply_for k r h s q) ∷ h)
 good_kept k law r h s q inv = each_reply k law r h s (λ w. AreGood r.world.shape (entry_of s q w ∷ h)) q (record {
-  other = λ w e. with_new r.world.shape (entry_of s q w) h [] (rw e refl) tt inv;
+  other = λ w e f. with_new r.world.shape (entry_of s q w) h [] (rw e refl) tt inv;
   fresh = λ j seq a client asked next good chain.
-      with_new r.world.shape (entry_of s q (relay_of r (k.kept h) (actions_of h ++ a ∷ []) s seq (suc (length (actions_of h))))) h (record { client = j; seq = seq; action = a } ∷ [])
-      (rw (client, asked, eq-eqb seq (next_seq h j) next) refl) (good, tt) inv;
+      let w = relay_of r (k.kept h) (actions_of h ++ a ∷ []) s seq (suc (length (actions_of h))) in
+      with_new r.world.shape (entry_of s q w) h (record { client = j; seq = seq; action = a } ∷ []) (one_fresh h s j seq q a w client asked next refl) (good, tt) inv;
   again = λ j seq p a client asked kept above.
-      with_new r.world.shape (entry_of s q (relay_of r (k.kept h) (actions_of h) s seq p)) h []
-      (rw (client, asked, ne_eqb seq (next_seq h j) (λ e. omega (arith, e, kept_known h j seq (Accepted p) kept))) refl) tt inv;
+      let w = relay_of r (k.kept h) (actions_of h) s seq p in
+      with_new r.world.shape (entry_of s q w) h [] (none_again h s j seq p q a w client asked kept refl) tt inv;
   poll = λ j p ps client asked open_still first.
-      with_new r.world.shape (entry_of s q (relay_of r (k.kept h) (actions_of h) s 0 p)) h []
-      (rw asked (not_by_poll (client_of h s) (λ i. suc (length (outcomes_of h i))))) tt inv;
+      let w = relay_of r (k.kept h) (actions_of h) s 0 p in
+      with_new r.world.shape (entry_of s q w) h [] (none_polled h s q w asked refl) tt inv;
+  seen = λ j wait objects client asked open_still good.
+      with_new r.world.shape (entry_of s q (seen_now r (k.kept h) (actions_of h) s (numbers_of objects))) h [] refl tt inv;
 })
 
 pub served_good : (k : Keeping) → IsKeeping k → (r : Rules) (h : List Entry) → LegalFor k r h → AreGood r.world.shape h

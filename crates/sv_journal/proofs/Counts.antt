@@ -1,13 +1,14 @@
--- How many objects a relay's base values have.
-use Rattle.std.proofs.Common.{◌≡◌, ℕ, zero, suc, ◌+◌, ◌*◌, ◌≤◌, Bool, true, false, not, ◌&&◌, ◌||◌, nat_eq, nat_le, ◌⊎◌, inl, inr, List, [], ◌∷◌, ◌++◌, filter, length, refl, arith}
+-- How many objects the base values of a reply have.
+use Rattle.std.proofs.Common.{◌≡◌, ℕ, zero, suc, ◌+◌, ◌*◌, ◌≤◌, Bool, true, false, not, ◌&&◌, ◌||◌, nat_eq, nat_le, ◌⊎◌, inl, inr, List, [], ◌∷◌, ◌++◌, filter, length, take, refl, ap, arith, length-append}
 use Rattle.std.specs.Prelude.{if◌then◌else◌}
 use Rattle.std.specs.List.{AllByRecursion}
 use Rattle.std.proofs.lemmas.Bool.{cases_eq, ne_eqb, and_parts}
 use Rattle.std.proofs.lemmas.List.{length-map}
 use Rattle.sv_world.specs.declared.action.Action.{Action}
 use Rattle.sv_world.specs.declared.world.ObjectId.{ObjectId}
-use Rattle.sv_world.specs.Sets.{read_set}
-use Rattle.sv_world.specs.Control.{is_in, below, action_at, last_writer, reads_committed, needed_for, head_for}
+use Rattle.sv_world.specs.Sets.{object_numbered, read_set}
+use Rattle.sv_world.specs.Control.{is_in, below, action_at, last_writer, reads_committed, needed_for, head_for, reading, with_reading, up_to, needed_to_see, head_to_see}
+use Rattle.sv_world.proofs.Seeing.{see-ends}
 
 -- ---- What passes a test
 
@@ -112,3 +113,24 @@ not_given A commit n given ks few =
 pub head_count : (objects : ℕ) (A : List Action) (commit : ℕ) (sent given : List ℕ) (i : ℕ) → FewReads A →
     length (head_for objects A commit sent given i) ≤ 16 * length (needed_for A commit sent i)
 head_count objects A commit sent given i few = not_given A commit objects given (needed_for A commit sent i) few
+
+-- ---- What is seen
+
+pub one_more : (A : List Action) (a : Action) → FewReads A → length a.reads ≤ 16 → FewReads (A ++ a ∷ [])
+one_more [] a few last = (last, tt)
+one_more (x ∷ A) a few last = (few.0, one_more A a few.1 last)
+
+few_front : (n : ℕ) (A : List Action) → FewReads A → FewReads (take n A)
+few_front zero A few = tt
+few_front (suc n) [] few = tt
+few_front (suc n) (a ∷ A) few = (few.0, few_front n A few.1)
+
+few_with_reading : (A : List Action) (n : ℕ) (xs : List ℕ) → FewReads A → length xs ≤ 16 → FewReads (with_reading A n xs)
+few_with_reading A n xs few short = one_more (take n A) (reading xs) (few_front n A few) (omega (arith, length-map xs object_numbered, short))
+
+pub seen_count : (objects : ℕ) (A : List Action) (commit : ℕ) (sent given xs : List ℕ) (n : ℕ) → FewReads A → length xs ≤ 16 → commit ≤ n →
+    length (head_to_see objects A commit sent given xs n) ≤ 16 * (length (needed_to_see A commit sent xs n) + 1)
+seen_count objects A commit sent given xs n few short low =
+    let count = head_count objects (with_reading A n xs) commit (up_to n sent) given (suc n) (few_with_reading A n xs few short) in
+    let needed = ap (λ (ps : List ℕ). length ps) (see-ends A commit sent xs n low) in
+    omega (arith, count, needed, length-append (needed_to_see A commit sent xs n) (suc n ∷ []))

@@ -1,5 +1,6 @@
 -- The lemmas of this crate, file by file.
 mod Checked
+pub mod Closed
 pub mod Commits
 mod Counts
 mod Filling

@@ -9,6 +9,8 @@ use Rattle.sv_world.specs.declared.world.ObjectId.{ObjectId}
 use Rattle.sv_world.specs.declared.world.Shape.{Shape}
 use Rattle.sv_world.specs.Control.{blank}
 use Rattle.sv_world.specs.Faults.{first_fault_of_action, IsGoodAction}
+use Rattle.sv_world.specs.Sets.{numbers_of}
+use Rattle.sv_world.proofs.Greatest.{cut-low}
 use Rattle.sv_wire.specs.declared.message.Done1.{Done1}
 use Rattle.sv_wire.specs.declared.message.Item.{Item}
 use Rattle.sv_wire.specs.declared.message.Request.{Request}
@@ -18,19 +20,19 @@ use Rattle.sv_journal.specs.declared.entry.Entry.{Entry}
 use Rattle.sv_journal.specs.declared.entry.Logged.{Logged}
 use Rattle.sv_journal.specs.declared.entry.Logged.TheVariants as logged
 use Rattle.sv_journal.specs.History.{is_noted, Authored, accepted, actions_of, commit_of, item_at, full_reply}
-use Rattle.sv_journal.specs.Sessions.{positions_in}
+use Rattle.sv_journal.specs.Sessions.{positions_in, sent_to}
 use Rattle.sv_journal.specs.Answer.{Rules, refused, relay_of, committed_held, is_bad_result, is_bad_done}
 use Rattle.sv_journal.specs.Serving.{Keeping, plain, reply_for, LegalFor, with_results, IsKeeping}
 use Rattle.sv_journal.specs.Text.{NamesAccepted}
-use Rattle.sv_journal.specs.Laws.{AreWithinLimits, LegalRepliesAreMessages, ServedRepliesAreMessages}
+use Rattle.sv_journal.specs.Laws.{most_sent, AreWithinLimits, LegalRepliesAreMessages, ServedRepliesAreMessages}
 use Rattle.sv_journal.proofs.Plain.{plain-keeping, plain-legal}
-use Rattle.sv_journal.proofs.Replies.{each_row}
+use Rattle.sv_journal.proofs.Replies.{cut_for, seen_now, each_row}
 use Rattle.sv_journal.proofs.Named.{NeededWithin, all_named}
 use Rattle.sv_journal.proofs.Sizes.{SizeWithin, entry_of, all_small}
 use Rattle.sv_journal.proofs.Checked.{IsGood, AreGood, served_good}
-use Rattle.sv_journal.proofs.Counts.{FewReads}
+use Rattle.sv_journal.proofs.Counts.{FewReads, one_more}
 use Rattle.sv_journal.proofs.Results.{AreResults, results_quiet, results_noted, some_good}
-use Rattle.sv_journal.proofs.Heads.{HeadAscends, HeadWithin, IsHead, wire_head, relay_head, welcome_head}
+use Rattle.sv_journal.proofs.Heads.{HeadAscends, HeadWithin, IsHead, wire_head, relay_head, seen_head, welcome_head, observed_few}
 
 -- A law of sv_world: what holds of an action that no cause applies to.
 abbrev pub GoodWhereNone : Type 0
@@ -41,16 +43,13 @@ GoodWhereNone = (shape : Shape) (a : Action) → first_fault_of_action shape a �
 abbrev Fits : Logged → Type 0
 Fits (logged.Welcome commit head) = IsHead 64 head
 Fits (logged.Relay seq commit head positions) = IsHead (16 * length positions) head
+Fits (logged.Seen last commit head positions) = IsHead (16 * (length positions + 1)) head
 Fits (logged.Refused code detail) = (1 ≤ code) × (code ≤ 11)
 Fits _ = Unit {0}
 
 few_reads : GoodWhereNone → (shape : Shape) (A : List Authored) → AllByRecursion (IsGood shape) A → FewReads (map (λ (x : Authored). x.action) A)
 few_reads law shape [] good = tt
 few_reads law shape (a ∷ A) good = ((law shape a.action good.0).few_reads, few_reads law shape A good.1)
-
-one_more : (A : List Action) (a : Action) → FewReads A → length a.reads ≤ 16 → FewReads (A ++ a ∷ [])
-one_more [] a few last = (last, tt)
-one_more (x ∷ A) a few last = (few.0, one_more A a few.1 last)
 
 abbrev Keeps : Keeping → Rules → List Entry → ℕ → Request → Logged → Type 0
 Keeps k r h s q w = AreResults r.world.shape.attrs (k.kept (entry_of s q w ∷ h)) × Fits w
@@ -91,6 +90,7 @@ fits_here ascends within none_good k law r h s q limits good results = each_row 
       relay (actions_of h ++ a ∷ []) seq (suc (length (actions_of h))) (one_more (actions_of h) a few (none_good r.world.shape a none).few_reads);
   again = λ j seq p a client asked kept above. relay (actions_of h) seq p few;
   poll = λ j p ps client asked open_still first. relay (actions_of h) 0 p few;
+  seen = λ j wait objects client asked open_still fine. shown (numbers_of objects) (observed_few r.world.shape.objects (numbers_of objects) fine);
 })
   where
     few : FewReads (actions_of h)
@@ -98,6 +98,12 @@ fits_here ascends within none_good k law r h s q limits good results = each_row 
 
     relay : (A : List Action) (seq i : ℕ) → FewReads A → Keeps k r h s q (relay_of r (k.kept h) A s seq i)
     relay A seq i reads = quiet k law r h s q results (relay_of r (k.kept h) A s seq i) refl (relay_head ascends within r (k.kept h) A s i limits results reads)
+
+    shown : (xs : List ℕ) → length xs ≤ 16 → Keeps k r h s q (seen_now r (k.kept h) (actions_of h) s xs)
+    shown xs short =
+        quiet k law r h s q results (seen_now r (k.kept h) (actions_of h) s xs) refl
+        (seen_head ascends within r (k.kept h) (actions_of h) s xs (cut_for (k.kept h) (actions_of h) s xs) limits results few short
+        (cut-low (actions_of h) (commit_of (k.kept h)) (sent_to (k.kept h) s) xs))
 
 all_fit : HeadAscends → HeadWithin → GoodWhereNone → (k : Keeping) → IsKeeping k → (r : Rules) (h : List Entry) → AreWithinLimits r → LegalFor k r h →
     AreResults r.world.shape.attrs (k.kept h) × AllByRecursion (λ (e : Entry). Fits e.reply) h
@@ -131,23 +137,29 @@ wire_items law shape A [] good named = tt
 wire_items law shape A (p ∷ ps) good named = (wire_item law shape A p good named.0.0 named.0.1, wire_items law shape A ps good named.1)
 
 wire_reply : GoodWhereNone → (r : Rules) (A : List Authored) (w : Logged) → r.bound ≤ 32 → AllByRecursion (IsGood r.world.shape) A → NamesAccepted (length A) w →
-    length (positions_in w) ≤ r.bound + 1 → Fits w → IsWireReply (full_reply A w)
-wire_reply law r A (logged.Welcome commit head) bound good named small fits = wire_head 64 head (omega arith) fits
+    length (positions_in w) ≤ most_sent r w → Fits w → IsWireReply (full_reply A w)
+wire_reply law r A (logged.Welcome commit head) bound good named small fits = wire_head 64 528 head (omega arith) fits
 wire_reply law r A (logged.Relay seq commit head positions) bound good named small fits = record {
-  base = wire_head (16 * length positions) head (omega (arith, small, bound)) fits;
+  base = wire_head (16 * length positions) 528 head (omega (arith, small, bound)) fits;
   few = omega (arith, length-map positions (item_at A), small, bound);
   each = All-from_recursion (λ (i : Item). IsWireAction i.action) (map (item_at A) positions)
       (wire_items law r.world.shape A positions good (recursion_from_All (λ p. (1 ≤ p) × (p ≤ length A)) positions named));
 }
 wire_reply law r A (logged.Dropped seq chain far) bound good named small fits = tt
+wire_reply law r A (logged.Seen last commit head positions) bound good named small fits = record {
+  base = wire_head (16 * (length positions + 1)) 544 head (omega (arith, small)) fits;
+  few = omega (arith, length-map positions (item_at A), small);
+  each = All-from_recursion (λ (i : Item). IsWireAction i.action) (map (item_at A) positions)
+      (wire_items law r.world.shape A positions good (recursion_from_All (λ p. (1 ≤ p) × (p ≤ length A)) positions named));
+}
 wire_reply law r A (logged.Settled seq pos) bound good named small fits = tt
 wire_reply law r A (logged.Noted commit) bound good named small fits = tt
 wire_reply law r A logged.Idle bound good named small fits = tt
-wire_reply law r A (logged.Refused code detail) bound good named small fits = fits
+wire_reply law r A (logged.Refused code detail) bound good named small fits = (fits.0, omega (arith, fits.1))
 wire_reply law r A logged.Bye bound good named small fits = tt
 
 wire_replies : GoodWhereNone → (r : Rules) (A : List Authored) (h : List Entry) → r.bound ≤ 32 → AllByRecursion (IsGood r.world.shape) A →
-    AllByRecursion (λ (e : Entry). NamesAccepted (length A) e.reply) h → AllByRecursion (λ (e : Entry). length (positions_in e.reply) ≤ r.bound + 1) h →
+    AllByRecursion (λ (e : Entry). NamesAccepted (length A) e.reply) h → AllByRecursion (λ (e : Entry). length (positions_in e.reply) ≤ most_sent r e.reply) h →
     AllByRecursion (λ (e : Entry). Fits e.reply) h → AllByRecursion (λ (e : Entry). IsWireReply (full_reply A e.reply)) h
 wire_replies law r A [] bound good named small fits = tt
 wire_replies law r A (e ∷ h) bound good named small fits =

@@ -1,21 +1,24 @@
--- The relays of a server name accepted actions, whatever results it keeps.
-use Rattle.std.proofs.Common.{reverse, ◌≡◌, ℕ, zero, suc, ◌+◌, ◌-◌, ◌<◌, ◌≤◌, Bool, true, false, ◌&&◌, ◌||◌, nat_eq, List, [], ◌∷◌, ◌++◌, length, get_or, All, Option, Some, None, refl, sym, ap, subst, ◌∙◌, arith, length-append}
-use Rattle.std.specs.Prelude.{if◌then◌else◌, nat_le, slice_get}
+-- The replies of a server name accepted actions, whatever results it keeps.
+use Rattle.std.proofs.Common.{reverse, ◌≡◌, ℕ, zero, suc, ◌+◌, ◌-◌, ◌<◌, ◌≤◌, Bool, true, false, ◌&&◌, ◌||◌, nat_eq, List, [], ◌∷◌, ◌++◌, length, get_or, All, Option, Some, None, inl, inr, refl, sym, ap, subst, ◌∙◌, arith, length-append, true≢false}
+use Rattle.std.specs.Prelude.{if◌then◌else◌, ◌==◌, nat_le, slice_get}
 use Rattle.std.specs.List.{AllByRecursion}
 use Rattle.std.proofs.lemmas.Bool.{cond_both, eq-eqb, eqb-true, and_parts}
 use Rattle.std.proofs.lemmas.List.{length-map, reverse-reverse, length-reverse, get_or-reverse}
 use Rattle.std.proofs.lemmas.Option.{slice_get_within}
-use Rattle.std.proofs.lemmas.List.Elements.{All-from_recursion}
+use Rattle.std.proofs.lemmas.List.Elements.{All-from_recursion, recursion_from_All}
 use Rattle.sv_world.specs.declared.action.Action.{Action}
-use Rattle.sv_world.specs.Control.{is_in, needed_for}
-use Rattle.sv_world.proofs.Members.{is_in-head}
+use Rattle.sv_world.specs.Control.{is_in, needed_for, needed_to_see}
+use Rattle.sv_world.specs.Sets.{numbers_of}
+use Rattle.sv_world.proofs.Greatest.{cut-high}
+use Rattle.sv_world.proofs.Members.{is_in-head, is_in-cons_cases, is_in-append_cases}
+use Rattle.sv_world.proofs.Seeing.{see-bounds}
 use Rattle.sv_wire.specs.declared.message.Request.{Request}
 use Rattle.sv_wire.specs.declared.message.Request.TheVariants as requests
 use Rattle.sv_journal.specs.declared.entry.Entry.{Entry}
 use Rattle.sv_journal.specs.declared.entry.Logged.{Logged}
 use Rattle.sv_journal.specs.declared.entry.Logged.TheVariants as logged
 use Rattle.sv_journal.specs.History.{is_relay, client_of, outcomes_of, Outcome, Accepted, Dropped, outcome_in, is_client, is_submit_of, Authored, accepted, actions_of, next_seq, commit_of}
-use Rattle.sv_journal.specs.Sessions.{kept_count, outcome_at, kept_outcome, sent_to}
+use Rattle.sv_journal.specs.Sessions.{kept_count, outcome_at, kept_outcome, positions_in, sent_to}
 use Rattle.sv_journal.specs.Answer.{Rules, relay_of}
 use Rattle.sv_journal.specs.Serving.{Keeping, plain, reply_for, LegalFor, IsKeeping}
 use Rattle.sv_journal.specs.Text.{NamesAccepted, RelaysNameAccepted}
@@ -23,7 +26,7 @@ use Rattle.sv_journal.specs.Laws.{LegalRelaysNameAccepted, ServedRelaysNameAccep
 use Rattle.sv_journal.proofs.Commits.{accepted_grow}
 use Rattle.sv_journal.proofs.Kept.{commit_within-kept}
 use Rattle.sv_journal.proofs.Plain.{plain-keeping, plain-legal}
-use Rattle.sv_journal.proofs.Replies.{each_reply}
+use Rattle.sv_journal.proofs.Replies.{cut_for, seen_now, is_seen, each_reply}
 
 -- A law of sv_world: the positions of a relay stand above the commit, and not past its own.
 abbrev pub NeededWithin : Type 0
@@ -79,6 +82,7 @@ submit_is (requests.Submit seq action) n e = (action, ap (λ (m : ℕ). requests
 submit_is (requests.Join client life interest) n e = cc
 submit_is (requests.Done results) n e = cc
 submit_is requests.Poll n e = cc
+submit_is (requests.Observe objects wait) n e = cc
 submit_is requests.Leave n e = cc
 submit_is requests.Bad n e = cc
 submit_is requests.End n e = cc
@@ -88,6 +92,7 @@ told_within : (e : Entry) (h : List Entry) (k : ℕ) → client_of h e.session �
 told_within e h k client a asked (logged.Relay seq commit head positions) is =
     (omega (arith, accepted_one_more e h k (next_seq h k) a (ap is_relay is) client asked refl), tt)
 told_within e h k client a asked (logged.Dropped seq chain far) is = (tt, tt)
+told_within e h k client a asked (logged.Seen last commit head positions) is = tt
 told_within e h k client a asked (logged.Welcome commit head) is = tt
 told_within e h k client a asked (logged.Settled seq pos) is = tt
 told_within e h k client a asked (logged.Noted commit) is = tt
@@ -137,24 +142,33 @@ entry_of s q w = record { session = s; request = q; reply = w }
 abbrev Named : List Entry → ℕ → Request → Logged → Type 0
 Named h s q w = NamesAccepted (length (accepted (entry_of s q w ∷ h))) w
 
-not_relayed : (h : List Entry) (s : ℕ) (q : Request) (w : Logged) → is_relay w ≡ false → Named h s q w
-not_relayed h s q (logged.Relay seq commit head positions) e = absurd (cc)
-not_relayed h s q (logged.Welcome commit head) e = tt
-not_relayed h s q (logged.Dropped seq chain far) e = tt
-not_relayed h s q (logged.Settled seq pos) e = tt
-not_relayed h s q (logged.Noted commit) e = tt
-not_relayed h s q logged.Idle e = tt
-not_relayed h s q (logged.Refused code detail) e = tt
-not_relayed h s q logged.Bye e = tt
+not_sent : (h : List Entry) (s : ℕ) (q : Request) (w : Logged) → is_relay w ≡ false → is_seen w ≡ false → Named h s q w
+not_sent h s q (logged.Relay seq commit head positions) e f = absurd (cc)
+not_sent h s q (logged.Welcome commit head) e f = tt
+not_sent h s q (logged.Dropped seq chain far) e f = tt
+not_sent h s q (logged.Seen last commit head positions) e f = absurd (cc)
+not_sent h s q (logged.Settled seq pos) e f = tt
+not_sent h s q (logged.Noted commit) e f = tt
+not_sent h s q logged.Idle e f = tt
+not_sent h s q (logged.Refused code detail) e f = tt
+not_sent h s q logged.Bye e f = tt
 
 relay_named : NeededWithin → (r : Rules) (g h : List Entry) (s : ℕ) (q : Request) (A : List Action) (seq i : ℕ) → commit_of g < i →
     i ≤ length (accepted (entry_of s q (relay_of r g A s seq i) ∷ h)) → Named h s q (relay_of r g A s seq i)
 relay_named needed r g h s q A seq i above within =
     needed_are needed A (commit_of g) (sent_to g s) i (length (accepted (entry_of s q (relay_of r g A s seq i) ∷ h))) above within
 
+seen_named : (r : Rules) (g h : List Entry) (s : ℕ) (q : Request) (A : List Action) (xs : List ℕ) → commit_of g ≤ length A →
+    length A ≤ length (accepted (entry_of s q (seen_now r g A s xs) ∷ h)) → Named h s q (seen_now r g A s xs)
+seen_named r g h s q A xs low within = λ i d less.
+    let n = cut_for g A s xs in
+    let ps = needed_to_see A (commit_of g) (sent_to g s) xs n in
+    let at = see-bounds A (commit_of g) (sent_to g s) xs n (get_or ps i d) (in_list ps i d less) in
+    (omega (arith, at.0), omega (arith, at.1, cut-high A (commit_of g) (sent_to g s) xs low, within))
+
 named_here : NeededWithin → (k : Keeping) → IsKeeping k → (r : Rules) (h : List Entry) (s : ℕ) (q : Request) → Named h s q (reply_for k r h s q)
 named_here needed k law r h s q = each_reply k law r h s (Named h s q) q (record {
-  other = not_relayed h s q;
+  other = not_sent h s q;
   fresh = λ j seq a client asked next good chain.
       let i = suc (length (actions_of h)) in
       let w = relay_of r (k.kept h) (actions_of h ++ a ∷ []) s seq i in
@@ -167,12 +181,17 @@ named_here needed k law r h s q = each_reply k law r h s (Named h s q) q (record
       let due = first_is_in (k.due h s) p ps first in
       relay_named needed r (k.kept h) h s q (actions_of h) 0 p (law.above h s p due)
       (omega (arith, law.within h s p due, accepted_grow (entry_of s q (relay_of r (k.kept h) (actions_of h) s 0 p)) h));
+  seen = λ j wait objects client asked open_still good.
+      let count = length-map (accepted h) (λ (x : Authored). x.action) in
+      seen_named r (k.kept h) h s q (actions_of h) (numbers_of objects) (omega (arith, count, commit_within-kept k law h))
+      (omega (arith, count, accepted_grow (entry_of s q (seen_now r (k.kept h) (actions_of h) s (numbers_of objects))) h));
 })
 
 pub names_later : (m n : ℕ) (w : Logged) → m ≤ n → NamesAccepted m w → NamesAccepted n w
 names_later m n (logged.Relay seq commit head positions) le f = λ k d low. let at = f k d low in (at.0, omega (arith, le, at.1))
 names_later m n (logged.Welcome commit head) le f = tt
 names_later m n (logged.Dropped seq chain far) le f = tt
+names_later m n (logged.Seen last commit head positions) le f = λ k d low. let at = f k d low in (at.0, omega (arith, le, at.1))
 names_later m n (logged.Settled seq pos) le f = tt
 names_later m n (logged.Noted commit) le f = tt
 names_later m n logged.Idle le f = tt
@@ -190,6 +209,42 @@ all_named needed k law r (e ∷ h) legal = (
   subst (Named h e.session e.request) (sym legal.0) (named_here needed k law r h e.session e.request),
   all_names_later (length (accepted h)) (length (accepted (e ∷ h))) h (accepted_grow e h) (all_named needed k law r h legal.1),
 )
+
+-- ---- What was sent was accepted
+
+abbrev AreWithin : ℕ → List ℕ → Type 0
+AreWithin n ps = AllByRecursion (λ (p : ℕ). (1 ≤ p) × (p ≤ n)) ps
+
+member-within : (n p : ℕ) (ps : List ℕ) → AreWithin n ps → is_in p ps ≡ true → p ≤ n
+member-within n p [] all m = absurd (true≢false (sym m))
+member-within n p (q ∷ ps) all m =
+    let last : q ≤ n = all.0.1 in
+    elim (is_in-cons_cases p q ps m) [
+      | inl same ↦ omega arith
+      | inr rest ↦ member-within n p ps all.1 rest
+    ]
+
+pub named-within : (n p : ℕ) (w : Logged) → NamesAccepted n w → is_in p (positions_in w) ≡ true → p ≤ n
+named-within n p (logged.Relay seq commit head positions) all m =
+    member-within n p positions (recursion_from_All (λ (q : ℕ). (1 ≤ q) × (q ≤ n)) positions all) m
+named-within n p (logged.Seen last commit head positions) all m =
+    member-within n p positions (recursion_from_All (λ (q : ℕ). (1 ≤ q) × (q ≤ n)) positions all) m
+named-within n p (logged.Welcome commit head) all m = absurd (true≢false (sym m))
+named-within n p (logged.Dropped seq chain far) all m = absurd (true≢false (sym m))
+named-within n p (logged.Settled seq pos) all m = absurd (true≢false (sym m))
+named-within n p (logged.Noted commit) all m = absurd (true≢false (sym m))
+named-within n p logged.Idle all m = absurd (true≢false (sym m))
+named-within n p (logged.Refused code detail) all m = absurd (true≢false (sym m))
+named-within n p logged.Bye all m = absurd (true≢false (sym m))
+
+pub sent-within : (n : ℕ) (h : List Entry) (s p : ℕ) → AllByRecursion (λ (e : Entry). NamesAccepted n e.reply) h → is_in p (sent_to h s) ≡ true → p ≤ n
+sent-within n [] s p all m = absurd (true≢false (sym m))
+sent-within n (e ∷ h) s p all m =
+    let before = sent-within n h s p all.1 in
+    cond_both (e.session == s) (sent_to h s ++ positions_in e.reply) (sent_to h s) (λ (ps : List ℕ). is_in p ps ≡ true → p ≤ n)
+    (λ own f. elim (is_in-append_cases p (sent_to h s) (positions_in e.reply) f) [ inl l ↦ before l | inr l ↦ named-within n p e.reply all.0 l ])
+    (λ other f. before f)
+    m
 
 pub served_relays_name_accepted : NeededWithin → ServedRelaysNameAccepted
 served_relays_name_accepted needed k r h law legal =

@@ -7,8 +7,9 @@ use Rattle.sv_world.specs.declared.action.Action.{Action}
 use Rattle.sv_world.specs.declared.check.BadAction.{BadAction}
 use Rattle.sv_world.specs.declared.world.ObjectId.{ObjectId}
 use Rattle.sv_world.specs.Control.{is_in, below, chain_length, influence_distance}
-use Rattle.sv_world.specs.Faults.{first_fault_of_action}
+use Rattle.sv_world.specs.Faults.{first_fault_of_action, may_be_observed}
 use Rattle.sv_world.specs.Limits.{most_requests}
+use Rattle.sv_world.specs.Sets.{numbers_of}
 use Rattle.sv_world.proofs.Members.{is_in-append_cases, is_in-filter_parts}
 use Rattle.sv_world.proofs.Bases.{below-is_in}
 use Rattle.sv_wire.specs.declared.message.Request.{Request}
@@ -32,6 +33,7 @@ all-results (requests.Done results) = ap (λ ds. requests.Done ds) (all-pass res
 all-results (requests.Join client life interest) = refl
 all-results (requests.Submit seq a) = refl
 all-results requests.Poll = refl
+all-results (requests.Observe objects wait) = refl
 all-results requests.Leave = refl
 all-results requests.Bad = refl
 all-results requests.End = refl
@@ -104,6 +106,8 @@ module _ (r : Rules) (h : List Entry) (s : ℕ) where
   client-same j (requests.Submit seq a) = submit-same j seq a (kept_outcome h j seq)
   client-same j (requests.Done results) = cond_both (is_bad_done r h s results) _ _ (Same (requests.Done results)) (λ _. refl) (λ _. refl)
   client-same j requests.Poll = poll-same (orphans h)
+  client-same j (requests.Observe objects wait) =
+      cond_both (may_be_observed r.world.shape.objects (numbers_of objects)) _ _ (Same (requests.Observe objects wait)) (λ _. refl) (λ _. refl)
   client-same j (requests.Join client life interest) = refl
   client-same j requests.Leave = refl
   client-same j requests.Bad = refl
@@ -131,6 +135,7 @@ module _ (r : Rules) (h : List Entry) (s : ℕ) where
   reply-same (requests.Submit seq a) = open-same (requests.Submit seq a) _ (member-same (client_of h s) (requests.Submit seq a))
   reply-same (requests.Done results) = open-same (requests.Done results) _ (member-same (client_of h s) (requests.Done results))
   reply-same requests.Poll = open-same requests.Poll _ (member-same (client_of h s) requests.Poll)
+  reply-same (requests.Observe objects wait) = open-same (requests.Observe objects wait) _ (member-same (client_of h s) (requests.Observe objects wait))
   reply-same requests.Leave = open-same requests.Leave _ (member-same (client_of h s) requests.Leave)
   reply-same requests.Bad = open-same requests.Bad (refused_as refusals.Malformed 0) refl
   reply-same requests.End = refl

@@ -1,5 +1,5 @@
 -- The replies of a server, row by row: what holds of the reply of each row holds of every reply.
-use Rattle.std.proofs.Common.{◌≡◌, ℕ, suc, ◌<◌, ◌≤◌, true, false, ◌||◌, ◌⊎◌, inl, inr, List, [], ◌∷◌, ◌++◌, length, Option, Some, None, refl, sym, subst, ◌∙◌, arith}
+use Rattle.std.proofs.Common.{◌≡◌, ℕ, suc, ◌<◌, ◌≤◌, Bool, true, false, ◌||◌, ◌⊎◌, inl, inr, List, [], ◌∷◌, ◌++◌, length, Option, Some, None, refl, sym, subst, ◌∙◌, arith}
 use Rattle.std.specs.Prelude.{if◌then◌else◌, nat_le, nat_lt, ◌==◌, map}
 use Rattle.std.proofs.lemmas.Bool.{cond_both, ltb-false, leb-false, eqb-true, or_parts}
 use Rattle.sv_world.specs.declared.action.Action.{Action}
@@ -7,9 +7,10 @@ use Rattle.sv_world.specs.declared.check.BadAction.{BadAction}
 use Rattle.sv_world.specs.declared.check.BadAction.TheVariants.{NoReads, TooManyReads, NotAscending, NoSuchObject, BadMask, BadSlot, NotWritable, BadAttr, TooLarge, TooDeep, BadOrigin}
 use Rattle.sv_world.specs.declared.world.ClientId.{ClientId}
 use Rattle.sv_world.specs.declared.world.ObjectId.{ObjectId}
-use Rattle.sv_world.specs.Control.{chain_length, influence_distance}
-use Rattle.sv_world.specs.Faults.{first_fault_of_action, cause_number}
+use Rattle.sv_world.specs.Control.{chain_length, influence_distance, needed_to_see, head_to_see, greatest_cut}
+use Rattle.sv_world.specs.Faults.{first_fault_of_action, cause_number, may_be_observed}
 use Rattle.sv_world.specs.Limits.{most_requests}
+use Rattle.sv_world.specs.Sets.{numbers_of}
 use Rattle.sv_wire.specs.declared.message.Done1.{Done1}
 use Rattle.sv_wire.specs.declared.message.Request.{Request}
 use Rattle.sv_wire.specs.declared.message.Request.TheVariants as requests
@@ -18,10 +19,37 @@ use Rattle.sv_journal.specs.declared.entry.Entry.{Entry}
 use Rattle.sv_journal.specs.declared.entry.Logged.{Logged}
 use Rattle.sv_journal.specs.declared.entry.Logged.TheVariants as logged
 use Rattle.sv_journal.specs.History.{is_relay, client_of, Outcome, Accepted, Dropped, actions_of, next_seq, commit_of}
-use Rattle.sv_journal.specs.Sessions.{is_over, is_live, asked_in, life_of, kept_outcome}
+use Rattle.sv_journal.specs.Sessions.{is_over, is_live, asked_in, life_of, kept_outcome, positions_in, sent_to, already_given}
 use Rattle.sv_journal.specs.Answer.{Rules, refused, refused_as, relay_of, is_over_reach, committed_held, reply_to_good, reply_to_checked, reply_to_submit, is_bad_done, orphans, reply_to_poll, is_good_interest, reply_to_join, reply_to_client, reply_to_member}
 use Rattle.sv_journal.specs.Serving.{Keeping, noted_after, polled_after, with_last_rows, reply_for, IsKeeping}
 use Rattle.sv_journal.proofs.Kept.{client-kept, actions-kept, next-kept, kept_outcome-kept, over-kept, live-kept, life-kept}
+
+-- What a session sees of objects at the greatest cut, where A are the actions.
+abbrev pub seen_of : Rules → List Entry → List Action → ℕ → List ℕ → ℕ → Logged
+seen_of r h A s xs n = logged.Seen n (commit_of h)
+    (committed_held r h (head_to_see r.world.shape.objects A (commit_of h) (sent_to h s) (already_given r.world.shape.objects h s) xs n))
+    (needed_to_see A (commit_of h) (sent_to h s) xs n)
+
+abbrev pub cut_for : List Entry → List Action → ℕ → List ℕ → ℕ
+cut_for h A s xs = greatest_cut A (commit_of h) (sent_to h s) xs
+
+abbrev pub seen_now : Rules → List Entry → List Action → ℕ → List ℕ → Logged
+seen_now r h A s xs = seen_of r h A s xs (cut_for h A s xs)
+
+abbrev pub is_seen : Logged → Bool
+is_seen (logged.Seen last commit head positions) = true
+is_seen _ = false
+
+pub sends_none : (w : Logged) → is_relay w ≡ false → is_seen w ≡ false → positions_in w ≡ []
+sends_none (logged.Relay seq commit head positions) e f = absurd (cc)
+sends_none (logged.Seen last commit head positions) e f = absurd (cc)
+sends_none (logged.Welcome commit head) e f = refl
+sends_none (logged.Dropped seq chain far) e f = refl
+sends_none (logged.Settled seq pos) e f = refl
+sends_none (logged.Noted commit) e f = refl
+sends_none logged.Idle e f = refl
+sends_none (logged.Refused code detail) e f = refl
+sends_none logged.Bye e f = refl
 
 -- What a refusal tells besides its code: a small number, or a client's next number or life.
 abbrev pub IsDetail : List Entry → ℕ → Type 0
@@ -47,6 +75,8 @@ pub record HoldsByEachRow (k : Keeping) (r : Rules) (h : List Entry) (s : ℕ) (
   pub noted : (results : List Done1) → q ≡ requests.Done results → is_bad_done r (k.kept h) s results ≡ false → P (noted_after k h s q)
   pub idle : P logged.Idle
   pub poll : (j p : ℕ) (ps : List ℕ) → client_of h s ≡ Some j → q ≡ requests.Poll → is_over h s ≡ false → k.due h s ≡ p ∷ ps → P (relay_of r (k.kept h) (actions_of h) s 0 p)
+  pub seen : (j wait : ℕ) (objects : List ObjectId) → client_of h s ≡ Some j → q ≡ requests.Observe objects wait → is_over h s ≡ false →
+      may_be_observed r.world.shape.objects (numbers_of objects) ≡ true → P (seen_now r (k.kept h) (actions_of h) s (numbers_of objects))
 
 cause-few : (cause : BadAction) → cause_number cause ≤ 11
 cause-few NoReads = omega arith
@@ -115,6 +145,10 @@ module _ (k : Keeping) (law : IsKeeping k) (r : Rules) (h : List Entry) (s : ℕ
   client_case (requests.Done results) rows j client open_still =
       cond_both (is_bad_done r (k.kept h) s results) _ _ (Shown (requests.Done results)) (λ _. rows.refusal 7 0 (omega arith) (omega arith) none_told) (λ good. rows.noted results refl good)
   client_case requests.Poll rows j client open_still = poll_case (orphans (k.kept h)) (due_case j rows client open_still (k.due h s) refl)
+  client_case (requests.Observe objects wait) rows j client open_still =
+      cond_both (may_be_observed r.world.shape.objects (numbers_of objects)) _ _ (Shown (requests.Observe objects wait))
+      (λ good. subst (λ (A : List Action). P (seen_now r (k.kept h) A s (numbers_of objects))) (sym (actions-kept k law h)) (rows.seen j wait objects client refl open_still good))
+      (λ _. rows.refusal 8 0 (omega arith) (omega arith) none_told)
   client_case (requests.Join client life interest) rows j known open_still = rows.bye
   client_case requests.Leave rows j client open_still = rows.bye
   client_case requests.Bad rows j client open_still = rows.bye
@@ -152,31 +186,35 @@ module _ (k : Keeping) (law : IsKeeping k) (r : Rules) (h : List Entry) (s : ℕ
   each_row (requests.Submit seq a) rows = asked_case (requests.Submit seq a) rows
   each_row (requests.Done results) rows = asked_case (requests.Done results) rows
   each_row requests.Poll rows = asked_case requests.Poll rows
+  each_row (requests.Observe objects wait) rows = asked_case (requests.Observe objects wait) rows
   each_row requests.Leave rows = asked_case requests.Leave rows
   each_row requests.Bad rows = open_case requests.Bad rows (refused_as refusals.Malformed 0) (λ _. rows.refusal 1 0 (omega arith) (omega arith) none_told)
   each_row requests.End rows = rows.bye
 
--- With one case for all replies that are no relay.
+-- With one case for all replies that send nothing.
 pub record HoldsByRow (k : Keeping) (r : Rules) (h : List Entry) (s : ℕ) (q : Request) (P : Logged → Type 0) : Type 0 where
-  pub other : (w : Logged) → is_relay w ≡ false → P w
+  pub other : (w : Logged) → is_relay w ≡ false → is_seen w ≡ false → P w
   pub fresh : (j seq : ℕ) (a : Action) → client_of h s ≡ Some j → q ≡ requests.Submit seq a → seq ≡ next_seq h j →
       first_fault_of_action r.world.shape a ≡ None → chain_length (actions_of h) (commit_of (k.kept h)) a ≤ r.bound →
       P (relay_of r (k.kept h) (actions_of h ++ a ∷ []) s seq (suc (length (actions_of h))))
   pub again : (j seq p : ℕ) (a : Action) → client_of h s ≡ Some j → q ≡ requests.Submit seq a → kept_outcome h j seq ≡ Some (Accepted p) → commit_of (k.kept h) < p →
       P (relay_of r (k.kept h) (actions_of h) s seq p)
   pub poll : (j p : ℕ) (ps : List ℕ) → client_of h s ≡ Some j → q ≡ requests.Poll → is_over h s ≡ false → k.due h s ≡ p ∷ ps → P (relay_of r (k.kept h) (actions_of h) s 0 p)
+  pub seen : (j wait : ℕ) (objects : List ObjectId) → client_of h s ≡ Some j → q ≡ requests.Observe objects wait → is_over h s ≡ false →
+      may_be_observed r.world.shape.objects (numbers_of objects) ≡ true → P (seen_now r (k.kept h) (actions_of h) s (numbers_of objects))
 
 pub each_reply : (k : Keeping) → IsKeeping k → (r : Rules) (h : List Entry) (s : ℕ) (P : Logged → Type 0) (q : Request) → HoldsByRow k r h s q P → P (reply_for k r h s q)
 each_reply k law r h s P q rows = each_row k law r h s P q (record {
-  refusal = λ code detail some few told. rows.other (refused code detail) refl;
-  bye = rows.other logged.Bye refl;
-  welcome = λ client life interest asked open_still live later good. rows.other _ refl;
-  dropped = λ j seq a client asked next good. rows.other _ refl;
-  dropped_again = λ j seq a chain far client asked is. rows.other _ refl;
-  settled = λ j seq p a client asked is. rows.other _ refl;
-  noted = λ results asked good. rows.other _ refl;
-  idle = rows.other logged.Idle refl;
+  refusal = λ code detail some few told. rows.other (refused code detail) refl refl;
+  bye = rows.other logged.Bye refl refl;
+  welcome = λ client life interest asked open_still live later good. rows.other _ refl refl;
+  dropped = λ j seq a client asked next good. rows.other _ refl refl;
+  dropped_again = λ j seq a chain far client asked is. rows.other _ refl refl;
+  settled = λ j seq p a client asked is. rows.other _ refl refl;
+  noted = λ results asked good. rows.other _ refl refl;
+  idle = rows.other logged.Idle refl refl;
   fresh = rows.fresh;
   again = rows.again;
   poll = rows.poll;
+  seen = rows.seen;
 })

@@ -1,7 +1,7 @@
 -- The worked examples are answered as they say.
 use Rattle.std.proofs.Common.{refl, Some, None, [], ◌∷◌}
 use Rattle.sv_world.specs.Faults.{first_fault_of_action, has_no_reads, has_too_many_reads, is_not_ascending, reads_no_object, has_bad_mask, has_slots, sets_in_mask, has_attrs, is_too_large, is_too_deep, has_origin}
-use Rattle.sv_journal.specs.Examples.{opened, AreReplies, only_influences_are_relayed_rows, late_older_action_rows, completions_out_of_order_rows, bound_1_rows, bound_0_rows, lost_relay_rows, retry_after_commit_rows, abandoned_action_rows, refusals_rows, reach_rows, one_action_rows, repeated_relay_rows}
+use Rattle.sv_journal.specs.Examples.{opened, AreReplies, only_influences_are_relayed_rows, late_older_action_rows, completions_out_of_order_rows, bound_1_rows, bound_0_rows, lost_relay_rows, retry_after_commit_rows, abandoned_action_rows, refusals_rows, reach_rows, one_action_rows, repeated_relay_rows, observed_rows, seen_counts_as_sent_rows}
 
 pub only_influences_are_relayed : AreReplies (opened (10 ∷ 20 ∷ 30 ∷ 40 ∷ []) 8 None) only_influences_are_relayed_rows
 unfolding first_fault_of_action has_no_reads has_too_many_reads is_not_ascending reads_no_object has_bad_mask has_slots sets_in_mask has_attrs is_too_large is_too_deep has_origin
@@ -50,3 +50,11 @@ one_action = refl
 pub repeated_relay : AreReplies (opened (0 ∷ []) 8 None) repeated_relay_rows
 unfolding first_fault_of_action has_no_reads has_too_many_reads is_not_ascending reads_no_object has_bad_mask has_slots sets_in_mask has_attrs is_too_large is_too_deep has_origin
 repeated_relay = refl
+
+pub observed : AreReplies (opened (10 ∷ 20 ∷ []) 4 None) observed_rows
+unfolding first_fault_of_action has_no_reads has_too_many_reads is_not_ascending reads_no_object has_bad_mask has_slots sets_in_mask has_attrs is_too_large is_too_deep has_origin
+observed = refl
+
+pub seen_counts_as_sent : AreReplies (opened (10 ∷ 20 ∷ []) 4 None) seen_counts_as_sent_rows
+unfolding first_fault_of_action has_no_reads has_too_many_reads is_not_ascending reads_no_object has_bad_mask has_slots sets_in_mask has_attrs is_too_large is_too_deep has_origin
+seen_counts_as_sent = refl

@@ -37,6 +37,9 @@ join client life interest = requests.Join (record { 0 = client }) life (objects 
 abbrev pub done : List (ℕ × List ℕ) → Request
 done results = requests.Done (map (λ r. record { pos = r.0; values = map (λ n. pos n ∷ []) r.1 }) results)
 
+abbrev pub observe : List ℕ → Request
+observe xs = requests.Observe (objects xs) 0
+
 abbrev pub held : ℕ → ℕ → ObjectValue
 held object n = record { object = record { 0 = object }; value = pos n ∷ [] }
 
@@ -150,6 +153,7 @@ abandoned_action_rows =
 abbrev pub refusals_rows : List Row
 refusals_rows =
     (0, requests.Poll, refused_as refusals.NotJoined 0)
+    ∷ (0, observe (0 ∷ []), refused_as refusals.NotJoined 0)
     ∷ (0, join 32 1 [], refused_as refusals.NoSuchClient 0)
     ∷ (0, join 0 1 (1 ∷ []), refused_as refusals.BadInterest 0)
     ∷ (0, join 0 1 (0 ∷ []), logged.Welcome 0 (held 0 0 ∷ []))
@@ -157,8 +161,12 @@ refusals_rows =
     ∷ (0, requests.Submit 9 (act (0 ∷ []) 1), refused_as refusals.WrongSequence 1)
     ∷ (0, requests.Submit 1 (act (1 ∷ []) 1), refused_as refusals.BadAction 4)
     ∷ (0, done ((1, 1 ∷ []) ∷ []), refused_as refusals.BadResults 0)
+    ∷ (0, observe [], refused_as refusals.BadInterest 0)
+    ∷ (0, observe (0 ∷ 0 ∷ []), refused_as refusals.BadInterest 0)
+    ∷ (0, observe (0 ∷ 1 ∷ []), refused_as refusals.BadInterest 0)
     ∷ (0, requests.Bad, refused_as refusals.Malformed 0)
     ∷ (0, requests.Poll, refused_as refusals.Over 0)
+    ∷ (0, observe (0 ∷ []), refused_as refusals.Over 0)
     ∷ []
 
 -- An action is dropped where one that influences it lies over 10 away.
@@ -190,6 +198,36 @@ repeated_relay_rows =
     ∷ (0, requests.Submit 1 (act (0 ∷ []) 1), logged.Relay 1 0 [] [])
     ∷ []
 
+-- An Observe is sent what an action that reads the objects would be sent, and accepts nothing. A second one finds nothing new: position 1 was
+-- sent, and object 1 was given and never written.
+abbrev pub observed_rows : List Row
+observed_rows =
+    (0, join 0 1 [], logged.Welcome 0 [])
+    ∷ (1, join 1 1 [], logged.Welcome 0 [])
+    ∷ (0, requests.Submit 1 (act (0 ∷ []) 1), logged.Relay 1 0 (held 0 10 ∷ []) (1 ∷ []))
+    ∷ (1, observe (0 ∷ 1 ∷ []), logged.Seen 1 0 (held 0 10 ∷ held 1 20 ∷ []) (1 ∷ []))
+    ∷ (1, done ((1, 11 ∷ []) ∷ []), logged.Noted 1)
+    ∷ (0, done ((1, 11 ∷ []) ∷ []), logged.Noted 1)
+    ∷ (1, observe (0 ∷ 1 ∷ []), logged.Seen 1 1 [] [])
+    ∷ []
+
+-- What was seen counts as sent and as given: position 1 is not sent again with the action that reads what it wrote, nor is its base value. A
+-- committed value that was written since is given anew.
+abbrev pub seen_counts_as_sent_rows : List Row
+seen_counts_as_sent_rows =
+    (0, join 0 1 [], logged.Welcome 0 [])
+    ∷ (1, join 1 1 [], logged.Welcome 0 [])
+    ∷ (1, observe (0 ∷ 1 ∷ []), logged.Seen 0 0 (held 0 10 ∷ held 1 20 ∷ []) [])
+    ∷ (0, requests.Submit 1 (act (0 ∷ []) 1), logged.Relay 1 0 (held 0 10 ∷ []) (1 ∷ []))
+    ∷ (1, observe (0 ∷ []), logged.Seen 1 0 [] (1 ∷ []))
+    ∷ (1, requests.Submit 1 (act (0 ∷ []) 1), logged.Relay 1 0 [] (2 ∷ []))
+    ∷ (0, observe (1 ∷ []), logged.Seen 2 0 (held 1 20 ∷ []) [])
+    ∷ (0, observe (0 ∷ []), logged.Seen 2 0 [] (2 ∷ []))
+    ∷ (0, requests.Submit 2 (act (1 ∷ []) 1), logged.Relay 2 0 [] (3 ∷ []))
+    ∷ (0, done ((1, 11 ∷ []) ∷ (2, 12 ∷ []) ∷ (3, 21 ∷ []) ∷ []), logged.Noted 3)
+    ∷ (1, observe (0 ∷ 1 ∷ []), logged.Seen 3 3 (held 1 21 ∷ []) [])
+    ∷ []
+
 pub record ExamplesAreAnswered : Type 0 where
   pub only_influences_are_relayed : AreReplies (opened (10 ∷ 20 ∷ 30 ∷ 40 ∷ []) 8 None) only_influences_are_relayed_rows
   pub late_older_action : AreReplies (opened (100 ∷ 5 ∷ []) 8 None) late_older_action_rows
@@ -203,3 +241,5 @@ pub record ExamplesAreAnswered : Type 0 where
   pub reach : AreReplies (opened (0 ∷ []) 8 (Some 10)) reach_rows
   pub one_action : AreReplies (opened (5 ∷ []) 4 None) one_action_rows
   pub repeated_relay : AreReplies (opened (0 ∷ []) 8 None) repeated_relay_rows
+  pub observed : AreReplies (opened (10 ∷ 20 ∷ []) 4 None) observed_rows
+  pub seen_counts_as_sent : AreReplies (opened (10 ∷ 20 ∷ []) 4 None) seen_counts_as_sent_rows

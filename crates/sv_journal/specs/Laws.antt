@@ -1,15 +1,16 @@
 -- Laws of journals: first those of a server that trusts its clients, and then the same of a server with any keeping.
 use Rattle.std.specs.Prelude.{◌≡◌, ℕ, ◌+◌, ◌≤◌, ◌↔◌, All, List, ◌++◌, length, reverse, None}
+use Rattle.sv_world.specs.Control.{SentIsClosed}
 use Rattle.sv_world.specs.Faults.{first_fault_of_action}
 use Rattle.sv_world.specs.Limits.{most_attrs, most_bound, most_items}
 use Rattle.sv_wire.specs.Grammar.{IsWireReply}
 use Rattle.sv_journal.specs.declared.entry.Entry.{Entry}
 use Rattle.sv_journal.specs.declared.entry.Logged.{Logged}
 use Rattle.sv_journal.specs.declared.entry.Logged.TheVariants as logged
-use Rattle.sv_journal.specs.History.{Authored, accepted, full_reply}
+use Rattle.sv_journal.specs.History.{Authored, accepted, actions_of, commit_of, full_reply}
 use Rattle.sv_journal.specs.Answer.{Rules, Legal}
 use Rattle.sv_journal.specs.Serving.{Keeping, plain, LegalFor, IsKeeping}
-use Rattle.sv_journal.specs.Sessions.{positions_in}
+use Rattle.sv_journal.specs.Sessions.{positions_in, sent_to}
 use Rattle.sv_journal.specs.Text.{NamesAccepted, RelaysNameAccepted}
 
 -- A reply that names positions of a beginning of a journal has the same items over the whole.
@@ -48,6 +49,10 @@ abbrev pub LegalRepliesAreMessages : Type 0
 LegalRepliesAreMessages = (r : Rules) (h : List Entry) → AreWithinLimits r → Legal r h →
     All (λ (e : Entry). IsWireReply (full_reply (accepted h) e.reply)) h
 
+-- What was sent to a session is closed: each position above the commit that one of them reads from is one of them.
+abbrev pub LegalSentIsClosed : Type 0
+LegalSentIsClosed = (r : Rules) (h : List Entry) → Legal r h → (s : ℕ) → SentIsClosed (actions_of h) (commit_of h) (sent_to h s)
+
 -- ---- Any keeping
 
 -- A server that trusts its clients has a keeping, and its legal journals are those that are legal for it.
@@ -68,3 +73,7 @@ ServedActionsAreGood = (k : Keeping) (r : Rules) (h : List Entry) → IsKeeping 
 abbrev pub ServedRepliesAreMessages : Type 0
 ServedRepliesAreMessages = (k : Keeping) (r : Rules) (h : List Entry) → IsKeeping k → AreWithinLimits r → LegalFor k r h →
     All (λ (e : Entry). IsWireReply (full_reply (accepted h) e.reply)) h
+
+abbrev pub ServedSentIsClosed : Type 0
+ServedSentIsClosed = (k : Keeping) (r : Rules) (h : List Entry) → IsKeeping k → LegalFor k r h → (s : ℕ) →
+    SentIsClosed (actions_of h) (commit_of (k.kept h)) (sent_to h s)

@@ -1,7 +1,7 @@
 //! Laws of journals.
 ghost use Rattle.sv_journal.specs.Examples.{ExamplesAreAnswered};
-ghost use Rattle.sv_journal.specs.Laws.{FullRepliesStay, LegalActionsAreGood, LegalRelaysAreSmall, LegalRelaysNameAccepted, LegalRepliesAreMessages};
-ghost use Rattle.sv_journal.specs.Laws.{PlainIsLegal, ServedActionsAreGood, ServedRelaysAreSmall, ServedRelaysNameAccepted, ServedRepliesAreMessages};
+ghost use Rattle.sv_journal.specs.Laws.{FullRepliesStay, LegalActionsAreGood, LegalRelaysAreSmall, LegalRelaysNameAccepted, LegalRepliesAreMessages, LegalSentIsClosed};
+ghost use Rattle.sv_journal.specs.Laws.{PlainIsLegal, ServedActionsAreGood, ServedRelaysAreSmall, ServedRelaysNameAccepted, ServedRepliesAreMessages, ServedSentIsClosed};
 
 use sv_world::{
     base_values_are_those_read_as_committed, good_actions_have_no_fault, missing_influences_ascend,
@@ -18,14 +18,14 @@ pub fn full_replies_stay()
     ensures { FullRepliesStay }
 {}
 
-/// Each position that a relay of a legal journal names is that of an action that was accepted, so the journal can be printed.
+/// Each position that a reply of a legal journal names is that of an action that was accepted, so the journal can be printed.
 pub fn legal_relays_name_accepted()
     ensures { LegalRelaysNameAccepted }
 {
     missing_influences_ascend();
 }
 
-/// A relay of a legal journal has at most one item more than the bound on chains.
+/// A relay of a legal journal has at most one item more than the bound on chains, and what is seen has at most 33.
 pub fn legal_relays_are_small()
     ensures { LegalRelaysAreSmall }
 {
@@ -54,14 +54,14 @@ pub fn legal_journals_are_plain()
     ensures { PlainIsLegal }
 {}
 
-/// Whatever results a server keeps, its relays name accepted actions alone.
+/// Whatever results a server keeps, its replies name accepted actions alone.
 pub fn served_relays_name_accepted()
     ensures { ServedRelaysNameAccepted }
 {
     missing_influences_ascend();
 }
 
-/// Whatever results a server keeps, its relays have at most one item more than the bound on chains.
+/// Whatever results a server keeps, its relays have at most one item more than the bound on chains, and what is seen has at most 33.
 pub fn served_relays_are_small()
     ensures { ServedRelaysAreSmall }
 {
@@ -81,4 +81,13 @@ pub fn served_replies_are_messages()
     missing_influences_only_shrink();
     base_values_are_those_read_as_committed();
     good_actions_have_no_fault();
+}
+
+/// What was sent to a session is closed: with each position, each position above the commit that its action reads from was sent too. So it
+/// is for a server that trusts its clients, and whatever results a server keeps.
+pub fn sent_positions_are_closed()
+    ensures legal { LegalSentIsClosed }
+    ensures served { ServedSentIsClosed }
+{
+    missing_influences_ascend();
 }

@@ -55,6 +55,13 @@ fn append_done(results: &[Done1], out: &mut String) -> Result<(), AllocError>
     append_results(results, out)
 }
 
+fn append_observe(wait: u16, objects: &[ObjectId], out: &mut String) -> Result<(), AllocError>
+    ensures { OnOk result (string_bytes out.new ≡ string_bytes out.old ++ codes "observe " ++ decimal wait ++ codes " " ++ objects_text objects.now) }
+{
+    write!(out, "observe {wait} ")?;
+    append_objects(objects, out)
+}
+
 fn append_request(shape: Shape, request: &Request, out: &mut String) -> Result<(), AllocError>
     ensures { OnOk result (string_bytes out.new ≡ string_bytes out.old ++ request_text shape request.now) }
 {
@@ -67,6 +74,7 @@ fn append_request(shape: Shape, request: &Request, out: &mut String) -> Result<(
         Request::Submit { seq, action } => append_submit(shape, *seq, action, out),
         Request::Done { results } => append_done(results.as_slice(), out),
         Request::Poll => out.push_str("poll"),
+        Request::Observe { objects, wait } => append_observe(*wait, objects.as_slice(), out),
         Request::Leave => out.push_str("leave"),
         Request::Bad => out.push_str("bad"),
         Request::End => out.push_str("end"),
@@ -80,7 +88,7 @@ fn append_welcome(commit: u32, head: &[ObjectValue], out: &mut String) -> Result
     append_head(head, out)
 }
 
-/// Appends what a relay gives and what it sends.
+/// Appends the base values and the items of a reply.
 fn append_relayed(
     journal: &Journal,
     head: &[ObjectValue],
@@ -111,6 +119,15 @@ fn append_reply(journal: &Journal, reply: &Logged, out: &mut String) -> Result<(
             append_relayed(journal, head.as_slice(), positions.as_slice(), out)
         }
         Logged::Dropped { seq, chain, far } => write!(out, "dropped {seq} chain {chain} far {far}"),
+        Logged::Seen {
+            last,
+            commit,
+            head,
+            positions,
+        } => {
+            write!(out, "seen {last} at {commit} ")?;
+            append_relayed(journal, head.as_slice(), positions.as_slice(), out)
+        }
         Logged::Settled { seq, pos } => write!(out, "settled {seq} at {pos}"),
         Logged::Noted { commit } => write!(out, "noted {commit}"),
         Logged::Idle => out.push_str("idle"),
@@ -175,12 +192,14 @@ fn names_accepted(count: usize, reply: &Logged) -> bool
     ensures { MatchBool result (NamesAccepted count reply.now) (NamesAccepted count reply.now → ⊥) }
 {
     match reply {
-        Logged::Relay { positions, .. } => are_accepted(count, positions.as_slice()),
+        Logged::Relay { positions, .. } | Logged::Seen { positions, .. } => {
+            are_accepted(count, positions.as_slice())
+        }
         _ => true,
     }
 }
 
-/// Whether each position that a relay of the journal names is that of an accepted action, as in each journal of a server.
+/// Whether each position that a reply of the journal names is that of an accepted action, as in each journal of a server.
 pub fn relays_name_accepted(journal: &Journal) -> bool
     ensures { MatchBool result (RelaysNameAccepted journal.now.entries) (RelaysNameAccepted journal.now.entries → ⊥) }
 {

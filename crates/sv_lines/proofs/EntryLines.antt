@@ -135,6 +135,9 @@ inner_request shape (requests.Submit seq action) fits =
     then_inner (one ++ codes " ") (action_text shape action) (then_inner one (codes " ") (numbered (codes "submit ") seq refl) refl) (inner_action shape action fits.1)
 inner_request shape (requests.Done results) fits = then_inner (codes "done ") (bracketed result_text results) refl (inner_bracketed result_text inner_result results)
 inner_request shape requests.Poll fits = refl
+inner_request shape (requests.Observe objects wait) fits =
+    let one = codes "observe " ++ decimal wait in
+    then_inner (one ++ codes " ") (objects_text objects) (then_inner one (codes " ") (numbered (codes "observe ") wait refl) refl) (inner_objects objects)
 inner_request shape requests.Leave fits = refl
 inner_request shape requests.Bad fits = refl
 inner_request shape requests.End fits = refl
@@ -146,21 +149,27 @@ inner_item A p =
     numbered (two ++ codes ".") (authored_at A p).seq
     (then_inner two (codes ".") (numbered one (authored_at A p).client (then_inner (decimal p) (codes ":c") (inner_decimal p) refl)) refl)
 
-pub inner_reply : (A : List Authored) (r : Logged) → IsInner (reply_text A r)
-inner_reply A (logged.Welcome commit head) =
-    let one = codes "welcome " ++ decimal commit in
-    then_inner (one ++ codes " ") (head_text head) (then_inner one (codes " ") (numbered (codes "welcome ") commit refl) refl) (inner_head head)
-inner_reply A (logged.Relay seq commit head positions) =
-    let one = codes "relay " ++ decimal seq in
+-- Behind a word, a number and a commit, a head and the items of positions.
+inner_work : (A : List Authored) (word : List ℕ) (n commit : ℕ) (head : List ObjectValue) (positions : List ℕ) → IsInner word →
+    IsInner (word ++ decimal n ++ codes " at " ++ decimal commit ++ codes " " ++ head_text head ++ codes " " ++ bracketed (item_text A) positions)
+inner_work A word n commit head positions f =
+    let one = word ++ decimal n in
     let two = one ++ codes " at " ++ decimal commit in
     let three = two ++ codes " " ++ head_text head in
     then_inner (three ++ codes " ") (bracketed (item_text A) positions)
     (then_inner three (codes " ")
     (then_inner (two ++ codes " ") (head_text head)
-    (then_inner two (codes " ") (numbered (one ++ codes " at ") commit (then_inner one (codes " at ") (numbered (codes "relay ") seq refl) refl)) refl)
+    (then_inner two (codes " ") (numbered (one ++ codes " at ") commit (then_inner one (codes " at ") (numbered word n f) refl)) refl)
     (inner_head head))
     refl)
     (inner_bracketed (item_text A) (inner_item A) positions)
+
+pub inner_reply : (A : List Authored) (r : Logged) → IsInner (reply_text A r)
+inner_reply A (logged.Welcome commit head) =
+    let one = codes "welcome " ++ decimal commit in
+    then_inner (one ++ codes " ") (head_text head) (then_inner one (codes " ") (numbered (codes "welcome ") commit refl) refl) (inner_head head)
+inner_reply A (logged.Relay seq commit head positions) = inner_work A (codes "relay ") seq commit head positions refl
+inner_reply A (logged.Seen last commit head positions) = inner_work A (codes "seen ") last commit head positions refl
 inner_reply A (logged.Dropped seq chain far) =
     let one = codes "dropped " ++ decimal seq in
     let two = one ++ codes " chain " ++ decimal chain in

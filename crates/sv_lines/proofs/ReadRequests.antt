@@ -24,11 +24,11 @@ use Rattle.sv_text.proofs.StandingAction.{canonical_again}
 use Rattle.sv_journal.specs.Pieces.{bracketed, objects_text, result_text}
 use Rattle.sv_journal.specs.Text.{request_text}
 use Rattle.sv_lines.specs.Reading.{◌>>=◌, when_read, behind_front, number_read, objects_read, results_read}
-use Rattle.sv_lines.specs.Asking.{is_plain, join_read, before_arrow, good_action, passed, action_read, submit_read, done_read, plain_read, request_read, asked_read}
+use Rattle.sv_lines.specs.Asking.{is_plain, join_read, before_arrow, good_action, passed, action_read, submit_read, done_read, observe_read, plain_read, request_read, asked_read}
 use Rattle.sv_lines.specs.Told.{IsTold, asking_text}
 use Rattle.sv_lines.proofs.Numerals.{front_there, front_is_text, front_stops, number_is_read}
 use Rattle.sv_lines.proofs.ReadLists.{byte_there, objects_are_read, results_are_read}
-use Rattle.sv_lines.proofs.Requests.{arrow, join_parts, submit_parts, split_arrow}
+use Rattle.sv_lines.proofs.Requests.{arrow, join_parts, submit_parts, observe_parts, split_arrow}
 use Rattle.sv_lines.proofs.Plain.{IsPlain, then_plain, plain_action}
 use Rattle.sv_lines.proofs.Printable.{printable}
 use Rattle.sv_lines.proofs.Short.{short_action}
@@ -89,6 +89,18 @@ done_no_submit : (rest : List ℕ) → behind_front (codes "submit ") (codes "do
 unfolding behind_front
 done_no_submit rest = refl
 
+observe_no_join : (rest : List ℕ) → behind_front (codes "join c") (codes "observe " ++ rest) ≡ None
+unfolding behind_front
+observe_no_join rest = refl
+
+observe_no_submit : (rest : List ℕ) → behind_front (codes "submit ") (codes "observe " ++ rest) ≡ None
+unfolding behind_front
+observe_no_submit rest = refl
+
+observe_no_done : (rest : List ℕ) → behind_front (codes "done ") (codes "observe " ++ rest) ≡ None
+unfolding behind_front
+observe_no_done rest = refl
+
 submit_is_read : (shape : Shape) (seq : ℕ) (a : Action) (x : List ℕ) → IsTold shape (requests.Submit seq a) →
     request_read shape (request_text shape (requests.Submit seq a) ++ arrow x) ≡ Some (requests.Submit seq a)
 unfolding request_read submit_read
@@ -113,12 +125,30 @@ done_is_read shape ds x f =
     ap (request_read shape) (append_assoc (codes "done ") (bracketed result_text ds) (arrow x))
     ∙ rw (done_no_join rest, done_no_submit rest, front_there (codes "done ") rest, results_are_read ds (arrow x) f tt) refl
 
+observe_is_read : (shape : Shape) (objects : List ObjectId) (wait : ℕ) (x : List ℕ) → IsTold shape (requests.Observe objects wait) →
+    request_read shape (request_text shape (requests.Observe objects wait) ++ arrow x) ≡ Some (requests.Observe objects wait)
+unfolding request_read observe_read
+observe_is_read shape objects wait x f =
+    let last = objects_text objects ++ arrow x in
+    let rest = decimal wait ++ (32 ∷ last) in
+    ap (request_read shape) (observe_parts wait objects (arrow x))
+    ∙ rw (
+      observe_no_join rest,
+      observe_no_submit rest,
+      observe_no_done rest,
+      front_there (codes "observe ") rest,
+      number_is_read (2 ^ 16) (omega arith) wait (32 ∷ last) f.1 refl,
+      byte_there 32 last,
+      objects_are_read objects (arrow x) f.0 tt,
+    ) refl
+
 pub request_is_read : (shape : Shape) (r : Request) (x : List ℕ) → IsTold shape r → request_read shape (request_text shape r ++ arrow x) ≡ Some r
 unfolding request_read plain_read behind_front
 request_is_read shape (requests.Join client life interest) x f = join_is_read shape client life interest x f
 request_is_read shape (requests.Submit seq action) x f = submit_is_read shape seq action x f
 request_is_read shape (requests.Done results) x f = done_is_read shape results x f
 request_is_read shape requests.Poll x f = refl
+request_is_read shape (requests.Observe objects wait) x f = observe_is_read shape objects wait x f
 request_is_read shape requests.Leave x f = refl
 request_is_read shape requests.End x f = refl
 request_is_read shape requests.Bad x f = absurd f
@@ -210,6 +240,11 @@ module _ (shape : Shape) where
   unfolding done_read
   done_asked text = then_all Asked (results_read text) _ (λ ds i. tt)
 
+  observe_asked : (text : List ℕ) → IfSome (observe_read text) Asked
+  unfolding observe_read
+  observe_asked text =
+      then_all Asked (number_read (2 ^ 16) text) _ (λ w i. then_all Asked (behind_front (32 ∷ []) w.1) _ (λ m j. then_all Asked (objects_read m) _ (λ o k. tt)))
+
   plain_asked : (text : List ℕ) → IfSome (plain_read text) Asked
   unfolding plain_read
   plain_asked text =
@@ -221,7 +256,8 @@ module _ (shape : Shape) where
   request_asked text =
       when_read_all Asked (behind_front (codes "join c") text) join_read _ join_asked
       (when_read_all Asked (behind_front (codes "submit ") text) (submit_read shape) _ submit_asked
-      (when_read_all Asked (behind_front (codes "done ") text) done_read (plain_read text) done_asked (plain_asked text)))
+      (when_read_all Asked (behind_front (codes "done ") text) done_read _ done_asked
+      (when_read_all Asked (behind_front (codes "observe ") text) observe_read (plain_read text) observe_asked (plain_asked text))))
 
   abbrev Second : ℕ × Request → Type 0
   Second x = IsAsked shape x.1
@@ -241,6 +277,7 @@ told_by shape (requests.Join client life interest) asked fits = fits
 told_by shape (requests.Submit seq action) asked fits = (fits, asked)
 told_by shape (requests.Done results) asked fits = fits
 told_by shape requests.Poll asked fits = tt
+told_by shape (requests.Observe objects wait) asked fits = fits
 told_by shape requests.Leave asked fits = tt
 told_by shape requests.Bad asked fits = absurd asked
 told_by shape requests.End asked fits = tt

@@ -101,6 +101,25 @@ dones_tell shape ds es x y p q e =
     let one = results_tell ds es (arrow x) (arrow y) p q tt tt inner in
     (ap (λ (rs : List Done1). requests.Done rs) one.0, under_arrow x y one.1)
 
+-- ---- Observing
+
+pub observe_parts : (wait : ℕ) (objects : List ObjectId) (z : List ℕ) →
+    (codes "observe " ++ decimal wait ++ codes " " ++ objects_text objects) ++ z ≡ codes "observe " ++ (decimal wait ++ (32 ∷ (objects_text objects ++ z)))
+observe_parts wait objects z =
+    let two = codes "observe " ++ decimal wait in
+    append_assoc (two ++ codes " ") (objects_text objects) z ∙ append_assoc two (codes " ") (objects_text objects ++ z)
+    ∙ append_assoc (codes "observe ") (decimal wait) (32 ∷ (objects_text objects ++ z))
+
+observes_tell : (shape : Shape) (i j : List ObjectId) (w v : ℕ) (x y : List ℕ) → IsTold shape (requests.Observe i w) → IsTold shape (requests.Observe j v) →
+    request_text shape (requests.Observe i w) ++ arrow x ≡ request_text shape (requests.Observe j v) ++ arrow y → (requests.Observe i w ≡ requests.Observe j v) × (x ≡ y)
+observes_tell shape i j w v x y p q e =
+    let xi = objects_text i ++ arrow x in
+    let yj = objects_text j ++ arrow y in
+    let inner = append_cancel_left (codes "observe ") (decimal w ++ (32 ∷ xi)) (decimal v ++ (32 ∷ yj)) (sym (observe_parts w i (arrow x)) ∙ e ∙ observe_parts v j (arrow y)) in
+    let one = number_split w v (32 ∷ xi) (32 ∷ yj) (omega (arith, p.1)) (omega (arith, q.1)) refl refl inner in
+    let two = objects_tell i j (arrow x) (arrow y) p.0 q.0 tt tt (others_are 32 32 xi yj one.1) in
+    (ap (λ (n : ℕ). requests.Observe i n) one.0 ∙ ap (λ (os : List ObjectId). requests.Observe os v) two.0, under_arrow x y two.1)
+
 -- ---- All requests
 
 pub request_tells : (shape : Shape) (r o : Request) (x y : List ℕ) → IsTold shape r → IsTold shape o → request_text shape r ++ arrow x ≡ request_text shape o ++ arrow y → (r ≡ o) × (x ≡ y)
@@ -108,6 +127,7 @@ request_tells shape (requests.Join client life interest) (requests.Join client2 
 request_tells shape (requests.Join client life interest) (requests.Submit seq2 action2) x y p q e = (let heads : 106 ≡ 115 = first_byte _ _ e in absurd (omega (arith, heads)))
 request_tells shape (requests.Join client life interest) (requests.Done results2) x y p q e = (let heads : 106 ≡ 100 = first_byte _ _ e in absurd (omega (arith, heads)))
 request_tells shape (requests.Join client life interest) requests.Poll x y p q e = (let heads : 106 ≡ 112 = first_byte _ _ e in absurd (omega (arith, heads)))
+request_tells shape (requests.Join client life interest) (requests.Observe objects2 wait2) x y p q e = (let heads : 106 ≡ 111 = first_byte _ _ e in absurd (omega (arith, heads)))
 request_tells shape (requests.Join client life interest) requests.Leave x y p q e = (let heads : 106 ≡ 108 = first_byte _ _ e in absurd (omega (arith, heads)))
 request_tells shape (requests.Join client life interest) requests.End x y p q e = (let heads : 106 ≡ 101 = first_byte _ _ e in absurd (omega (arith, heads)))
 request_tells shape (requests.Join client life interest) requests.Bad x y p q e = absurd q
@@ -115,6 +135,7 @@ request_tells shape (requests.Submit seq action) (requests.Join client2 life2 in
 request_tells shape (requests.Submit seq action) (requests.Submit seq2 action2) x y p q e = submits_tell shape seq seq2 action action2 x y p q e
 request_tells shape (requests.Submit seq action) (requests.Done results2) x y p q e = (let heads : 115 ≡ 100 = first_byte _ _ e in absurd (omega (arith, heads)))
 request_tells shape (requests.Submit seq action) requests.Poll x y p q e = (let heads : 115 ≡ 112 = first_byte _ _ e in absurd (omega (arith, heads)))
+request_tells shape (requests.Submit seq action) (requests.Observe objects2 wait2) x y p q e = (let heads : 115 ≡ 111 = first_byte _ _ e in absurd (omega (arith, heads)))
 request_tells shape (requests.Submit seq action) requests.Leave x y p q e = (let heads : 115 ≡ 108 = first_byte _ _ e in absurd (omega (arith, heads)))
 request_tells shape (requests.Submit seq action) requests.End x y p q e = (let heads : 115 ≡ 101 = first_byte _ _ e in absurd (omega (arith, heads)))
 request_tells shape (requests.Submit seq action) requests.Bad x y p q e = absurd q
@@ -122,6 +143,7 @@ request_tells shape (requests.Done results) (requests.Join client2 life2 interes
 request_tells shape (requests.Done results) (requests.Submit seq2 action2) x y p q e = (let heads : 100 ≡ 115 = first_byte _ _ e in absurd (omega (arith, heads)))
 request_tells shape (requests.Done results) (requests.Done results2) x y p q e = dones_tell shape results results2 x y p q e
 request_tells shape (requests.Done results) requests.Poll x y p q e = (let heads : 100 ≡ 112 = first_byte _ _ e in absurd (omega (arith, heads)))
+request_tells shape (requests.Done results) (requests.Observe objects2 wait2) x y p q e = (let heads : 100 ≡ 111 = first_byte _ _ e in absurd (omega (arith, heads)))
 request_tells shape (requests.Done results) requests.Leave x y p q e = (let heads : 100 ≡ 108 = first_byte _ _ e in absurd (omega (arith, heads)))
 request_tells shape (requests.Done results) requests.End x y p q e = (let heads : 100 ≡ 101 = first_byte _ _ e in absurd (omega (arith, heads)))
 request_tells shape (requests.Done results) requests.Bad x y p q e = absurd q
@@ -129,13 +151,23 @@ request_tells shape requests.Poll (requests.Join client2 life2 interest2) x y p 
 request_tells shape requests.Poll (requests.Submit seq2 action2) x y p q e = (let heads : 112 ≡ 115 = first_byte _ _ e in absurd (omega (arith, heads)))
 request_tells shape requests.Poll (requests.Done results2) x y p q e = (let heads : 112 ≡ 100 = first_byte _ _ e in absurd (omega (arith, heads)))
 request_tells shape requests.Poll requests.Poll x y p q e = (refl, under_arrow x y (append_cancel_left (codes "poll") (arrow x) (arrow y) e))
+request_tells shape requests.Poll (requests.Observe objects2 wait2) x y p q e = (let heads : 112 ≡ 111 = first_byte _ _ e in absurd (omega (arith, heads)))
 request_tells shape requests.Poll requests.Leave x y p q e = (let heads : 112 ≡ 108 = first_byte _ _ e in absurd (omega (arith, heads)))
 request_tells shape requests.Poll requests.End x y p q e = (let heads : 112 ≡ 101 = first_byte _ _ e in absurd (omega (arith, heads)))
 request_tells shape requests.Poll requests.Bad x y p q e = absurd q
+request_tells shape (requests.Observe objects wait) (requests.Join client2 life2 interest2) x y p q e = (let heads : 111 ≡ 106 = first_byte _ _ e in absurd (omega (arith, heads)))
+request_tells shape (requests.Observe objects wait) (requests.Submit seq2 action2) x y p q e = (let heads : 111 ≡ 115 = first_byte _ _ e in absurd (omega (arith, heads)))
+request_tells shape (requests.Observe objects wait) (requests.Done results2) x y p q e = (let heads : 111 ≡ 100 = first_byte _ _ e in absurd (omega (arith, heads)))
+request_tells shape (requests.Observe objects wait) requests.Poll x y p q e = (let heads : 111 ≡ 112 = first_byte _ _ e in absurd (omega (arith, heads)))
+request_tells shape (requests.Observe objects wait) (requests.Observe objects2 wait2) x y p q e = observes_tell shape objects objects2 wait wait2 x y p q e
+request_tells shape (requests.Observe objects wait) requests.Leave x y p q e = (let heads : 111 ≡ 108 = first_byte _ _ e in absurd (omega (arith, heads)))
+request_tells shape (requests.Observe objects wait) requests.End x y p q e = (let heads : 111 ≡ 101 = first_byte _ _ e in absurd (omega (arith, heads)))
+request_tells shape (requests.Observe objects wait) requests.Bad x y p q e = absurd q
 request_tells shape requests.Leave (requests.Join client2 life2 interest2) x y p q e = (let heads : 108 ≡ 106 = first_byte _ _ e in absurd (omega (arith, heads)))
 request_tells shape requests.Leave (requests.Submit seq2 action2) x y p q e = (let heads : 108 ≡ 115 = first_byte _ _ e in absurd (omega (arith, heads)))
 request_tells shape requests.Leave (requests.Done results2) x y p q e = (let heads : 108 ≡ 100 = first_byte _ _ e in absurd (omega (arith, heads)))
 request_tells shape requests.Leave requests.Poll x y p q e = (let heads : 108 ≡ 112 = first_byte _ _ e in absurd (omega (arith, heads)))
+request_tells shape requests.Leave (requests.Observe objects2 wait2) x y p q e = (let heads : 108 ≡ 111 = first_byte _ _ e in absurd (omega (arith, heads)))
 request_tells shape requests.Leave requests.Leave x y p q e = (refl, under_arrow x y (append_cancel_left (codes "leave") (arrow x) (arrow y) e))
 request_tells shape requests.Leave requests.End x y p q e = (let heads : 108 ≡ 101 = first_byte _ _ e in absurd (omega (arith, heads)))
 request_tells shape requests.Leave requests.Bad x y p q e = absurd q
@@ -143,6 +175,7 @@ request_tells shape requests.End (requests.Join client2 life2 interest2) x y p q
 request_tells shape requests.End (requests.Submit seq2 action2) x y p q e = (let heads : 101 ≡ 115 = first_byte _ _ e in absurd (omega (arith, heads)))
 request_tells shape requests.End (requests.Done results2) x y p q e = (let heads : 101 ≡ 100 = first_byte _ _ e in absurd (omega (arith, heads)))
 request_tells shape requests.End requests.Poll x y p q e = (let heads : 101 ≡ 112 = first_byte _ _ e in absurd (omega (arith, heads)))
+request_tells shape requests.End (requests.Observe objects2 wait2) x y p q e = (let heads : 101 ≡ 111 = first_byte _ _ e in absurd (omega (arith, heads)))
 request_tells shape requests.End requests.Leave x y p q e = (let heads : 101 ≡ 108 = first_byte _ _ e in absurd (omega (arith, heads)))
 request_tells shape requests.End requests.End x y p q e = (refl, under_arrow x y (append_cancel_left (codes "end") (arrow x) (arrow y) e))
 request_tells shape requests.End requests.Bad x y p q e = absurd q

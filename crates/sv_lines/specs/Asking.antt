@@ -44,6 +44,9 @@ submit_read shape text = number_read (2 ^ 32) text >>= λ seq. behind_front (32 
 unfoldable pub done_read : List ℕ → Option Request
 done_read text = results_read text >>= λ results. Some (requests.Done results.0)
 
+unfoldable pub observe_read : List ℕ → Option Request
+observe_read text = number_read (2 ^ 16) text >>= λ wait. behind_front (32 ∷ []) wait.1 >>= λ last. objects_read last >>= λ objects. Some (requests.Observe objects.0 wait.0)
+
 unfoldable pub plain_read : List ℕ → Option Request
 plain_read text =
     when_read (behind_front (codes "poll") text) (λ _. Some requests.Poll)
@@ -54,7 +57,8 @@ unfoldable pub request_read : Shape → List ℕ → Option Request
 request_read shape text =
     when_read (behind_front (codes "join c") text) join_read
     (when_read (behind_front (codes "submit ") text) (submit_read shape)
-    (when_read (behind_front (codes "done ") text) done_read (plain_read text)))
+    (when_read (behind_front (codes "done ") text) done_read
+    (when_read (behind_front (codes "observe ") text) observe_read (plain_read text))))
 
 -- The session of a line, and its request.
 unfoldable pub asked_read : Shape → List ℕ → Option (ℕ × Request)

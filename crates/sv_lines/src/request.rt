@@ -3,7 +3,7 @@ ghost use Rattle.std.specs.Prelude.{◌≡◌, ◌^◌, ◌<◌, ◌++◌, ℕ, 
 ghost use Rattle.std.specs.List.{prefix_len};
 ghost use Rattle.sv_wire.specs.declared.message.Request.{Request};
 ghost use Rattle.sv_lines.specs.Reading.{Gives, seen};
-ghost use Rattle.sv_lines.specs.Asking.{is_plain, join_read, before_arrow, good_action, action_read, submit_read, done_read, plain_read, request_read, asked_read};
+ghost use Rattle.sv_lines.specs.Asking.{is_plain, join_read, before_arrow, good_action, action_read, submit_read, done_read, observe_read, plain_read, request_read, asked_read};
 ghost use Rattle.sv_lines.specs.Told.{IsTold, asking_text};
 
 use crate::lists::{objects_at, results_at};
@@ -100,6 +100,16 @@ fn done_at(alloc: Global, text: &[u8]) -> Result<Request, Unread>
     Ok(Request::Done { results })
 }
 
+#[tactic(auto, unfolding(crate::specs::Asking::observe_read))]
+fn observe_at(alloc: Global, text: &[u8]) -> Result<Request, Unread>
+    ensures { Gives (λ request. request) result (observe_read text.now) }
+{
+    let (wait, rest) = small_at(text)?;
+    let rest = expect(rest, b" ")?;
+    let (objects, _) = objects_at(alloc, rest)?;
+    Ok(Request::Observe { objects, wait })
+}
+
 #[tactic(auto, unfolding(crate::specs::Asking::plain_read))]
 fn plain_at(text: &[u8]) -> Result<Request, Unread>
     ensures { Gives (λ request. request) result (plain_read text.now) }
@@ -129,6 +139,9 @@ fn request_at(alloc: Global, shape: Shape, text: &[u8]) -> Result<Request, Unrea
     }
     if let Some(rest) = behind(text, b"done ") {
         return done_at(alloc, rest);
+    }
+    if let Some(rest) = behind(text, b"observe ") {
+        return observe_at(alloc, rest);
     }
     plain_at(text)
 }

@@ -97,6 +97,19 @@ fn same_done(results: &[Done1], other: &Request) -> bool
     }
 }
 
+fn same_observe(objects: &[ObjectId], wait: u16, other: &Request) -> bool
+    ensures same { result ≡ true → requests.Observe objects.now wait ≡ other.now }
+    ensures all { requests.Observe objects.now wait ≡ other.now → result ≡ true }
+{
+    match other {
+        Request::Observe {
+            objects: other_objects,
+            wait: other_wait,
+        } => same_objects(objects, other_objects.as_slice()) && wait == *other_wait,
+        _ => false,
+    }
+}
+
 fn is_poll(other: &Request) -> bool
     ensures same { result ≡ true → requests.Poll ≡ other.now }
     ensures all { requests.Poll ≡ other.now → result ≡ true }
@@ -139,6 +152,7 @@ pub fn same_request(request: &Request, other: &Request) -> bool
         Request::Submit { seq, action } => same_submit(*seq, action, other),
         Request::Done { results } => same_done(results.as_slice(), other),
         Request::Poll => is_poll(other),
+        Request::Observe { objects, wait } => same_observe(objects.as_slice(), *wait, other),
         Request::Leave => is_leave(other),
         Request::Bad => is_bad(other),
         Request::End => is_end(other),

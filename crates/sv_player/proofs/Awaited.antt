@@ -13,7 +13,7 @@ use Rattle.sv_client.specs.declared.trace.Event.TheVariants as events
 use Rattle.sv_client.specs.Traces.{makes, held_of, with_reply, pending_of, pending_with, settled_by, without_front, are_same, submit_of, done_for}
 use Rattle.sv_client.specs.Taking.{Identity, outstanding, allows, is_bad_head, is_bad_relay, is_good_relay, is_for_front, ends_with_front, has_bad_item}
 use Rattle.sv_client.specs.Proper.{AreProper}
-use Rattle.sv_client.proofs.Outstanding.{outstanding_joined, outstanding_made, outstanding_polled, outstanding_left, outstanding_cut, outstanding_quit, outstanding_shown, outstanding_got}
+use Rattle.sv_client.proofs.Outstanding.{outstanding_joined, outstanding_made, outstanding_polled, outstanding_observed, outstanding_left, outstanding_cut, outstanding_quit, outstanding_shown, outstanding_got}
 use Rattle.sv_script.proofs.Pending.{redone-count, either-few, replied-few}
 use Rattle.sv_player.proofs.Well.{is_well}
 use Rattle.sv_player.proofs.Wire.{AreWirePending, pending_are}
@@ -31,6 +31,7 @@ count_most (requests.Join client life interest) = omega arith
 count_most (requests.Submit seq action) = omega arith
 count_most (requests.Done results) = omega arith
 count_most requests.Poll = omega arith
+count_most (requests.Observe os wait) = omega arith
 count_most requests.Leave = omega arith
 count_most requests.Bad = omega arith
 count_most requests.End = omega arith
@@ -50,6 +51,9 @@ submits_pending (p ∷ ps) = omega (arith, submits_pending ps)
 no_submits : (held : List Held) (reply : Reply) → submits (done_for held reply) ≡ 0
 no_submits held (replies.Relay seq commit head items) = refl
 no_submits held (replies.Welcome commit head) = refl
+no_submits held (replies.Seen last commit head []) = refl
+no_submits held (replies.Seen last commit head (item ∷ items)) = refl
+no_submits held (replies.Denied seq object) = refl
 no_submits held (replies.Dropped seq chain far) = refl
 no_submits held (replies.Settled seq pos) = refl
 no_submits held (replies.Noted commit) = refl
@@ -84,6 +88,8 @@ submit_settles who n a before after (replies.Relay seq commit head items) ps all
     let front = both_true (is_for_front seq ps) (ends_with_front who ps items) (not-false (is_good_relay who ps (requests.Submit n a) seq items) g.1) in
     subst (λ (qs : List PendingAction). suc (length qs) ≤ length ps) (sym (cond-false (eqb seq 0) ps _ (no_zero seq ps all front))) (settled_one after _ seq ps front)
 submit_settles who n a before after (replies.Dropped seq chain far) ps all k bad = front_gone seq after ps (not-false (is_for_front seq ps) bad)
+submit_settles who n a before after (replies.Denied seq object) ps all k bad = front_gone seq after ps (not-false (is_for_front seq ps) bad)
+submit_settles who n a before after (replies.Seen last commit head items) ps all k bad = cc
 submit_settles who n a before after (replies.Settled seq pos) ps all k bad = front_gone seq after ps (not-false (is_for_front seq ps) bad)
 submit_settles who n a before after (replies.Welcome commit head) ps all k bad = cc
 submit_settles who n a before after (replies.Noted commit) ps all k bad = cc
@@ -97,6 +103,7 @@ answered who (requests.Submit n a) before after reply ps all k bad = omega (arit
 answered who (requests.Join client life interest) before after reply ps all k bad = omega (arith, replied-few before after reply ps)
 answered who (requests.Done results) before after reply ps all k bad = omega (arith, replied-few before after reply ps)
 answered who requests.Poll before after reply ps all k bad = omega (arith, replied-few before after reply ps)
+answered who (requests.Observe os wait) before after reply ps all k bad = omega (arith, replied-few before after reply ps)
 answered who requests.Leave before after reply ps all k bad = omega (arith, replied-few before after reply ps)
 answered who requests.Bad before after reply ps all k bad = omega (arith, replied-few before after reply ps)
 answered who requests.End before after reply ps all k bad = omega (arith, replied-few before after reply ps)
@@ -111,6 +118,8 @@ submitted who first (events.Make a ∷ t) p =
     omega (arith, ap submits (outstanding_made who first t a p.1 p.0.joined), submits_append (outstanding who t) (requests.Submit (suc (makes t)) a ∷ []), submitted who first t p.1, length-append (pending_of t) (record { seq = suc (makes t); action = a; kept = kept_of (held_of t) (pending_of t) a } ∷ []))
 submitted who first (events.Poll ∷ t) p =
     omega (arith, ap submits (outstanding_polled who first t p.1 p.0.joined), submits_append (outstanding who t) (requests.Poll ∷ []), submitted who first t p.1)
+submitted who first (events.Observe os wait ∷ t) p =
+    omega (arith, ap submits (outstanding_observed who first t os wait p.1 p.0.joined), submits_append (outstanding who t) (requests.Observe os wait ∷ []), submitted who first t p.1)
 submitted who first (events.Leave ∷ t) p =
     omega (arith, ap submits (outstanding_left who first t p.1 p.0.joined), submits_append (outstanding who t) (requests.Leave ∷ []), submitted who first t p.1)
 submitted who first (events.Got s reply ∷ t) p =

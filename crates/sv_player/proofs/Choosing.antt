@@ -14,6 +14,7 @@ none_synced : (ss rest : List Step) → after_syncs ss ≡ steps.Sync ∷ rest �
 none_synced [] rest e = cc
 none_synced (steps.Act action ∷ ss) rest e = cc
 none_synced (steps.Poll ∷ ss) rest e = cc
+none_synced (steps.Observe os ∷ ss) rest e = cc
 none_synced (steps.Sync ∷ ss) rest e = none_synced ss rest e
 none_synced (steps.Show objects ∷ ss) rest e = cc
 none_synced (steps.Cut ∷ ss) rest e = cc

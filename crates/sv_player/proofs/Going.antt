@@ -2,6 +2,7 @@
 use Rattle.std.proofs.Common.{◌≡◌, ◌⊎◌, inl, inr, ℕ, suc, ◌<◌, ◌≤◌, Bool, true, false, List, [], ◌∷◌, ◌++◌, length, Some, None, refl, sym, ap, subst, ◌∙◌, arith, true≢false}
 use Rattle.std.specs.List.{AllByRecursion}
 use Rattle.sv_world.specs.declared.action.Action.{Action}
+use Rattle.sv_world.specs.declared.world.ObjectId.{ObjectId}
 use Rattle.sv_world.proofs.Good.{none_of_good}
 use Rattle.sv_wire.specs.declared.message.Request.{Request}
 use Rattle.sv_wire.specs.declared.message.Request.TheVariants as requests
@@ -11,7 +12,7 @@ use Rattle.sv_client.specs.declared.trace.Event.{Event}
 use Rattle.sv_client.specs.declared.trace.Event.TheVariants as events
 use Rattle.sv_client.specs.Traces.{joins, makes, pending_of}
 use Rattle.sv_client.specs.Taking.{Identity, outstanding, allows, first_fault_of_reply}
-use Rattle.sv_client.specs.Proper.{AreProper, MayFollow, MayMake, in_session}
+use Rattle.sv_client.specs.Proper.{AreProper, MayFollow, MayMake, MayObserve, in_session}
 use Rattle.sv_client.proofs.Outstanding.{outstanding_left}
 use Rattle.sv_scenario.specs.declared.scenario.Step.{Step}
 use Rattle.sv_scenario.specs.declared.scenario.Step.TheVariants as steps
@@ -65,6 +66,7 @@ budget_on who script t before events.Leave left c b =
     }
 budget_on who script t before (events.Make action) left c b = by_step who script t before (events.Make action) left c b (omega arith) refl refl
 budget_on who script t before events.Poll left c b = by_step who script t before events.Poll left c b (omega arith) refl refl
+budget_on who script t before (events.Observe os wait) left c b = by_step who script t before (events.Observe os wait) left c b (omega arith) refl refl
 budget_on who script t before (events.Show objects) left c b = by_step who script t before (events.Show objects) left c b (omega arith) refl refl
 budget_on who script t before events.Quit left c b = by_step who script t before events.Quit left c b (omega arith) refl refl
 budget_on who script t before events.Cut left c b =
@@ -127,7 +129,9 @@ within_settled who t left r e = go r.here_is.within
 pub bye_finishes : (s : ℕ) (reply : Reply) (t : List Event) → is_finished (events.Got s reply ∷ t) ≡ is_bye reply
 bye_finishes s (replies.Welcome commit head) t = refl
 bye_finishes s (replies.Relay seq commit head items) t = refl
+bye_finishes s (replies.Seen last commit head items) t = refl
 bye_finishes s (replies.Dropped seq chain far) t = refl
+bye_finishes s (replies.Denied seq object) t = refl
 bye_finishes s (replies.Settled seq pos) t = refl
 bye_finishes s (replies.Noted commit) t = refl
 bye_finishes s replies.Idle t = refl
@@ -137,7 +141,9 @@ bye_finishes s replies.Bye t = refl
 leave_answered : (reply : Reply) → allows requests.Leave reply ≡ true → is_bye reply ≡ true
 leave_answered (replies.Welcome commit head) e = cc
 leave_answered (replies.Relay seq commit head items) e = cc
+leave_answered (replies.Seen last commit head items) e = cc
 leave_answered (replies.Dropped seq chain far) e = cc
+leave_answered (replies.Denied seq object) e = cc
 leave_answered (replies.Settled seq pos) e = cc
 leave_answered (replies.Noted commit) e = cc
 leave_answered replies.Idle e = cc
@@ -177,4 +183,14 @@ may_make p action rest g r next room calm =
       room = room;
       calm = calm;
       few = omega (arith, g.budget.few, some, ap (λ (ss : List Step). length ss) next);
+    }
+
+-- The objects of the next step may be observed.
+pub may_observe : (p : Player) (objects : List ObjectId) (rest : List Step) → IsGoing p → IsReady p.client.who p.client.events p.left.now → unsynced p.client.who p.client.events p.left.now ≡ steps.Observe objects ∷ rest →
+    length (outstanding p.client.who p.client.events) < 16 → MayObserve p.client.who p.client.events objects
+may_observe p objects rest g r next calm =
+    record {
+      joined = still_within p.client.who p.client.events p.left.now (steps.Observe objects) rest r next;
+      good = (good_next p.client.who p.client.events p.left.now (steps.Observe objects) rest g.budget.good next).0;
+      calm = calm;
     }

@@ -56,6 +56,12 @@ module _ (s : ℕ) (p q : Player) (b c : Buffers) (old new : Told) (at : IsAt s 
   polled_on rest next turn =
       moved_on s events.Poll p q c new turn (ready_after s events.Poll p q c new turn (still_within p.client.who p.client.events p.left.now steps.Poll rest ready next) refl refl ready.welcomed)
 
+  pub observed_on : (objects : List ObjectId) (rest : List Step) → unsynced p.client.who p.client.events p.left.now ≡ steps.Observe objects ∷ rest → SessionGoesOn s (events.Observe objects 0) p q c new →
+      IsMoved (Ok None) s p q c new
+  observed_on objects rest next turn =
+      moved_on s (events.Observe objects 0) p q c new turn
+      (ready_after s (events.Observe objects 0) p q c new turn (still_within p.client.who p.client.events p.left.now (steps.Observe objects) rest ready next) refl refl ready.welcomed)
+
   pub shown_on : (objects : List ObjectId) (rest : List Step) → unsynced p.client.who p.client.events p.left.now ≡ steps.Show objects ∷ rest → Did (events.Show objects) rest p q → IsMoved (Ok None) s p q b old
   shown_on objects rest next did =
       let turn =
@@ -110,7 +116,9 @@ only_bye : (reply : Reply) → is_bye reply ≡ true → reply ≡ replies.Bye
 only_bye replies.Bye e = refl
 only_bye (replies.Welcome commit head) e = cc
 only_bye (replies.Relay seq commit head items) e = cc
+only_bye (replies.Seen last commit head items) e = cc
 only_bye (replies.Dropped seq chain far) e = cc
+only_bye (replies.Denied seq object) e = cc
 only_bye (replies.Settled seq pos) e = cc
 only_bye (replies.Noted commit) e = cc
 only_bye replies.Idle e = cc

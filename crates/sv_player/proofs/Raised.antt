@@ -35,7 +35,9 @@ use Rattle.sv_player.proofs.Going.{bye_finishes}
 bye_leaves : (s : ℕ) (reply : Reply) (t : List Event) → has_left (events.Got s reply ∷ t) ≡ is_bye reply
 bye_leaves s (replies.Welcome commit head) t = refl
 bye_leaves s (replies.Relay seq commit head items) t = refl
+bye_leaves s (replies.Seen last commit head items) t = refl
 bye_leaves s (replies.Dropped seq chain far) t = refl
+bye_leaves s (replies.Denied seq object) t = refl
 bye_leaves s (replies.Settled seq pos) t = refl
 bye_leaves s (replies.Noted commit) t = refl
 bye_leaves s replies.Idle t = refl
@@ -52,6 +54,7 @@ module _ (first : ℕ) where
   up_cut (events.Join s ∷ t) k = up_cut t k
   up_cut (events.Make a ∷ t) k = up_cut t k
   up_cut (events.Poll ∷ t) k = up_cut t k
+  up_cut (events.Observe os wait ∷ t) k = up_cut t k
   up_cut (events.Leave ∷ t) k = up_cut t k
   up_cut (events.Got s reply ∷ t) k = up_cut t k
   up_cut (events.Cut ∷ t) k = ap₂ (λ (a b : Bool). a || b) (up_is first t k) (up_cut t k)
@@ -63,6 +66,7 @@ module _ (first : ℕ) where
   up_must_join (events.Join s ∷ t) = refl
   up_must_join (events.Make a ∷ t) = refl
   up_must_join (events.Poll ∷ t) = refl
+  up_must_join (events.Observe os wait ∷ t) = refl
   up_must_join (events.Leave ∷ t) = refl
   up_must_join (events.Got s reply ∷ t) = refl
   up_must_join (events.Cut ∷ t) = refl
@@ -74,6 +78,7 @@ module _ (first : ℕ) where
   up_welcomed (events.Join s ∷ t) = refl
   up_welcomed (events.Make a ∷ t) = up_welcomed t
   up_welcomed (events.Poll ∷ t) = up_welcomed t
+  up_welcomed (events.Observe os wait ∷ t) = up_welcomed t
   up_welcomed (events.Leave ∷ t) = up_welcomed t
   up_welcomed (events.Got s reply ∷ t) = refl
   up_welcomed (events.Cut ∷ t) = up_welcomed t
@@ -85,6 +90,7 @@ module _ (first : ℕ) where
   up_finished (events.Join s ∷ t) = refl
   up_finished (events.Make a ∷ t) = refl
   up_finished (events.Poll ∷ t) = refl
+  up_finished (events.Observe os wait ∷ t) = refl
   up_finished (events.Leave ∷ t) = refl
   up_finished (events.Got s reply ∷ t) = bye_finishes (s + first) reply (Up first t) ∙ sym (bye_finishes s reply t)
   up_finished (events.Cut ∷ t) = refl
@@ -96,6 +102,7 @@ module _ (first : ℕ) where
   up_quit (events.Join s ∷ t) = refl
   up_quit (events.Make a ∷ t) = refl
   up_quit (events.Poll ∷ t) = refl
+  up_quit (events.Observe os wait ∷ t) = refl
   up_quit (events.Leave ∷ t) = refl
   up_quit (events.Got s reply ∷ t) = refl
   up_quit (events.Cut ∷ t) = refl
@@ -107,6 +114,7 @@ module _ (first : ℕ) where
   up_left (events.Join s ∷ t) = refl
   up_left (events.Make a ∷ t) = refl
   up_left (events.Poll ∷ t) = refl
+  up_left (events.Observe os wait ∷ t) = refl
   up_left (events.Leave ∷ t) = refl
   up_left (events.Got s reply ∷ t) = bye_leaves (s + first) reply (Up first t) ∙ sym (bye_leaves s reply t)
   up_left (events.Cut ∷ t) = refl
@@ -140,6 +148,7 @@ module _ (first : ℕ) where
       }
   up_come who t before (events.Make a) left m = up_does who t before (events.Make a) left m
   up_come who t before events.Poll left m = up_does who t before events.Poll left m
+  up_come who t before (events.Observe os wait) left m = up_does who t before (events.Observe os wait) left m
   up_come who t before events.Cut left m = up_does who t before events.Cut left m
   up_come who t before events.Quit left m = up_does who t before events.Quit left m
   up_come who t before (events.Show objects) left m = up_does who t before (events.Show objects) left m

@@ -205,7 +205,9 @@ pub bye_asks_none : (who : Identity) (t : List Event) (s : ℕ) (reply : Reply) 
 bye_asks_none who t s replies.Bye e = either_none (eqb s (latest_session (events.Got s replies.Bye ∷ t)))
 bye_asks_none who t s (replies.Welcome commit head) e = cc
 bye_asks_none who t s (replies.Relay seq commit head items) e = cc
+bye_asks_none who t s (replies.Seen last commit head items) e = cc
 bye_asks_none who t s (replies.Dropped seq chain far) e = cc
+bye_asks_none who t s (replies.Denied seq object) e = cc
 bye_asks_none who t s (replies.Settled seq pos) e = cc
 bye_asks_none who t s (replies.Noted commit) e = cc
 bye_asks_none who t s replies.Idle e = cc

@@ -19,9 +19,11 @@ use Rattle.sv_wire.specs.declared.message.Reply.{Reply}
 use Rattle.sv_wire.specs.declared.message.Reply.TheVariants as replies
 use Rattle.sv_client.specs.declared.trace.Event.{Event}
 use Rattle.sv_client.specs.declared.trace.Event.TheVariants as events
-use Rattle.sv_client.specs.Traces.{head_held, held_at, item_result, item_held, with_items, with_reply, held_of, without_front, are_same, settled_by, pending_with, pending_of, view_of}
-use Rattle.sv_client.specs.Taking.{Identity, is_bad_head, is_bad_relay, has_bad_item, first_unheld, missing_at, first_missing_of, missing_in}
+use Rattle.sv_client.specs.Traces.{head_held, held_at, item_result, item_held, with_items, with_reply, held_of, without_front, are_same, settled_by, pending_with, has_news, pending_of, view_of}
+use Rattle.sv_client.specs.Taking.{Identity, is_bad_head, is_bad_relay, has_bad_action, has_bad_item, observed_by, first_unheld, missing_at, first_missing_of, missing_in}
+use Rattle.sv_client.specs.Kinds.{kind_of}
 use Rattle.sv_client.specs.Proper.{AreProper}
+use Rattle.sv_client.proofs.Applies.{items_found}
 use Rattle.sv_player.proofs.Well.{is_well}
 
 -- ---- Tests
@@ -91,12 +93,17 @@ module _ (attrs : ℕ) where
   with_head shape held commit head s a e = All-append (λ (h : Held). IsLong attrs h.value) held (head_held commit head) a (head_long shape commit head s e)
 
   reply_long : (who : Identity) (held : List Held) (ps : List PendingAction) (request : Request) (reply : Reply) → who.shape.attrs ≡ attrs → AreLong held →
-      has_bad_item who ps request reply ≡ false → missing_in held reply ≡ None → AreLong (with_reply held reply)
+      has_bad_item who ps request reply ≡ false → missing_in held (kind_of request) reply ≡ None → AreLong (with_reply held reply)
   reply_long who held ps request (replies.Welcome commit head) s a b m = with_head who.shape held commit head s a b
   reply_long who held ps request (replies.Relay seq commit head items) s a b m =
       let f = or_parts (is_bad_head who.shape head) (is_bad_relay who ps request seq items) b in
       items_long (held ++ head_held commit head) items (with_head who.shape held commit head s a f.0) m
+  reply_long who held ps request (replies.Seen last commit head items) s a b m =
+      let f = or_parts (is_bad_head who.shape head) (has_bad_action who.shape items) b in
+      items_long (held ++ head_held commit head) items (with_head who.shape held commit head s a f.0)
+      (items_found (held ++ head_held commit head) items last (observed_by (kind_of request)) m)
   reply_long who held ps request (replies.Dropped seq chain far) s a b m = a
+  reply_long who held ps request (replies.Denied seq object) s a b m = a
   reply_long who held ps request (replies.Settled seq pos) s a b m = a
   reply_long who held ps request (replies.Noted commit) s a b m = a
   reply_long who held ps request replies.Idle s a b m = a
@@ -117,7 +124,9 @@ module _ (attrs : ℕ) where
 
   replied_shaped : (before after : List Held) (reply : Reply) (ps : List PendingAction) → AreLong after → AreShaped attrs ps → AreShaped attrs (pending_with before after reply ps)
   replied_shaped before after (replies.Relay seq commit head items) ps a s = either_shaped (eqb seq 0) ps _ s (settled_shaped after _ ps a s)
+  replied_shaped before after (replies.Seen last commit head items) ps a s = either_shaped (has_news head items) _ ps (redone_shaped attrs after ps a) s
   replied_shaped before after (replies.Dropped seq chain far) ps a s = redone_shaped attrs after (without_front ps) a
+  replied_shaped before after (replies.Denied seq object) ps a s = redone_shaped attrs after (without_front ps) a
   replied_shaped before after (replies.Settled seq pos) ps a s = redone_shaped attrs after (without_front ps) a
   replied_shaped before after (replies.Welcome commit head) ps a s = s
   replied_shaped before after (replies.Noted commit) ps a s = s
@@ -135,6 +144,7 @@ held_long who first (events.Got s reply ∷ t) p =
 held_long who first (events.Join s ∷ t) p = held_long who first t p.1
 held_long who first (events.Make a ∷ t) p = held_long who first t p.1
 held_long who first (events.Poll ∷ t) p = held_long who first t p.1
+held_long who first (events.Observe os wait ∷ t) p = held_long who first t p.1
 held_long who first (events.Leave ∷ t) p = held_long who first t p.1
 held_long who first (events.Cut ∷ t) p = held_long who first t p.1
 held_long who first (events.Quit ∷ t) p = held_long who first t p.1
@@ -148,6 +158,7 @@ pending_shaped who first (events.Got s reply ∷ t) p =
     replied_shaped who.shape.attrs (held_of t) (with_reply (held_of t) reply) reply (pending_of t) (held_long who first (events.Got s reply ∷ t) p) (pending_shaped who first t p.1)
 pending_shaped who first (events.Join s ∷ t) p = pending_shaped who first t p.1
 pending_shaped who first (events.Poll ∷ t) p = pending_shaped who first t p.1
+pending_shaped who first (events.Observe os wait ∷ t) p = pending_shaped who first t p.1
 pending_shaped who first (events.Leave ∷ t) p = pending_shaped who first t p.1
 pending_shaped who first (events.Cut ∷ t) p = pending_shaped who first t p.1
 pending_shaped who first (events.Quit ∷ t) p = pending_shaped who first t p.1

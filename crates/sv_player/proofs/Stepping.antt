@@ -60,6 +60,7 @@ begun_asks who (events.Join s ∷ t) p n l e = go (eqb_tells s n) (λ m. begun_a
     go (inr m) earlier = earlier (omega (arith, p.0.next, m.1, l))
 begun_asks who (events.Make a ∷ t) p n l e = begun_asks who t p.1 n l (left_none _ _ e)
 begun_asks who (events.Poll ∷ t) p n l e = begun_asks who t p.1 n l (left_none _ _ e)
+begun_asks who (events.Observe os wait ∷ t) p n l e = begun_asks who t p.1 n l (left_none _ _ e)
 begun_asks who (events.Leave ∷ t) p n l e = begun_asks who t p.1 n l (left_none _ _ e)
 begun_asks who (events.Got s reply ∷ t) p n l e = begun_asks who t p.1 n l (left_none _ _ e)
 begun_asks who (events.Cut ∷ t) p n l e = begun_asks who t p.1 n l (left_none _ _ e)

@@ -30,7 +30,7 @@ use Rattle.sv_player.specs.Sessions.{IsAt, Onward, IsReason, Stopped, SessionGoe
 use Rattle.sv_player.specs.Waiting.{PutBehind}
 use Rattle.sv_player.proofs.Linking.{frames_none, begins_none, linked_posted, linked_part, linked_still}
 use Rattle.sv_player.proofs.Onward.{IsOf, asks_other, gets_other, cuts_other, asks_here}
-use Rattle.sv_player.proofs.Going.{follows_as, going_on, does_step, still_within, within_settled, may_make}
+use Rattle.sv_player.proofs.Going.{follows_as, going_on, does_step, still_within, within_settled, may_make, may_observe}
 
 -- ---- Onward
 
@@ -210,6 +210,7 @@ cut_below who first (events.Quit ∷ t) p k l = rw (not_current who first t p.1 
 cut_below who first (events.Join s ∷ t) p k l = cut_below who first t p.1 k (omega arith)
 cut_below who first (events.Make a ∷ t) p k l = cut_below who first t p.1 k l
 cut_below who first (events.Poll ∷ t) p k l = cut_below who first t p.1 k l
+cut_below who first (events.Observe os wait ∷ t) p k l = cut_below who first t p.1 k l
 cut_below who first (events.Leave ∷ t) p k l = cut_below who first t p.1 k l
 cut_below who first (events.Got s reply ∷ t) p k l = cut_below who first t p.1 k l
 cut_below who first (events.Show objects ∷ t) p k l = cut_below who first t p.1 k l
@@ -265,6 +266,12 @@ module _ (s : ℕ) (p : Player) (b : Buffers) (end : Told) (at : IsAt s p b end)
   poll_due rest next calm =
       due_in s events.Poll rest p at.current at.open_is (record { joined = still_within p.client.who p.client.events p.left.now steps.Poll rest ready next; calm = calm })
       (does_step p.client.who p.client.events p.left.now steps.Poll rest events.Poll ready next refl) at.current refl refl refl refl
+
+  pub observe_due : (objects : List ObjectId) (rest : List Step) → unsynced p.client.who p.client.events p.left.now ≡ steps.Observe objects ∷ rest → length (outstanding p.client.who p.client.events) < 16 →
+      IsDue s (events.Observe objects 0) rest p
+  observe_due objects rest next calm =
+      due_in s (events.Observe objects 0) rest p at.current at.open_is (may_observe p objects rest at.going ready next calm)
+      (does_step p.client.who p.client.events p.left.now (steps.Observe objects) rest (events.Observe objects 0) ready next refl) at.current refl refl refl refl
 
   pub show_due : (objects : List ObjectId) (rest : List Step) → unsynced p.client.who p.client.events p.left.now ≡ steps.Show objects ∷ rest → IsDue s (events.Show objects) rest p
   show_due objects rest next =

@@ -4,6 +4,7 @@ use Rattle.std.specs.Prelude.{if◌then◌else◌}
 use Rattle.sv_wire.specs.declared.message.Request.{Request}
 use Rattle.sv_wire.specs.declared.message.Reply.{Reply}
 use Rattle.sv_client.specs.declared.trace.Event.{Event}
+use Rattle.sv_client.specs.Kinds.{kind_of}
 use Rattle.sv_client.specs.Traces.{held_of, pending_of}
 use Rattle.sv_client.specs.Taking.{Identity, Fault, WrongKind, BadOrder, BadItem, outstanding, allows, is_out_of_order, has_bad_item, missing_fault, missing_in, fault_after, first_fault_of_reply}
 
@@ -14,7 +15,7 @@ pub record IsWell (who : Identity) (t : List Event) (reply : Reply) : Type 0 whe
   pub asked : outstanding who t ≡ request ∷ rest
   pub allowed : allows request reply ≡ true
   pub good : has_bad_item who (pending_of t) request reply ≡ false
-  pub found : missing_in (held_of t) reply ≡ None
+  pub found : missing_in (held_of t) (kind_of request) reply ≡ None
 
 abbrev first_of : Bool → Bool → Bool → Option Fault → Option Fault
 first_of a b c m = if not a then Some WrongKind else if b then Some BadOrder else if c then Some BadItem else m
@@ -35,5 +36,5 @@ is_well who t reply e = go (outstanding who t) refl e
     go : (os : List Request) → outstanding who t ≡ os → fault_after who t os reply ≡ None → IsWell who t reply
     go [] o h = cc
     go (r ∷ rs) o h =
-        let f = none_of (allows r reply) (is_out_of_order t reply) (has_bad_item who (pending_of t) r reply) (missing_fault (missing_in (held_of t) reply)) h in
-        record { request = r; rest = rs; asked = o; allowed = f.0; good = f.1; found = none_missing (missing_in (held_of t) reply) f.2 }
+        let f = none_of (allows r reply) (is_out_of_order t reply) (has_bad_item who (pending_of t) r reply) (missing_fault (missing_in (held_of t) (kind_of r) reply)) h in
+        record { request = r; rest = rs; asked = o; allowed = f.0; good = f.1; found = none_missing (missing_in (held_of t) (kind_of r) reply) f.2 }

@@ -1,16 +1,17 @@
 -- What a client of a proper trace asks is within the grammar of messages, whatever it was replied.
-use Rattle.std.proofs.Common.{◌≡◌, ℕ, suc, ◌≤◌, Bool, true, false, ◌||◌, not, eqb, List, [], ◌∷◌, ◌++◌, length, map, ℤ, Option, None, refl, sym, ◌∙◌, subst, arith, eq-eqb}
+use Rattle.std.proofs.Common.{◌≡◌, ℕ, suc, ◌≤◌, Bool, true, false, ◌&&◌, ◌||◌, nat_lt, nat_le, not, eqb, List, [], ◌∷◌, ◌++◌, length, map, ℤ, Option, None, refl, sym, ◌∙◌, subst, arith, eq-eqb}
 use Rattle.std.specs.Prelude.{All, is_none, unwrap_or, if◌then◌else◌}
 use Rattle.std.specs.List.{AllByRecursion, list_any}
 use Rattle.std.proofs.lemmas.List.{length-map}
 use Rattle.std.proofs.lemmas.List.Elements.{All-nil, All-cons, All-head, All-tail, All-from_recursion}
-use Rattle.std.proofs.lemmas.Bool.{cond-true, or_parts}
-use Rattle.sv_world.specs.Faults.{first_fault_of_action, IsGoodAction}
+use Rattle.std.proofs.lemmas.Bool.{cond-true, or_parts, and_parts, ltb-true, leb-true}
+use Rattle.sv_world.specs.Faults.{first_fault_of_action, is_ascending, may_be_observed, IsGoodAction}
 use Rattle.sv_world.proofs.Good.{good_of_none}
 use Rattle.sv_world.specs.declared.action.Action.{Action}
 use Rattle.sv_world.specs.declared.world.ObjectId.{ObjectId}
 use Rattle.sv_world.specs.declared.world.Shape.{Shape}
-use Rattle.sv_world.specs.Sets.{read_set}
+use Rattle.sv_world.specs.Limits.{most_reads}
+use Rattle.sv_world.specs.Sets.{numbers_of, read_set}
 use Rattle.sv_eval.proofs.Effects.{effect_counted}
 use Rattle.sv_versions.specs.Held.{Held, read_below}
 use Rattle.sv_pending.specs.Pending.{PendingAction, kept_of, redone_after, redone}
@@ -20,15 +21,17 @@ use Rattle.sv_wire.specs.declared.message.Request.{Request}
 use Rattle.sv_wire.specs.declared.message.Request.TheVariants as requests
 use Rattle.sv_wire.specs.declared.message.Reply.{Reply}
 use Rattle.sv_wire.specs.declared.message.Reply.TheVariants as replies
-use Rattle.sv_wire.specs.Grammar.{IsWireValue, IsWireAction, IsWireResult, IsWireDone, IsWireRequest, IsWireReply}
+use Rattle.sv_wire.specs.Grammar.{IsWireValue, IsWireAction, IsWireResult, IsWireDone, IsWireObserved, IsWireRequest, IsWireReply}
 use Rattle.sv_client.specs.declared.trace.Event.{Event}
 use Rattle.sv_client.specs.declared.trace.Event.TheVariants as events
-use Rattle.sv_client.specs.Traces.{joins, head_held, item_result, item_held, with_reply, held_of, results_of, done_for, without_front, are_same, settled_by, pending_with, pending_of, submit_of}
-use Rattle.sv_client.specs.Taking.{Identity, is_bad_head, is_bad_relay, is_good_relay, has_bad_item, first_unheld, first_missing_of, missing_in, first_fault_of_reply}
-use Rattle.sv_client.specs.Proper.{AreProper, IsGoodIdentity, MayMake}
+use Rattle.sv_client.specs.Traces.{joins, head_held, item_result, item_held, with_reply, held_of, results_of, done_for, without_front, are_same, settled_by, pending_with, has_news, pending_of, submit_of}
+use Rattle.sv_client.specs.Taking.{Identity, is_bad_head, is_bad_relay, is_good_relay, has_bad_item, observed_by, first_unheld, first_missing_of, missing_in, first_fault_of_reply}
+use Rattle.sv_client.specs.Proper.{AreProper, IsGoodIdentity, MayMake, MayObserve}
+use Rattle.sv_client.specs.Kinds.{kind_of}
 use Rattle.sv_client.specs.Seen.{newly_asked}
 use Rattle.sv_client.specs.Answers.{got_now}
 use Rattle.sv_client.proofs.Takes.{newly_got}
+use Rattle.sv_client.proofs.Applies.{items_found}
 use Rattle.sv_world.specs.Worlds.{IsGoodShape}
 use Rattle.sv_client.proofs.Sendable.{wire_action, masked_fewer}
 use Rattle.sv_client.proofs.Items.{results_count}
@@ -68,7 +71,9 @@ settled held own (p ∷ ps) all = either (are_same own p.kept) ps (redone held p
 
 replied : (before after : List Held) (reply : Reply) (ps : List PendingAction) → AreWirePending ps → AreWirePending (pending_with before after reply ps)
 replied before after (replies.Relay seq commit head items) ps all = either (eqb seq 0) ps _ all (settled after _ ps all)
+replied before after (replies.Seen last commit head items) ps all = either (has_news head items) _ ps (redone_from after [] ps tt all) all
 replied before after (replies.Dropped seq chain far) ps all = redone_from after [] (without_front ps) tt (without ps all)
+replied before after (replies.Denied seq object) ps all = redone_from after [] (without_front ps) tt (without ps all)
 replied before after (replies.Settled seq pos) ps all = redone_from after [] (without_front ps) tt (without ps all)
 replied before after (replies.Welcome commit head) ps all = all
 replied before after (replies.Noted commit) ps all = all
@@ -83,6 +88,7 @@ pending_are who first (events.Make a ∷ t) p =
 pending_are who first (events.Got s reply ∷ t) p = replied (held_of t) (with_reply (held_of t) reply) reply (pending_of t) (pending_are who first t p.1)
 pending_are who first (events.Join s ∷ t) p = pending_are who first t p.1
 pending_are who first (events.Poll ∷ t) p = pending_are who first t p.1
+pending_are who first (events.Observe os wait ∷ t) p = pending_are who first t p.1
 pending_are who first (events.Leave ∷ t) p = pending_are who first t p.1
 pending_are who first (events.Cut ∷ t) p = pending_are who first t p.1
 pending_are who first (events.Quit ∷ t) p = pending_are who first t p.1
@@ -101,6 +107,17 @@ join_asks who t good p =
     let all : AllByRecursion IsWireRequest list = (record { few = good.few; ascending = good.ascending }, submits_are (pending_of t) (pending_are who 0 t p)) in
     subst (All IsWireRequest) (sym (cond-true (eqb n n) list [] (eq-eqb n n refl))) (All-from_recursion IsWireRequest list all)
 
+-- Objects that may be observed are within the grammar.
+wire_observed : (n : ℕ) (os : List ObjectId) → may_be_observed n (numbers_of os) ≡ true → IsWireObserved os
+wire_observed n os good =
+    let f = and_parts (nat_lt 0 (length (numbers_of os)) && nat_le (length (numbers_of os)) most_reads && is_ascending (numbers_of os)) _ good in
+    let g = and_parts (nat_lt 0 (length (numbers_of os)) && nat_le (length (numbers_of os)) most_reads) (is_ascending (numbers_of os)) f.0 in
+    let h = and_parts (nat_lt 0 (length (numbers_of os))) (nat_le (length (numbers_of os)) most_reads) g.0 in
+    let long = length-map os (λ (o : ObjectId). o.0) in
+    let some = ltb-true 0 (length (numbers_of os)) h.0 in
+    let few = leb-true (length (numbers_of os)) most_reads h.1 in
+    record { some = omega (arith, some, long); few = omega (arith, few, long); ascending = g.1 }
+
 only : (b : Bool) (q r : Request) → r ∷ [] ≡ (if b then q ∷ [] else []) → r ≡ q
 only true q r e = cc
 only false q r e = cc
@@ -111,6 +128,9 @@ make_asks who t a request may e =
 
 pub poll_asks : (who : Identity) (t : List Event) (request : Request) → request ∷ [] ≡ newly_asked who t events.Poll → IsWireRequest request
 poll_asks who t request e = subst IsWireRequest (sym (only _ requests.Poll request e)) tt
+
+pub observe_asks : (who : Identity) (t : List Event) (os : List ObjectId) (wait : ℕ) (request : Request) → MayObserve who t os → request ∷ [] ≡ newly_asked who t (events.Observe os wait) → IsWireRequest request
+observe_asks who t os wait request may e = subst IsWireRequest (sym (only _ (requests.Observe os wait) request e)) (wire_observed who.shape.objects os may.good)
 
 pub leave_asks : (who : Identity) (t : List Event) (request : Request) → request ∷ [] ≡ newly_asked who t events.Leave → IsWireRequest request
 leave_asks who t request e = subst IsWireRequest (sym (only _ requests.Leave request e)) tt
@@ -155,24 +175,37 @@ some_items : (items : List Item) → eqb (length items) 0 ≡ false → 1 ≤ le
 some_items [] e = cc
 some_items (i ∷ is) e = omega arith
 
+-- The Done of items that have their values can be sent.
+done_is : (shape : Shape) → IsGoodShape shape → (held : List Held) (items : List Item) → 1 ≤ length items → length items ≤ 33 → AreLong shape.attrs held → list_any (has_fault shape) items ≡ false →
+    first_missing_of held items ≡ None → All IsWireRequest (requests.Done (results_of held items) ∷ [])
+done_is shape good held items some few long fine found =
+    let results = results_of held items in
+    let done : IsWireDone results =
+    record {
+      some = omega (arith, results_count held items, some);
+      few = omega (arith, results_count held items, few);
+      each = All-from_recursion IsWireResult results (results_are shape good held items long fine found);
+    } in
+    All-cons IsWireRequest (requests.Done results) [] done (All-nil IsWireRequest)
+
 dones_are : (who : Identity) (t : List Event) (request : Request) (reply : Reply) → IsGoodShape who.shape → AreProper who 0 t → IsWireReply reply →
-    has_bad_item who (pending_of t) request reply ≡ false → missing_in (held_of t) reply ≡ None → All IsWireRequest (done_for (held_of t) reply)
+    has_bad_item who (pending_of t) request reply ≡ false → missing_in (held_of t) (kind_of request) reply ≡ None → All IsWireRequest (done_for (held_of t) reply)
 dones_are who t request (replies.Relay seq commit head items) shape p wire bad found =
     let f = or_parts (is_bad_head who.shape head) (is_bad_relay who (pending_of t) request seq items) bad in
     let g = or_parts (eqb (length items) 0 || list_any (has_fault who.shape) items) (not (is_good_relay who (pending_of t) request seq items)) f.1 in
     let h = or_parts (eqb (length items) 0) (list_any (has_fault who.shape) items) g.0 in
     let held = held_of t ++ head_held commit head in
-    let results = results_of held items in
     let long = with_head who.shape.attrs who.shape (held_of t) commit head refl (held_long who 0 t p) f.0 in
-    let done : IsWireDone results =
-    record {
-      some = omega (arith, results_count held items, some_items items h.0);
-      few = omega (arith, results_count held items, wire.few);
-      each = All-from_recursion IsWireResult results (results_are who.shape shape held items long h.1 found);
-    } in
-    All-cons IsWireRequest (requests.Done results) [] done (All-nil IsWireRequest)
+    done_is who.shape shape held items (some_items items h.0) wire.few long h.1 found
+dones_are who t request (replies.Seen last commit head []) shape p wire bad found = All-nil IsWireRequest
+dones_are who t request (replies.Seen last commit head (item ∷ items)) shape p wire bad found =
+    let f = or_parts (is_bad_head who.shape head) (list_any (has_fault who.shape) (item ∷ items)) bad in
+    let held = held_of t ++ head_held commit head in
+    let long = with_head who.shape.attrs who.shape (held_of t) commit head refl (held_long who 0 t p) f.0 in
+    done_is who.shape shape held (item ∷ items) (omega arith) wire.few long f.1 (items_found held (item ∷ items) last (observed_by (kind_of request)) found)
 dones_are who t request (replies.Welcome commit head) shape p wire bad found = All-nil IsWireRequest
 dones_are who t request (replies.Dropped seq chain far) shape p wire bad found = All-nil IsWireRequest
+dones_are who t request (replies.Denied seq object) shape p wire bad found = All-nil IsWireRequest
 dones_are who t request (replies.Settled seq pos) shape p wire bad found = All-nil IsWireRequest
 dones_are who t request (replies.Noted commit) shape p wire bad found = All-nil IsWireRequest
 dones_are who t request replies.Idle shape p wire bad found = All-nil IsWireRequest

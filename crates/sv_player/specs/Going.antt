@@ -120,5 +120,6 @@ IsMove moves.Leave who t left = (outstanding who t ≡ []) × (after_syncs left 
 IsMove (moves.Make making) who t left =
     (unsynced who t left ≡ steps.Act making.action.now ∷ making.rest.now) × (length (pending_of t) < most_pending) × (length (outstanding who t) < most_outstanding)
 IsMove (moves.Poll rest) who t left = (unsynced who t left ≡ steps.Poll ∷ rest.now) × (length (outstanding who t) < most_outstanding)
+IsMove (moves.Observe objects rest) who t left = (unsynced who t left ≡ steps.Observe objects.now ∷ rest.now) × (length (outstanding who t) < most_outstanding)
 IsMove (moves.Show objects rest) who t left = unsynced who t left ≡ steps.Show objects.now ∷ rest.now
 IsMove (moves.Part parting rest) who t left = unsynced who t left ≡ parting_step parting ∷ rest.now

@@ -27,6 +27,7 @@ pub(crate) enum Move<'a> {
 
     Make(Making<'a>),
     Poll(&'a [Step]),
+    Observe(&'a List<ObjectId>, &'a [Step]),
     Show(&'a List<ObjectId>, &'a [Step]),
     Part(Parting, &'a [Step]),
 }
@@ -43,6 +44,7 @@ impl<'a> Player<'a> {
         match step {
             Step::Act(action) => self.make_or_wait(action, rest),
             Step::Poll => self.poll_or_wait(rest),
+            Step::Observe(objects) => self.observe_or_wait(objects, rest),
             Step::Sync => self.wait_at_sync(rest),
             Step::Show(objects) => Move::Show(objects, rest),
             Step::Cut => Move::Part(Parting::Cut, rest),
@@ -89,6 +91,17 @@ impl<'a> Player<'a> {
     {
         if self.client.outstanding() < MOST_OUTSTANDING {
             Move::Poll(rest)
+        } else {
+            Move::Wait
+        }
+    }
+
+    fn observe_or_wait(&self, objects: &'a List<ObjectId>, rest: &'a [Step]) -> Move<'a>
+        requires next { unsynced self.now.client.who self.now.client.events self.now.left.now ≡ steps.Observe objects.now ∷ rest.now }
+        ensures { IsMove result self.now.client.who self.now.client.events self.now.left.now }
+    {
+        if self.client.outstanding() < MOST_OUTSTANDING {
+            Move::Observe(objects, rest)
         } else {
             Move::Wait
         }

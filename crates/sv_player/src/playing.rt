@@ -5,7 +5,7 @@ ghost use Rattle.sv_client.specs.declared.trace.Event.TheVariants as events;
 ghost use Rattle.sv_client.specs.declared.fault.TakeFault.TheVariants as faults;
 ghost use Rattle.sv_client.specs.Traces.{joins};
 ghost use Rattle.sv_client.specs.Taking.{first_fault_of_reply};
-ghost use Rattle.sv_client.specs.Proper.{MayMake, MayPoll, MayLeave};
+ghost use Rattle.sv_client.specs.Proper.{MayMake, MayPoll, MayObserve, MayLeave};
 ghost use Rattle.sv_client.specs.Seen.{event_of_mark, newly_asked, with_event};
 ghost use Rattle.sv_client.specs.Answers.{IsTakeFault, got_now};
 ghost use Rattle.sv_watch.specs.Told.{change_line, IsChangeIn};
@@ -15,11 +15,11 @@ ghost use Rattle.sv_player.specs.Going.{IsGoing, Did, DidInPart};
 
 use crate::telling::{Seen, tell_changes};
 use std::alloc::{AllocError, Global};
-use sv_client::{Client, MakeFault, PollFault, TakeFault, TraceMark};
+use sv_client::{Client, MakeFault, ObserveFault, PollFault, TakeFault, TraceMark};
 use sv_scenario::Step;
 use sv_watch::{Line, Watch};
 use sv_wire::{Reply, Request};
-use sv_world::{Action, copy_action};
+use sv_world::{Action, List, ObjectId, copy_action, copy_objects};
 
 /// A client on its way through its script.
 #[derive(Drop)]
@@ -123,6 +123,29 @@ impl<'a> Player<'a> {
         Ok(request)
     }
 
+    /// Asks what objects are, and waits for no news of them.
+    pub(crate) fn observe(
+        &mut self,
+        objects: &List<ObjectId>,
+        rest: &'a [Step],
+    ) -> Result<Request, AllocError>
+        requires may { MayObserve self.old.client.who self.old.client.events objects.now }
+        requires count { self.old.count ≤ most_events }
+        ensures request { IfOk result (λ request. request ∷ [] ≡ newly_asked self.old.client.who self.old.client.events (events.Observe objects.now 0)) }
+        ensures ok { OnOk result (Did (events.Observe objects.now 0) rest.now self.old self.new) }
+        ensures err { OnErr result (self.new ≡ self.old) }
+    {
+        let copy = copy_objects(self.alloc, objects.as_slice())?;
+        let request = match self.client.observe(copy, 0) {
+            Ok(request) => request,
+            Err(ObserveFault::Memory) => return Err(AllocError),
+            Err(_) => unreachable!(),
+        };
+        self.count += 1;
+        self.left = rest;
+        Ok(request)
+    }
+
     /// Leaves, with all steps done.
     pub(crate) fn leave(&mut self) -> Result<Request, AllocError>
         requires may { MayLeave self.old.client.who self.old.client.events }
@@ -149,7 +172,7 @@ impl<'a> Player<'a> {
         Ok(())
     }
 
-    /// Takes a reply, and answers the Done of a relay.
+    /// Takes a reply, and answers the Done of its items, if it has any.
     pub(crate) fn take(
         &mut self,
         reply: Reply,

@@ -103,6 +103,27 @@ impl<'a> Player<'a> {
         sent_whole(buffers.post(&request, end))
     }
 
+    /// Asks what objects are.
+    fn do_observe<E: End>(
+        &mut self,
+        objects: &List<ObjectId>,
+        rest: &'a [Step],
+        buffers: &mut Buffers,
+        end: &mut E,
+    ) -> Result<(), PlayerCause>
+        requires at { IsAt (latest_session self.old.client.events) self.old buffers.old (E.told end.old) }
+        requires ready { IsReady self.old.client.who self.old.client.events self.old.left.now }
+        requires next { unsynced self.old.client.who self.old.client.events self.old.left.now ≡ steps.Observe objects.now ∷ rest.now }
+        requires room { length (outstanding self.old.client.who self.old.client.events) < most_outstanding }
+        ensures turn { IsTurn result (latest_session self.old.client.events) (events.Observe objects.now 0) self.old self.new buffers.new (E.told end.new) }
+        ensures same_end { which_end (E.told end.new) ≡ which_end (E.told end.old) }
+        ensures cause { FaultCause (E.faults end.old) (E.faults end.new) result }
+        ensures calm { E.calm end.old → E.calm end.new }
+    {
+        let request = self.observe(objects, rest)?;
+        sent_whole(buffers.post(&request, end))
+    }
+
     /// Leaves, with all steps done.
     fn do_leave<E: End>(&mut self, buffers: &mut Buffers, end: &mut E) -> Result<(), PlayerCause>
         requires at { IsAt (latest_session self.old.client.events) self.old buffers.old (E.told end.old) }
@@ -228,7 +249,7 @@ impl<'a> Player<'a> {
         self.take_reply(reply, watch, buffers, end)
     }
 
-    /// Sends the Done of a relay that was taken.
+    /// Sends the Done of a reply that was taken, if it has one.
     fn answer<E: End>(
         &self,
         done: Option<Request>,
@@ -415,6 +436,10 @@ impl<'a> Player<'a> {
             }
             Move::Poll(rest) => {
                 self.do_poll(rest, buffers, end)?;
+                Ok(None)
+            }
+            Move::Observe(objects, rest) => {
+                self.do_observe(objects, rest, buffers, end)?;
                 Ok(None)
             }
             Move::Show(objects, rest) => {

@@ -44,6 +44,7 @@ none_asked who first (events.Join s ∷ t) p n e =
     both_empty _ _ (none_asked who first t p.1 n (join_parts n s t e).1) (cond-false (eqb s n) _ [] (join_parts n s t e).0)
 none_asked who first (events.Make a ∷ t) p n e = both_empty _ _ (none_asked who first t p.1 n e) (cond-false (is_session (current_session t) n) _ [] (not-current t n e))
 none_asked who first (events.Poll ∷ t) p n e = both_empty _ _ (none_asked who first t p.1 n e) (cond-false (is_session (current_session t) n) _ [] (not-current t n e))
+none_asked who first (events.Observe objects wait ∷ t) p n e = both_empty _ _ (none_asked who first t p.1 n e) (cond-false (is_session (current_session t) n) _ [] (not-current t n e))
 none_asked who first (events.Leave ∷ t) p n e = both_empty _ _ (none_asked who first t p.1 n e) (cond-false (is_session (current_session t) n) _ [] (not-current t n e))
 none_asked who first (events.Got s reply ∷ t) p n e = both_empty _ _ (none_asked who first t p.1 n e) (cond-false (eqb s n) (done_for (held_of t) reply) [] (not_joined t n s e p.0.current))
 none_asked who first (events.Cut ∷ t) p n e = both_empty _ _ (none_asked who first t p.1 n e) refl
@@ -55,6 +56,7 @@ none_got who first [] p n e = refl
 none_got who first (events.Join s ∷ t) p n e = none_got who first t p.1 n (join_parts n s t e).1
 none_got who first (events.Make a ∷ t) p n e = none_got who first t p.1 n e
 none_got who first (events.Poll ∷ t) p n e = none_got who first t p.1 n e
+none_got who first (events.Observe objects wait ∷ t) p n e = none_got who first t p.1 n e
 none_got who first (events.Leave ∷ t) p n e = none_got who first t p.1 n e
 none_got who first (events.Got s reply ∷ t) p n e = rw (not_joined t n s e p.0.current) (none_got who first t p.1 n e)
 none_got who first (events.Cut ∷ t) p n e = none_got who first t p.1 n e

@@ -84,6 +84,7 @@ module _ (who : Identity) (first : ℕ) (t : List Event) (left : List Step) (fit
   place_is (events.Join n) j = next_is n j
   place_is (events.Make a) j = last_is (sym j.needed)
   place_is events.Poll j = last_is (sym j.needed)
+  place_is (events.Observe objects wait) j = last_is (sym j.needed)
   place_is events.Leave j = last_is (sym j.needed)
   place_is (events.Got n reply) j = last_is (sym j.needed)
   place_is events.Cut j = last_is (sym j.needed)
@@ -122,6 +123,7 @@ module _ (who : Identity) (first : ℕ) (t : List Event) (left : List Step) (fit
   closes (events.Join n) j g rest s = begins n j s
   closes (events.Make a) j g rest s = kept (sym j.needed) s
   closes events.Poll j g rest s = kept (sym j.needed) s
+  closes (events.Observe objects wait) j g rest s = kept (sym j.needed) s
   closes events.Leave j g rest s = kept (sym j.needed) s
   closes (events.Got n reply) j g rest s = cc
   closes events.Cut j g rest s = shut (sym j.needed) s
@@ -132,6 +134,7 @@ module _ (who : Identity) (first : ℕ) (t : List Event) (left : List Step) (fit
   begun_here (events.Join n) j g = or_left (n + first == session_of old) (list_any (is_join_of (session_of old)) (Up first t)) (eq-eqb (n + first) (session_of old) (next_is n j))
   begun_here (events.Make a) j g = joined_it (sym j.needed)
   begun_here events.Poll j g = joined_it (sym j.needed)
+  begun_here (events.Observe objects wait) j g = joined_it (sym j.needed)
   begun_here events.Leave j g = joined_it (sym j.needed)
   begun_here (events.Got n reply) j g = cc
   begun_here events.Cut j g = joined_it (sym j.needed)

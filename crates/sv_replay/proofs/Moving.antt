@@ -8,6 +8,7 @@ use Rattle.std.proofs.lemmas.List.Elements.{recursion_from_All, All-from_recursi
 use mathlib.Core.Bool.{or-false}
 use Rattle.sv_wire.specs.Laws.{IsRequest}
 use Rattle.sv_system.proofs.Every.{each-right}
+use Rattle.sv_world.specs.declared.world.ObjectId.{ObjectId}
 use Rattle.sv_world.specs.declared.action.Action.{Action}
 use Rattle.sv_wire.specs.declared.message.Reply.{Reply}
 use Rattle.sv_wire.specs.declared.message.Request.{Request}
@@ -18,7 +19,7 @@ use Rattle.sv_client.specs.declared.fault.TakeFault.{TakeFault}
 use Rattle.sv_client.specs.declared.fault.TakeFault.TheVariants as faults
 use Rattle.sv_client.specs.Answers.{IsTakeFault, got_now}
 use Rattle.sv_client.specs.Taking.{Identity, first_fault_of_reply, Fault, Unasked, WrongKind, BadOrder, BadItem, Missing}
-use Rattle.sv_client.specs.Proper.{MayMake, MayPoll, MayLeave, in_session}
+use Rattle.sv_client.specs.Proper.{MayMake, MayPoll, MayObserve, MayLeave, in_session}
 use Rattle.sv_client.specs.Seen.{raised, latest_session, newly_asked}
 use Rattle.sv_client.proofs.Shifts.{Up, up_joins, up_makes, up_session, up_pending, up_outstanding, up_fault}
 use Rattle.sv_scenario.specs.declared.scenario.Step.{Step}
@@ -120,6 +121,9 @@ down_make who first t a m = record {
 pub down_poll : (who : Identity) (first : ℕ) (t : List Event) → MayPoll who (Up first t) → MayPoll who t
 down_poll who first t m = record { joined = sym (up_session first t) ∙ m.joined; calm = rw (sym (up_outstanding first who t)) m.calm }
 
+pub down_observe : (who : Identity) (first : ℕ) (t : List Event) (objects : List ObjectId) → MayObserve who (Up first t) objects → MayObserve who t objects
+down_observe who first t objects m = record { joined = sym (up_session first t) ∙ m.joined; good = m.good; calm = rw (sym (up_outstanding first who t)) m.calm }
+
 pub down_leave : (who : Identity) (first : ℕ) (t : List Event) → MayLeave who (Up first t) → MayLeave who t
 down_leave who first t m = record { joined = sym (up_session first t) ∙ m.joined; settled = sym (up_outstanding first who t) ∙ m.settled }
 
@@ -143,6 +147,12 @@ polls p rest c = if_may p (is_calm p) events.Poll rest c
 
 pub waits_poll : (p : Player) (rest : List Step) → is_calm p ≡ false → next_step p (steps.Poll ∷ rest) ≡ p
 waits_poll p rest c = if_not p (is_calm p) events.Poll rest c
+
+pub observes : (p : Player) (objects : List ObjectId) (rest : List Step) → is_calm p ≡ true → next_step p (steps.Observe objects ∷ rest) ≡ does p (events.Observe objects 0) rest
+observes p objects rest c = if_may p (is_calm p) (events.Observe objects 0) rest c
+
+pub waits_observe : (p : Player) (objects : List ObjectId) (rest : List Step) → is_calm p ≡ false → next_step p (steps.Observe objects ∷ rest) ≡ p
+waits_observe p objects rest c = if_not p (is_calm p) (events.Observe objects 0) rest c
 
 pub leaves : (p : Player) → is_settled p ≡ true → in_session p.events ≡ true → last_steps p ≡ does p events.Leave []
 leaves p s i = rw (s, i) refl

@@ -26,6 +26,7 @@ use Rattle.sv_replay.specs.Playable.{MadeActionsFit}
 pub event_fits : (step : Step) (e : Event) → event_of step ≡ Some e → StepFits step → EventFits e
 event_fits (steps.Act action) e h f = subst EventFits (same_Some (events.Make action) e h) f
 event_fits steps.Poll e h f = subst EventFits (same_Some events.Poll e h) tt
+event_fits (steps.Observe objects) e h f = subst EventFits (same_Some (events.Observe objects 0) e h) tt
 event_fits steps.Sync e h f = absurd (none-some e h)
 event_fits (steps.Show objects) e h f = subst EventFits (same_Some (events.Show objects) e h) tt
 event_fits steps.Cut e h f = subst EventFits (same_Some events.Cut e h) tt
@@ -51,6 +52,7 @@ made_fit who script (events.Got s reply ∷ t) left f all = let b = made_fit who
 made_fit who script (events.Leave ∷ t) left f all = let b = made_fit who script t f.0 f.1.0 all in ((tt, b.0), subst (AllByRecursion StepFits) (sym f.1.1.same) tt)
 made_fit who script (events.Make action ∷ t) left f all = after_step who t f.0 (events.Make action) left f.1.1 (made_fit who script t f.0 f.1.0 all)
 made_fit who script (events.Poll ∷ t) left f all = after_step who t f.0 events.Poll left f.1.1 (made_fit who script t f.0 f.1.0 all)
+made_fit who script (events.Observe objects wait ∷ t) left f all = after_step who t f.0 (events.Observe objects wait) left f.1.1 (made_fit who script t f.0 f.1.0 all)
 made_fit who script (events.Cut ∷ t) left f all = after_step who t f.0 events.Cut left f.1.1 (made_fit who script t f.0 f.1.0 all)
 made_fit who script (events.Quit ∷ t) left f all = after_step who t f.0 events.Quit left f.1.1 (made_fit who script t f.0 f.1.0 all)
 made_fit who script (events.Show objects ∷ t) left f all = after_step who t f.0 (events.Show objects) left f.1.1 (made_fit who script t f.0 f.1.0 all)

@@ -4,7 +4,7 @@ ghost use Rattle.std.specs.Prelude.{◌≡◌, ◌<◌, ◌+◌, [], ◌∷◌, 
 ghost use Rattle.sv_world.specs.Limits.{most_sessions};
 ghost use Rattle.sv_client.specs.declared.trace.Event.TheVariants as events;
 ghost use Rattle.sv_client.specs.Traces.{joins};
-ghost use Rattle.sv_client.specs.Proper.{MayMake, MayPoll, MayLeave};
+ghost use Rattle.sv_client.specs.Proper.{MayMake, MayPoll, MayObserve, MayLeave};
 ghost use Rattle.sv_client.specs.Seen.{newly_asked};
 ghost use Rattle.sv_scenario.specs.declared.scenario.Step.TheVariants as steps;
 ghost use Rattle.sv_script.specs.Following.{must_join};
@@ -17,7 +17,7 @@ ghost use Rattle.sv_replay.specs.Serving.{one_if};
 ghost use Rattle.sv_replay.specs.Machine.{player_of, AreFlags, IsReady, Does, MovedPlayer};
 
 use std::alloc::{AllocError, Global};
-use sv_client::{Client, MakeFault, PollFault, TakeFault, Trace, TraceMark};
+use sv_client::{Client, MakeFault, ObserveFault, PollFault, TakeFault, Trace, TraceMark};
 use sv_exchange::Exchange;
 use sv_scenario::Step;
 use sv_wire::Request;
@@ -122,6 +122,7 @@ impl<'a> Playing<'a> {
         match step {
             Step::Act(action) => self.act(alloc, channel, action, rest),
             Step::Poll => self.poll(channel, rest),
+            Step::Observe(objects) => self.observe(alloc, channel, objects, rest),
             Step::Sync => {
                 self.sync(rest);
                 Ok(())
@@ -216,6 +217,51 @@ impl<'a> Playing<'a> {
             Ok(request) => channel.send_request(&request)?,
             Err(PollFault::Memory) => return Err(AllocError),
             Err(PollFault::Busy) => unreachable!(),
+        }
+        self.left = rest;
+        Ok(())
+    }
+
+    fn observe(
+        &mut self,
+        alloc: Global,
+        channel: &mut Exchange,
+        objects: &List<ObjectId>,
+        rest: &'a [Step],
+    ) -> Result<(), AllocError>
+        requires flags { AreFlags self.old }
+        requires ready { IsReady self.old }
+        requires after { IsAfterTurn (next_step (player_of self.old) (steps.Observe objects.now ∷ rest.now)) }
+        requires open { channel.old.closed ≡ false }
+        ensures { OnOk result (MovedPlayer (next_step (player_of self.old) (steps.Observe objects.now ∷ rest.now)) self.old self.new channel.old channel.new) }
+    {
+        if self.is_calm() {
+            self.look(alloc, channel, objects, rest)
+        } else {
+            Ok(())
+        }
+    }
+
+    /// Asks what these objects are.
+    fn look(
+        &mut self,
+        alloc: Global,
+        channel: &mut Exchange,
+        objects: &List<ObjectId>,
+        rest: &'a [Step],
+    ) -> Result<(), AllocError>
+        requires flags { AreFlags self.old }
+        requires ready { IsReady self.old }
+        requires may { MayObserve self.old.client.who self.old.client.events objects.now }
+        requires messages { All IsRequest (newly_asked self.old.client.who self.old.client.events (events.Observe objects.now 0)) }
+        requires open { channel.old.closed ≡ false }
+        ensures { OnOk result (Does (events.Observe objects.now 0) rest.now self.old.closed self.old self.new channel.old channel.new) }
+    {
+        let copy = copy_objects(alloc, objects.as_slice())?;
+        match self.client.observe(copy, 0) {
+            Ok(request) => channel.send_request(&request)?,
+            Err(ObserveFault::Memory) => return Err(AllocError),
+            Err(_) => unreachable!(),
         }
         self.left = rest;
         Ok(())
@@ -344,7 +390,7 @@ impl<'a> Playing<'a> {
         }
     }
 
-    /// Sends the Done of a relay that was taken.
+    /// Sends the Done of a reply that was taken.
     fn taken(&mut self, channel: &mut Exchange, done: Option<Request>) -> Result<(), AllocError>
         requires messages { All IsRequest (option_to_list done) }
         requires open { channel.old.closed ≡ false }

@@ -1,9 +1,9 @@
 -- A scenario that was read keeps the limits and rules.
 use Rattle.std.proofs.Common.{◌≡◌, ℕ, zero, suc, ◌≤◌, ◌<◌, Bool, true, false, ◌==◌, cond, nat_le, nat_lt, ℤ, List, [], ◌∷◌, ◌++◌, length, Option, Some, None, Result, Ok, Err, IfOk, IfSome, codes, refl, sym, ap, ◌∙◌, subst, arith, append_assoc, decimal}
-use Rattle.std.proofs.lemmas.Bool.{leb-true, ltb-true, lt-ltb}
+use Rattle.std.proofs.lemmas.Bool.{leb-true, le-leb, ltb-true, lt-ltb}
 use Rattle.std.proofs.lemmas.List.{append-nil}
 use Rattle.std.proofs.lemmas.List.Elements.{All-from_recursion}
-use Rattle.std.specs.List.{AllByRecursion}
+use Rattle.std.specs.List.{AllByRecursion, list_all}
 use Rattle.std.specs.Str.{bytes_eq, is_utf8}
 use Rattle.serde_json.specs.Data.{Data, Items, no_items, item}
 use Rattle.serde_json.specs.Find.{as_str, get}
@@ -14,7 +14,7 @@ use Rattle.sv_world.specs.declared.check.BadAction.{BadAction}
 use Rattle.sv_world.specs.declared.world.ObjectId.{ObjectId}
 use Rattle.sv_world.specs.declared.world.Shape.{Shape}
 use Rattle.sv_world.specs.declared.world.World.{World}
-use Rattle.sv_world.specs.Faults.{first_fault_of_action, is_ascending, IsGoodAction}
+use Rattle.sv_world.specs.Faults.{first_fault_of_action, is_ascending, may_be_observed, IsGoodAction}
 use Rattle.sv_world.proofs.Good.{good_of_none}
 use Rattle.sv_text.specs.Reading.{reading}
 use Rattle.sv_text.specs.Tokens.{tokens_of}
@@ -30,7 +30,7 @@ use Rattle.sv_scenario.specs.Faults.{Read, ◌>>=◌, refuse, given, at_key, at_
 use Rattle.sv_scenario.specs.Keys.{keys_of, value_at, value_if}
 use Rattle.sv_scenario.specs.Limits.{AreObjects, IsGoodShow, IsGoodStep, quits_last, IsGoodPlan, IsGoodTurn, IsGoodScenario}
 use Rattle.sv_scenario.specs.Numbers.{number_within, list_within, count_items, attribute_of, value_of, values_of}
-use Rattle.sv_scenario.specs.Objects.{known, object_of, shown_of, not_below, next_object, ascending_from, interest_of}
+use Rattle.sv_scenario.specs.Objects.{known, object_of, shown_of, not_below, next_object, ascending_from, interest_of, observed_of}
 use Rattle.sv_scenario.specs.Scenarios.{world_with, world_of, reach_of, few_sessions, clients_of, scenario_in, scenario_of, value_in}
 use Rattle.sv_scenario.specs.Scripts.{read_text, unless_bad, act_of, word_step, only, step_by, step_of, has_no_items, steps_from, steps_of, plan_of, plans_of}
 use Rattle.sv_scenario.specs.Sessions.{sessions_in}
@@ -163,6 +163,30 @@ interest_ok shape d os is =
     let high : count_items p.0 ≤ 64 = size.1 in
     subst (λ xs. (length xs ≤ 64) × (is_ascending (numbers_of xs) ≡ true) × AreObjects shape xs) (sym r.is) (omega arith, r.ascending, r.all)
 
+are_all : (objects : ℕ) (os : List ObjectId) → AllByRecursion (λ (o : ObjectId). o.0 < objects) os → list_all (λ x. nat_lt x objects) (numbers_of os) ≡ true
+are_all objects [] all = refl
+are_all objects (o ∷ os) all = rw (lt-ltb o.0 objects all.0, are_all objects os all.1) refl
+
+count_of : (os : List ObjectId) → length (numbers_of os) ≡ length os
+count_of [] = refl
+count_of (o ∷ os) = ap suc (count_of os)
+
+may_be : (objects : ℕ) (os : List ObjectId) → 1 ≤ length os → length os ≤ 16 → is_ascending (numbers_of os) ≡ true → AllByRecursion (λ (o : ObjectId). o.0 < objects) os
+    → may_be_observed objects (numbers_of os) ≡ true
+may_be objects os some few ascending all =
+    rw (count_of os, lt-ltb 0 (length os) (omega (arith, some)), le-leb (length os) 16 few, ascending, are_all objects os all) refl
+
+observed_ok : (shape : Shape) (d : Data) (os : List ObjectId) → observed_of shape.objects d ≡ Ok os → may_be_observed shape.objects (numbers_of os) ≡ true
+unfolding observed_of
+observed_ok shape d os is =
+    let p = bound (list_within 1 16 d) (ascending_from shape.objects 0 []) os is in
+    let r = ascending_ok shape.objects 0 [] p.0 os p.2 in
+    let size = list_ok 1 16 d p.0 p.1 in
+    let count : length r.new ≡ count_items p.0 = r.count in
+    let low : 1 ≤ count_items p.0 = size.0 in
+    let high : count_items p.0 ≤ 16 = size.1 in
+    subst (λ xs. may_be_observed shape.objects (numbers_of xs) ≡ true) (sym r.is) (may_be shape.objects r.new (omega arith) (omega arith) r.ascending r.all)
+
 -- ---- steps
 
 unless_bad_ok : (a b : Action) (o : Option BadAction) → unless_bad a o ≡ Ok b → (o ≡ None) × (a ≡ b)
@@ -181,6 +205,7 @@ act_ok shape d a is =
 abbrev goes_on : Step → Bool
 goes_on (steps.Act action) = true
 goes_on steps.Poll = true
+goes_on (steps.Observe objects) = true
 goes_on steps.Sync = true
 goes_on (steps.Show objects) = true
 goes_on steps.Cut = true
@@ -211,24 +236,29 @@ word_ok shape is_last word step is =
     either P step (bytes_eq word (codes "cut")) _ _ (just P step steps.Cut (tt, λ _. refl)) (
     either P step (bytes_eq word (codes "quit")) _ _ (quit_ok shape is_last step) (λ (e : ◌≡◌ {A = Read Step} (refuse causes.Kind) (Ok step)). cc)))) is
 
-step_by_ok : (shape : Shape) (is_last : Bool) (word : Option (List ℕ)) (act show : Option Data) (step : Step) → step_by shape is_last word act show ≡ Ok step → IsStep shape is_last step
-step_by_ok shape is_last (Some word) act show step is = word_ok shape is_last word step is
-step_by_ok shape is_last None (Some act) show step is =
+step_by_ok : (shape : Shape) (is_last : Bool) (word : Option (List ℕ)) (act show observe : Option Data) (step : Step) → step_by shape is_last word act show observe ≡ Ok step
+    → IsStep shape is_last step
+step_by_ok shape is_last (Some word) act show observe step is = word_ok shape is_last word step is
+step_by_ok shape is_last None (Some act) show observe step is =
     let p = bound (at_key (codes "act") (act_of shape act)) (λ action. Ok (steps.Act action)) step is in
     just (IsStep shape is_last) step (steps.Act p.0) (act_ok shape act p.0 (keyed_ok (codes "act") (act_of shape act) p.0 p.1), λ _. refl) p.2
-step_by_ok shape is_last None None (Some show) step is =
+step_by_ok shape is_last None None (Some show) observe step is =
     let p = bound (at_key (codes "show") (shown_of shape.objects show)) (λ objects. Ok (steps.Show objects)) step is in
     just (IsStep shape is_last) step (steps.Show p.0) (shown_ok shape show p.0 (keyed_ok (codes "show") (shown_of shape.objects show) p.0 p.1), λ _. refl) p.2
-step_by_ok shape is_last None None None step is = cc
+step_by_ok shape is_last None None None (Some observe) step is =
+    let p = bound (at_key (codes "observe") (observed_of shape.objects observe)) (λ objects. Ok (steps.Observe objects)) step is in
+    just (IsStep shape is_last) step (steps.Observe p.0) (observed_ok shape observe p.0 (keyed_ok (codes "observe") (observed_of shape.objects observe) p.0 p.1), λ _. refl) p.2
+step_by_ok shape is_last None None None None step is = cc
 
 step_ok : (shape : Shape) (is_last : Bool) (d : Data) (step : Step) → step_of shape is_last d ≡ Ok step → IsStep shape is_last step
 unfolding step_of
-step_ok shape is_last d step is = step_by_ok shape is_last (as_str d) (only (codes "act") d) (only (codes "show") d) step is
+step_ok shape is_last d step is = step_by_ok shape is_last (as_str d) (only (codes "act") d) (only (codes "show") d) (only (codes "observe") d) step is
 
 quits_cons : (step : Step) (ss : List Step) → (0 < length ss → goes_on step ≡ true) → quits_last ss ≡ true → quits_last (step ∷ ss) ≡ true
 quits_cons step [] on last = refl
 quits_cons (steps.Act action) (next ∷ ss) on last = last
 quits_cons steps.Poll (next ∷ ss) on last = last
+quits_cons (steps.Observe objects) (next ∷ ss) on last = last
 quits_cons steps.Sync (next ∷ ss) on last = last
 quits_cons (steps.Show objects) (next ∷ ss) on last = last
 quits_cons steps.Cut (next ∷ ss) on last = last

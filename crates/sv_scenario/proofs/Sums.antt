@@ -7,6 +7,7 @@ use Rattle.sv_scenario.specs.Sessions.{cuts_by, cuts_in}
 one_cut : (step : Step) → cuts_by step ≤ 1
 one_cut (steps.Act action) = omega arith
 one_cut steps.Poll = omega arith
+one_cut (steps.Observe objects) = omega arith
 one_cut steps.Sync = omega arith
 one_cut (steps.Show objects) = omega arith
 one_cut steps.Cut = omega arith

@@ -3,7 +3,7 @@ use Rattle.std.specs.Prelude.{◌≡◌, ℕ, ◌≤◌, ◌<◌, Bool, true, fa
 use Rattle.std.specs.List.{AllByRecursion}
 use Rattle.sv_world.specs.declared.world.ObjectId.{ObjectId}
 use Rattle.sv_world.specs.declared.world.Shape.{Shape}
-use Rattle.sv_world.specs.Faults.{is_ascending, IsGoodAction}
+use Rattle.sv_world.specs.Faults.{is_ascending, may_be_observed, IsGoodAction}
 use Rattle.sv_world.specs.Sets.{numbers_of}
 use Rattle.sv_world.specs.Worlds.{IsGoodWorld}
 use Rattle.sv_world.specs.Limits.{most_clients, most_sessions, most_bound, most_reach, most_interest, most_steps, most_shown, most_turns}
@@ -28,6 +28,7 @@ pub record IsGoodShow (shape : Shape) (objects : List ObjectId) : Type 0 where
 abbrev pub IsGoodStep : Shape → Step → Type 0
 IsGoodStep shape (steps.Act action) = IsGoodAction shape action
 IsGoodStep shape steps.Poll = Unit {0}
+IsGoodStep shape (steps.Observe objects) = may_be_observed shape.objects (numbers_of objects) ≡ true
 IsGoodStep shape steps.Sync = Unit {0}
 IsGoodStep shape (steps.Show objects) = IsGoodShow shape objects
 IsGoodStep shape steps.Cut = Unit {0}
@@ -40,6 +41,7 @@ quits_last (step ∷ []) = true
 quits_last (steps.Quit ∷ next ∷ ss) = false
 quits_last (steps.Act action ∷ next ∷ ss) = quits_last (next ∷ ss)
 quits_last (steps.Poll ∷ next ∷ ss) = quits_last (next ∷ ss)
+quits_last (steps.Observe objects ∷ next ∷ ss) = quits_last (next ∷ ss)
 quits_last (steps.Sync ∷ next ∷ ss) = quits_last (next ∷ ss)
 quits_last (steps.Show objects ∷ next ∷ ss) = quits_last (next ∷ ss)
 quits_last (steps.Cut ∷ next ∷ ss) = quits_last (next ∷ ss)

@@ -2,7 +2,7 @@
 use Rattle.std.specs.Prelude.{ℕ, suc, cond, nat_le, nat_lt, List, [], ◌∷◌, ◌++◌, length, Ok}
 use Rattle.serde_json.specs.Data.{Data, Items, no_items, item}
 use Rattle.sv_world.specs.declared.world.ObjectId.{ObjectId}
-use Rattle.sv_world.specs.Limits.{most_interest, most_shown}
+use Rattle.sv_world.specs.Limits.{most_interest, most_reads, most_shown}
 use Rattle.sv_scenario.specs.declared.fault.ScenarioCause.TheVariants as causes
 use Rattle.sv_scenario.specs.Faults.{Read, ◌>>=◌, refuse, at_place, each}
 use Rattle.sv_scenario.specs.Numbers.{number_within, list_within}
@@ -37,3 +37,7 @@ ascending_from objects least before (item d ds) =
 -- The objects of an interest.
 unfoldable pub interest_of : ℕ → Data → Read (List ObjectId)
 interest_of objects d = list_within 0 most_interest d >>= ascending_from objects 0 []
+
+-- The objects of an observe.
+unfoldable pub observed_of : ℕ → Data → Read (List ObjectId)
+observed_of objects d = list_within 1 most_reads d >>= ascending_from objects 0 []

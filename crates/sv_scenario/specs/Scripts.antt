@@ -18,7 +18,7 @@ use Rattle.sv_scenario.specs.declared.scenario.Step.TheVariants as steps
 use Rattle.sv_scenario.specs.Faults.{Read, ◌>>=◌, refuse, given, at_key, at_place, each}
 use Rattle.sv_scenario.specs.Keys.{keys_of, value_at}
 use Rattle.sv_scenario.specs.Numbers.{list_within}
-use Rattle.sv_scenario.specs.Objects.{interest_of, shown_of}
+use Rattle.sv_scenario.specs.Objects.{interest_of, observed_of, shown_of}
 
 -- ---- steps
 
@@ -43,6 +43,9 @@ act_step shape d = at_key (codes "act") (act_of shape d) >>= λ action. Ok (step
 abbrev pub show_step : Shape → Data → Read Step
 show_step shape d = at_key (codes "show") (shown_of shape.objects d) >>= λ objects. Ok (steps.Show objects)
 
+abbrev pub observe_step : Shape → Data → Read Step
+observe_step shape d = at_key (codes "observe") (observed_of shape.objects d) >>= λ objects. Ok (steps.Observe objects)
+
 -- A step that is a word. `quit` is the last one.
 unfoldable pub word_step : Bool → List ℕ → Read Step
 word_step is_last word =
@@ -64,15 +67,16 @@ has_one (Some ms) = count_members ms == 1
 unfoldable pub only : List ℕ → Data → Option Data
 only key d = cond (has_one (as_object d)) (get key d) None
 
--- By the value's text, and the values of its one key `act` or `show`.
-abbrev pub step_by : Shape → Bool → Option (List ℕ) → Option Data → Option Data → Read Step
-step_by shape is_last (Some word) act show = word_step is_last word
-step_by shape is_last None (Some act) show = act_step shape act
-step_by shape is_last None None (Some show) = show_step shape show
-step_by shape is_last None None None = refuse causes.Kind
+-- By the value's text, and the values of its one key `act`, `show` or `observe`.
+abbrev pub step_by : Shape → Bool → Option (List ℕ) → Option Data → Option Data → Option Data → Read Step
+step_by shape is_last (Some word) act show observe = word_step is_last word
+step_by shape is_last None (Some act) show observe = act_step shape act
+step_by shape is_last None None (Some show) observe = show_step shape show
+step_by shape is_last None None None (Some observe) = observe_step shape observe
+step_by shape is_last None None None None = refuse causes.Kind
 
 unfoldable pub step_of : Shape → Bool → Data → Read Step
-step_of shape is_last d = step_by shape is_last (as_str d) (only (codes "act") d) (only (codes "show") d)
+step_of shape is_last d = step_by shape is_last (as_str d) (only (codes "act") d) (only (codes "show") d) (only (codes "observe") d)
 
 abbrev pub has_no_items : Items → Bool
 has_no_items no_items = true

@@ -8,6 +8,7 @@ use Rattle.sv_scenario.specs.declared.scenario.Step.TheVariants as steps
 abbrev pub cuts_by : Step → ℕ
 cuts_by (steps.Act action) = 0
 cuts_by steps.Poll = 0
+cuts_by (steps.Observe objects) = 0
 cuts_by steps.Sync = 0
 cuts_by (steps.Show objects) = 0
 cuts_by steps.Cut = 1

@@ -19,7 +19,7 @@ pub enum ScenarioCause {
     Range,
     /// A key that is missing, or that has no meaning here.
     Key,
-    /// An object of an interest that is not above the one before it.
+    /// An object of an interest or an observe that is not above the one before it.
     Order,
     /// The number of an object that the world lacks.
     Object,

@@ -3,14 +3,14 @@
 ghost use Rattle.std.specs.Prelude.{◌≡◌, []};
 ghost use Rattle.serde_json.specs.View.{view, items_view};
 ghost use Rattle.sv_scenario.specs.Faults.{Gives, each};
-ghost use Rattle.sv_scenario.specs.Objects.{known, object_of, shown_of, not_below, next_object, ascending_from, interest_of};
+ghost use Rattle.sv_scenario.specs.Objects.{known, object_of, shown_of, not_below, next_object, ascending_from, interest_of, observed_of};
 
 use crate::numbers::{list_within, number_within};
 use crate::place::{at_place, refuse};
 use crate::{ReadFault, ScenarioCause};
 use serde_json::Value;
 use std::alloc::Global;
-use sv_world::{List, MOST_INTEREST, MOST_SHOWN, ObjectId};
+use sv_world::{List, MOST_INTEREST, MOST_READS, MOST_SHOWN, ObjectId};
 
 fn known(alloc: Global, objects: u16, number: u32) -> Result<ObjectId, ReadFault>
     ensures { Gives (λ o. o) result (known objects number) }
@@ -105,5 +105,18 @@ pub(crate) fn interest_of(
     ensures { Gives (λ v. v) result (interest_of objects (view value.now)) }
 {
     let values = list_within(alloc, 0, MOST_INTEREST, value)?;
+    Ok(List::from_vec(ascending(alloc, objects, values)?))
+}
+
+/// The objects of an observe, ascending.
+#[tactic(auto, unfolding(crate::specs::Objects::observed_of))]
+pub(crate) fn observed_of(
+    alloc: Global,
+    objects: u16,
+    value: &Value,
+) -> Result<List<ObjectId>, ReadFault>
+    ensures { Gives (λ v. v) result (observed_of objects (view value.now)) }
+{
+    let values = list_within(alloc, 1, MOST_READS, value)?;
     Ok(List::from_vec(ascending(alloc, objects, values)?))
 }

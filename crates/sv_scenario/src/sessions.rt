@@ -13,7 +13,7 @@ fn cuts_by(step: &Step) -> usize
 {
     match step {
         Step::Cut => 1,
-        Step::Act(_) | Step::Poll | Step::Sync | Step::Show(_) | Step::Quit => 0,
+        Step::Act(_) | Step::Poll | Step::Observe(_) | Step::Sync | Step::Show(_) | Step::Quit => 0,
     }
 }
 

@@ -5,10 +5,10 @@ ghost use Rattle.serde_json.specs.View.{view, items_view};
 ghost use Rattle.sv_text.specs.Reading.{reading};
 ghost use Rattle.sv_text.specs.Tokens.{tokens_of};
 ghost use Rattle.sv_scenario.specs.Faults.{Gives};
-ghost use Rattle.sv_scenario.specs.Scripts.{read_text, act_of, act_step, show_step, word_step, only, step_of, has_no_items, steps_from, steps_of};
+ghost use Rattle.sv_scenario.specs.Scripts.{read_text, act_of, act_step, show_step, observe_step, word_step, only, step_of, has_no_items, steps_from, steps_of};
 
 use crate::numbers::list_within;
-use crate::objects::shown_of;
+use crate::objects::{observed_of, shown_of};
 use crate::place::{at_key, at_place, refuse};
 use crate::{MOST_BYTES, ReadFault, ScenarioCause, Step};
 use serde_json::Value;
@@ -59,6 +59,13 @@ fn show_step(alloc: Global, shape: Shape, value: &Value) -> Result<Step, ReadFau
     Ok(Step::Show(objects))
 }
 
+fn observe_step(alloc: Global, shape: Shape, value: &Value) -> Result<Step, ReadFault>
+    ensures { Gives (λ s. s) result (observe_step shape (view value.now)) }
+{
+    let objects = at_key(alloc, "observe", observed_of(alloc, shape.objects, value))?;
+    Ok(Step::Observe(objects))
+}
+
 #[tactic(auto, unfolding(crate::specs::Scripts::word_step))]
 fn word_step(alloc: Global, is_last: bool, word: &str) -> Result<Step, ReadFault>
     ensures { Gives (λ s. s) result (word_step is_last word.now) }
@@ -103,6 +110,9 @@ fn step_of(alloc: Global, shape: Shape, is_last: bool, value: &Value) -> Result<
     }
     if let Some(show) = only("show", value) {
         return show_step(alloc, shape, show);
+    }
+    if let Some(observe) = only("observe", value) {
+        return observe_step(alloc, shape, observe);
     }
     Err(refuse(alloc, ScenarioCause::Kind))
 }

@@ -11,7 +11,7 @@ use Rattle.sv_client.specs.Proper.{AreProper, Proper, MayFollow, in_session, ide
 use Rattle.sv_scenario.specs.declared.scenario.Step.{Step}
 use Rattle.sv_script.specs.Following.{FollowsTo, Follows, MayCome}
 use Rattle.sv_script.proofs.Beginnings.{step-less}
-use Rattle.sv_script.proofs.Due.{due, due-joined, due-made, due-polled, due-left, due-got, due-cut, due-quit, due-shown}
+use Rattle.sv_script.proofs.Due.{due, due-joined, due-made, due-polled, due-observed, due-left, due-got, due-cut, due-quit, due-shown}
 
 abbrev gots : List Event → ℕ
 gots [] = 0
@@ -19,6 +19,7 @@ gots (events.Got s reply ∷ t) = suc (gots t)
 gots (events.Join s ∷ t) = gots t
 gots (events.Make action ∷ t) = gots t
 gots (events.Poll ∷ t) = gots t
+gots (events.Observe objects wait ∷ t) = gots t
 gots (events.Leave ∷ t) = gots t
 gots (events.Cut ∷ t) = gots t
 gots (events.Quit ∷ t) = gots t
@@ -30,6 +31,7 @@ leaves (events.Leave ∷ t) = suc (leaves t)
 leaves (events.Join s ∷ t) = leaves t
 leaves (events.Make action ∷ t) = leaves t
 leaves (events.Poll ∷ t) = leaves t
+leaves (events.Observe objects wait ∷ t) = leaves t
 leaves (events.Got s reply ∷ t) = leaves t
 leaves (events.Cut ∷ t) = leaves t
 leaves (events.Quit ∷ t) = leaves t
@@ -106,6 +108,17 @@ module _ (who : Identity) (first : ℕ) (script : List Step) where
         joins = k.joins;
       }
 
+  keeps-observe : (objects : _) (wait : ℕ) (t : List Event) → Keeps (events.Observe objects wait) t
+  keeps-observe objects wait t before left p k m c =
+      let fewer = step-less who t before (events.Observe objects wait) left c in
+      let ends = due-observed who first t objects wait p m.joined in
+      record {
+        all = omega (arith, k.all, fewer);
+        due = omega (arith, k.due, fewer, ends);
+        leaves = k.leaves;
+        joins = k.joins;
+      }
+
   keeps-cut : (t : List Event) → Keeps events.Cut t
   keeps-cut t before left p k m c =
       let fewer = step-less who t before events.Cut left c in
@@ -145,6 +158,7 @@ module _ (who : Identity) (first : ℕ) (script : List Step) where
   keeps events.Leave t = keeps-leave t
   keeps (events.Make action) t = keeps-make action t
   keeps events.Poll t = keeps-poll t
+  keeps (events.Observe objects wait) t = keeps-observe objects wait t
   keeps events.Cut t = keeps-cut t
   keeps events.Quit t = keeps-quit t
   keeps (events.Show objects) t = keeps-show objects t

@@ -15,6 +15,7 @@ pub cuts-synced : (ss : List Step) → cuts_in (after_syncs ss) ≡ cuts_in ss
 cuts-synced [] = refl
 cuts-synced (steps.Act action ∷ ss) = refl
 cuts-synced (steps.Poll ∷ ss) = refl
+cuts-synced (steps.Observe objects ∷ ss) = refl
 cuts-synced (steps.Sync ∷ ss) = omega (arith, cuts-synced ss)
 cuts-synced (steps.Show objects ∷ ss) = refl
 cuts-synced (steps.Cut ∷ ss) = refl
@@ -31,6 +32,7 @@ cut_of (events.Got s reply) = 0
 cut_of events.Leave = 0
 cut_of (events.Make action) = 0
 cut_of events.Poll = 0
+cut_of (events.Observe objects wait) = 0
 cut_of events.Cut = 1
 cut_of events.Quit = 0
 cut_of (events.Show objects) = 0
@@ -38,6 +40,7 @@ cut_of (events.Show objects) = 0
 cuts-of : (step : Step) (e : Event) → event_of step ≡ Some e → cuts_by step ≡ cut_of e
 cuts-of (steps.Act action) e h = ap cut_of (same_Some (events.Make action) e h)
 cuts-of steps.Poll e h = ap cut_of (same_Some events.Poll e h)
+cuts-of (steps.Observe objects) e h = ap cut_of (same_Some (events.Observe objects 0) e h)
 cuts-of steps.Sync e h = absurd (none-some e h)
 cuts-of (steps.Show objects) e h = ap cut_of (same_Some (events.Show objects) e h)
 cuts-of steps.Cut e h = ap cut_of (same_Some events.Cut e h)

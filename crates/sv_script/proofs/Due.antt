@@ -1,4 +1,4 @@
--- How many replies the outstanding requests may bring, where a relay's Done brings one more.
+-- How many replies the outstanding requests may bring, where the Done of a relay or of what was seen brings one more.
 use Rattle.std.proofs.Common.{◌≡◌, ℕ, suc, ◌+◌, ◌*◌, ◌≤◌, true, List, [], ◌∷◌, ◌++◌, length, map, drop, None, sym, ap, arith}
 use Rattle.std.proofs.lemmas.Option.{none-some}
 use Rattle.sv_world.specs.declared.action.Action.{Action}
@@ -14,7 +14,7 @@ use Rattle.sv_client.specs.declared.trace.Event.TheVariants as events
 use Rattle.sv_client.specs.Traces.{held_of, pending_of, submit_of, done_for, makes}
 use Rattle.sv_client.specs.Taking.{Identity, Unasked, outstanding, allows, fault_after}
 use Rattle.sv_client.specs.Proper.{AreProper, MayGet, MayJoin, in_session}
-use Rattle.sv_client.proofs.Outstanding.{outstanding_joined, outstanding_made, outstanding_polled, outstanding_left, outstanding_cut, outstanding_quit, outstanding_shown, outstanding_got}
+use Rattle.sv_client.proofs.Outstanding.{outstanding_joined, outstanding_made, outstanding_polled, outstanding_observed, outstanding_left, outstanding_cut, outstanding_quit, outstanding_shown, outstanding_got}
 use Rattle.sv_client.proofs.Faultless.{kind-of}
 use Rattle.sv_script.proofs.Pending.{pending-few}
 
@@ -23,6 +23,7 @@ due_of (requests.Join client life interest) = 1
 due_of (requests.Submit seq action) = 2
 due_of (requests.Done results) = 1
 due_of requests.Poll = 2
+due_of (requests.Observe objects wait) = 2
 due_of requests.Leave = 1
 due_of requests.End = 1
 due_of requests.Bad = 1
@@ -58,6 +59,10 @@ pub due-polled : (who : Identity) (first : ℕ) (t : List Event) → AreProper w
     → due (outstanding who (events.Poll ∷ t)) ≡ due (outstanding who t) + 2
 due-polled who first t p j = due-pushed (outstanding who t) _ requests.Poll (outstanding_polled who first t p j)
 
+pub due-observed : (who : Identity) (first : ℕ) (t : List Event) (os : List ObjectId) (wait : ℕ) → AreProper who first t → in_session t ≡ true
+    → due (outstanding who (events.Observe os wait ∷ t)) ≡ due (outstanding who t) + 2
+due-observed who first t os wait p j = due-pushed (outstanding who t) _ (requests.Observe os wait) (outstanding_observed who first t os wait p j)
+
 pub due-left : (who : Identity) (first : ℕ) (t : List Event) → AreProper who first t → in_session t ≡ true
     → due (outstanding who (events.Leave ∷ t)) ≡ due (outstanding who t) + 1
 due-left who first t p j = due-pushed (outstanding who t) _ requests.Leave (outstanding_left who first t p j)
@@ -67,6 +72,7 @@ due-some (requests.Join client life interest) = omega arith
 due-some (requests.Submit seq action) = omega arith
 due-some (requests.Done results) = omega arith
 due-some requests.Poll = omega arith
+due-some (requests.Observe objects wait) = omega arith
 due-some requests.Leave = omega arith
 due-some requests.End = omega arith
 due-some requests.Bad = omega arith
@@ -77,14 +83,29 @@ due-relay (requests.Join client life interest) seq commit head items e = cc
 due-relay (requests.Submit n action) seq commit head items e = omega arith
 due-relay (requests.Done results) seq commit head items e = cc
 due-relay requests.Poll seq commit head items e = omega arith
+due-relay (requests.Observe objects wait) seq commit head items e = cc
 due-relay requests.Leave seq commit head items e = cc
 due-relay requests.End seq commit head items e = cc
 due-relay requests.Bad seq commit head items e = cc
+
+-- So does one that a Seen may answer.
+due-seen : (q : Request) (last commit : ℕ) (head : List _) (items : List _) → allows q (replies.Seen last commit head items) ≡ true → 2 ≤ due_of q
+due-seen (requests.Join client life interest) last commit head items e = cc
+due-seen (requests.Submit n action) last commit head items e = cc
+due-seen (requests.Done results) last commit head items e = cc
+due-seen requests.Poll last commit head items e = cc
+due-seen (requests.Observe objects wait) last commit head items e = omega arith
+due-seen requests.Leave last commit head items e = cc
+due-seen requests.End last commit head items e = cc
+due-seen requests.Bad last commit head items e = cc
 
 due-done : (held : List Held) (q : Request) (reply : Reply) → allows q reply ≡ true → suc (due (done_for held reply)) ≤ due_of q
 due-done held q (replies.Relay seq commit head items) e = omega (arith, due-relay q seq commit head items e)
 due-done held q (replies.Welcome commit head) e = omega (arith, due-some q)
 due-done held q (replies.Dropped seq chain far) e = omega (arith, due-some q)
+due-done held q (replies.Denied seq object) e = omega (arith, due-some q)
+due-done held q (replies.Seen last commit head []) e = omega (arith, due-some q)
+due-done held q (replies.Seen last commit head (item ∷ items)) e = omega (arith, due-seen q last commit head (item ∷ items) e)
 due-done held q (replies.Settled seq pos) e = omega (arith, due-some q)
 due-done held q (replies.Noted commit) e = omega (arith, due-some q)
 due-done held q replies.Idle e = omega (arith, due-some q)

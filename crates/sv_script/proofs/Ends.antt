@@ -16,7 +16,7 @@ use Rattle.sv_client.specs.declared.trace.Trace.{Trace}
 use Rattle.sv_client.specs.Traces.{held_of, pending_of, submit_of, done_for, makes}
 use Rattle.sv_client.specs.Taking.{Identity, Unasked, outstanding, allows, fault_after}
 use Rattle.sv_client.specs.Proper.{AreProper, Proper, identity_of}
-use Rattle.sv_client.proofs.Outstanding.{outstanding_joined, outstanding_made, outstanding_polled, outstanding_cut, outstanding_quit, outstanding_shown, outstanding_got}
+use Rattle.sv_client.proofs.Outstanding.{outstanding_joined, outstanding_made, outstanding_polled, outstanding_observed, outstanding_cut, outstanding_quit, outstanding_shown, outstanding_got}
 use Rattle.sv_scenario.specs.declared.scenario.Step.{Step}
 use Rattle.sv_scenario.specs.declared.scenario.Step.TheVariants as steps
 use Rattle.sv_scenario.specs.Limits.{quits_last}
@@ -31,6 +31,7 @@ is_leave (requests.Join client life interest) = false
 is_leave (requests.Submit seq action) = false
 is_leave (requests.Done results) = false
 is_leave requests.Poll = false
+is_leave (requests.Observe objects wait) = false
 is_leave requests.Leave = true
 is_leave requests.End = false
 is_leave requests.Bad = false
@@ -59,6 +60,9 @@ pub no-done : (held : List Held) (reply : Reply) → has_leave (done_for held re
 no-done held (replies.Relay seq commit head items) = refl
 no-done held (replies.Welcome commit head) = refl
 no-done held (replies.Dropped seq chain far) = refl
+no-done held (replies.Denied seq object) = refl
+no-done held (replies.Seen last commit head []) = refl
+no-done held (replies.Seen last commit head (item ∷ items)) = refl
 no-done held (replies.Settled seq pos) = refl
 no-done held (replies.Noted commit) = refl
 no-done held replies.Idle = refl
@@ -89,6 +93,9 @@ leave-last who first script (events.Make action ∷ t) left p f h =
 leave-last who first script (events.Poll ∷ t) left p f h =
     let now : has_leave (outstanding who t ++ requests.Poll ∷ []) ≡ true = sym (ap has_leave (outstanding_polled who first t p.1 p.0.joined)) ∙ h in
     absurd (no-step who t f.0 events.Poll left f.1.1 (leave-last who first script t f.0 p.1 f.1.0 (leave-append (outstanding who t) (requests.Poll ∷ []) refl now)))
+leave-last who first script (events.Observe objects wait ∷ t) left p f h =
+    let now : has_leave (outstanding who t ++ requests.Observe objects wait ∷ []) ≡ true = sym (ap has_leave (outstanding_observed who first t objects wait p.1 p.0.joined)) ∙ h in
+    absurd (no-step who t f.0 (events.Observe objects wait) left f.1.1 (leave-last who first script t f.0 p.1 f.1.0 (leave-append (outstanding who t) (requests.Observe objects wait ∷ []) refl now)))
 leave-last who first script (events.Cut ∷ t) left p f h =
     absurd (no-step who t f.0 events.Cut left f.1.1 (leave-last who first script t f.0 p.1 f.1.0 (sym (ap has_leave (outstanding_cut who t)) ∙ h)))
 leave-last who first script (events.Quit ∷ t) left p f h =
@@ -102,6 +109,7 @@ quits-rest : (step : Step) (ss : List Step) → quits_last (step ∷ ss) ≡ tru
 quits-rest step [] h = refl
 quits-rest (steps.Act action) (next ∷ ss) h = h
 quits-rest steps.Poll (next ∷ ss) h = h
+quits-rest (steps.Observe objects) (next ∷ ss) h = h
 quits-rest steps.Sync (next ∷ ss) h = h
 quits-rest (steps.Show objects) (next ∷ ss) h = h
 quits-rest steps.Cut (next ∷ ss) h = h
@@ -111,6 +119,7 @@ quits-synced : (ss : List Step) → quits_last ss ≡ true → quits_last (after
 quits-synced [] h = h
 quits-synced (steps.Act action ∷ ss) h = h
 quits-synced (steps.Poll ∷ ss) h = h
+quits-synced (steps.Observe objects ∷ ss) h = h
 quits-synced (steps.Sync ∷ ss) h = quits-synced ss (quits-rest steps.Sync ss h)
 quits-synced (steps.Show objects ∷ ss) h = h
 quits-synced (steps.Cut ∷ ss) h = h
@@ -129,6 +138,7 @@ quits-more who t before (events.Got s reply) left m h = ap quits_last m.same ∙
 quits-more who t before events.Leave left m h = ap quits_last m.same
 quits-more who t before (events.Make action) left m h = quits-rest m.step left (quits-here who t before (events.Make action) left m h)
 quits-more who t before events.Poll left m h = quits-rest m.step left (quits-here who t before events.Poll left m h)
+quits-more who t before (events.Observe objects wait) left m h = quits-rest m.step left (quits-here who t before (events.Observe objects wait) left m h)
 quits-more who t before events.Cut left m h = quits-rest m.step left (quits-here who t before events.Cut left m h)
 quits-more who t before events.Quit left m h = quits-rest m.step left (quits-here who t before events.Quit left m h)
 quits-more who t before (events.Show objects) left m h = quits-rest m.step left (quits-here who t before (events.Show objects) left m h)
@@ -141,6 +151,7 @@ quit-last : (step : Step) (left : List Step) → event_of step ≡ Some events.Q
 quit-last step [] e h = refl
 quit-last (steps.Act action) (next ∷ ss) e h = (let g : events.Make action ≡ events.Quit = same_Some _ _ e in cc)
 quit-last steps.Poll (next ∷ ss) e h = (let g : events.Poll ≡ events.Quit = same_Some _ _ e in cc)
+quit-last (steps.Observe objects) (next ∷ ss) e h = (let g : events.Observe objects 0 ≡ events.Quit = same_Some _ _ e in cc)
 quit-last steps.Sync (next ∷ ss) e h = absurd (none-some _ e)
 quit-last (steps.Show objects) (next ∷ ss) e h = (let g : events.Show objects ≡ events.Quit = same_Some _ _ e in cc)
 quit-last steps.Cut (next ∷ ss) e h = (let g : events.Cut ≡ events.Quit = same_Some _ _ e in cc)
@@ -153,6 +164,7 @@ bye-answers (requests.Join client life interest) e = cc
 bye-answers (requests.Submit seq action) e = cc
 bye-answers (requests.Done results) e = cc
 bye-answers requests.Poll e = cc
+bye-answers (requests.Observe objects wait) e = cc
 bye-answers requests.Leave e = refl
 bye-answers requests.End e = cc
 bye-answers requests.Bad e = cc
@@ -171,6 +183,8 @@ none-left who first script (events.Got s replies.Bye ∷ t) left p q f h =
 none-left who first script (events.Got s (replies.Welcome commit head) ∷ t) left p q f h = cc
 none-left who first script (events.Got s (replies.Relay seq commit head items) ∷ t) left p q f h = cc
 none-left who first script (events.Got s (replies.Dropped seq chain far) ∷ t) left p q f h = cc
+none-left who first script (events.Got s (replies.Denied seq object) ∷ t) left p q f h = cc
+none-left who first script (events.Got s (replies.Seen last commit head items) ∷ t) left p q f h = cc
 none-left who first script (events.Got s (replies.Settled seq pos) ∷ t) left p q f h = cc
 none-left who first script (events.Got s (replies.Noted commit) ∷ t) left p q f h = cc
 none-left who first script (events.Got s replies.Idle ∷ t) left p q f h = cc
@@ -178,6 +192,7 @@ none-left who first script (events.Got s (replies.Refused code detail) ∷ t) le
 none-left who first script (events.Join s ∷ t) left p q f h = cc
 none-left who first script (events.Make action ∷ t) left p q f h = cc
 none-left who first script (events.Poll ∷ t) left p q f h = cc
+none-left who first script (events.Observe objects wait ∷ t) left p q f h = cc
 none-left who first script (events.Leave ∷ t) left p q f h = cc
 none-left who first script (events.Cut ∷ t) left p q f h = cc
 none-left who first script (events.Show objects ∷ t) left p q f h = cc

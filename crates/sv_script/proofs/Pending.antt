@@ -8,7 +8,7 @@ use Rattle.sv_wire.specs.declared.message.Reply.{Reply}
 use Rattle.sv_wire.specs.declared.message.Reply.TheVariants as replies
 use Rattle.sv_client.specs.declared.trace.Event.{Event}
 use Rattle.sv_client.specs.declared.trace.Event.TheVariants as events
-use Rattle.sv_client.specs.Traces.{held_of, with_reply, pending_of, pending_with, settled_by, without_front, are_same}
+use Rattle.sv_client.specs.Traces.{held_of, with_reply, pending_of, pending_with, settled_by, without_front, are_same, has_news}
 use Rattle.sv_client.specs.Taking.{Identity}
 use Rattle.sv_client.specs.Proper.{AreProper}
 
@@ -46,6 +46,9 @@ pub replied-few : (before after : List Held) (reply : Reply) (ps : List PendingA
 replied-few before after (replies.Relay seq commit head items) ps =
     either-few (seq == 0) ps _ (length ps) (omega arith) (settled-few after _ ps)
 replied-few before after (replies.Dropped seq chain far) ps = redone-front after ps
+replied-few before after (replies.Denied seq object) ps = redone-front after ps
+replied-few before after (replies.Seen last commit head items) ps =
+    either-few (has_news head items) (redone after ps) ps (length ps) (redone-few after ps) (omega arith)
 replied-few before after (replies.Settled seq pos) ps = redone-front after ps
 replied-few before after (replies.Welcome commit head) ps = omega arith
 replied-few before after (replies.Noted commit) ps = omega arith
@@ -63,6 +66,7 @@ pending-few who first (events.Got s reply ∷ t) p =
     omega (arith, replied-few (held_of t) (with_reply (held_of t) reply) reply (pending_of t), pending-few who first t p.1)
 pending-few who first (events.Join s ∷ t) p = pending-few who first t p.1
 pending-few who first (events.Poll ∷ t) p = pending-few who first t p.1
+pending-few who first (events.Observe objects wait ∷ t) p = pending-few who first t p.1
 pending-few who first (events.Leave ∷ t) p = pending-few who first t p.1
 pending-few who first (events.Cut ∷ t) p = pending-few who first t p.1
 pending-few who first (events.Quit ∷ t) p = pending-few who first t p.1

@@ -13,6 +13,7 @@ events-synced : (ss : List Step) → events_of (after_syncs ss) ≡ events_of ss
 events-synced [] = refl
 events-synced (steps.Act action ∷ ss) = refl
 events-synced (steps.Poll ∷ ss) = refl
+events-synced (steps.Observe objects ∷ ss) = refl
 events-synced (steps.Sync ∷ ss) = events-synced ss
 events-synced (steps.Show objects ∷ ss) = refl
 events-synced (steps.Cut ∷ ss) = refl
@@ -48,6 +49,8 @@ steps-in_order who script (events.Make action ∷ t) left f =
     one-more (steps_done t) (events.Make action) (events_of left) (events_of f.0) (events_of script) (step-first who t f.0 (events.Make action) left f.1.1) (steps-in_order who script t f.0 f.1.0)
 steps-in_order who script (events.Poll ∷ t) left f =
     one-more (steps_done t) events.Poll (events_of left) (events_of f.0) (events_of script) (step-first who t f.0 events.Poll left f.1.1) (steps-in_order who script t f.0 f.1.0)
+steps-in_order who script (events.Observe objects wait ∷ t) left f =
+    one-more (steps_done t) (events.Observe objects wait) (events_of left) (events_of f.0) (events_of script) (step-first who t f.0 (events.Observe objects wait) left f.1.1) (steps-in_order who script t f.0 f.1.0)
 steps-in_order who script (events.Cut ∷ t) left f =
     one-more (steps_done t) events.Cut (events_of left) (events_of f.0) (events_of script) (step-first who t f.0 events.Cut left f.1.1) (steps-in_order who script t f.0 f.1.0)
 steps-in_order who script (events.Quit ∷ t) left f =

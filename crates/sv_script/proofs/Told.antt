@@ -111,6 +111,7 @@ lines-at_once trace es later e =
 pub quiet-view : (e : Event) (t : List Event) (x : ℕ) → may_tell e ≡ false → view_of t x ≡ view_of (e ∷ t) x
 quiet-view (events.Join s) t x h = refl
 quiet-view events.Poll t x h = refl
+quiet-view (events.Observe objects wait) t x h = refl
 quiet-view events.Leave t x h = refl
 quiet-view events.Cut t x h = refl
 quiet-view events.Quit t x h = refl

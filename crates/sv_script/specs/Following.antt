@@ -1,5 +1,5 @@
 -- How a trace follows a client's script. Events stand with the latest first: `e ∷ t` is t, and then e.
--- How many actions may be pending, and how many requests outstanding, where a client makes one or polls, is said of proper traces.
+-- How many actions may be pending, and how many requests outstanding, where a client makes one, polls or observes, is said of proper traces.
 use Rattle.std.specs.Prelude.{◌≡◌, Bool, true, false, List, [], ◌∷◌, ◌++◌, reverse, Option, Some, None, if◌then◌else◌}
 use Rattle.sv_wire.specs.declared.message.Reply.{Reply}
 use Rattle.sv_wire.specs.declared.message.Reply.TheVariants as replies

@@ -18,7 +18,7 @@ pub fn steps_are_done_in_order()
 {}
 
 /// A trace that follows a script of at most 256 steps has at most 2,048 events over all its sessions: 256 that do steps, 64 Joins, at most as
-/// many Leaves, and 1,664 replies. For each action and each Poll brings at most two replies, and each Join one, and at most 16 for the actions
+/// many Leaves, and 1,664 replies. For each action, each Poll and each Observe brings at most two replies, and each Join one, and at most 16 for the actions
 /// that are pending.
 ///
 /// So numbers of events and counts of requests fit 32 bits wherever a script is followed.

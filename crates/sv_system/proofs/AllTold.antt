@@ -10,7 +10,7 @@ use Rattle.sv_wire.specs.declared.message.Reply.TheVariants as replies
 use Rattle.sv_journal.specs.History.{Authored, accepted, outcomes_of, next_seq}
 use Rattle.sv_client.specs.declared.trace.Event.{Event}
 use Rattle.sv_client.specs.declared.trace.Event.TheVariants as events
-use Rattle.sv_client.specs.Traces.{makes, current_session, held_of, with_reply, pending_with, pending_of, asked, got}
+use Rattle.sv_client.specs.Traces.{makes, current_session, held_of, with_reply, has_news, pending_with, pending_of, asked, got}
 use Rattle.sv_client.specs.Taking.{Identity, outstanding, unanswered}
 use Rattle.sv_client.specs.Proper.{AreProper, in_session, identity_of}
 use Rattle.sv_script.specs.Following.{is_finished}
@@ -31,6 +31,9 @@ use Rattle.sv_system.proofs.Window.{settled-next, outcomes-made}
 none-with : (before more : List Held) (r : Reply) → pending_with before more r [] ≡ []
 none-with before more (replies.Relay seq commit head items) = elim (cases_Bool (seq == 0)) [ inl t ↦ cond-true (seq == 0) _ _ t | inr f ↦ cond-false (seq == 0) _ _ f ]
 none-with before more (replies.Dropped seq chain far) = refl
+none-with before more (replies.Denied seq object) = refl
+none-with before more (replies.Seen last commit head items) =
+    elim (cases_Bool (has_news head items)) [ inl t ↦ cond-true (has_news head items) _ _ t | inr f ↦ cond-false (has_news head items) _ _ f ]
 none-with before more (replies.Settled seq pos) = refl
 none-with before more (replies.Welcome commit head) = refl
 none-with before more (replies.Noted commit) = refl
@@ -51,6 +54,7 @@ module _ (who : Identity) (first : ℕ) where
       no-session (events.Join s ∷ t) c i = none-some s (sym c)
       no-session (events.Make action ∷ t) c i = no-session t c i
       no-session (events.Poll ∷ t) c i = no-session t c i
+      no-session (events.Observe objects wait ∷ t) c i = no-session t c i
       no-session (events.Leave ∷ t) c i = true≢false (sym i)
       no-session (events.Got s reply ∷ t) c i = no-session t c i
       no-session (events.Cut ∷ t) c i = no-session t c i
@@ -66,6 +70,7 @@ module _ (who : Identity) (first : ℕ) where
   left-none (events.Join s ∷ t) p i = absurd (true≢false i)
   left-none (events.Make action ∷ t) p i = absurd (true≢false (sym p.0.joined ∙ i))
   left-none (events.Poll ∷ t) p i = left-none t p.1 i
+  left-none (events.Observe objects wait ∷ t) p i = left-none t p.1 i
   left-none (events.Leave ∷ t) p i = none-outstanding t p.1 (current_session t) refl p.0.joined p.0.settled
   left-none (events.Got s reply ∷ t) p i =
       ap (pending_with (held_of t) (with_reply (held_of t) reply) reply) (left-none t p.1 i) ∙ none-with (held_of t) (with_reply (held_of t) reply) reply
@@ -95,12 +100,15 @@ module _ (who : Identity) (first : ℕ) where
   finished-left (events.Got s (replies.Welcome commit head) ∷ t) p f q = absurd (true≢false (sym f))
   finished-left (events.Got s (replies.Relay seq commit head items) ∷ t) p f q = absurd (true≢false (sym f))
   finished-left (events.Got s (replies.Dropped seq chain far) ∷ t) p f q = absurd (true≢false (sym f))
+  finished-left (events.Got s (replies.Denied seq object) ∷ t) p f q = absurd (true≢false (sym f))
+  finished-left (events.Got s (replies.Seen last commit head items) ∷ t) p f q = absurd (true≢false (sym f))
   finished-left (events.Got s (replies.Settled seq pos) ∷ t) p f q = absurd (true≢false (sym f))
   finished-left (events.Got s (replies.Noted commit) ∷ t) p f q = absurd (true≢false (sym f))
   finished-left (events.Got s (replies.Refused code detail) ∷ t) p f q = absurd (true≢false (sym f))
   finished-left (events.Join s ∷ t) p f q = absurd (true≢false (sym f))
   finished-left (events.Make action ∷ t) p f q = absurd (true≢false (sym f))
   finished-left (events.Poll ∷ t) p f q = absurd (true≢false (sym f))
+  finished-left (events.Observe objects wait ∷ t) p f q = absurd (true≢false (sym f))
   finished-left (events.Leave ∷ t) p f q = absurd (true≢false (sym f))
   finished-left (events.Cut ∷ t) p f q = absurd (true≢false (sym f))
   finished-left (events.Show objects ∷ t) p f q = absurd (true≢false (sym f))

@@ -1,15 +1,17 @@
 -- The next reply to a client is of a kind that its request may have.
-use Rattle.std.proofs.Common.{◌≡◌, ℕ, zero, suc, ◌+◌, ◌<◌, ◌≤◌, Bool, true, false, not, ◌||◌, ◌==◌, nat_le, nat_lt, inl, inr, List, [], ◌∷◌, ◌++◌, map, reverse, length, ℤ, Option, Some, None, slice_get, refl, sym, ap, ◌∙◌, subst, arith, eq-eqb, true≢false}
+use Rattle.std.proofs.Common.{◌≡◌, ℕ, zero, suc, ◌<◌, ◌≤◌, Bool, true, false, not, ◌||◌, ◌==◌, nat_le, nat_lt, inl, inr, List, [], ◌∷◌, ◌++◌, map, reverse, length, ℤ, Option, Some, None, slice_get, refl, sym, ap, ◌∙◌, subst, arith, eq-eqb, true≢false}
 use Rattle.std.specs.Prelude.{if◌then◌else◌, All}
 use Rattle.std.specs.List.{AllByRecursion}
-use Rattle.std.proofs.lemmas.Bool.{cond_both, cond-true, cond-false, or_parts}
+use Rattle.std.proofs.lemmas.Bool.{cond_both, cond-true, cond-false, or_parts, ne_eqb}
 use Rattle.std.proofs.lemmas.List.{length-map}
 use Rattle.std.proofs.lemmas.List.Elements.{All-from_recursion}
 use Rattle.std.proofs.lemmas.Option.{none-some, same_Some}
 use Rattle.sv_world.specs.Control.{is_in, action_at, chain_length, influence_distance}
-use Rattle.sv_world.specs.Faults.{first_fault_of_action, is_ascending, IsGoodAction}
-use Rattle.sv_world.specs.Sets.{read_set}
+use Rattle.sv_world.specs.Faults.{first_fault_of_action, is_ascending, may_be_observed, IsGoodAction}
+use Rattle.sv_world.specs.Sets.{numbers_of, read_set}
 use Rattle.sv_world.specs.declared.action.Action.{Action}
+use Rattle.sv_world.specs.declared.world.ObjectId.{ObjectId}
+use Rattle.sv_world.proofs.Seeing.{see-ascending, see-bounds}
 use Rattle.sv_world.proofs.Needs.{needed-ascending, needed-bounds}
 use Rattle.sv_eval.specs.Serial.{serial_world}
 use Rattle.sv_eval.proofs.Serials.{serial_shaped}
@@ -17,7 +19,6 @@ use Rattle.sv_versions.specs.Held.{Held}
 use Rattle.sv_pending.specs.Pending.{PendingAction}
 use Rattle.sv_wire.specs.declared.message.Done1.{Done1}
 use Rattle.sv_wire.specs.declared.message.ObjectValue.{ObjectValue}
-use Rattle.sv_wire.specs.declared.message.Item.{Item}
 use Rattle.sv_wire.specs.declared.message.Request.{Request}
 use Rattle.sv_wire.specs.declared.message.Request.TheVariants as requests
 use Rattle.sv_wire.specs.declared.message.Reply.{Reply}
@@ -32,7 +33,7 @@ use Rattle.sv_journal.specs.Serving.{Keeping, with_last_rows, polled_after, Lega
 use Rattle.sv_journal.proofs.Kept.{client-kept, next-kept, kept_outcome-kept, accepted-kept, sent-kept}
 use Rattle.sv_client.specs.declared.trace.Event.{Event}
 use Rattle.sv_client.specs.declared.trace.Event.TheVariants as events
-use Rattle.sv_client.specs.Traces.{joins, makes, current_session, is_session, held_of, with_reply, head_held, results_of, done_for, pending_of, submit_of, asked_by_event, asked, got}
+use Rattle.sv_client.specs.Traces.{joins, makes, current_session, is_session, held_of, with_items, with_reply, head_held, results_of, done_for, pending_of, submit_of, asked_by_event, asked, got}
 use Rattle.sv_client.specs.Taking.{Identity, allows, items_of, is_bad_head, is_bad_relay, is_good_relay, has_bad_item}
 use Rattle.sv_client.specs.Proper.{AreProper, identity_of}
 use Rattle.sv_system.specs.Fits.{replies_in}
@@ -42,14 +43,15 @@ use Rattle.sv_system.proofs.Fronts.{front-then, get-last}
 use Rattle.sv_system.proofs.Every.{each-append}
 use Rattle.sv_system.specs.Journals.{IsSerialResult}
 use Rattle.sv_system.proofs.Histories.{IsEarlier, same, earlier-then, earlier-rest, earlier-served, accepted-grows}
-use Rattle.sv_system.proofs.Lawful.{legal-relay, positions-within, kept-action}
+use Rattle.sv_system.proofs.Lawful.{legal-relay, legal-seen, positions-within, kept-action}
 use Rattle.sv_system.proofs.Entered.{of-parts, client-stays, welcome-client}
 use Rattle.sv_system.proofs.Asked.{get-append_cases, proper-part, got-part, done-when, may-answer}
-use Rattle.sv_system.proofs.BoundedRelays.{all-small}
+use Rattle.sv_system.proofs.BoundedRelays.{few-sent}
 use Rattle.sv_system.proofs.Pendings.{Numbered, keys, without_first, settles, keys-with, keys-made}
 use Rattle.sv_system.proofs.Leaving.{is_join_request}
 use Rattle.sv_system.proofs.Order.{got-replied, welcome-legal, earlier-strict}
 use Rattle.sv_system.proofs.Asking.{is_done, done-other, done-form}
+use Rattle.sv_system.proofs.Taken.{first-results, reported-done}
 use Rattle.sv_system.proofs.Induction.{accepted-good, plain-acts, well-after}
 use Rattle.sv_system.proofs.Opened.{asks, asks-other}
 use Rattle.sv_system.proofs.Begun.{replied, join-welcomed}
@@ -79,58 +81,114 @@ module _ (who : Identity) (first : ℕ) where
       (cond_both (settles r) (without_first (keys (pending_of t))) (keys (pending_of t)) AreChecked (λ e. checked-rest (keys (pending_of t)) before) (λ e. before))
   pending-checked (events.Join s ∷ t) p = pending-checked t p.1
   pending-checked (events.Poll ∷ t) p = pending-checked t p.1
+  pending-checked (events.Observe objects wait ∷ t) p = pending-checked t p.1
   pending-checked (events.Leave ∷ t) p = pending-checked t p.1
   pending-checked (events.Cut ∷ t) p = pending-checked t p.1
   pending-checked (events.Quit ∷ t) p = pending-checked t p.1
   pending-checked (events.Show objects ∷ t) p = pending-checked t p.1
 
-  abbrev is_bad : Request → Bool
-  is_bad requests.Bad = true
-  is_bad _ = false
+  -- A request that a client asks: it observes what may be observed, and is not malformed.
+  abbrev IsWellAsked : Request → Type 0
+  IsWellAsked (requests.Observe objects wait) = may_be_observed who.shape.objects (numbers_of objects) ≡ true
+  IsWellAsked requests.Bad = ⊥
+  IsWellAsked _ = Unit {0}
 
-  not-bad_if : (b : Bool) (q : Request) (j : ℕ) → is_bad q ≡ false → slice_get (if b then q ∷ [] else []) j ≡ Some requests.Bad → ⊥
-  not-bad_if true q zero f e = true≢false (sym (ap is_bad (same_Some q requests.Bad e)) ∙ f)
-  not-bad_if true q (suc j) f e = none-some requests.Bad e
-  not-bad_if false q j f e = none-some requests.Bad e
+  well-if : (b : Bool) (p q : Request) (j : ℕ) → IsWellAsked p → slice_get (if b then p ∷ [] else []) j ≡ Some q → IsWellAsked q
+  well-if true p q zero w e = subst IsWellAsked (same_Some p q e) w
+  well-if true p q (suc j) w e = absurd (none-some q e)
+  well-if false p q j w e = absurd (none-some q e)
 
-  not-bad_submits : (ps : List PendingAction) (j : ℕ) → slice_get (map submit_of ps) j ≡ Some requests.Bad → ⊥
-  not-bad_submits [] j e = none-some requests.Bad e
-  not-bad_submits (p ∷ ps) zero e = true≢false (sym (ap is_bad (same_Some (requests.Submit p.seq p.action) requests.Bad e)))
-  not-bad_submits (p ∷ ps) (suc j) e = not-bad_submits ps j e
+  well-submits : (ps : List PendingAction) (q : Request) (j : ℕ) → slice_get (map submit_of ps) j ≡ Some q → IsWellAsked q
+  well-submits [] q j e = absurd (none-some q e)
+  well-submits (p ∷ ps) q zero e = subst IsWellAsked (same_Some (requests.Submit p.seq p.action) q e) tt
+  well-submits (p ∷ ps) q (suc j) e = well-submits ps q j e
 
-  not-bad_join : (b : Bool) (q : Request) (ps : List PendingAction) (j : ℕ) → is_bad q ≡ false → slice_get (if b then q ∷ map submit_of ps else []) j ≡ Some requests.Bad → ⊥
-  not-bad_join true q ps zero f e = true≢false (sym (ap is_bad (same_Some q requests.Bad e)) ∙ f)
-  not-bad_join true q ps (suc j) f e = not-bad_submits ps j e
-  not-bad_join false q ps j f e = none-some requests.Bad e
+  well-join : (b : Bool) (p q : Request) (ps : List PendingAction) (j : ℕ) → IsWellAsked p → slice_get (if b then p ∷ map submit_of ps else []) j ≡ Some q → IsWellAsked q
+  well-join true p q ps zero w e = subst IsWellAsked (same_Some p q e) w
+  well-join true p q ps (suc j) w e = well-submits ps q j e
+  well-join false p q ps j w e = absurd (none-some q e)
 
-  not-bad_done : (b : Bool) (held : List Held) (r : Reply) (j : ℕ) → slice_get (if b then done_for held r else []) j ≡ Some requests.Bad → ⊥
-  not-bad_done false held r j e = none-some requests.Bad e
-  not-bad_done true held (replies.Relay seq commit head items) zero e = true≢false (sym (ap is_bad (same_Some _ requests.Bad e)))
-  not-bad_done true held (replies.Relay seq commit head items) (suc j) e = none-some requests.Bad e
-  not-bad_done true held (replies.Welcome commit head) j e = none-some requests.Bad e
-  not-bad_done true held (replies.Dropped seq chain far) j e = none-some requests.Bad e
-  not-bad_done true held (replies.Settled seq pos) j e = none-some requests.Bad e
-  not-bad_done true held (replies.Noted commit) j e = none-some requests.Bad e
-  not-bad_done true held replies.Idle j e = none-some requests.Bad e
-  not-bad_done true held (replies.Refused code detail) j e = none-some requests.Bad e
-  not-bad_done true held replies.Bye j e = none-some requests.Bad e
+  well-one : (results : List Done1) (q : Request) (j : ℕ) → slice_get (requests.Done results ∷ []) j ≡ Some q → IsWellAsked q
+  well-one results q zero e = subst IsWellAsked (same_Some (requests.Done results) q e) tt
+  well-one results q (suc j) e = absurd (none-some q e)
+
+  well-done : (b : Bool) (held : List Held) (r : Reply) (q : Request) (j : ℕ) → slice_get (if b then done_for held r else []) j ≡ Some q → IsWellAsked q
+  well-done false held r q j e = absurd (none-some q e)
+  well-done true held (replies.Relay seq commit head items) q j e = well-one (results_of (held ++ head_held commit head) items) q j e
+  well-done true held (replies.Seen last commit head []) q j e = absurd (none-some q e)
+  well-done true held (replies.Seen last commit head (item ∷ items)) q j e = well-one (results_of (held ++ head_held commit head) (item ∷ items)) q j e
+  well-done true held (replies.Welcome commit head) q j e = absurd (none-some q e)
+  well-done true held (replies.Dropped seq chain far) q j e = absurd (none-some q e)
+  well-done true held (replies.Denied seq object) q j e = absurd (none-some q e)
+  well-done true held (replies.Settled seq pos) q j e = absurd (none-some q e)
+  well-done true held (replies.Noted commit) q j e = absurd (none-some q e)
+  well-done true held replies.Idle q j e = absurd (none-some q e)
+  well-done true held (replies.Refused code detail) q j e = absurd (none-some q e)
+  well-done true held replies.Bye q j e = absurd (none-some q e)
+
+  asked-well : (t : List Event) → AreProper who first t → (s i : ℕ) (q : Request) → slice_get (asked who.client who.interest t s) i ≡ Some q → IsWellAsked q
+  asked-well [] p s i q e = absurd (none-some q e)
+  asked-well (ev ∷ t) p s i q e =
+      let before = asked-well t p.1 s i q in
+      elim (get-append_cases (asked who.client who.interest t s) (asked_by_event who.client who.interest t ev s) i q e) [ inl f ↦ before f | inr f ↦ now ev p f.0 f.1.1 ]
+    where
+      now : (ev : Event) → AreProper who first (ev ∷ t) → (j : ℕ) → slice_get (asked_by_event who.client who.interest t ev s) j ≡ Some q → IsWellAsked q
+      now (events.Join m) p j g = well-join (m == s) (requests.Join who.client (suc (joins t)) who.interest) q (pending_of t) j tt g
+      now (events.Got m r) p j g = well-done (m == s) (held_of t) r q j g
+      now (events.Make action) p j g = well-if (is_session (current_session t) s) (requests.Submit (suc (makes t)) action) q j tt g
+      now events.Poll p j g = well-if (is_session (current_session t) s) requests.Poll q j tt g
+      now (events.Observe objects wait) p j g = well-if (is_session (current_session t) s) (requests.Observe objects wait) q j p.0.good g
+      now events.Leave p j g = well-if (is_session (current_session t) s) requests.Leave q j tt g
+      now events.Cut p j g = absurd (none-some q g)
+      now events.Quit p j g = absurd (none-some q g)
+      now (events.Show objects) p j g = absurd (none-some q g)
 
   -- A malformed request is never asked.
-  pub never-bad : (t : List Event) (s i : ℕ) → slice_get (asked who.client who.interest t s) i ≡ Some requests.Bad → ⊥
-  never-bad [] s i e = none-some requests.Bad e
-  never-bad (ev ∷ t) s i e =
-      let before = never-bad t s i in
-      elim (get-append_cases (asked who.client who.interest t s) (asked_by_event who.client who.interest t ev s) i requests.Bad e) [ inl f ↦ before f | inr f ↦ now ev f.0 f.1.1 ]
-    where
-      now : (ev : Event) (j : ℕ) → slice_get (asked_by_event who.client who.interest t ev s) j ≡ Some requests.Bad → ⊥
-      now (events.Join m) j g = not-bad_join (m == s) (requests.Join who.client (suc (joins t)) who.interest) (pending_of t) j refl g
-      now (events.Got m r) j g = not-bad_done (m == s) (held_of t) r j g
-      now (events.Make action) j g = not-bad_if (is_session (current_session t) s) (requests.Submit (suc (makes t)) action) j refl g
-      now events.Poll j g = not-bad_if (is_session (current_session t) s) requests.Poll j refl g
-      now events.Leave j g = not-bad_if (is_session (current_session t) s) requests.Leave j refl g
-      now events.Cut j g = none-some requests.Bad g
-      now events.Quit j g = none-some requests.Bad g
-      now (events.Show objects) j g = none-some requests.Bad g
+  pub never-bad : (t : List Event) → AreProper who first t → (s i : ℕ) → slice_get (asked who.client who.interest t s) i ≡ Some requests.Bad → ⊥
+  never-bad t p s i e = asked-well t p s i requests.Bad e
+
+  -- Objects that are asked for may be observed.
+  pub asked-good : (t : List Event) → AreProper who first t → (s i : ℕ) (objects : List ObjectId) (wait : ℕ) →
+      slice_get (asked who.client who.interest t s) i ≡ Some (requests.Observe objects wait) → may_be_observed who.shape.objects (numbers_of objects) ≡ true
+  asked-good t p s i objects wait e = asked-well t p s i (requests.Observe objects wait) e
+
+-- ---- What a Done reports
+
+-- The results of the items of a reply, where its head is held.
+pub record IsBroughtBy (held : List Held) (reply : Reply) (results : List Done1) : Type 0 where
+  pub commit : ℕ
+  pub head : List ObjectValue
+  pub results_are : results ≡ results_of (held ++ head_held commit head) (items_of reply)
+  pub held_after : with_reply held reply ≡ with_items (held ++ head_held commit head) (items_of reply)
+
+pub brought-by : (held : List Held) (reply : Reply) (results : List Done1) → done_for held reply ≡ requests.Done results ∷ [] → IsBroughtBy held reply results
+brought-by held (replies.Relay seq commit head items) results e = record { commit = commit; head = head; results_are = sym (ap first-results e); held_after = refl }
+brought-by held (replies.Seen last commit head []) results e = cc
+brought-by held (replies.Seen last commit head (item ∷ items)) results e = record { commit = commit; head = head; results_are = sym (ap first-results e); held_after = refl }
+brought-by held (replies.Welcome commit head) results e = cc
+brought-by held (replies.Dropped seq chain far) results e = cc
+brought-by held (replies.Denied seq object) results e = cc
+brought-by held (replies.Settled seq pos) results e = cc
+brought-by held (replies.Noted commit) results e = cc
+brought-by held replies.Idle results e = cc
+brought-by held (replies.Refused code detail) results e = cc
+brought-by held replies.Bye results e = cc
+
+-- A reply that a client takes, and that asks for a Done, has items.
+pub some-items : (who : Identity) (ps : List PendingAction) (q : Request) (held : List Held) (reply : Reply) (results : List Done1) → done_for held reply ≡ requests.Done results ∷ [] →
+    has_bad_item who ps q reply ≡ false → (length (items_of reply) == 0) ≡ false
+some-items who ps q held (replies.Relay seq commit head items) results e good =
+    (or_parts (length items == 0) _ (or_parts _ (not (is_good_relay who ps q seq items)) (or_parts (is_bad_head who.shape head) (is_bad_relay who ps q seq items) good).1).0).0
+some-items who ps q held (replies.Seen last commit head []) results e good = cc
+some-items who ps q held (replies.Seen last commit head (item ∷ items)) results e good = ne_eqb (length (item ∷ items)) 0 (λ z. absurd (omega arith))
+some-items who ps q held (replies.Welcome commit head) results e good = cc
+some-items who ps q held (replies.Dropped seq chain far) results e good = cc
+some-items who ps q held (replies.Denied seq object) results e good = cc
+some-items who ps q held (replies.Settled seq pos) results e good = cc
+some-items who ps q held (replies.Noted commit) results e good = cc
+some-items who ps q held replies.Idle results e good = cc
+some-items who ps q held (replies.Refused code detail) results e good = cc
+some-items who ps q held replies.Bye results e good = cc
 
 -- ---- The relays of a journal
 
@@ -143,6 +201,7 @@ pub items-logged : (A : List Authored) (reply : Logged) → items_of (full_reply
 items-logged A (logged.Relay seq commit head positions) = refl
 items-logged A (logged.Welcome commit head) = refl
 items-logged A (logged.Dropped seq chain far) = refl
+items-logged A (logged.Seen last commit head positions) = refl
 items-logged A (logged.Settled seq pos) = refl
 items-logged A (logged.Noted commit) = refl
 items-logged A logged.Idle = refl
@@ -157,6 +216,13 @@ positions-low K keeps r d h l (logged.Relay seq commit head positions) is =
     )
 positions-low K keeps r d h l (logged.Welcome commit head) is = (refl, λ k m. absurd (true≢false (sym m)))
 positions-low K keeps r d h l (logged.Dropped seq chain far) is = (refl, λ k m. absurd (true≢false (sym m)))
+positions-low K keeps r d h l (logged.Seen last commit head positions) is =
+    let t = legal-seen K keeps r d h last commit head positions l is in
+    let acts = actions_of (d ∷ h) in
+    let xs = numbers_of t.objects in (
+      subst (λ (ks : List ℕ). is_ascending ks ≡ true) (sym t.positions_are) (see-ascending acts (commit_of (K.kept h)) (sent_to h d.session) xs last),
+      λ k m. (let low : commit_of (K.kept h) < k = (see-bounds acts (commit_of (K.kept h)) (sent_to h d.session) xs last k (subst (λ (ks : List ℕ). is_in k ks ≡ true) t.positions_are m)).0 in omega arith),
+    )
 positions-low K keeps r d h l (logged.Settled seq pos) is = (refl, λ k m. absurd (true≢false (sym m)))
 positions-low K keeps r d h l (logged.Noted commit) is = (refl, λ k m. absurd (true≢false (sym m)))
 positions-low K keeps r d h l logged.Idle is = (refl, λ k m. absurd (true≢false (sym m)))
@@ -249,11 +315,11 @@ module _ (truthful : Truthful) where
       (All-from_recursion (λ (a : Action). All (λ x. x < length r.world.values) (read_set a)) (actions_of H)
       (good-reads (length r.world.values) (IsGoodAction r.world.shape) A (λ a good. subst (λ (n : ℕ). All (λ x. x < n) (read_set a)) (sym count) good.objects) (accepted-good K keeps r H legal)))
 
-  -- The results that the client itself reports of the relay that it got are not bad.
+  -- The results that the client itself reports of the reply that it got are not bad.
   own-good : (results : List Done1) → slice_get (asked L.client L.interest whole s) (length (got whole s)) ≡ Some (requests.Done results) → is_bad_done r (K.kept g) s results ≡ false
   own-good results is =
       let d = done-when who L.first whole s (length (got whole s)) results is in
-      let reply : Reply = replies.Relay d.seq d.commit d.head d.items in
+      let reply : Reply = d.reply in
       let t : List Event = d.before in
       let v : List Event = events.Got s reply ∷ t in
       let proper : AreProper who L.first v = proper-part who L.first v whole d.part this_one.proper.events in
@@ -265,19 +331,19 @@ module _ (truthful : Truthful) where
       let bx : IsEarlier (x.entry ∷ x.before) H = earlier-then (x.entry ∷ x.before) g H x.earlier earlier in
       let lx : LegalFor K r (x.entry ∷ x.before) = earlier-served K r (x.entry ∷ x.before) H bx legal in
       let ks = positions_in x.entry.reply in
-      let items : d.items ≡ map (item_at A) ks = ap items_of x.replied ∙ items-logged A x.entry.reply in
+      let items : items_of reply ≡ map (item_at A) ks = ap items_of x.replied ∙ items-logged A x.entry.reply in
       let low = positions-low K keeps r x.entry x.before lx x.entry.reply refl in
-      let bad_relay : is_bad_relay who (pending_of t) a.request d.seq d.items ≡ false = relay-part a.request d.seq d.commit d.head d.items t a.good a.kind in
-      let some_items : (length d.items == 0) ≡ false = (or_parts (length d.items == 0) _ (or_parts _ (not (is_good_relay who (pending_of t) a.request d.seq d.items)) bad_relay).0).0 in
-      let many : length d.items ≡ length ks = ap length items ∙ length-map ks (item_at A) in
-      let small : length ks ≤ r.bound + 1 = (all-small K keeps r (x.entry ∷ x.before) lx).0 in
+      let some : (length (items_of reply) == 0) ≡ false = some-items who (pending_of t) a.request (held_of t) reply results d.asks a.good in
+      let many : length (items_of reply) ≡ length ks = ap length items ∙ length-map ks (item_at A) in
+      let small : length ks ≤ 33 = few-sent K keeps r x.entry x.before lx bound in
       let session : x.entry.session ≡ s = (of-parts x.entry s x.of_it).0 in
       let well = well-after K keeps r H count legal H same serial v
       (λ o. front-then (got v o) (got whole o) (replies_in A H o) (got-part who L.first v whole d.part o) (got-replied K r H L served o)) in
-      let held = held_of t ++ head_held d.commit d.head in
-      let results_are : results ≡ results_of held (map (item_at A) ks) = d.results_are ∙ ap (results_of held) items in
+      let by_it = brought-by (held_of t) reply results d.asks in
+      let held = held_of t ++ head_held by_it.commit by_it.head in
+      let results_are : results ≡ results_of held (map (item_at A) ks) = by_it.results_are ∙ ap (results_of held) items in
       subst (λ (rs : List Done1). is_bad_done r (K.kept g) s rs ≡ false) (sym results_are)
-      (good-done r H count shaped (plain-acts K keeps r H count legal) (K.kept g) here s worlds-shaped held ks low.0 (ap (λ (n : ℕ). n == 0) (sym many) ∙ some_items) (omega (arith, bound))
+      (good-done r H count shaped (plain-acts K keeps r H count legal) (K.kept g) here s worlds-shaped held ks low.0 (ap (λ (n : ℕ). n == 0) (sym many) ∙ some) small
       (λ j m. (
         low.1 j m,
         (
@@ -288,14 +354,10 @@ module _ (truthful : Truthful) where
           ap (is_in j) (sent-kept K keeps g s) ∙ sent-stays (x.entry ∷ x.before) g x.earlier s j (sent-now x.entry x.before s j session m),
         ),
       ))
-      (subst (λ (is : List Item). AllByRecursion (IsSerialResult r.world.values (actions_of H)) (results_of held is)) items well.reported.0))
+      (subst (AllByRecursion (IsSerialResult r.world.values (actions_of H))) results_are (reported-done r.world.values (actions_of H) (held_of t) reply results d.asks well.reported.0)))
     where
       here : (j : ℕ) → j ≤ length (accepted (K.kept g)) → action_at (actions_of H) j ≡ action_at (actions_of (K.kept g)) j
       here j l = kept-action K keeps r H g earlier j (subst (λ (n : ℕ). j ≤ n) (ap length (accepted-kept K keeps g)) l)
-
-      relay-part : (q : Request) (seq commit : ℕ) (head : List ObjectValue) (items : List Item) (t : List Event) → has_bad_item who (pending_of t) q (replies.Relay seq commit head items) ≡ false →
-          allows q (replies.Relay seq commit head items) ≡ true → is_bad_relay who (pending_of t) q seq items ≡ false
-      relay-part q seq commit head items t f kind = (or_parts (is_bad_head who.shape head) (is_bad_relay who (pending_of t) q seq items) f).1
 
   -- And so are those of a Done that differs from its own in the values alone.
   done-good : (results : List Done1) → e.request ≡ requests.Done results → is_bad_done r (K.kept g) s results ≡ false
@@ -315,6 +377,11 @@ module _ (truthful : Truthful) where
       ∙ ap (with_last_rows K r g s (requests.Done results)) (cond-false (is_bad_done r (K.kept g) s results) (refused 7 0) (logged.Noted (commit_with (K.kept g) s results)) (done-good results is)))) refl
   allowed requests.Poll is =
       subst (λ (y : Logged). allows requests.Poll (full_reply A y) ≡ true) (sym (member-reply requests.Poll is refl refl ∙ polled K r g s (orphans (K.kept g)))) (due-allowed (K.due g s))
+  allowed (requests.Observe objects wait) is =
+      let good : may_be_observed r.world.shape.objects (numbers_of objects) ≡ true =
+      asked-good who L.first whole this_one.proper.events s (length (got whole s)) objects wait (asking (requests.Observe objects wait) is refl) in
+      subst (λ (y : Logged). allows (requests.Observe objects wait) (full_reply A y) ≡ true) (sym (member-reply (requests.Observe objects wait) is refl refl
+      ∙ ap (with_last_rows K r g s (requests.Observe objects wait)) (cond-true (may_be_observed r.world.shape.objects (numbers_of objects)) _ (refused 8 0) good))) refl
   allowed requests.Leave is = subst (λ (y : Logged). allows requests.Leave (full_reply A y) ≡ true) (sym (member-reply requests.Leave is refl refl)) refl
-  allowed requests.Bad is = absurd (never-bad who L.first whole s (length (got whole s)) (asking requests.Bad is refl))
+  allowed requests.Bad is = absurd (never-bad who L.first whole this_one.proper.events s (length (got whole s)) (asking requests.Bad is refl))
   allowed requests.End is = absurd (true≢false (sym (ap is_end is) ∙ (of-parts e s mine).1))

@@ -1,5 +1,5 @@
 -- A trace's requests and replies of a session, event by event.
-use Rattle.std.proofs.Common.{◌≡◌, ℕ, zero, suc, ◌+◌, ◌≤◌, Bool, true, false, not, ◌==◌, ◌⊎◌, inl, inr, List, [], ◌∷◌, ◌++◌, map, drop, reverse, length, Option, Some, None, slice_get, refl, sym, ap, ◌∙◌, subst, arith, eqb-true, eq-eqb, true≢false}
+use Rattle.std.proofs.Common.{◌≡◌, ℕ, zero, suc, ◌+◌, ◌≤◌, Bool, true, false, ◌==◌, ◌⊎◌, inl, inr, List, [], ◌∷◌, ◌++◌, map, drop, reverse, length, Option, Some, None, slice_get, refl, sym, ap, ◌∙◌, subst, arith, eqb-true, eq-eqb, true≢false}
 use Rattle.std.specs.Prelude.{if◌then◌else◌}
 use Rattle.std.specs.List.{list_any}
 use Rattle.std.proofs.lemmas.Bool.{cond_both, cond-true, cond-false, cases_Bool, or_cases, or_left, or_right}
@@ -8,8 +8,6 @@ use Rattle.std.proofs.lemmas.List.Folds.{list_any-append}
 use Rattle.std.proofs.lemmas.Option.{none-some, same_Some}
 use Rattle.sv_pending.specs.Pending.{PendingAction}
 use Rattle.sv_wire.specs.declared.message.Done1.{Done1}
-use Rattle.sv_wire.specs.declared.message.ObjectValue.{ObjectValue as Sent}
-use Rattle.sv_wire.specs.declared.message.Item.{Item}
 use Rattle.sv_wire.specs.declared.message.Request.{Request}
 use Rattle.sv_wire.specs.declared.message.Request.TheVariants as requests
 use Rattle.sv_wire.specs.declared.message.Reply.{Reply}
@@ -70,6 +68,7 @@ module _ (who : Identity) (first : ℕ) where
   got-one (events.Join n) t s = front-all (got t s)
   got-one (events.Make action) t s = front-all (got t s)
   got-one events.Poll t s = front-all (got t s)
+  got-one (events.Observe objects wait) t s = front-all (got t s)
   got-one events.Leave t s = front-all (got t s)
   got-one events.Cut t s = front-all (got t s)
   got-one events.Quit t s = front-all (got t s)
@@ -107,6 +106,7 @@ module _ (who : Identity) (first : ℕ) where
   got-when (events.Join m ∷ t) s n reply is = got-later (events.Join m) t s n reply (got-when t s n reply is)
   got-when (events.Make action ∷ t) s n reply is = got-later (events.Make action) t s n reply (got-when t s n reply is)
   got-when (events.Poll ∷ t) s n reply is = got-later events.Poll t s n reply (got-when t s n reply is)
+  got-when (events.Observe objects wait ∷ t) s n reply is = got-later (events.Observe objects wait) t s n reply (got-when t s n reply is)
   got-when (events.Leave ∷ t) s n reply is = got-later events.Leave t s n reply (got-when t s n reply is)
   got-when (events.Cut ∷ t) s n reply is = got-later events.Cut t s n reply (got-when t s n reply is)
   got-when (events.Quit ∷ t) s n reply is = got-later events.Quit t s n reply (got-when t s n reply is)
@@ -144,48 +144,38 @@ module _ (who : Identity) (first : ℕ) where
 
   -- ---- Dones
 
-  -- A Done that is asked reports the results of a relay that was got just before.
+  -- A Done that is asked reports the results of a reply that was got just before.
   pub record IsDone (u : List Event) (s n : ℕ) (results : List Done1) : Type 0 where
-    pub seq : ℕ
-    pub commit : ℕ
-    pub head : List Sent
-    pub items : List Item
+    pub reply : Reply
     pub before : List Event
-    pub part : IsPart (events.Got s (replies.Relay seq commit head items) ∷ before) u
+    pub part : IsPart (events.Got s reply ∷ before) u
     pub place : n ≡ length (asked who.client who.interest before s)
-    pub results_are : results ≡ results_of (held_of before ++ head_held commit head) items
+    pub asks : done_for (held_of before) reply ≡ requests.Done results ∷ []
 
   done-later : (e : Event) (u : List Event) (s n : ℕ) (results : List Done1) → IsDone u s n results → IsDone (e ∷ u) s n results
-  done-later e u s n results d = record {
-    seq = d.seq;
-    commit = d.commit;
-    head = d.head;
-    items = d.items;
-    before = d.before;
-    part = then_one e d.part;
-    place = d.place;
-    results_are = d.results_are;
-  }
+  done-later e u s n results d = record { reply = d.reply; before = d.before; part = then_one e d.part; place = d.place; asks = d.asks }
 
-  done-by : (t : List Event) (s : ℕ) (results : List Done1) (reply : Reply) (j : ℕ) → slice_get (done_for (held_of t) reply) j ≡ Some (requests.Done results) →
-      IsDone (events.Got s reply ∷ t) s (length (asked_in_trace t s) + j) results
-  done-by t s results (replies.Relay seq commit head items) zero e = record {
-    seq = seq;
-    commit = commit;
-    head = head;
-    items = items;
+  done-first : (t : List Event) (s : ℕ) (results own : List Done1) (reply : Reply) (j : ℕ) → done_for (held_of t) reply ≡ requests.Done own ∷ [] →
+      slice_get (requests.Done own ∷ []) j ≡ Some (requests.Done results) → IsDone (events.Got s reply ∷ t) s (length (asked_in_trace t s) + j) results
+  done-first t s results own reply zero is e = record {
+    reply = reply;
     before = t;
     part = all;
     place = omega arith;
-    results_are = (let f : requests.Done (results_of (held_of t ++ head_held commit head) items) ≡ requests.Done results = same_Some _ _ e in ap done_results (sym f));
+    asks = is ∙ ap (λ (q : Request). q ∷ []) (same_Some (requests.Done own) (requests.Done results) e);
   }
-    where
-      done_results : Request → List Done1
-      done_results (requests.Done rs) = rs
-      done_results _ = []
-  done-by t s results (replies.Relay seq commit head items) (suc j) e = absurd (none-some (requests.Done results) e)
+  done-first t s results own reply (suc j) is e = absurd (none-some (requests.Done results) e)
+
+  done-by : (t : List Event) (s : ℕ) (results : List Done1) (reply : Reply) (j : ℕ) → slice_get (done_for (held_of t) reply) j ≡ Some (requests.Done results) →
+      IsDone (events.Got s reply ∷ t) s (length (asked_in_trace t s) + j) results
+  done-by t s results (replies.Relay seq commit head items) j e =
+      done-first t s results (results_of (held_of t ++ head_held commit head) items) (replies.Relay seq commit head items) j refl e
+  done-by t s results (replies.Seen last commit head []) j e = absurd (none-some (requests.Done results) e)
+  done-by t s results (replies.Seen last commit head (item ∷ items)) j e =
+      done-first t s results (results_of (held_of t ++ head_held commit head) (item ∷ items)) (replies.Seen last commit head (item ∷ items)) j refl e
   done-by t s results (replies.Welcome commit head) j e = absurd (none-some (requests.Done results) e)
   done-by t s results (replies.Dropped seq chain far) j e = absurd (none-some (requests.Done results) e)
+  done-by t s results (replies.Denied seq object) j e = absurd (none-some (requests.Done results) e)
   done-by t s results (replies.Settled seq pos) j e = absurd (none-some (requests.Done results) e)
   done-by t s results (replies.Noted commit) j e = absurd (none-some (requests.Done results) e)
   done-by t s results replies.Idle j e = absurd (none-some (requests.Done results) e)
@@ -221,6 +211,7 @@ module _ (who : Identity) (first : ℕ) where
   done-of_event (events.Make action) t s j results e =
       (let f : requests.Submit (suc (makes t)) action ≡ requests.Done results = no-done_if (is_session (current_session t) s) _ j results e in cc)
   done-of_event events.Poll t s j results e = (let f : requests.Poll ≡ requests.Done results = no-done_if (is_session (current_session t) s) _ j results e in cc)
+  done-of_event (events.Observe objects wait) t s j results e = (let f : requests.Observe objects wait ≡ requests.Done results = no-done_if (is_session (current_session t) s) _ j results e in cc)
   done-of_event events.Leave t s j results e = (let f : requests.Leave ≡ requests.Done results = no-done_if (is_session (current_session t) s) _ j results e in cc)
   done-of_event events.Cut t s j results e = absurd (none-some (requests.Done results) e)
   done-of_event events.Quit t s j results e = absurd (none-some (requests.Done results) e)
@@ -299,6 +290,7 @@ module _ (who : Identity) (first : ℕ) where
   begun-or_not (events.Got m r ∷ t) p s = begun-got t m r s p.0.current (begun-or_not t p.1 s)
   begun-or_not (events.Make action ∷ t) p s = still-not t (events.Make action) s (omega arith) (not-asked t _ s) refl (begun-or_not t p.1 s)
   begun-or_not (events.Poll ∷ t) p s = still-not t events.Poll s (omega arith) (not-asked t _ s) refl (begun-or_not t p.1 s)
+  begun-or_not (events.Observe objects wait ∷ t) p s = still-not t (events.Observe objects wait) s (omega arith) (not-asked t _ s) refl (begun-or_not t p.1 s)
   begun-or_not (events.Leave ∷ t) p s = still-not t events.Leave s (omega arith) (not-asked t _ s) refl (begun-or_not t p.1 s)
   begun-or_not (events.Cut ∷ t) p s = still-not t events.Cut s (omega arith) (λ f. refl) refl (begun-or_not t p.1 s)
   begun-or_not (events.Quit ∷ t) p s = still-not t events.Quit s (omega arith) (λ f. refl) refl (begun-or_not t p.1 s)
@@ -311,6 +303,7 @@ module _ (who : Identity) (first : ℕ) where
   current-last (events.Got m r ∷ t) p s c = current-last t p.1 s c
   current-last (events.Make action ∷ t) p s c = current-last t p.1 s c
   current-last (events.Poll ∷ t) p s c = current-last t p.1 s c
+  current-last (events.Observe objects wait ∷ t) p s c = current-last t p.1 s c
   current-last (events.Leave ∷ t) p s c = current-last t p.1 s c
   current-last (events.Cut ∷ t) p s c = current-last t p.1 s c
   current-last (events.Quit ∷ t) p s c = current-last t p.1 s c
@@ -324,6 +317,7 @@ current-joined (events.Join m ∷ t) s c = or_left (m == s) (list_any (is_join_o
 current-joined (events.Got m r ∷ t) s c = current-joined t s c
 current-joined (events.Make action ∷ t) s c = current-joined t s c
 current-joined (events.Poll ∷ t) s c = current-joined t s c
+current-joined (events.Observe objects wait ∷ t) s c = current-joined t s c
 current-joined (events.Leave ∷ t) s c = current-joined t s c
 current-joined (events.Cut ∷ t) s c = current-joined t s c
 current-joined (events.Quit ∷ t) s c = current-joined t s c

@@ -20,6 +20,7 @@ use Rattle.sv_journal.specs.Answer.{Rules, is_bad_result, is_bad_done}
 use Rattle.sv_journal.specs.Serving.{Keeping, LegalFor, IsKeeping}
 use Rattle.sv_client.specs.declared.trace.Trace.{Trace}
 use Rattle.sv_client.specs.Traces.{requests_of}
+use Rattle.sv_client.specs.Kinds.{kind_of}
 use Rattle.sv_client.specs.Taking.{Identity, allows, has_bad_item}
 use Rattle.sv_system.specs.Fronts.{IsFront}
 use Rattle.sv_system.specs.Fits.{requests_in, FitsIn, FitsOne}
@@ -51,6 +52,7 @@ same-request (requests.Done results) = (results, (refl, same-form results))
 same-request (requests.Join client life interest) = refl
 same-request (requests.Submit seq a) = refl
 same-request requests.Poll = refl
+same-request (requests.Observe objects wait) = refl
 same-request requests.Leave = refl
 same-request requests.Bad = refl
 same-request requests.End = refl
@@ -61,6 +63,7 @@ first-other (requests.Done results) q t f = absurd (true≢false f)
 first-other (requests.Join client life interest) q t f = sym t
 first-other (requests.Submit seq a) q t f = sym t
 first-other requests.Poll q t f = sym t
+first-other (requests.Observe objects wait) q t f = sym t
 first-other requests.Leave q t f = sym t
 first-other requests.Bad q t f = sym t
 first-other requests.End q t f = sym t
@@ -71,6 +74,7 @@ second-other (requests.Done results) q t f = absurd (true≢false (sym (ap is_do
 second-other (requests.Join client life interest) q t f = t
 second-other (requests.Submit seq a) q t f = t
 second-other requests.Poll q t f = t
+second-other (requests.Observe objects wait) q t f = t
 second-other requests.Leave q t f = t
 second-other requests.Bad q t f = t
 second-other requests.End q t f = t
@@ -85,6 +89,7 @@ done-other (requests.Done own) results t = (own, (refl, subst (HaveSameForm own)
 done-other (requests.Join client life interest) results t = absurd (true≢false (sym (ap is_done t)))
 done-other (requests.Submit seq a) results t = absurd (true≢false (sym (ap is_done t)))
 done-other requests.Poll results t = absurd (true≢false (sym (ap is_done t)))
+done-other (requests.Observe objects wait) results t = absurd (true≢false (sym (ap is_done t)))
 done-other requests.Leave results t = absurd (true≢false (sym (ap is_done t)))
 done-other requests.Bad results t = absurd (true≢false (sym (ap is_done t)))
 done-other requests.End results t = absurd (true≢false (sym (ap is_done t)))
@@ -121,6 +126,8 @@ done-allows xs ys (replies.Noted commit) = refl
 done-allows xs ys (replies.Welcome commit head) = refl
 done-allows xs ys (replies.Relay seq commit head items) = refl
 done-allows xs ys (replies.Dropped seq chain far) = refl
+done-allows xs ys (replies.Denied seq object) = refl
+done-allows xs ys (replies.Seen last commit head items) = refl
 done-allows xs ys (replies.Settled seq pos) = refl
 done-allows xs ys replies.Idle = refl
 done-allows xs ys (replies.Refused code detail) = refl
@@ -132,15 +139,29 @@ same-allows (requests.Done results) q t reply = done-allows results t.0 reply �
 same-allows (requests.Join client life interest) q t reply = ap (λ (z : Request). allows z reply) t
 same-allows (requests.Submit seq a) q t reply = ap (λ (z : Request). allows z reply) t
 same-allows requests.Poll q t reply = ap (λ (z : Request). allows z reply) t
+same-allows (requests.Observe objects wait) q t reply = ap (λ (z : Request). allows z reply) t
 same-allows requests.Leave q t reply = ap (λ (z : Request). allows z reply) t
 same-allows requests.Bad q t reply = ap (λ (z : Request). allows z reply) t
 same-allows requests.End q t reply = ap (λ (z : Request). allows z reply) t
+
+-- They are of the same kind.
+pub same-kind : (p q : Request) → AreSameButValues p q → kind_of p ≡ kind_of q
+same-kind (requests.Done results) q t = ap kind_of (sym t.1.0)
+same-kind (requests.Join client life interest) q t = ap kind_of t
+same-kind (requests.Submit seq a) q t = ap kind_of t
+same-kind requests.Poll q t = ap kind_of t
+same-kind (requests.Observe objects wait) q t = ap kind_of t
+same-kind requests.Leave q t = ap kind_of t
+same-kind requests.Bad q t = ap kind_of t
+same-kind requests.End q t = ap kind_of t
 
 done-items : (who : Identity) (ps : List PendingAction) (xs ys : List Done1) (reply : Reply) → has_bad_item who ps (requests.Done xs) reply ≡ has_bad_item who ps (requests.Done ys) reply
 done-items who ps xs ys (replies.Noted commit) = refl
 done-items who ps xs ys (replies.Welcome commit head) = refl
 done-items who ps xs ys (replies.Relay seq commit head items) = refl
 done-items who ps xs ys (replies.Dropped seq chain far) = refl
+done-items who ps xs ys (replies.Denied seq object) = refl
+done-items who ps xs ys (replies.Seen last commit head items) = refl
 done-items who ps xs ys (replies.Settled seq pos) = refl
 done-items who ps xs ys replies.Idle = refl
 done-items who ps xs ys (replies.Refused code detail) = refl
@@ -152,6 +173,7 @@ same-items who ps (requests.Done results) q t reply = done-items who ps results 
 same-items who ps (requests.Join client life interest) q t reply = ap (λ (z : Request). has_bad_item who ps z reply) t
 same-items who ps (requests.Submit seq a) q t reply = ap (λ (z : Request). has_bad_item who ps z reply) t
 same-items who ps requests.Poll q t reply = ap (λ (z : Request). has_bad_item who ps z reply) t
+same-items who ps (requests.Observe objects wait) q t reply = ap (λ (z : Request). has_bad_item who ps z reply) t
 same-items who ps requests.Leave q t reply = ap (λ (z : Request). has_bad_item who ps z reply) t
 same-items who ps requests.Bad q t reply = ap (λ (z : Request). has_bad_item who ps z reply) t
 same-items who ps requests.End q t reply = ap (λ (z : Request). has_bad_item who ps z reply) t

@@ -21,7 +21,7 @@ use Rattle.sv_system.specs.Fits.{replies_in}
 use Rattle.sv_system.proofs.Awaited.{Awaited}
 use Rattle.sv_system.proofs.Fronts.{get-last, fronts-same}
 use Rattle.sv_system.proofs.Histories.{IsEarlier, same, after, earlier-then, earlier-rest, earlier-served, earlier-kept}
-use Rattle.sv_system.proofs.Replies.{commit_after, TellsFor, IsRelayReply, IsWelcomeReply, served-tells}
+use Rattle.sv_system.proofs.Replies.{commit_after, TellsFor, IsRelayReply, IsWelcomeReply, IsSeenReply, served-tells}
 use Rattle.sv_system.proofs.Asking.{request-other}
 use Rattle.sv_system.proofs.Commits.{commit-grows}
 use Rattle.sv_system.proofs.Entered.{earlier-cases, of-parts, replies-earlier, IsEntered, entered, over-stays}
@@ -58,6 +58,12 @@ told-most K keeps r A d h g l b (logged.Noted commit) is c e =
     let w : commit ≡ commit_of (K.kept (d ∷ h)) = t.1.1 ∙ noted-commit K keeps d h commit is in
     omega arith
 told-most K keeps r A d h g l b (logged.Dropped seq chain far) is c e = absurd (none-some c e)
+told-most K keeps r A d h g l b (logged.Seen last commit head positions) is c e =
+    let t : IsSeenReply K r h d.session d.request last commit head positions = subst (λ (y : Logged). TellsFor K r h d.session d.request y) is (served-tells K keeps r d h l) in
+    let a : commit_of (K.kept h) ≤ commit_of (K.kept g) = commit-grows (K.kept h) (K.kept g) (earlier-kept K keeps h g (earlier-rest h d g b)) in
+    let f : commit ≡ c = same_Some commit c e in
+    let w : commit ≡ commit_of (K.kept h) = t.commit_is in
+    omega arith
 told-most K keeps r A d h g l b (logged.Settled seq pos) is c e = absurd (none-some c e)
 told-most K keeps r A d h g l b logged.Idle is c e = absurd (none-some c e)
 told-most K keeps r A d h g l b (logged.Refused code detail) is c e = absurd (none-some c e)
@@ -192,6 +198,7 @@ module _ (awaited : Awaited) where
   told-before (events.Join o ∷ t) p = told-before t (part-rest t (events.Join o) whole p)
   told-before (events.Make action ∷ t) p = told-before t (part-rest t (events.Make action) whole p)
   told-before (events.Poll ∷ t) p = told-before t (part-rest t events.Poll whole p)
+  told-before (events.Observe objects wait ∷ t) p = told-before t (part-rest t (events.Observe objects wait) whole p)
   told-before (events.Leave ∷ t) p = told-before t (part-rest t events.Leave whole p)
   told-before (events.Cut ∷ t) p = told-before t (part-rest t events.Cut whole p)
   told-before (events.Quit ∷ t) p = told-before t (part-rest t events.Quit whole p)

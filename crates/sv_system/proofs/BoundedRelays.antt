@@ -1,4 +1,4 @@
--- A relay has at most one item more than the bound.
+-- A relay has at most one item more than the bound, and what is seen no more than a report may have results.
 use Rattle.std.proofs.Common.{◌≡◌, ℕ, suc, ◌+◌, ◌<◌, ◌≤◌, false, nat_lt, inl, inr, List, [], ◌∷◌, ◌++◌, length, refl, ap, ap₂, ◌∙◌, subst, arith, append-nil, append_assoc}
 use Rattle.std.specs.Prelude.{if◌then◌else◌}
 use Rattle.std.specs.List.{AllByRecursion}
@@ -14,11 +14,12 @@ use Rattle.sv_journal.specs.declared.entry.Logged.TheVariants as logged
 use Rattle.sv_journal.specs.History.{Authored, client_of, is_relay, new_action, outcomes_of, accepted, actions_of, commit_of}
 use Rattle.sv_journal.specs.Sessions.{positions_in, sent_to}
 use Rattle.sv_journal.specs.Answer.{Rules}
+use Rattle.sv_journal.specs.Laws.{most_sent}
 use Rattle.sv_journal.specs.Serving.{Keeping, LegalFor, IsKeeping}
 use Rattle.sv_system.proofs.Histories.{IsEarlier, same, after, actions-earlier, actions-count, earlier-rest, earlier-kept, kept-below}
 use Rattle.sv_system.proofs.Commits.{commit-grows}
 use Rattle.sv_system.proofs.Replies.{new_of, new-submit, old-submit, new-poll, TellsFor, IsRelayReply, served-tells}
-use Rattle.sv_system.proofs.Lawful.{relayed-actions, IsLegalRelay, legal-relay}
+use Rattle.sv_system.proofs.Lawful.{relayed-actions, IsLegalRelay, legal-relay, legal-seen}
 
 -- Each position was accepted at an entry, with a chain that is not over the bound.
 pub record IsAcceptedAt (K : Keeping) (r : Rules) (g : List Entry) (i : ℕ) : Type 0 where
@@ -76,6 +77,7 @@ accepted-here K keeps r e h i l low high (logged.Relay seq commit head positions
     ]
 accepted-here K keeps r e h i l low high (logged.Welcome commit head) is = (let n : length (accepted (e ∷ h)) ≡ length (accepted h) = not-relay e h e.reply (ap is_relay is) in absurd (omega arith))
 accepted-here K keeps r e h i l low high (logged.Dropped seq chain far) is = (let n : length (accepted (e ∷ h)) ≡ length (accepted h) = not-relay e h e.reply (ap is_relay is) in absurd (omega arith))
+accepted-here K keeps r e h i l low high (logged.Seen last commit head positions) is = (let n : length (accepted (e ∷ h)) ≡ length (accepted h) = not-relay e h e.reply (ap is_relay is) in absurd (omega arith))
 accepted-here K keeps r e h i l low high (logged.Settled seq pos) is = (let n : length (accepted (e ∷ h)) ≡ length (accepted h) = not-relay e h e.reply (ap is_relay is) in absurd (omega arith))
 accepted-here K keeps r e h i l low high (logged.Noted commit) is = (let n : length (accepted (e ∷ h)) ≡ length (accepted h) = not-relay e h e.reply (ap is_relay is) in absurd (omega arith))
 accepted-here K keeps r e h i l low high logged.Idle is = (let n : length (accepted (e ∷ h)) ≡ length (accepted h) = not-relay e h e.reply (ap is_relay is) in absurd (omega arith))
@@ -111,16 +113,36 @@ relay-small K keeps r e h commit head positions l t =
     let len : length positions ≡ length (needed_for (A ++ a.action ∷ p.0) (commit_of (K.kept h)) (sent_to h e.session) (suc (length A))) = ap length same_positions in
     omega arith
 
-one-small : (K : Keeping) (keeps : IsKeeping K) (r : Rules) (e : Entry) (h : List Entry) → LegalFor K r (e ∷ h) → (reply : Logged) → e.reply ≡ reply → length (positions_in reply) ≤ r.bound + 1
+one-small : (K : Keeping) (keeps : IsKeeping K) (r : Rules) (e : Entry) (h : List Entry) → LegalFor K r (e ∷ h) → (reply : Logged) → e.reply ≡ reply → length (positions_in reply) ≤ most_sent r reply
 one-small K keeps r e h l (logged.Relay seq commit head positions) is = relay-small K keeps r e h commit head positions l (legal-relay K keeps r e h seq commit head positions l is)
 one-small K keeps r e h l (logged.Welcome commit head) is = omega arith
 one-small K keeps r e h l (logged.Dropped seq chain far) is = omega arith
+one-small K keeps r e h l (logged.Seen last commit head positions) is = (legal-seen K keeps r e h last commit head positions l is).few
 one-small K keeps r e h l (logged.Settled seq pos) is = omega arith
 one-small K keeps r e h l (logged.Noted commit) is = omega arith
 one-small K keeps r e h l logged.Idle is = omega arith
 one-small K keeps r e h l (logged.Refused code detail) is = omega arith
 one-small K keeps r e h l logged.Bye is = omega arith
 
-pub all-small : (K : Keeping) (keeps : IsKeeping K) (r : Rules) (h : List Entry) → LegalFor K r h → AllByRecursion (λ (e : Entry). length (positions_in e.reply) ≤ r.bound + 1) h
+pub all-small : (K : Keeping) (keeps : IsKeeping K) (r : Rules) (h : List Entry) → LegalFor K r h → AllByRecursion (λ (e : Entry). length (positions_in e.reply) ≤ most_sent r e.reply) h
 all-small K keeps r [] l = tt
 all-small K keeps r (e ∷ h) l = (one-small K keeps r e h l e.reply refl, all-small K keeps r h l.1)
+
+-- So many are at most those of a report.
+pub sent-of : (r : Rules) (reply : Logged) → r.bound ≤ 32 → most_sent r reply ≤ 33
+sent-of r (logged.Seen last commit head positions) l = omega arith
+sent-of r (logged.Relay seq commit head positions) l = omega arith
+sent-of r (logged.Welcome commit head) l = omega arith
+sent-of r (logged.Dropped seq chain far) l = omega arith
+sent-of r (logged.Settled seq pos) l = omega arith
+sent-of r (logged.Noted commit) l = omega arith
+sent-of r logged.Idle l = omega arith
+sent-of r (logged.Refused code detail) l = omega arith
+sent-of r logged.Bye l = omega arith
+
+-- Where the bound is at most 32, no reply has more items than a report may have results.
+pub few-sent : (K : Keeping) (keeps : IsKeeping K) (r : Rules) (e : Entry) (h : List Entry) → LegalFor K r (e ∷ h) → r.bound ≤ 32 → length (positions_in e.reply) ≤ 33
+few-sent K keeps r e h l bound =
+    let most : length (positions_in e.reply) ≤ most_sent r e.reply = (all-small K keeps r (e ∷ h) l).0 in
+    let few = sent-of r e.reply bound in
+    omega arith

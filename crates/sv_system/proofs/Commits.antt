@@ -88,6 +88,7 @@ one-outcome p (logged.Relay seq commit head positions) zero o e = (refl, ap (λ 
 one-outcome p (logged.Relay seq commit head positions) (suc j) o e = absurd (none-some o e)
 one-outcome p (logged.Dropped seq chain far) zero o e = (refl, ap (λ (x : Outcome). x ∷ []) (sym (same_Some (Dropped chain far) o e)))
 one-outcome p (logged.Dropped seq chain far) (suc j) o e = absurd (none-some o e)
+one-outcome p (logged.Seen last commit head positions) j o e = absurd (none-some o e)
 one-outcome p (logged.Welcome commit head) j o e = absurd (none-some o e)
 one-outcome p (logged.Settled seq pos) j o e = absurd (none-some o e)
 one-outcome p (logged.Noted commit) j o e = absurd (none-some o e)

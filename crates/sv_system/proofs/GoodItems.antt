@@ -3,8 +3,9 @@ use Rattle.std.proofs.Common.{◌≡◌, ℕ, zero, suc, ◌<◌, ◌≤◌, tru
 use Rattle.std.specs.List.{list_any, AllByRecursion}
 use Rattle.std.proofs.lemmas.Bool.{cond_both, or_from, and_from, ne_eqb, not_from_true}
 use Rattle.std.proofs.lemmas.List.Elements.{All-from_recursion, recursion_from_All}
-use Rattle.sv_world.specs.Control.{is_in, blank, head_for, chain_length, influence_distance}
+use Rattle.sv_world.specs.Control.{is_in, blank, head_for, with_reading, up_to, chain_length, influence_distance}
 use Rattle.sv_world.specs.Faults.{first_fault_of_action, IsGoodAction}
+use Rattle.sv_world.specs.Sets.{numbers_of}
 use Rattle.sv_world.specs.declared.action.Action.{Action}
 use Rattle.sv_world.specs.declared.check.BadAction.{BadAction}
 use Rattle.sv_world.specs.declared.world.ObjectId.{ObjectId}
@@ -31,7 +32,7 @@ use Rattle.sv_system.proofs.Tests.{three-false}
 use Rattle.sv_system.proofs.Every.{each-is_in}
 use Rattle.sv_system.proofs.Histories.{IsEarlier, earlier-rest, earlier-served, accepted-grows}
 use Rattle.sv_system.proofs.Replies.{AnswersSubmit, AnswersKept, TellsFor, IsRelayReply, IsWelcomeReply, served-tells, logged_head}
-use Rattle.sv_system.proofs.Lawful.{IsLegalRelay, legal-relay, positions-within}
+use Rattle.sv_system.proofs.Lawful.{IsLegalRelay, legal-relay, IsLegalSeen, legal-seen, positions-within}
 use Rattle.sv_system.proofs.Induction.{accepted-good}
 use Rattle.sv_system.proofs.Opened.{asks-other}
 use Rattle.sv_system.proofs.Begun.{join-welcomed}
@@ -140,6 +141,25 @@ module _ (truthful : Truthful) where
       ∙ good-heads xs (λ x m. each-is_in (λ (y : ℕ). y < r.world.shape.objects) xs
       (objects-below r.world.shape.objects L.interest (recursion_from_All (λ (o : ObjectId). o.0 < r.world.shape.objects) L.interest this_one.proper.who.objects)) x m)
 
+  seen-head : (last commit : ℕ) (head : List Sent) (positions : List ℕ) → IsLegalSeen K r e g last commit head positions → is_bad_head r.world.shape head ≡ false
+  seen-head last commit head positions t =
+      let acts = with_reading (actions_of (e ∷ g)) last (numbers_of t.objects) in
+      let given = already_given r.world.shape.objects (K.kept g) e.session in
+      let sent = up_to last (sent_to g e.session) in
+      let xs = head_for r.world.shape.objects acts (commit_of (K.kept g)) sent given (suc last) in
+      ap (is_bad_head r.world.shape) t.head_is
+      ∙ good-heads xs (λ x m. ((head_for-iff r.world.shape.objects acts (commit_of (K.kept g)) sent given (suc last) x).0 m).0)
+
+  seen-good : (last commit : ℕ) (head : List Sent) (positions : List ℕ) → e.reply ≡ logged.Seen last commit head positions →
+      has_bad_item who (pending_of whole) e.request (full_reply A (logged.Seen last commit head positions)) ≡ false
+  seen-good last commit head positions is =
+      let reply = logged.Seen last commit head positions in
+      let low = positions-low K keeps r e g legal_here reply is in
+      let grows : length (accepted (e ∷ g)) ≤ length A = accepted-grows (e ∷ g) H b in
+      or_from (is_bad_head who.shape head) (list_any (λ (i : Item). not (is_none (first_fault_of_action who.shape i.action))) (map (item_at A) positions))
+      (seen-head last commit head positions (legal-seen K keeps r e g last commit head positions legal_here is))
+      (good-items K keeps r H legal positions (λ j m. (low.1 j m, (let within : j ≤ length (accepted (e ∷ g)) = positions-within K keeps r e g legal_here reply is j m in omega arith))))
+
   relay-fits : (seq commit : ℕ) (head : List Sent) (positions : List ℕ) → e.reply ≡ logged.Relay seq commit head positions →
       is_good_relay who (pending_of whole) e.request seq (map (item_at A) positions) ≡ true
   relay-fits seq commit head positions is =
@@ -192,6 +212,7 @@ module _ (truthful : Truthful) where
   no-bad_item (logged.Welcome commit head) is = welcome-head commit head (tells (logged.Welcome commit head) is) is
   no-bad_item (logged.Dropped seq chain far) is =
       let t : AnswersSubmit g e.session e.request seq = tells (logged.Dropped seq chain far) is in settled-good seq t.1.1.0 t.1.1.1.0
+  no-bad_item (logged.Seen last commit head positions) is = seen-good last commit head positions is
   no-bad_item (logged.Settled seq pos) is =
       let t : AnswersKept g e.session e.request seq = tells (logged.Settled seq pos) is in settled-good seq t.1.1.0 t.1.1.1.0
   no-bad_item (logged.Noted commit) is = refl

@@ -100,6 +100,7 @@ new-counts (Some j) next k (requests.Submit seq action) c s =
 new-counts (Some j) next k (requests.Join client life interest) c s = absurd (true≢false (sym s))
 new-counts (Some j) next k (requests.Done results) c s = absurd (true≢false (sym s))
 new-counts (Some j) next k requests.Poll c s = absurd (true≢false (sym s))
+new-counts (Some j) next k (requests.Observe objects wait) c s = absurd (true≢false (sym s))
 new-counts (Some j) next k requests.Leave c s = absurd (true≢false (sym s))
 new-counts (Some j) next k requests.Bad c s = absurd (true≢false (sym s))
 new-counts (Some j) next k requests.End c s = absurd (true≢false (sym s))
@@ -116,6 +117,7 @@ outcome-within h e k (logged.Relay seq commit head positions) c s =
     let all : length (accepted h ++ new) ≡ length (accepted h) + length new = length-append (accepted h) new in
     ((omega arith, omega arith), tt)
 outcome-within h e k (logged.Dropped seq chain far) c s = (tt, tt)
+outcome-within h e k (logged.Seen last commit head positions) c s = tt
 outcome-within h e k (logged.Welcome commit head) c s = tt
 outcome-within h e k (logged.Settled seq pos) c s = tt
 outcome-within h e k (logged.Noted commit) c s = tt

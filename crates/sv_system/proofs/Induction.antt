@@ -16,7 +16,6 @@ use Rattle.sv_eval.specs.Serial.{serial_world}
 use Rattle.sv_wire.specs.declared.message.Done1.{Done1}
 use Rattle.sv_wire.specs.declared.message.Request.TheVariants as requests
 use Rattle.sv_wire.specs.declared.message.Reply.{Reply}
-use Rattle.sv_wire.specs.declared.message.Reply.TheVariants as replies
 use Rattle.sv_journal.specs.declared.entry.Entry.{Entry}
 use Rattle.sv_journal.specs.declared.entry.Logged.{Logged}
 use Rattle.sv_journal.specs.declared.entry.Logged.TheVariants as logged
@@ -27,7 +26,7 @@ use Rattle.sv_journal.specs.Serving.{Keeping, LegalFor, IsKeeping}
 use Rattle.sv_client.specs.declared.trace.Event.{Event}
 use Rattle.sv_client.specs.declared.trace.Event.TheVariants as events
 use Rattle.sv_client.specs.declared.trace.Trace.{Trace}
-use Rattle.sv_client.specs.Traces.{asked, got}
+use Rattle.sv_client.specs.Traces.{held_of, asked, got}
 use Rattle.sv_client.specs.Proper.{identity_of, AreProper}
 use Rattle.sv_system.specs.Fronts.{IsFront}
 use Rattle.sv_system.specs.Fits.{requests_in, replies_in, has_session, FitsOne}
@@ -38,7 +37,7 @@ use Rattle.sv_system.specs.Journals.{delivery_by, deliveries_of, IsSerialResult,
 use Rattle.sv_system.proofs.Fronts.{front-then}
 use Rattle.sv_system.proofs.Every.{each-append}
 use Rattle.sv_system.proofs.Items.{IsPlain}
-use Rattle.sv_system.proofs.Taken.{plain-at, IsWell, all-well}
+use Rattle.sv_system.proofs.Taken.{plain-at, reported-done, IsWell, all-well}
 use Rattle.sv_system.proofs.Histories.{IsEarlier, same, after, earlier-rest, earlier-served}
 use Rattle.sv_system.proofs.Replies.{TellsFor, served-tells}
 use Rattle.sv_system.proofs.Replied.{front-flat, front-shorter, tellings-got, tellings-replied}
@@ -65,6 +64,7 @@ one-good K keeps r e h (logged.Relay seq commit head positions) t =
     each-good r.world.shape new (each-unmap (λ a. first_fault_of_action r.world.shape a ≡ None) (λ (a : Authored). a.action) new t.checked)
 one-good K keeps r e h (logged.Welcome commit head) t = tt
 one-good K keeps r e h (logged.Dropped seq chain far) t = tt
+one-good K keeps r e h (logged.Seen last commit head positions) t = tt
 one-good K keeps r e h (logged.Settled seq pos) t = tt
 one-good K keeps r e h (logged.Noted commit) t = tt
 one-good K keeps r e h logged.Idle t = tt
@@ -116,7 +116,7 @@ module _ (K : Keeping) (keeps : IsKeeping K) (r : Rules) (H : List Entry) (count
       let mine : is_of e s ≡ true = of-from e s refl (ap is_end is) in
       let there : slice_get (asked L.client L.interest whole s) n ≡ Some (requests.Done results) = (one.sessions s has).asked n (requests.Done results) (request-there e h H s b mine ∙ ap Some is) in
       let d = done-when who L.first whole s n results there in
-      let reply : Reply = replies.Relay d.seq d.commit d.head d.items in
+      let reply : Reply = d.reply in
       let v : List Event = events.Got s reply ∷ d.before in
       let proper : AreProper who L.first v = proper-part who L.first v whole d.part one.proper.events in
       let answers = may-answer who L.first d.before s reply proper.0 in
@@ -129,7 +129,7 @@ module _ (K : Keeping) (keeps : IsKeeping K) (r : Rules) (H : List Entry) (count
       (front-then (got v s) (got whole s) (replies_in A H s) (got-part who L.first v whole d.part s) (got-replied K r H L served s))
       (replies-earlier A h H earlier s) (omega arith) in
       let well = well-after h earlier before v (all-before K r H L served h earlier s reply d.before d.part front) in
-      subst (AllByRecursion (IsSerialResult r.world.values acts)) (sym d.results_are) well.reported.0
+      reported-done r.world.values acts (held_of d.before) reply results d.asks well.reported.0
 
   -- All that an honest client's trace holds is serial, and so for one whose reported values alone are not its own.
   pub whole-well : (serial : ResultsAreSerial r.world.values acts (K.kept H)) → (L : Trace) → FitsButValues r.world.shape H L →
@@ -143,6 +143,7 @@ module _ (K : Keeping) (keeps : IsKeeping K) (r : Rules) (H : List Entry) (count
   reply-all-held s n (logged.Welcome commit head) ds l = (l.0.serial, l.1)
   reply-all-held s n (logged.Relay seq commit head positions) ds l = (l.0.serial, l.1)
   reply-all-held s n (logged.Dropped seq chain far) ds l = (tt, l)
+  reply-all-held s n (logged.Seen last commit head positions) ds l = (l.0.serial, l.1)
   reply-all-held s n (logged.Settled seq pos) ds l = (tt, l)
   reply-all-held s n (logged.Noted commit) ds l = (tt, l)
   reply-all-held s n logged.Idle ds l = (tt, l)
@@ -159,11 +160,12 @@ module _ (K : Keeping) (keeps : IsKeeping K) (r : Rules) (H : List Entry) (count
   pub heads-serial : ResultsAreSerial r.world.values acts (K.kept H) → All (λ (e : Entry). AreSerial r.world.values acts (reply_held e.reply)) H
   heads-serial serial = All-from_recursion (λ (e : Entry). AreSerial r.world.values acts (reply_held e.reply)) H (heads-held H (lawful_at H same serial))
 
+  -- What an earlier history has of the results is serial, too.
+  pub results-part : (h g : List Entry) → IsEarlier h g → ResultsAreSerial r.world.values acts (K.kept g) → ResultsAreSerial r.world.values acts (K.kept h)
+  results-part h whole same serial = serial
+  results-part h whole (after {g} e b) serial = results-part h g b (results-earlier K keeps r.world.values acts e g serial)
+
   -- The committed world of an earlier history is the serial one, among the actions that were accepted at last.
   pub committed-serial : ResultsAreSerial r.world.values acts (K.kept H) → (h : List Entry) → IsEarlier h H →
       committed_of r.world.values (K.kept h) ≡ serial_world r.world.values acts (commit_of (K.kept h))
   committed-serial serial h b = installed-serial K keeps r H h b (results-part h H b serial) (commit_of (K.kept h)) (omega arith)
-    where
-      results-part : (h g : List Entry) → IsEarlier h g → ResultsAreSerial r.world.values acts (K.kept g) → ResultsAreSerial r.world.values acts (K.kept h)
-      results-part h whole same serial = serial
-      results-part h whole (after {g} e b) serial = results-part h g b (results-earlier K keeps r.world.values acts e g serial)

@@ -5,15 +5,19 @@ use Rattle.std.specs.List.{list_any}
 use Rattle.std.proofs.lemmas.Bool.{cond_both, cases_Bool}
 use Rattle.std.proofs.lemmas.List.{take_at, map-append}
 use Rattle.std.proofs.lemmas.List.Elements.{filter_agree}
-use Rattle.sv_world.specs.Control.{is_in, below, action_at, last_writer, needed_for, head_for}
-use Rattle.sv_world.specs.Sets.{write_set}
+use Rattle.sv_world.specs.Control.{is_in, below, action_at, last_writer, needed_for, head_for, needed_to_see, head_to_see}
+use Rattle.sv_world.specs.Faults.{may_be_observed}
+use Rattle.sv_world.specs.Limits.{most_items}
+use Rattle.sv_world.specs.Sets.{numbers_of, write_set}
 use Rattle.sv_world.specs.declared.action.Action.{Action}
 use Rattle.sv_world.specs.declared.world.ObjectId.{ObjectId}
 use Rattle.sv_world.proofs.Members.{is_in-append_cases, filter-ext}
 use Rattle.sv_world.proofs.Writers.{last_writer-same}
 use Rattle.sv_world.proofs.Needs.{needed-sent, needed-bounds}
+use Rattle.sv_world.proofs.Seeing.{see-bounds}
 use Rattle.sv_eval.specs.Serial.{put_all, serial_world}
 use Rattle.sv_wire.specs.declared.message.ObjectValue.{ObjectValue as Sent}
+use Rattle.sv_wire.specs.declared.message.Request.TheVariants as requests
 use Rattle.sv_journal.specs.declared.entry.Entry.{Entry}
 use Rattle.sv_journal.specs.declared.entry.Logged.{Logged}
 use Rattle.sv_journal.specs.declared.entry.Logged.TheVariants as logged
@@ -25,11 +29,11 @@ use Rattle.sv_journal.proofs.Kept.{actions-kept, given-kept, commit_within-kept}
 use Rattle.sv_journal.proofs.Commits.{committed_has}
 use Rattle.sv_client.specs.Traces.{head_held}
 use Rattle.sv_system.specs.Serial.{AreSerial}
-use Rattle.sv_system.specs.Delivery.{Delivery, told_positions, head_objects, told_commits, known_at, known_values, IsLawful, AreLawful}
+use Rattle.sv_system.specs.Delivery.{Delivery, told_positions, head_objects, told_commits, known_at, known_values, IsShown, IsLawful, AreLawful}
 use Rattle.sv_system.specs.Journals.{delivery_by, deliveries_of, serial_result, ResultsAreSerial}
 use Rattle.sv_system.proofs.Serials.{serial-step}
 use Rattle.sv_system.proofs.Histories.{IsEarlier, same, after, earlier-rest, actions-earlier, actions-count, accepted-grows, action_at-earlier}
-use Rattle.sv_system.proofs.Replies.{new_of, TellsFor, IsRelayReply, IsWelcomeReply, served-tells}
+use Rattle.sv_system.proofs.Replies.{new_of, TellsFor, IsRelayReply, IsWelcomeReply, IsSeenReply, served-tells}
 use Rattle.sv_system.proofs.Replied.{no_more}
 
 -- ---- What the deliveries told
@@ -39,6 +43,7 @@ told-by : (reply : Logged) (t count s : ℕ) (ds : List Delivery) (sent : List �
 told-by (logged.Welcome commit head) t count s ds sent e = ap (λ (l : List ℕ). if t == s then l ++ [] else l) e
 told-by (logged.Relay seq commit head positions) t count s ds sent e = ap (λ (l : List ℕ). if t == s then l ++ positions else l) e
 told-by (logged.Dropped seq chain far) t count s ds sent e = e ∙ sym (no_more (t == s) sent)
+told-by (logged.Seen last commit head positions) t count s ds sent e = ap (λ (l : List ℕ). if t == s then l ++ positions else l) e
 told-by (logged.Settled seq pos) t count s ds sent e = e ∙ sym (no_more (t == s) sent)
 told-by (logged.Noted commit) t count s ds sent e = e ∙ sym (no_more (t == s) sent)
 told-by logged.Idle t count s ds sent e = e ∙ sym (no_more (t == s) sent)
@@ -62,6 +67,8 @@ named-by (logged.Welcome commit head) t count s x ds named e =
 named-by (logged.Relay seq commit head positions) t count s x ds named e =
     ap (λ (l : List ℕ). if (t == s) && is_in x (head_objects head) then l ++ commit ∷ [] else l) e ∙ two_tests (t == s) (is_in x (head_objects head)) named (commit ∷ [])
 named-by (logged.Dropped seq chain far) t count s x ds named e = e ∙ sym (no_more (t == s) named)
+named-by (logged.Seen last commit head positions) t count s x ds named e =
+    ap (λ (l : List ℕ). if (t == s) && is_in x (head_objects head) then l ++ commit ∷ [] else l) e ∙ two_tests (t == s) (is_in x (head_objects head)) named (commit ∷ [])
 named-by (logged.Settled seq pos) t count s x ds named e = e ∙ sym (no_more (t == s) named)
 named-by (logged.Noted commit) t count s x ds named e = e ∙ sym (no_more (t == s) named)
 named-by logged.Idle t count s x ds named e = e ∙ sym (no_more (t == s) named)
@@ -105,6 +112,43 @@ legal-relay K keeps r e h seq commit head positions l is =
       head_is = t.head_is ∙ ap (λ (A : List Action). committed_held r (K.kept h) (head_for r.world.shape.objects A (commit_of (K.kept h)) (sent_to h e.session) (already_given r.world.shape.objects (K.kept h) e.session) t.target)) acts;
     }
 
+-- What is seen changes no actions.
+seen-actions : (e : Entry) (h : List Entry) (last commit : ℕ) (head : List Sent) (positions : List ℕ) → e.reply ≡ logged.Seen last commit head positions → actions_of (e ∷ h) ≡ actions_of h
+seen-actions e h last commit head positions is =
+    ap (λ (reply : Logged). actions_of (record { session = e.session; request = e.request; reply = reply } ∷ h)) is
+    ∙ ap (map (λ (a : Authored). a.action)) (append-nil (accepted h))
+
+-- What is seen in a legal history, among the actions after it.
+pub record IsLegalSeen (K : Keeping) (r : Rules) (e : Entry) (h : List Entry) (last commit : ℕ) (head : List Sent) (positions : List ℕ) : Type 0 where
+  pub objects : List ObjectId
+  pub wait : ℕ
+  pub request : e.request ≡ requests.Observe objects wait
+  pub good : may_be_observed r.world.shape.objects (numbers_of objects) ≡ true
+  pub low : commit_of (K.kept h) ≤ last
+  pub accepted_to : last ≤ length (accepted (e ∷ h))
+  pub few : length positions ≤ most_items
+  pub commit_is : commit ≡ commit_of (K.kept h)
+  pub positions_are : positions ≡ needed_to_see (actions_of (e ∷ h)) (commit_of (K.kept h)) (sent_to h e.session) (numbers_of objects) last
+  pub head_is : head ≡ committed_held r (K.kept h) (head_to_see r.world.shape.objects (actions_of (e ∷ h)) (commit_of (K.kept h)) (sent_to h e.session) (already_given r.world.shape.objects (K.kept h) e.session) (numbers_of objects) last)
+
+pub legal-seen : (K : Keeping) (keeps : IsKeeping K) (r : Rules) (e : Entry) (h : List Entry) (last commit : ℕ) (head : List Sent) (positions : List ℕ) → LegalFor K r (e ∷ h) →
+    e.reply ≡ logged.Seen last commit head positions → IsLegalSeen K r e h last commit head positions
+legal-seen K keeps r e h last commit head positions l is =
+    let t : IsSeenReply K r h e.session e.request last commit head positions = subst (λ (reply : Logged). TellsFor K r h e.session e.request reply) is (served-tells K keeps r e h l) in
+    let acts : actions_of h ≡ actions_of (e ∷ h) = sym (seen-actions e h last commit head positions is) in
+    record {
+      objects = t.objects;
+      wait = t.wait;
+      request = t.request;
+      good = t.good;
+      low = t.low;
+      accepted_to = subst (λ (n : ℕ). last ≤ n) (actions-count (e ∷ h)) (subst (λ (A : List Action). last ≤ length A) acts t.within);
+      few = t.few;
+      commit_is = t.commit_is;
+      positions_are = t.positions_are ∙ ap (λ (A : List Action). needed_to_see A (commit_of (K.kept h)) (sent_to h e.session) (numbers_of t.objects) last) acts;
+      head_is = t.head_is ∙ ap (λ (A : List Action). committed_held r (K.kept h) (head_to_see r.world.shape.objects A (commit_of (K.kept h)) (sent_to h e.session) (already_given r.world.shape.objects (K.kept h) e.session) (numbers_of t.objects) last)) acts;
+    }
+
 pub positions-within : (K : Keeping) (keeps : IsKeeping K) (r : Rules) (e : Entry) (h : List Entry) → LegalFor K r (e ∷ h) → (reply : Logged) → e.reply ≡ reply → (p : ℕ) → is_in p (positions_in reply) ≡ true → p ≤ length (accepted (e ∷ h))
 positions-within K keeps r e h l (logged.Relay seq commit head positions) is p m =
     let t = legal-relay K keeps r e h seq commit head positions l is in
@@ -114,6 +158,12 @@ positions-within K keeps r e h l (logged.Relay seq commit head positions) is p m
     omega arith
 positions-within K keeps r e h l (logged.Welcome commit head) is p m = absurd (true≢false (sym m))
 positions-within K keeps r e h l (logged.Dropped seq chain far) is p m = absurd (true≢false (sym m))
+positions-within K keeps r e h l (logged.Seen last commit head positions) is p m =
+    let t = legal-seen K keeps r e h last commit head positions l is in
+    let within : last ≤ length (accepted (e ∷ h)) = t.accepted_to in
+    let b = see-bounds (actions_of (e ∷ h)) (commit_of (K.kept h)) (sent_to h e.session) (numbers_of t.objects) last p (subst (λ (ks : List ℕ). is_in p ks ≡ true) t.positions_are m) in
+    let most : p ≤ last = b.1 in
+    omega arith
 positions-within K keeps r e h l (logged.Settled seq pos) is p m = absurd (true≢false (sym m))
 positions-within K keeps r e h l (logged.Noted commit) is p m = absurd (true≢false (sym m))
 positions-within K keeps r e h l logged.Idle is p m = absurd (true≢false (sym m))
@@ -220,7 +270,7 @@ module _ (K : Keeping) (keeps : IsKeeping K) (r : Rules) (H : List Entry) where
       let p = actions-earlier h H b in
       ap (take (length (accepted h))) p.1 ∙ take_at (actions_of h) p.0 (length (accepted h)) (actions-count h)
 
-  abbrev delivery_at : Entry → List Entry → ℕ → List Sent → List ℕ → Delivery
+  abbrev pub delivery_at : Entry → List Entry → ℕ → List Sent → List ℕ → Delivery
   delivery_at e h commit head positions = record { session = e.session; count = length (accepted (e ∷ h)); commit = commit; head = head; positions = positions }
 
   relay-lawful : (e : Entry) (h : List Entry) (commit : ℕ) (head : List Sent) (positions : List ℕ) → IsEarlier (e ∷ h) H → LegalFor K r h → ResultsAreSerial opening acts (K.kept h) →
@@ -244,7 +294,7 @@ module _ (K : Keeping) (keeps : IsKeeping K) (r : Rules) (H : List Entry) where
         count = omega arith;
         relayed = elim (cases_Bool (is_in t.target (sent_to h e.session))) [
           | inl y ↦ inl (t.positions_are ∙ needed-sent (actions_of (e ∷ h)) (commit_of (K.kept h)) (sent_to h e.session) t.target y)
-          | inr no' ↦ inr (record {
+          | inr no' ↦ inr (inl (record {
             target = t.target;
             above = subst (λ (m : ℕ). m < t.target) (sym c) t.above;
             accepted = t.accepted_to;
@@ -255,9 +305,64 @@ module _ (K : Keeping) (keeps : IsKeeping K) (r : Rules) (H : List Entry) where
             head = ap head_objects t.head_is ∙ objects-named r (K.kept h) xs
                 ∙ ap₂ (λ (A : List Action) (ps : List ℕ). head_for r.world.shape.objects A (commit_of (K.kept h)) ps (already_given r.world.shape.objects (K.kept h) e.session) t.target) (sym first) (sym sent)
                 ∙ ap₂ (λ (m : ℕ) (gs : List ℕ). head_for r.world.shape.objects (take n acts) m (told_positions (deliveries_of h) e.session) gs t.target) (sym c) (sym given);
-          })
+          }))
         ];
         serial = head-serial h earlier serial commit head xs c t.head_is;
+      }
+
+  -- What is seen in a legal history shows its objects.
+  pub record IsShownAt (e : Entry) (h : List Entry) (last commit : ℕ) (head : List Sent) (positions : List ℕ) (xs : List ℕ) : Type 0 where
+    pub shown : IsShown r.world.shape.objects acts (deliveries_of h) (delivery_at e h commit head positions)
+    pub objects : shown.seen ≡ xs
+    pub position : shown.last ≡ last
+
+  pub seen-shown : (e : Entry) (h : List Entry) (last commit : ℕ) (head : List Sent) (positions : List ℕ) → IsEarlier (e ∷ h) H → LegalFor K r h →
+      (t : IsLegalSeen K r e h last commit head positions) → IsShownAt e h last commit head positions (numbers_of t.objects)
+  seen-shown e h last commit head positions b l t =
+      let earlier : IsEarlier h H = earlier-rest h e H b in
+      let n = length (accepted (e ∷ h)) in
+      let c : commit ≡ commit_of (K.kept h) = t.commit_is in
+      let xs = numbers_of t.objects in
+      let objects = r.world.shape.objects in
+      let sent : told_positions (deliveries_of h) e.session ≡ sent_to h e.session = told-sent h e.session in
+      let first : take n acts ≡ actions_of (e ∷ h) = first-actions (e ∷ h) b in
+      let given : known_values objects acts commit (deliveries_of h) e.session ≡ already_given objects (K.kept h) e.session =
+      ap (λ (m : ℕ). known_values objects acts m (deliveries_of h) e.session) c ∙ values-given h earlier l e.session in
+      let bases = head_to_see objects (actions_of (e ∷ h)) (commit_of (K.kept h)) (sent_to h e.session) (already_given objects (K.kept h) e.session) xs last in
+      record {
+        shown = record {
+          seen = xs;
+          last = last;
+          good = t.good;
+          low = subst (λ (m : ℕ). m ≤ last) (sym c) t.low;
+          accepted = t.accepted_to;
+          positions = t.positions_are
+              ∙ ap₂ (λ (A : List Action) (ps : List ℕ). needed_to_see A (commit_of (K.kept h)) ps xs last) (sym first) (sym sent)
+              ∙ ap (λ (m : ℕ). needed_to_see (take n acts) m (told_positions (deliveries_of h) e.session) xs last) (sym c);
+          head = ap head_objects t.head_is ∙ objects-named r (K.kept h) bases
+              ∙ ap₂ (λ (A : List Action) (ps : List ℕ). head_to_see objects A (commit_of (K.kept h)) ps (already_given objects (K.kept h) e.session) xs last) (sym first) (sym sent)
+              ∙ ap₂ (λ (m : ℕ) (gs : List ℕ). head_to_see objects (take n acts) m (told_positions (deliveries_of h) e.session) gs xs last) (sym c) (sym given);
+        };
+        objects = refl;
+        position = refl;
+      }
+
+  pub seen-lawful : (e : Entry) (h : List Entry) (last commit : ℕ) (head : List Sent) (positions : List ℕ) → IsEarlier (e ∷ h) H → LegalFor K r h → ResultsAreSerial opening acts (K.kept h) →
+      IsLegalSeen K r e h last commit head positions → IsLawful r.world.shape.objects opening acts (deliveries_of h) (delivery_at e h commit head positions)
+  seen-lawful e h last commit head positions b l serial t =
+      let earlier : IsEarlier h H = earlier-rest h e H b in
+      let within : length (accepted (e ∷ h)) ≤ length (accepted H) = accepted-grows (e ∷ h) H b in
+      let count : length acts ≡ length (accepted H) = actions-count H in
+      let most : commit_of (K.kept h) ≤ length (accepted h) = commit_within-kept K keeps h in
+      let grows : length (accepted h) ≤ length (accepted (e ∷ h)) = accepted-grows h (e ∷ h) (after e same) in
+      let c : commit ≡ commit_of (K.kept h) = t.commit_is in
+      let objects = r.world.shape.objects in
+      let bases = head_to_see objects (actions_of (e ∷ h)) (commit_of (K.kept h)) (sent_to h e.session) (already_given objects (K.kept h) e.session) (numbers_of t.objects) last in
+      record {
+        commit = omega arith;
+        count = omega arith;
+        relayed = inr (inr (seen-shown e h last commit head positions b l t).shown);
+        serial = head-serial h earlier serial commit head bases c t.head_is;
       }
 
   welcome-lawful : (e : Entry) (h : List Entry) (commit : ℕ) (head : List Sent) → IsEarlier (e ∷ h) H → ResultsAreSerial opening acts (K.kept h) →
@@ -284,6 +389,8 @@ module _ (K : Keeping) (keeps : IsKeeping K) (r : Rules) (H : List Entry) where
   one-lawful e h b l serial rest (logged.Relay seq commit head positions) is =
       (relay-lawful e h commit head positions b l.1 serial (legal-relay K keeps r e h seq commit head positions l is), rest)
   one-lawful e h b l serial rest (logged.Dropped seq chain far) is = rest
+  one-lawful e h b l serial rest (logged.Seen last commit head positions) is =
+      (seen-lawful e h last commit head positions b l.1 serial (legal-seen K keeps r e h last commit head positions l is), rest)
   one-lawful e h b l serial rest (logged.Settled seq pos) is = rest
   one-lawful e h b l serial rest (logged.Noted commit) is = rest
   one-lawful e h b l serial rest logged.Idle is = rest

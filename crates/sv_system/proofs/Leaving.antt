@@ -65,6 +65,10 @@ no-join_done true held (replies.Relay seq commit head items) zero q e = (let f =
 no-join_done true held (replies.Relay seq commit head items) (suc j) q e = absurd (none-some q e)
 no-join_done true held (replies.Welcome commit head) j q e = absurd (none-some q e)
 no-join_done true held (replies.Dropped seq chain far) j q e = absurd (none-some q e)
+no-join_done true held (replies.Denied seq object) j q e = absurd (none-some q e)
+no-join_done true held (replies.Seen last commit head []) j q e = absurd (none-some q e)
+no-join_done true held (replies.Seen last commit head (item ∷ items)) zero q e = (let f = same_Some _ q e in (ap is_join_request (sym f), ap is_leave (sym f)))
+no-join_done true held (replies.Seen last commit head (item ∷ items)) (suc j) q e = absurd (none-some q e)
 no-join_done true held (replies.Settled seq pos) j q e = absurd (none-some q e)
 no-join_done true held (replies.Noted commit) j q e = absurd (none-some q e)
 no-join_done true held replies.Idle j q e = absurd (none-some q e)
@@ -137,6 +141,7 @@ module _ (who : Identity) (first : ℕ) where
       grows (events.Got m r) = omega arith
       grows (events.Make action) = omega arith
       grows events.Poll = omega arith
+      grows (events.Observe objects wait) = omega arith
       grows events.Leave = omega arith
       grows events.Cut = omega arith
       grows events.Quit = omega arith
@@ -148,6 +153,7 @@ module _ (who : Identity) (first : ℕ) where
       now (events.Got m r) may j g = absurd (true≢false (no-join_done (m == s) (held_of t) r j (requests.Join client life interest) g).0)
       now (events.Make action) may j g = absurd (no-join_if (is_session (current_session t) s) (requests.Submit (suc (makes t)) action) j client life interest refl g)
       now events.Poll may j g = absurd (no-join_if (is_session (current_session t) s) requests.Poll j client life interest refl g)
+      now (events.Observe objects wait) may j g = absurd (no-join_if (is_session (current_session t) s) (requests.Observe objects wait) j client life interest refl g)
       now events.Leave may j g = absurd (no-join_if (is_session (current_session t) s) requests.Leave j client life interest refl g)
       now events.Cut may j g = absurd (none-some (requests.Join client life interest) g)
       now events.Quit may j g = absurd (none-some (requests.Join client life interest) g)
@@ -196,6 +202,8 @@ module _ (who : Identity) (first : ℕ) where
   bye-only (replies.Relay seq commit head items) k held = absurd (true≢false (sym k))
   bye-only (replies.Welcome commit head) k held = refl
   bye-only (replies.Dropped seq chain far) k held = refl
+  bye-only (replies.Denied seq object) k held = refl
+  bye-only (replies.Seen last commit head items) k held = absurd (true≢false (sym k))
   bye-only (replies.Settled seq pos) k held = refl
   bye-only (replies.Noted commit) k held = refl
   bye-only replies.Idle k held = refl
@@ -238,6 +246,7 @@ module _ (who : Identity) (first : ℕ) where
   leave-later t (events.Got m r) s i p there now b = leave-still t (events.Got m r) s i p (got-asks_none t m r s i p there b) (got-longer t m r s) b.out now b
   leave-later t (events.Make action) s i p there now b = leave-still t (events.Make action) s i p (out-asks_none t s _ p.0.joined b.out) (omega arith) b.out now b
   leave-later t events.Poll s i p there now b = leave-still t events.Poll s i p (out-asks_none t s _ p.0.joined b.out) (omega arith) b.out now b
+  leave-later t (events.Observe objects wait) s i p there now b = leave-still t (events.Observe objects wait) s i p (out-asks_none t s _ p.0.joined b.out) (omega arith) b.out now b
   leave-later t events.Leave s i p there now b = leave-still t events.Leave s i p (out-asks_none t s _ p.0.joined b.out) (omega arith) (λ x. refl) now b
   leave-later t events.Cut s i p there now b = leave-still t events.Cut s i p refl (omega arith) b.out now b
   leave-later t events.Quit s i p there now b = leave-still t events.Quit s i p refl (omega arith) b.out now b
@@ -281,6 +290,7 @@ module _ (who : Identity) (first : ℕ) where
       now (events.Got m r) q j g there = absurd (true≢false (no-join_done (m == s) (held_of t) r j requests.Leave g).1)
       now (events.Make action) q j g there = absurd (no-leave_if (is_session (current_session t) s) _ j refl g)
       now events.Poll q j g there = absurd (no-leave_if (is_session (current_session t) s) _ j refl g)
+      now (events.Observe objects wait) q j g there = absurd (no-leave_if (is_session (current_session t) s) _ j refl g)
       now events.Cut q j g there = absurd (none-some requests.Leave g)
       now events.Quit q j g there = absurd (none-some requests.Leave g)
       now (events.Show objects) q j g there = absurd (none-some requests.Leave g)

@@ -10,6 +10,7 @@ pub mod Begun
 pub mod BoundedRelays
 pub mod Commits
 pub mod Covers
+pub mod Cuts
 pub mod Dones
 pub mod Entered
 pub mod Every
@@ -29,6 +30,7 @@ pub mod NeverSent
 pub mod NextReply
 pub mod NonEmpty
 pub mod Numbering
+pub mod Observed
 pub mod Opened
 pub mod Order
 pub mod Ordered

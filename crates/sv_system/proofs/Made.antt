@@ -45,6 +45,7 @@ made-count (events.Make action ∷ t) = length-append (made t) (action ∷ []) �
 made-count (events.Got s r ∷ t) = made-count t
 made-count (events.Join s ∷ t) = made-count t
 made-count (events.Poll ∷ t) = made-count t
+made-count (events.Observe objects wait ∷ t) = made-count t
 made-count (events.Leave ∷ t) = made-count t
 made-count (events.Cut ∷ t) = made-count t
 made-count (events.Quit ∷ t) = made-count t
@@ -55,6 +56,7 @@ made-later (events.Make action) t k m = (m.0, (m.1.0, front-append (made t) (act
 made-later (events.Got s r) t k m = m
 made-later (events.Join s) t k m = m
 made-later events.Poll t k m = m
+made-later (events.Observe objects wait) t k m = m
 made-later events.Leave t k m = m
 made-later events.Cut t k m = m
 made-later events.Quit t k m = m
@@ -98,6 +100,7 @@ module _ (who : Identity) (first : ℕ) where
       (cond_both (settles r) (without_first ks) ks (AllByRecursion (IsMade t)) (λ e. each-rest (IsMade t) ks before) (λ e. before))
   pending-made (events.Join s ∷ t) = pending-made t
   pending-made (events.Poll ∷ t) = pending-made t
+  pending-made (events.Observe objects wait ∷ t) = pending-made t
   pending-made (events.Leave ∷ t) = pending-made t
   pending-made (events.Cut ∷ t) = pending-made t
   pending-made (events.Quit ∷ t) = pending-made t
@@ -114,6 +117,7 @@ module _ (who : Identity) (first : ℕ) where
   event-made (events.Make action) t s j n a e = submit-if (IsMade (events.Make action ∷ t)) (is_session (current_session t) s) (suc (makes t)) action (made-now action t) j n a e
   event-made (events.Got m r) t s j n a e = absurd (no-submit_done who first (m == s) (held_of t) r j n a e)
   event-made events.Poll t s j n a e = absurd (no-submit (is_session (current_session t) s) requests.Poll j n a refl e)
+  event-made (events.Observe objects wait) t s j n a e = absurd (no-submit (is_session (current_session t) s) (requests.Observe objects wait) j n a refl e)
   event-made events.Leave t s j n a e = absurd (no-submit (is_session (current_session t) s) requests.Leave j n a refl e)
   event-made events.Cut t s j n a e = absurd (none-some (requests.Submit n a) e)
   event-made events.Quit t s j n a e = absurd (none-some (requests.Submit n a) e)

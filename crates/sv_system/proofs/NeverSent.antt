@@ -1,5 +1,5 @@
 -- The position of a client's pending action, once it was accepted, was not sent to the client's current session.
-use Rattle.std.proofs.Common.{◌≡◌, ℕ, suc, ◌+◌, ◌<◌, ◌≤◌, Bool, true, false, ◌==◌, inl, inr, List, [], ◌∷◌, ◌++◌, reverse, length, Option, Some, slice_get, refl, sym, ap, ◌∙◌, subst, arith, eqb-true, eq-eqb, true≢false}
+use Rattle.std.proofs.Common.{◌≡◌, ℕ, suc, ◌+◌, ◌<◌, ◌≤◌, Bool, true, false, ◌==◌, ◌⊎◌, inl, inr, List, [], ◌∷◌, ◌++◌, reverse, length, Option, Some, slice_get, refl, sym, ap, ◌∙◌, subst, arith, eqb-true, eq-eqb, true≢false}
 use Rattle.std.proofs.lemmas.Bool.{cond-true, cond-false, cases_Bool, cases_eq}
 use Rattle.std.proofs.lemmas.List.{length-append}
 use Rattle.std.proofs.lemmas.Option.{slice_get_within}
@@ -15,7 +15,6 @@ use Rattle.sv_journal.specs.declared.entry.Logged.{Logged}
 use Rattle.sv_journal.specs.declared.entry.Logged.TheVariants as logged
 use Rattle.sv_journal.specs.History.{Authored, Outcome, Accepted, accepted, actions_of, client_of, is_client, is_relay, is_submit_of, outcome_in, new_action, outcomes_of, next_seq, full_reply, commit_of}
 use Rattle.sv_journal.specs.Sessions.{is_end, kept_outcome, outcome_at, positions_in, sent_to}
-use Rattle.sv_journal.specs.Serving.{LegalFor}
 use Rattle.sv_journal.proofs.Named.{client_is, submit_is}
 use Rattle.sv_client.specs.declared.trace.Event.{Event}
 use Rattle.sv_client.specs.Traces.{asked, got}
@@ -24,17 +23,17 @@ use Rattle.sv_client.specs.Proper.{identity_of}
 use Rattle.sv_system.specs.Fits.{requests_in, replies_in, has_session}
 use Rattle.sv_system.proofs.Awaited.{Awaited}
 use Rattle.sv_system.proofs.Histories.{IsEarlier, same, after, earlier-then, earlier-rest, earlier-served, accepted-grows, actions-count, new-counts, kept-is}
-use Rattle.sv_system.proofs.Replies.{TellsFor, IsRelayReply, new_of, served-tells}
+use Rattle.sv_system.proofs.Replies.{TellsFor, IsRelayReply, IsSeenReply, new_of, served-tells}
 use Rattle.sv_system.proofs.Asking.{is_done, asked-there}
 use Rattle.sv_system.proofs.Commits.{next-grows, outcome-at}
 use Rattle.sv_system.proofs.Order.{earlier-strict}
 use Rattle.sv_system.proofs.Opened.{has, asks-other, was-got, own-session, session-client}
 use Rattle.sv_system.proofs.Pendings.{settled}
 use Rattle.sv_system.proofs.Window.{next-front}
-use Rattle.sv_system.proofs.Resent.{answered-settled, older-made, after-poll, joined_makes}
+use Rattle.sv_system.proofs.Resent.{answered-settled, older-made, is_look, after-look, joined_makes}
 use Rattle.sv_system.proofs.Entered.{earlier-cases, is_of, of-from, as-many, request-there}
 
--- A position that was sent to a session stands in a relay to it.
+-- A position that was sent to a session stands in a reply to it.
 pub record IsSentBy (g : List Entry) (s p : ℕ) : Type 0 where
   pub entry : Entry
   pub before : List Entry
@@ -77,6 +76,7 @@ accepted-one d h k n p c q e (logged.Dropped seq chain far) is told = absurd (tr
     is_accepted (Accepted m ∷ os) = true
     is_accepted _ = false
 accepted-one d h k n p c q e (logged.Welcome commit head) is told = cc
+accepted-one d h k n p c q e (logged.Seen last commit head positions) is told = cc
 accepted-one d h k n p c q e (logged.Settled seq pos) is told = cc
 accepted-one d h k n p c q e (logged.Noted commit) is told = cc
 accepted-one d h k n p c q e logged.Idle is told = cc
@@ -135,15 +135,21 @@ positions-ascend g k n p m q x y l =
       ]
     ]
 
-relay-of : (reply : Logged) (p : ℕ) → is_in p (positions_in reply) ≡ true → (seq : ℕ) × ((commit : ℕ) × ((head : List Sent) × ((positions : List ℕ) × (reply ≡ logged.Relay seq commit head positions))))
-relay-of (logged.Relay seq commit head positions) p m = (seq, (commit, (head, (positions, refl))))
-relay-of (logged.Welcome commit head) p m = absurd (true≢false (sym m))
-relay-of (logged.Dropped seq chain far) p m = absurd (true≢false (sym m))
-relay-of (logged.Settled seq pos) p m = absurd (true≢false (sym m))
-relay-of (logged.Noted commit) p m = absurd (true≢false (sym m))
-relay-of logged.Idle p m = absurd (true≢false (sym m))
-relay-of (logged.Refused code detail) p m = absurd (true≢false (sym m))
-relay-of logged.Bye p m = absurd (true≢false (sym m))
+-- A reply that sends a position is a relay, or what is seen.
+abbrev Sends : Logged → Type 0
+Sends reply = ((seq : ℕ) × ((commit : ℕ) × ((head : List Sent) × ((positions : List ℕ) × (reply ≡ logged.Relay seq commit head positions)))))
+    ⊎ ((last : ℕ) × ((commit : ℕ) × ((head : List Sent) × ((positions : List ℕ) × (reply ≡ logged.Seen last commit head positions)))))
+
+sends : (reply : Logged) (p : ℕ) → is_in p (positions_in reply) ≡ true → Sends reply
+sends (logged.Relay seq commit head positions) p m = inl (seq, (commit, (head, (positions, refl))))
+sends (logged.Seen last commit head positions) p m = inr (last, (commit, (head, (positions, refl))))
+sends (logged.Welcome commit head) p m = absurd (true≢false (sym m))
+sends (logged.Dropped seq chain far) p m = absurd (true≢false (sym m))
+sends (logged.Settled seq pos) p m = absurd (true≢false (sym m))
+sends (logged.Noted commit) p m = absurd (true≢false (sym m))
+sends logged.Idle p m = absurd (true≢false (sym m))
+sends (logged.Refused code detail) p m = absurd (true≢false (sym m))
+sends logged.Bye p m = absurd (true≢false (sym m))
 
 module _ (awaited : Awaited) where
   open awaited.owner use {keeping as K, rules as r, journal as H, trace as L}
@@ -187,12 +193,12 @@ module _ (awaited : Awaited) where
     not-settled : settled whole < n
     not-settled = (let number : n ≡ suc (settled whole) = (next-front who L.first whole this_one.proper.events s n a current asking).1.1 in omega arith)
 
-    -- not by a relay to a Poll
-    not-polled : (d : Entry) (h : List Entry) → IsEarlier (d ∷ h) g → is_of d s ≡ true → d.request ≡ requests.Poll → ⊥
-    not-polled d h c t poll =
-        let before = asked-before d h c t requests.Poll poll refl in
+    -- not by the reply to a Poll or an Observe
+    not-looked : (d : Entry) (h : List Entry) → IsEarlier (d ∷ h) g → is_of d s ≡ true → (w : Request) → d.request ≡ w → is_look w ≡ true → is_done w ≡ false → ⊥
+    not-looked d h c t w asks look other =
+        let before = asked-before d h c t w asks other in
         let after' : joined_makes who L.first whole < n =
-        after-poll who L.first whole this_one.proper.events s (length (replies_in A h s)) (length (got whole s)) n a current before.1 before.0 asking in
+        after-look who L.first whole this_one.proper.events s (length (replies_in A h s)) (length (got whole s)) n a w look current before.1 before.0 asking in
         let o = x.entry.session in
         let bx : IsEarlier (x.entry ∷ x.before) H = earlier-then (x.entry ∷ x.before) g H x.there earlier in
         let q = submit_is x.entry.request n x.submit in
@@ -219,30 +225,47 @@ module _ (awaited : Awaited) where
         let less : q < p = positions-ascend g k n p m q x y (omega arith) in
         absurd (omega arith)
 
+    module _ (w : IsSentBy g s p) where
+      sent-there : IsEarlier (w.entry ∷ w.before) H
+      sent-there = earlier-then (w.entry ∷ w.before) g H w.there earlier
+
+      told_there : (reply : Logged) → w.entry.reply ≡ reply → TellsFor K r w.before w.entry.session w.entry.request reply
+      told_there reply is =
+          subst (λ (z : Logged). TellsFor K r w.before w.entry.session w.entry.request z) is
+          (served-tells K keeps r w.entry w.before (earlier-served K r (w.entry ∷ w.before) H sent-there legal))
+
+      not-relayed : (seq commit : ℕ) (head : List Sent) (positions : List ℕ) → w.entry.reply ≡ logged.Relay seq commit head positions → ⊥
+      not-relayed seq commit head positions is =
+          let t : IsRelayReply K r w.before w.entry.session w.entry.request commit head positions = told_there (logged.Relay seq commit head positions) is in
+          let own : t.client ≡ k = session-client owner s has_s w.before (earlier-rest w.before w.entry H sent-there) t.client (subst (λ (o : ℕ). client_of w.before o ≡ Some t.client) w.session t.joined) in
+          let named : is_in p positions ≡ true = subst (λ (z : Logged). is_in p (positions_in z) ≡ true) is w.named in
+          let low : p ≤ t.target = (needed-bounds (actions_of w.before ++ new_of w.before w.entry.session w.entry.request) (commit_of (K.kept w.before)) (sent_to w.before w.entry.session) t.target t.above p
+          (subst (λ (ks : List ℕ). is_in p ks ≡ true) t.positions_are named)).1 in
+          elim t.kind [
+            | inr z ↦ not-looked w.entry w.before w.there (of-from w.entry s w.session (ap is_end z.0)) requests.Poll z.0 refl refl
+            | inl z ↦ not-submitted w.entry w.before w.there (of-from w.entry s w.session (ap is_end z.1.1.0)) z.0 t.target z.1.0 z.1.1.0
+                (elim z.1.1.1 [
+                  | inl kept ↦ acceptance-later w.before g k z.0 t.target (earlier-rest w.before w.entry g w.there)
+                      (acceptance-of w.before k z.0 t.target (kept-is w.before k z.0 (Accepted t.target) (subst (λ (c : ℕ). kept_outcome w.before c z.0 ≡ Some (Accepted t.target)) own kept)))
+                  | inr fresh ↦
+                      (let c : is_client (client_of w.before w.entry.session) k ≡ true = ap (λ (o : Option ℕ). is_client o k) t.joined ∙ eq-eqb t.client k own in
+                      let sub : is_submit_of w.entry.request z.0 ≡ true = ap (λ (q : Request). is_submit_of q z.0) z.1.1.0 ∙ eq-eqb z.0 z.0 refl in
+                      let num : z.0 ≡ next_seq w.before k = subst (λ (j : ℕ). z.0 ≡ next_seq w.before j) own fresh.0 in
+                      let place : t.target ≡ suc (length (accepted w.before)) = fresh.1.0 ∙ ap suc (actions-count w.before) in
+                      let one' = accepted-one w.entry w.before k z.0 t.target c sub num (logged.Relay seq commit head positions) is (ap (λ (j : ℕ). Accepted j ∷ []) place) in
+                      record { entry = w.entry; before = w.before; there = w.there; client = c; number = num; submit = sub; place = place; grown = one'.1 })
+                ]) low
+          ]
+
+      not-seen : (last commit : ℕ) (head : List Sent) (positions : List ℕ) → w.entry.reply ≡ logged.Seen last commit head positions → ⊥
+      not-seen last commit head positions is =
+          let t : IsSeenReply K r w.before w.entry.session w.entry.request last commit head positions = told_there (logged.Seen last commit head positions) is in
+          not-looked w.entry w.before w.there (of-from w.entry s w.session (ap is_end t.request)) (requests.Observe t.objects t.wait) t.request refl refl
+
     pub never-sent : is_in p (sent_to g s) ≡ true → ⊥
     never-sent m =
         let w = sent-by g s p m in
-        let bw : IsEarlier (w.entry ∷ w.before) H = earlier-then (w.entry ∷ w.before) g H w.there earlier in
-        let l : LegalFor K r (w.entry ∷ w.before) = earlier-served K r (w.entry ∷ w.before) H bw legal in
-        let y = relay-of w.entry.reply p w.named in
-        let t : IsRelayReply K r w.before w.entry.session w.entry.request y.1.0 y.1.1.0 y.1.1.1.0 =
-        subst (λ (z : Logged). TellsFor K r w.before w.entry.session w.entry.request z) y.1.1.1.1 (served-tells K keeps r w.entry w.before l) in
-        let own : t.client ≡ k = session-client owner s has_s w.before (earlier-rest w.before w.entry H bw) t.client (subst (λ (o : ℕ). client_of w.before o ≡ Some t.client) w.session t.joined) in
-        let named : is_in p y.1.1.1.0 ≡ true = subst (λ (z : Logged). is_in p (positions_in z) ≡ true) y.1.1.1.1 w.named in
-        let low : p ≤ t.target = (needed-bounds (actions_of w.before ++ new_of w.before w.entry.session w.entry.request) (commit_of (K.kept w.before)) (sent_to w.before w.entry.session) t.target t.above p
-        (subst (λ (ks : List ℕ). is_in p ks ≡ true) t.positions_are named)).1 in
-        elim t.kind [
-          | inr z ↦ not-polled w.entry w.before w.there (of-from w.entry s w.session (ap is_end z.0)) z.0
-          | inl z ↦ not-submitted w.entry w.before w.there (of-from w.entry s w.session (ap is_end z.1.1.0)) z.0 t.target z.1.0 z.1.1.0
-              (elim z.1.1.1 [
-                | inl kept ↦ acceptance-later w.before g k z.0 t.target (earlier-rest w.before w.entry g w.there)
-                    (acceptance-of w.before k z.0 t.target (kept-is w.before k z.0 (Accepted t.target) (subst (λ (c : ℕ). kept_outcome w.before c z.0 ≡ Some (Accepted t.target)) own kept)))
-                | inr fresh ↦
-                    (let c : is_client (client_of w.before w.entry.session) k ≡ true = ap (λ (o : Option ℕ). is_client o k) t.joined ∙ eq-eqb t.client k own in
-                    let sub : is_submit_of w.entry.request z.0 ≡ true = ap (λ (q : Request). is_submit_of q z.0) z.1.1.0 ∙ eq-eqb z.0 z.0 refl in
-                    let num : z.0 ≡ next_seq w.before k = subst (λ (j : ℕ). z.0 ≡ next_seq w.before j) own fresh.0 in
-                    let place : t.target ≡ suc (length (accepted w.before)) = fresh.1.0 ∙ ap suc (actions-count w.before) in
-                    let one' = accepted-one w.entry w.before k z.0 t.target c sub num (logged.Relay y.0 y.1.0 y.1.1.0 y.1.1.1.0) y.1.1.1.1 (ap (λ (j : ℕ). Accepted j ∷ []) place) in
-                    record { entry = w.entry; before = w.before; there = w.there; client = c; number = num; submit = sub; place = place; grown = one'.1 })
-              ]) low
+        elim (sends w.entry.reply p w.named) [
+          | inl y ↦ not-relayed w y.0 y.1.0 y.1.1.0 y.1.1.1.0 y.1.1.1.1
+          | inr y ↦ not-seen w y.0 y.1.0 y.1.1.0 y.1.1.1.0 y.1.1.1.1
         ]

@@ -84,6 +84,7 @@ relay-logged A (logged.Relay n c vs ks) seq commit head items e none = (n, (c, (
     nothing (k ∷ ks) f = cc
 relay-logged A (logged.Welcome c vs) seq commit head items e none = cc
 relay-logged A (logged.Dropped n chain far) seq commit head items e none = cc
+relay-logged A (logged.Seen last c vs ks) seq commit head items e none = cc
 relay-logged A (logged.Settled n pos) seq commit head items e none = cc
 relay-logged A (logged.Noted c) seq commit head items e none = cc
 relay-logged A logged.Idle seq commit head items e none = cc

@@ -51,6 +51,8 @@ welcome-logged A q client life interest e (logged.Welcome commit head) a = (comm
 welcome-logged A q client life interest e (logged.Relay seq commit head positions) a =
     absurd (true≢false (sym a ∙ ap (λ (p : Request). allows p (full_reply A (logged.Relay seq commit head positions))) e))
 welcome-logged A q client life interest e (logged.Dropped seq chain far) a = absurd (true≢false (sym a ∙ ap (λ (p : Request). allows p (replies.Dropped seq chain far)) e))
+welcome-logged A q client life interest e (logged.Seen last commit head positions) a =
+    absurd (true≢false (sym a ∙ ap (λ (p : Request). allows p (full_reply A (logged.Seen last commit head positions))) e))
 welcome-logged A q client life interest e (logged.Settled seq pos) a = absurd (true≢false (sym a ∙ ap (λ (p : Request). allows p (replies.Settled seq pos)) e))
 welcome-logged A q client life interest e (logged.Noted commit) a = absurd (true≢false (sym a ∙ ap (λ (p : Request). allows p (replies.Noted commit)) e))
 welcome-logged A q client life interest e logged.Idle a = absurd (true≢false (sym a ∙ ap (λ (p : Request). allows p replies.Idle) e))
@@ -64,6 +66,7 @@ leave-only (requests.Join client life interest) a = absurd (true≢false (sym a)
 leave-only (requests.Submit seq x) a = absurd (true≢false (sym a))
 leave-only (requests.Done results) a = absurd (true≢false (sym a))
 leave-only requests.Poll a = absurd (true≢false (sym a))
+leave-only (requests.Observe objects wait) a = absurd (true≢false (sym a))
 leave-only requests.Bad a = absurd (true≢false (sym a))
 leave-only requests.End a = absurd (true≢false (sym a))
 
@@ -73,6 +76,7 @@ never-refused (requests.Join client life interest) code detail = refl
 never-refused (requests.Submit seq a) code detail = refl
 never-refused (requests.Done results) code detail = refl
 never-refused requests.Poll code detail = refl
+never-refused (requests.Observe objects wait) code detail = refl
 never-refused requests.Leave code detail = refl
 never-refused requests.Bad code detail = refl
 never-refused requests.End code detail = refl
@@ -92,7 +96,7 @@ module _ (K : Keeping) (r : Rules) (H : List Entry) (L : Trace) (served : IsServ
   pub joined-has : (v : List Event) → IsPart v whole → (s : ℕ) → list_any (is_join_of s) v ≡ true → has_session L s ≡ true
   joined-has v part s h = any-reverse (is_join_of s) L.events (any-part (is_join_of s) v whole part h)
 
-  got-has : (s n : ℕ) (reply : Reply) → slice_get (got whole s) n ≡ Some reply → has_session L s ≡ true
+  pub got-has : (s n : ℕ) (reply : Reply) → slice_get (got whole s) n ≡ Some reply → has_session L s ≡ true
   got-has s n reply is =
       let g = got-when who L.first whole s n reply is in
       let a = got-answers who L.first whole fits.proper.events s n reply g in

@@ -13,7 +13,7 @@ use Rattle.sv_wire.specs.declared.message.Reply.{Reply}
 use Rattle.sv_wire.specs.declared.message.Reply.TheVariants as replies
 use Rattle.sv_client.specs.declared.trace.Event.{Event}
 use Rattle.sv_client.specs.declared.trace.Event.TheVariants as events
-use Rattle.sv_client.specs.Traces.{makes, held_of, with_reply, head_held, results_of, last_values, are_same, without_front, settled_by, pending_with, done_for, pending_of, submit_of, asked_by_event, asked, got}
+use Rattle.sv_client.specs.Traces.{makes, held_of, with_reply, head_held, results_of, last_values, are_same, without_front, settled_by, has_news, pending_with, done_for, pending_of, submit_of, asked_by_event, asked, got}
 use Rattle.sv_client.specs.Taking.{Identity}
 use Rattle.sv_client.specs.Proper.{MayMake, AreProper}
 use Rattle.sv_system.proofs.Asked.{may-answer}
@@ -36,6 +36,7 @@ without_first (k ∷ ks) = ks
 abbrev pub settles : Reply → Bool
 settles (replies.Relay seq commit head items) = not (seq == 0)
 settles (replies.Dropped seq chain far) = true
+settles (replies.Denied seq object) = true
 settles (replies.Settled seq pos) = true
 settles _ = false
 
@@ -70,6 +71,12 @@ keys-with before more (replies.Relay seq commit head items) ps =
       | inr e ↦ ap keys (cond-false (seq == 0) ps (settled_by more own ps) e) ∙ settled-keys more own ps ∙ sym (ap (λ (b : Bool). if not b then without_first (keys ps) else keys ps) e)
     ]
 keys-with before more (replies.Dropped seq chain far) ps = redone-keys more (without_front ps) ∙ without-keys ps
+keys-with before more (replies.Denied seq object) ps = redone-keys more (without_front ps) ∙ without-keys ps
+keys-with before more (replies.Seen last commit head items) ps =
+    elim (cases_Bool (has_news head items)) [
+      | inl e ↦ ap keys (cond-true (has_news head items) (redone more ps) ps e) ∙ redone-keys more ps
+      | inr e ↦ ap keys (cond-false (has_news head items) (redone more ps) ps e)
+    ]
 keys-with before more (replies.Settled seq pos) ps = redone-keys more (without_front ps) ∙ without-keys ps
 keys-with before more (replies.Welcome commit head) ps = refl
 keys-with before more (replies.Noted commit) ps = refl
@@ -175,6 +182,7 @@ module _ (who : Identity) (first : ℕ) where
   counted (events.Got s r ∷ t) p = counted-got s r t (counted t p.1)
   counted (events.Join s ∷ t) p = counted-same t (events.Join s ∷ t) refl refl (counted t p.1)
   counted (events.Poll ∷ t) p = counted-same t (events.Poll ∷ t) refl refl (counted t p.1)
+  counted (events.Observe objects wait ∷ t) p = counted-same t (events.Observe objects wait ∷ t) refl refl (counted t p.1)
   counted (events.Leave ∷ t) p = counted-same t (events.Leave ∷ t) refl refl (counted t p.1)
   counted (events.Cut ∷ t) p = counted-same t (events.Cut ∷ t) refl refl (counted t p.1)
   counted (events.Quit ∷ t) p = counted-same t (events.Quit ∷ t) refl refl (counted t p.1)
@@ -205,6 +213,7 @@ module _ (who : Identity) (first : ℕ) where
       fewer-more e t s l = (let a : length (asked_there t s ++ asked_by_event who.client who.interest t e s) ≡ length (asked_there t s) + length (asked_by_event who.client who.interest t e s) = length-append (asked_there t s) (asked_by_event who.client who.interest t e s) in omega arith)
   got-fewer (events.Make action ∷ t) p s = (let l : length (got t s) ≤ length (asked_there t s) = got-fewer t p.1 s in let a : length (asked_there (events.Make action ∷ t) s) ≡ length (asked_there t s) + length (asked_by_event who.client who.interest t (events.Make action) s) = length-append (asked_there t s) _ in omega arith)
   got-fewer (events.Poll ∷ t) p s = (let l : length (got t s) ≤ length (asked_there t s) = got-fewer t p.1 s in let a : length (asked_there (events.Poll ∷ t) s) ≡ length (asked_there t s) + length (asked_by_event who.client who.interest t events.Poll s) = length-append (asked_there t s) _ in omega arith)
+  got-fewer (events.Observe objects wait ∷ t) p s = (let l : length (got t s) ≤ length (asked_there t s) = got-fewer t p.1 s in let a : length (asked_there (events.Observe objects wait ∷ t) s) ≡ length (asked_there t s) + length (asked_by_event who.client who.interest t (events.Observe objects wait) s) = length-append (asked_there t s) _ in omega arith)
   got-fewer (events.Leave ∷ t) p s = (let l : length (got t s) ≤ length (asked_there t s) = got-fewer t p.1 s in let a : length (asked_there (events.Leave ∷ t) s) ≡ length (asked_there t s) + length (asked_by_event who.client who.interest t events.Leave s) = length-append (asked_there t s) _ in omega arith)
   got-fewer (events.Cut ∷ t) p s = (let l : length (got t s) ≤ length (asked_there t s) = got-fewer t p.1 s in let a : length (asked_there (events.Cut ∷ t) s) ≡ length (asked_there t s) + length (asked_by_event who.client who.interest t events.Cut s) = length-append (asked_there t s) _ in omega arith)
   got-fewer (events.Quit ∷ t) p s = (let l : length (got t s) ≤ length (asked_there t s) = got-fewer t p.1 s in let a : length (asked_there (events.Quit ∷ t) s) ≡ length (asked_there t s) + length (asked_by_event who.client who.interest t events.Quit s) = length-append (asked_there t s) _ in omega arith)
@@ -234,6 +243,9 @@ module _ (who : Identity) (first : ℕ) where
   quiet-done held (replies.Relay seq commit head items) = refl
   quiet-done held (replies.Welcome commit head) = refl
   quiet-done held (replies.Dropped seq chain far) = refl
+  quiet-done held (replies.Denied seq object) = refl
+  quiet-done held (replies.Seen last commit head []) = refl
+  quiet-done held (replies.Seen last commit head (item ∷ items)) = refl
   quiet-done held (replies.Settled seq pos) = refl
   quiet-done held (replies.Noted commit) = refl
   quiet-done held replies.Idle = refl

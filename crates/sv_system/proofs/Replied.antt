@@ -62,6 +62,7 @@ tellings-got (events.Got n reply ∷ t) s =
 tellings-got (events.Join n ∷ t) s = tellings-got t s
 tellings-got (events.Make action ∷ t) s = tellings-got t s
 tellings-got (events.Poll ∷ t) s = tellings-got t s
+tellings-got (events.Observe objects wait ∷ t) s = tellings-got t s
 tellings-got (events.Leave ∷ t) s = tellings-got t s
 tellings-got (events.Cut ∷ t) s = tellings-got t s
 tellings-got (events.Quit ∷ t) s = tellings-got t s
@@ -76,6 +77,9 @@ replied-by A (logged.Relay seq commit head positions) n count s ds rs e =
     ap (λ l. if n == s then l ++ telling_in (full_reply A (logged.Relay seq commit head positions)) else l) e
     ∙ sym (flat-if telling_in (n == s) rs (full_reply A (logged.Relay seq commit head positions)))
 replied-by A (logged.Dropped seq chain far) n count s ds rs e = e ∙ sym (flat-if telling_in (n == s) rs (replies.Dropped seq chain far) ∙ no_more (n == s) (flat_map telling_in rs))
+replied-by A (logged.Seen last commit head positions) n count s ds rs e =
+    ap (λ l. if n == s then l ++ telling_in (full_reply A (logged.Seen last commit head positions)) else l) e
+    ∙ sym (flat-if telling_in (n == s) rs (full_reply A (logged.Seen last commit head positions)))
 replied-by A (logged.Settled seq pos) n count s ds rs e = e ∙ sym (flat-if telling_in (n == s) rs (replies.Settled seq pos) ∙ no_more (n == s) (flat_map telling_in rs))
 replied-by A (logged.Noted commit) n count s ds rs e = e ∙ sym (flat-if telling_in (n == s) rs (replies.Noted commit) ∙ no_more (n == s) (flat_map telling_in rs))
 replied-by A logged.Idle n count s ds rs e = e ∙ sym (flat-if telling_in (n == s) rs replies.Idle ∙ no_more (n == s) (flat_map telling_in rs))
@@ -88,6 +92,7 @@ end-bye K r h s (requests.Join client life interest) e = absurd (true≢false (s
 end-bye K r h s (requests.Submit seq a) e = absurd (true≢false (sym e))
 end-bye K r h s (requests.Done results) e = absurd (true≢false (sym e))
 end-bye K r h s requests.Poll e = absurd (true≢false (sym e))
+end-bye K r h s (requests.Observe objects wait) e = absurd (true≢false (sym e))
 end-bye K r h s requests.Leave e = absurd (true≢false (sym e))
 end-bye K r h s requests.Bad e = absurd (true≢false (sym e))
 

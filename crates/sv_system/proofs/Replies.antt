@@ -1,14 +1,17 @@
 -- What a reply that a server gives says of its request and of the history before it.
-use Rattle.std.proofs.Common.{◌⊎◌, inl, inr, ◌≡◌, ℕ, suc, ◌+◌, ◌<◌, ◌≤◌, true, false, ◌==◌, nat_lt, List, [], ◌∷◌, ◌++◌, map, length, Option, Some, None, refl, sym, ap, ap₂, ◌∙◌, subst, arith, eqb-true, eq-eqb, true≢false, append-nil}
+use Rattle.std.proofs.Common.{◌⊎◌, inl, inr, ◌≡◌, ℕ, suc, ◌<◌, ◌≤◌, true, false, ◌==◌, nat_lt, List, [], ◌∷◌, ◌++◌, map, length, Option, Some, None, refl, sym, ap, ap₂, ◌∙◌, subst, arith, eqb-true, eq-eqb, true≢false, append-nil}
 use Rattle.std.specs.List.{AllByRecursion}
 use Rattle.std.proofs.lemmas.Bool.{cond-true, cond-false, false_from_ne_true, le-ltb}
 use Rattle.std.proofs.lemmas.List.{length-append}
 use Rattle.sv_world.specs.declared.action.Action.{Action}
 use Rattle.sv_world.specs.declared.world.ObjectId.{ObjectId}
 use Rattle.sv_world.specs.declared.world.ClientId.{ClientId}
-use Rattle.sv_world.specs.Control.{is_in, needed_for, head_for, chain_length}
-use Rattle.sv_world.specs.Faults.{first_fault_of_action}
+use Rattle.sv_world.specs.Control.{is_in, needed_for, head_for, needed_to_see, head_to_see, chain_length}
+use Rattle.sv_world.specs.Faults.{first_fault_of_action, may_be_observed}
+use Rattle.sv_world.specs.Limits.{most_items}
+use Rattle.sv_world.specs.Sets.{numbers_of}
 use Rattle.sv_world.proofs.Members.{is_in-head}
+use Rattle.sv_world.proofs.Greatest.{cut-low, cut-high, cut-few}
 use Rattle.sv_wire.specs.declared.message.Done1.{Done1}
 use Rattle.sv_wire.specs.declared.message.ObjectValue.{ObjectValue}
 use Rattle.sv_wire.specs.declared.message.Request.{Request}
@@ -22,7 +25,7 @@ use Rattle.sv_journal.specs.Answer.{Rules, refused, committed_held, reply_to, Le
 use Rattle.sv_journal.specs.Serving.{Keeping, plain, with_last_rows, reply_for, LegalFor, IsKeeping}
 use Rattle.sv_journal.proofs.Kept.{over-kept, sent-kept, commit_within-kept}
 use Rattle.sv_journal.proofs.Plain.{plain-keeping, plain-legal}
-use Rattle.sv_journal.proofs.Replies.{each_row}
+use Rattle.sv_journal.proofs.Replies.{cut_for, seen_now, each_row}
 use Rattle.sv_system.proofs.Histories.{actions-count, kept-within, kept-below}
 
 -- The action of a request, where it is a Submit with its client's next number.
@@ -64,6 +67,23 @@ pub record IsWelcomeReply (K : Keeping) (r : Rules) (h : List Entry) (s : ℕ) (
   pub commit_is : commit ≡ commit_of (K.kept h)
   pub head_is : head ≡ committed_held r (K.kept h) (map (λ (o : ObjectId). o.0) interest)
 
+-- What is seen answers an Observe of a client of the session: it is what the session lacks of the objects at a position, and no more than a report
+-- may have results.
+pub record IsSeenReply (K : Keeping) (r : Rules) (h : List Entry) (s : ℕ) (q : Request) (last commit : ℕ) (head : List ObjectValue) (positions : List ℕ) : Type 0 where
+  pub client : ℕ
+  pub joined : client_of h s ≡ Some client
+  pub objects : List ObjectId
+  pub wait : ℕ
+  pub request : q ≡ requests.Observe objects wait
+  pub good : may_be_observed r.world.shape.objects (numbers_of objects) ≡ true
+  pub low : commit_of (K.kept h) ≤ last
+  pub within : last ≤ length (actions_of h)
+  pub few : length positions ≤ most_items
+  pub commit_is : commit ≡ commit_of (K.kept h)
+  pub positions_are : positions ≡ needed_to_see (actions_of h) (commit_of (K.kept h)) (sent_to h s) (numbers_of objects) last
+  pub head_is : head ≡ committed_held r (K.kept h) (head_to_see r.world.shape.objects (actions_of h) (commit_of (K.kept h)) (sent_to h s)
+      (already_given r.world.shape.objects (K.kept h) s) (numbers_of objects) last)
+
 -- The head of a welcome.
 abbrev pub logged_head : Logged → List ObjectValue
 logged_head (logged.Welcome commit head) = head
@@ -85,6 +105,7 @@ abbrev pub TellsFor : Keeping → Rules → List Entry → ℕ → Request → L
 TellsFor K r h s q (logged.Welcome commit head) = IsWelcomeReply K r h s q commit head
 TellsFor K r h s q (logged.Relay seq commit head positions) = IsRelayReply K r h s q commit head positions
 TellsFor K r h s q (logged.Dropped seq chain far) = AnswersSubmit h s q seq
+TellsFor K r h s q (logged.Seen last commit head positions) = IsSeenReply K r h s q last commit head positions
 TellsFor K r h s q (logged.Settled seq pos) = AnswersKept h s q seq
 TellsFor K r h s q (logged.Noted commit) = (results : List Done1) × ((q ≡ requests.Done results) × (commit ≡ commit_after K h s q))
 TellsFor K r h s q _ = Unit {0}
@@ -149,6 +170,30 @@ module _ (K : Keeping) (keeps : IsKeeping K) (r : Rules) (h : List Entry) (s : �
       (inl (seq, (a, (is, inr (n, (refl, le-ltb r.bound (chain_length (actions_of h) (commit_of (K.kept h)) a) few))))))
       (omega (arith, commit_within-kept K keeps h, actions-count h)) (omega (arith, length-append (actions_of h) (a ∷ [])))
 
+  -- What is seen at the greatest cut.
+  seen-tells : (k : ℕ) (q : Request) (objects : List ObjectId) (wait : ℕ) → client_of h s ≡ Some k → q ≡ requests.Observe objects wait →
+      may_be_observed r.world.shape.objects (numbers_of objects) ≡ true → TellsFor K r h s q (seen_now r (K.kept h) (actions_of h) s (numbers_of objects))
+  seen-tells k q objects wait c is good =
+      let acts = actions_of h in
+      let commit = commit_of (K.kept h) in
+      let sent = sent_to (K.kept h) s in
+      let last = cut_for (K.kept h) acts s (numbers_of objects) in
+      let most : commit ≤ length acts = (let l : commit ≤ length (accepted h) = commit_within-kept K keeps h in omega (arith, actions-count h)) in
+      record {
+        client = k;
+        joined = c;
+        objects = objects;
+        wait = wait;
+        request = is;
+        good = good;
+        low = cut-low acts commit sent (numbers_of objects);
+        within = cut-high acts commit sent (numbers_of objects) most;
+        few = cut-few acts commit sent (numbers_of objects);
+        commit_is = refl;
+        positions_are = ap (λ (ps : List ℕ). needed_to_see acts commit ps (numbers_of objects) last) (sent-kept K keeps h s);
+        head_is = ap (λ (ps : List ℕ). committed_held r (K.kept h) (head_to_see r.world.shape.objects acts commit ps given (numbers_of objects) last)) (sent-kept K keeps h s);
+      }
+
   joined-not : (o : Option ℕ) → client_of h s ≡ o → is_over h s ≡ false → is_live h s ≡ false → client_of h s ≡ None
   joined-not None c f g = c
   joined-not (Some k) c f g = let live : is_live h s ≡ true = rw (c, f) refl in absurd (true≢false (sym live ∙ g))
@@ -179,6 +224,7 @@ module _ (K : Keeping) (keeps : IsKeeping K) (r : Rules) (h : List Entry) (s : �
     poll = λ k p ps client asked open_still due.
         let here : is_in p (K.due h s) ≡ true = subst (λ (l : List ℕ). is_in p l ≡ true) (sym due) (is_in-head p ps) in
         old-relay k q p client (ap (new_of h s) asked ∙ new-poll h s k client) (inr (asked, here)) (keeps.above h s p here) (keeps.within h s p here);
+    seen = λ k wait objects client asked open_still good. seen-tells k q objects wait client asked good;
   })
 
   -- A session that is over has its requests refused.
@@ -190,6 +236,7 @@ module _ (K : Keeping) (keeps : IsKeeping K) (r : Rules) (h : List Entry) (s : �
       table-refuses (requests.Submit seq a) e f = cond-true (is_over (K.kept h) s) _ _ e
       table-refuses (requests.Done results) e f = cond-true (is_over (K.kept h) s) _ _ e
       table-refuses requests.Poll e f = cond-true (is_over (K.kept h) s) _ _ e
+      table-refuses (requests.Observe objects wait) e f = cond-true (is_over (K.kept h) s) _ _ e
       table-refuses requests.Leave e f = cond-true (is_over (K.kept h) s) _ _ e
       table-refuses requests.Bad e f = cond-true (is_over (K.kept h) s) _ _ e
       table-refuses requests.End e f = absurd (true≢false f)

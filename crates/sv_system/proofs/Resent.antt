@@ -26,6 +26,12 @@ get-left : {X : Type 0} (xs ys : List X) (i : ℕ) (x : X) → i < length xs →
 get-left xs ys i x l e =
     elim (get-append_cases xs ys i x e) [ inl f ↦ f | inr f ↦ (let p : i ≡ length xs + f.0 = f.1.0 in absurd (omega arith)) ]
 
+-- A request that may be sent positions of others: a Poll or an Observe.
+abbrev pub is_look : Request → Bool
+is_look requests.Poll = true
+is_look (requests.Observe objects wait) = true
+is_look _ = false
+
 module _ (who : Identity) (first : ℕ) where
   abbrev here : List Event → ℕ → List Request
   here t s = asked who.client who.interest t s
@@ -93,6 +99,8 @@ module _ (who : Identity) (first : ℕ) where
       let w : settled t ≤ settled (events.Make action ∷ t) = settled-made action t p.1 in omega arith)
   answered-settled (events.Poll ∷ t) p s i n a l e =
       (let fewer : length (got t s) ≤ length (here t s) = got-fewer who first t p.1 s in answered-settled t p.1 s i n a l (get-left (here t s) _ i (requests.Submit n a) (omega arith) e))
+  answered-settled (events.Observe objects wait ∷ t) p s i n a l e =
+      (let fewer : length (got t s) ≤ length (here t s) = got-fewer who first t p.1 s in answered-settled t p.1 s i n a l (get-left (here t s) _ i (requests.Submit n a) (omega arith) e))
   answered-settled (events.Leave ∷ t) p s i n a l e =
       (let fewer : length (got t s) ≤ length (here t s) = got-fewer who first t p.1 s in answered-settled t p.1 s i n a l (get-left (here t s) _ i (requests.Submit n a) (omega arith) e))
   answered-settled (events.Cut ∷ t) p s i n a l e =
@@ -116,6 +124,7 @@ module _ (who : Identity) (first : ℕ) where
   joined-most (events.Make action ∷ t) = (let l : joined_makes t ≤ makes t = joined-most t in omega arith)
   joined-most (events.Got m r ∷ t) = joined-most t
   joined-most (events.Poll ∷ t) = joined-most t
+  joined-most (events.Observe objects wait ∷ t) = joined-most t
   joined-most (events.Leave ∷ t) = joined-most t
   joined-most (events.Cut ∷ t) = joined-most t
   joined-most (events.Quit ∷ t) = joined-most t
@@ -143,6 +152,7 @@ module _ (who : Identity) (first : ℕ) where
       older-made t p.1 s n j k a c f (asked-as_before t (events.Got m r) n j k a (cond-false (m == n) _ _ (ne_eqb m n (λ x. f (sym (same_Some m s (sym p.0.current ∙ c)) ∙ x)))) e)
   older-made (events.Make action ∷ t) p s n j k a c f e = older-made t p.1 s n j k a c f (asked-as_before t (events.Make action) n j k a (other-none (current_session t) s n _ c f) e)
   older-made (events.Poll ∷ t) p s n j k a c f e = older-made t p.1 s n j k a c f (asked-as_before t events.Poll n j k a (other-none (current_session t) s n _ c f) e)
+  older-made (events.Observe objects wait ∷ t) p s n j k a c f e = older-made t p.1 s n j k a c f (asked-as_before t (events.Observe objects wait) n j k a (other-none (current_session t) s n _ c f) e)
   older-made (events.Leave ∷ t) p s n j k a c f e = older-made t p.1 s n j k a c f (asked-as_before t events.Leave n j k a (other-none (current_session t) s n _ c f) e)
   older-made (events.Cut ∷ t) p s n j k a c f e = older-made t p.1 s n j k a c f (asked-as_before t events.Cut n j k a refl e)
   older-made (events.Quit ∷ t) p s n j k a c f e = older-made t p.1 s n j k a c f (asked-as_before t events.Quit n j k a refl e)
@@ -154,6 +164,10 @@ module _ (who : Identity) (first : ℕ) where
   no-submit_done true held (replies.Relay seq commit head items) (suc j) k a e = none-some (requests.Submit k a) e
   no-submit_done true held (replies.Welcome commit head) j k a e = none-some (requests.Submit k a) e
   no-submit_done true held (replies.Dropped seq chain far) j k a e = none-some (requests.Submit k a) e
+  no-submit_done true held (replies.Denied seq object) j k a e = none-some (requests.Submit k a) e
+  no-submit_done true held (replies.Seen last commit head []) j k a e = none-some (requests.Submit k a) e
+  no-submit_done true held (replies.Seen last commit head (item ∷ items)) zero k a e = true≢false (sym (ap is_submit (same_Some _ (requests.Submit k a) e)))
+  no-submit_done true held (replies.Seen last commit head (item ∷ items)) (suc j) k a e = none-some (requests.Submit k a) e
   no-submit_done true held (replies.Settled seq pos) j k a e = none-some (requests.Submit k a) e
   no-submit_done true held (replies.Noted commit) j k a e = none-some (requests.Submit k a) e
   no-submit_done true held replies.Idle j k a e = none-some (requests.Submit k a) e
@@ -169,59 +183,57 @@ module _ (who : Identity) (first : ℕ) where
   made-now true m action (suc j) k a e = absurd (none-some (requests.Submit k a) e)
   made-now false m action j k a e = absurd (none-some (requests.Submit k a) e)
 
-  abbrev is_poll : Request → Bool
-  is_poll requests.Poll = true
-  is_poll _ = false
+  no-look_submits : (ps : List PendingAction) (j : ℕ) (w : Request) → is_look w ≡ true → slice_get (map submit_of ps) j ≡ Some w → ⊥
+  no-look_submits [] j w look e = none-some w e
+  no-look_submits (p ∷ ps) zero w look e = true≢false (sym look ∙ sym (ap is_look (same_Some (requests.Submit p.seq p.action) w e)))
+  no-look_submits (p ∷ ps) (suc j) w look e = no-look_submits ps j w look e
 
-  no-poll_submits : (ps : List PendingAction) (j : ℕ) → slice_get (map submit_of ps) j ≡ Some requests.Poll → ⊥
-  no-poll_submits [] j e = none-some requests.Poll e
-  no-poll_submits (p ∷ ps) zero e = true≢false (sym (ap is_poll (same_Some (requests.Submit p.seq p.action) requests.Poll e)))
-  no-poll_submits (p ∷ ps) (suc j) e = no-poll_submits ps j e
-
-  no-poll_join : (b : Bool) (m : ℕ) (ps : List PendingAction) (j : ℕ) → slice_get (if b then requests.Join who.client m who.interest ∷ map submit_of ps else []) j ≡ Some requests.Poll → ⊥
-  no-poll_join true m ps zero e = true≢false (sym (ap is_poll (same_Some (requests.Join who.client m who.interest) requests.Poll e)))
-  no-poll_join true m ps (suc j) e = no-poll_submits ps j e
-  no-poll_join false m ps j e = none-some requests.Poll e
+  no-look_join : (b : Bool) (m : ℕ) (ps : List PendingAction) (j : ℕ) (w : Request) → is_look w ≡ true → slice_get (if b then requests.Join who.client m who.interest ∷ map submit_of ps else []) j ≡ Some w → ⊥
+  no-look_join true m ps zero w look e = true≢false (sym look ∙ sym (ap is_look (same_Some (requests.Join who.client m who.interest) w e)))
+  no-look_join true m ps (suc j) w look e = no-look_submits ps j w look e
+  no-look_join false m ps j w look e = none-some w e
 
   earlier-asked : (t : List Event) (ev : Event) (s i n : ℕ) (q p : Request) → i < n → slice_get (here t s) n ≡ Some p → slice_get (here (ev ∷ t) s) i ≡ Some q → slice_get (here t s) i ≡ Some q
   earlier-asked t ev s i n q p l e f = (let w : n < length (here t s) = slice_get_within (here t s) n p e in get-left (here t s) (asked_by_event who.client who.interest t ev s) i q (omega arith) f)
 
-  -- In the current session a Submit that is asked after a Poll is of an action made after the Join.
-  pub after-poll : (t : List Event) → AreProper who first t → (s i n k : ℕ) (a : Action) → current_session t ≡ Some s → i < n →
-      slice_get (asked who.client who.interest t s) i ≡ Some requests.Poll → slice_get (asked who.client who.interest t s) n ≡ Some (requests.Submit k a) → joined_makes t < k
-  after-poll [] p s i n k a c l e f = absurd (none-some s c)
-  after-poll (ev ∷ t) p s i n k a c l e f =
+  -- In the current session a Submit that is asked after a Poll or an Observe is of an action made after the Join.
+  pub after-look : (t : List Event) → AreProper who first t → (s i n k : ℕ) (a : Action) (w : Request) → is_look w ≡ true → current_session t ≡ Some s → i < n →
+      slice_get (asked who.client who.interest t s) i ≡ Some w → slice_get (asked who.client who.interest t s) n ≡ Some (requests.Submit k a) → joined_makes t < k
+  after-look [] p s i n k a w look c l e f = absurd (none-some s c)
+  after-look (ev ∷ t) p s i n k a w look c l e f =
       elim (get-append_cases (here t s) (asked_by_event who.client who.interest t ev s) n (requests.Submit k a) f) [
-        | inl g ↦ left ev p c (earlier-asked t ev s i n requests.Poll (requests.Submit k a) l g e) g (after-poll t p.1 s i n k a)
+        | inl g ↦ left ev p c (earlier-asked t ev s i n w (requests.Submit k a) l g e) g (after-look t p.1 s i n k a w look)
         | inr g ↦ now ev p c g.0 g.1.0 g.1.1 e
       ]
     where
-      left : (ev : Event) → AreProper who first (ev ∷ t) → current_session (ev ∷ t) ≡ Some s → slice_get (here t s) i ≡ Some requests.Poll → slice_get (here t s) n ≡ Some (requests.Submit k a) →
-          (current_session t ≡ Some s → i < n → slice_get (here t s) i ≡ Some requests.Poll → slice_get (here t s) n ≡ Some (requests.Submit k a) → joined_makes t < k) → joined_makes (ev ∷ t) < k
+      left : (ev : Event) → AreProper who first (ev ∷ t) → current_session (ev ∷ t) ≡ Some s → slice_get (here t s) i ≡ Some w → slice_get (here t s) n ≡ Some (requests.Submit k a) →
+          (current_session t ≡ Some s → i < n → slice_get (here t s) i ≡ Some w → slice_get (here t s) n ≡ Some (requests.Submit k a) → joined_makes t < k) → joined_makes (ev ∷ t) < k
       left (events.Join m) q c x y before =
           elim (begun-or_not who first t q.1 s) [
-            | inl z ↦ absurd (none-some requests.Poll (sym (ap (λ (qs : List Request). slice_get qs i) z.0) ∙ x))
-            | inr z ↦ (let number : m ≡ first + joins t = q.0.next in let is : m ≡ s = same_Some m s c in let o : s + 1 ≡ first + z.life = z.numbered in let w : z.life ≤ joins t = z.among in absurd (omega arith))
+            | inl z ↦ absurd (none-some w (sym (ap (λ (qs : List Request). slice_get qs i) z.0) ∙ x))
+            | inr z ↦ (let number : m ≡ first + joins t = q.0.next in let is : m ≡ s = same_Some m s c in let o : s + 1 ≡ first + z.life = z.numbered in let w' : z.life ≤ joins t = z.among in absurd (omega arith))
           ]
       left (events.Got m r) q c x y before = before c l x y
       left (events.Make action) q c x y before = before c l x y
       left events.Poll q c x y before = before c l x y
+      left (events.Observe objects wait) q c x y before = before c l x y
       left events.Leave q c x y before = before c l x y
       left events.Cut q c x y before = before c l x y
       left events.Quit q c x y before = before c l x y
       left (events.Show objects) q c x y before = before c l x y
 
       now : (ev : Event) → AreProper who first (ev ∷ t) → current_session (ev ∷ t) ≡ Some s → (j : ℕ) → n ≡ length (here t s) + j →
-          slice_get (asked_by_event who.client who.interest t ev s) j ≡ Some (requests.Submit k a) → slice_get (here (ev ∷ t) s) i ≡ Some requests.Poll → joined_makes (ev ∷ t) < k
+          slice_get (asked_by_event who.client who.interest t ev s) j ≡ Some (requests.Submit k a) → slice_get (here (ev ∷ t) s) i ≡ Some w → joined_makes (ev ∷ t) < k
       now (events.Make action) q c j z g x =
-          (let m : suc (makes t) ≡ k = made-now (is_session (current_session t) s) (suc (makes t)) action j k a g in let w : joined_makes t ≤ makes t = joined-most t in omega arith)
+          (let m : suc (makes t) ≡ k = made-now (is_session (current_session t) s) (suc (makes t)) action j k a g in let w' : joined_makes t ≤ makes t = joined-most t in omega arith)
       now (events.Join m) q c j z g x =
           elim (begun-or_not who first t q.1 s) [
-            | inl y ↦ absurd (no-poll_join (m == s) (suc (joins t)) (pending_of t) i (sym (ap (λ (qs : List Request). slice_get (qs ++ asked_by_event who.client who.interest t (events.Join m) s) i) y.0) ∙ x))
-            | inr y ↦ (let number : m ≡ first + joins t = q.0.next in let is : m ≡ s = same_Some m s c in let o : s + 1 ≡ first + y.life = y.numbered in let w : y.life ≤ joins t = y.among in absurd (omega arith))
+            | inl y ↦ absurd (no-look_join (m == s) (suc (joins t)) (pending_of t) i w look (sym (ap (λ (qs : List Request). slice_get (qs ++ asked_by_event who.client who.interest t (events.Join m) s) i) y.0) ∙ x))
+            | inr y ↦ (let number : m ≡ first + joins t = q.0.next in let is : m ≡ s = same_Some m s c in let o : s + 1 ≡ first + y.life = y.numbered in let w' : y.life ≤ joins t = y.among in absurd (omega arith))
           ]
       now (events.Got m r) q c j z g x = absurd (no-submit_done (m == s) (held_of t) r j k a g)
       now events.Poll q c j z g x = absurd (no-submit (is_session (current_session t) s) requests.Poll j k a refl g)
+      now (events.Observe objects wait) q c j z g x = absurd (no-submit (is_session (current_session t) s) (requests.Observe objects wait) j k a refl g)
       now events.Leave q c j z g x = absurd (no-submit (is_session (current_session t) s) requests.Leave j k a refl g)
       now events.Cut q c j z g x = absurd (none-some (requests.Submit k a) g)
       now events.Quit q c j z g x = absurd (none-some (requests.Submit k a) g)

@@ -11,12 +11,15 @@ use Rattle.sv_world.specs.Sets.{read_set}
 use Rattle.sv_world.specs.declared.world.Shape.{Shape}
 use Rattle.sv_world.specs.declared.action.Action.{Action}
 use Rattle.sv_versions.specs.Held.{Held}
+use Rattle.sv_wire.specs.declared.message.Done1.{Done1}
+use Rattle.sv_wire.specs.declared.message.Request.{Request}
+use Rattle.sv_wire.specs.declared.message.Request.TheVariants as requests
 use Rattle.sv_wire.specs.declared.message.Reply.{Reply}
 use Rattle.sv_wire.specs.declared.message.Reply.TheVariants as replies
 use Rattle.sv_journal.specs.History.{Authored}
 use Rattle.sv_client.specs.declared.trace.Event.{Event}
 use Rattle.sv_client.specs.declared.trace.Event.TheVariants as events
-use Rattle.sv_client.specs.Traces.{head_held, held_of, results_of}
+use Rattle.sv_client.specs.Traces.{head_held, held_of, results_of, done_for}
 use Rattle.sv_system.specs.Fronts.{IsFront}
 use Rattle.sv_system.specs.Serial.{AreSerial, AreSupplied, AreSufficient}
 use Rattle.sv_system.specs.Delivery.{Delivery, Telling, AreLawful, tellings_to, telling_in, tellings_got}
@@ -40,9 +43,29 @@ plain-at shape (a ∷ A) good (suc (suc k)) = plain-at shape A (λ i d l. good (
 -- The results reported of a reply, where these values are held before it.
 abbrev pub IsReported : List (List ℤ) → List Action → List Held → Reply → Type 0
 IsReported opening A held (replies.Relay seq commit head items) = AllByRecursion (IsSerialResult opening A) (results_of (held ++ head_held commit head) items)
+IsReported opening A held (replies.Seen last commit head items) = AllByRecursion (IsSerialResult opening A) (results_of (held ++ head_held commit head) items)
 IsReported opening A held _ = Unit {0}
 
--- The results reported of each relay that was got are those of the serial execution.
+abbrev pub first-results : List Request → List Done1
+first-results (requests.Done results ∷ qs) = results
+first-results _ = []
+
+-- So are those of the Done that it asks for.
+pub reported-done : (opening : List (List ℤ)) (A : List Action) (held : List Held) (reply : Reply) (results : List Done1) → done_for held reply ≡ requests.Done results ∷ [] →
+    IsReported opening A held reply → AllByRecursion (IsSerialResult opening A) results
+reported-done opening A held (replies.Relay seq commit head items) results e h = subst (AllByRecursion (IsSerialResult opening A)) (ap first-results e) h
+reported-done opening A held (replies.Seen last commit head []) results e h = cc
+reported-done opening A held (replies.Seen last commit head (item ∷ items)) results e h = subst (AllByRecursion (IsSerialResult opening A)) (ap first-results e) h
+reported-done opening A held (replies.Welcome commit head) results e h = cc
+reported-done opening A held (replies.Dropped seq chain far) results e h = cc
+reported-done opening A held (replies.Denied seq object) results e h = cc
+reported-done opening A held (replies.Settled seq pos) results e h = cc
+reported-done opening A held (replies.Noted commit) results e h = cc
+reported-done opening A held replies.Idle results e h = cc
+reported-done opening A held (replies.Refused code detail) results e h = cc
+reported-done opening A held replies.Bye results e h = cc
+
+-- The results reported of each relay that was got, and of what was seen, are those of the serial execution.
 abbrev pub AreReported : List (List ℤ) → List Action → List Event → Type 0
 AreReported opening A [] = Unit {0}
 AreReported opening A (events.Got s reply ∷ t) = IsReported opening A (held_of t) reply × AreReported opening A t
@@ -135,6 +158,12 @@ module _ (objects : ℕ) (opening : List (List ℤ)) (count : length opening ≡
       record { serial = g.serial; sufficient = (g.supplied, w.sufficient); taken = taken-now s (replies.Relay seq commit head items) t T refl w g.taken; reported = (g.reported, w.reported) }
   got-well s (replies.Dropped seq chain far) t f w =
       record { serial = w.serial; sufficient = (tt, w.sufficient); taken = taken-silent s (replies.Dropped seq chain far) t refl w; reported = (tt, w.reported) }
+  got-well s (replies.Denied seq object) t f w =
+      record { serial = w.serial; sufficient = (tt, w.sufficient); taken = taken-silent s (replies.Denied seq object) t refl w; reported = (tt, w.reported) }
+  got-well s (replies.Seen last commit head items) t f w =
+      let T : Telling = record { commit = commit; head = head; items = items } in
+      let g = telling-taken s (replies.Seen last commit head items) t T refl f w in
+      record { serial = g.serial; sufficient = (g.supplied, w.sufficient); taken = taken-now s (replies.Seen last commit head items) t T refl w g.taken; reported = (g.reported, w.reported) }
   got-well s (replies.Settled seq pos) t f w =
       record { serial = w.serial; sufficient = (tt, w.sufficient); taken = taken-silent s (replies.Settled seq pos) t refl w; reported = (tt, w.reported) }
   got-well s (replies.Noted commit) t f w =
@@ -152,6 +181,7 @@ module _ (objects : ℕ) (opening : List (List ℤ)) (count : length opening ≡
   all-well (events.Join s ∷ t) f = let w = all-well t f in record { serial = w.serial; sufficient = w.sufficient; taken = w.taken; reported = w.reported }
   all-well (events.Make action ∷ t) f = let w = all-well t f in record { serial = w.serial; sufficient = w.sufficient; taken = w.taken; reported = w.reported }
   all-well (events.Poll ∷ t) f = let w = all-well t f in record { serial = w.serial; sufficient = w.sufficient; taken = w.taken; reported = w.reported }
+  all-well (events.Observe objects wait ∷ t) f = let w = all-well t f in record { serial = w.serial; sufficient = w.sufficient; taken = w.taken; reported = w.reported }
   all-well (events.Leave ∷ t) f = let w = all-well t f in record { serial = w.serial; sufficient = w.sufficient; taken = w.taken; reported = w.reported }
   all-well (events.Cut ∷ t) f = let w = all-well t f in record { serial = w.serial; sufficient = w.sufficient; taken = w.taken; reported = w.reported }
   all-well (events.Quit ∷ t) f = let w = all-well t f in record { serial = w.serial; sufficient = w.sufficient; taken = w.taken; reported = w.reported }

@@ -1,5 +1,5 @@
 -- What a client that took a session's first deliveries holds of them, and what it holds after one more.
-use Rattle.std.proofs.Common.{◌≡◌, ℕ, Bool, true, ◌&&◌, ◌==◌, ◌⊎◌, inl, inr, List, [], ◌∷◌, ◌++◌, map, filter, length, Some, slice_get, ℤ, refl, sym, ap, ◌∙◌, subst, eqb-true, true≢false}
+use Rattle.std.proofs.Common.{◌≡◌, ℕ, ◌≤◌, Bool, true, ◌&&◌, ◌==◌, ◌⊎◌, inl, inr, List, [], ◌∷◌, ◌++◌, map, filter, length, Some, slice_get, ℤ, refl, sym, ap, ◌∙◌, subst, eqb-true, true≢false}
 use Rattle.std.specs.List.{list_any, AllByRecursion}
 use Rattle.std.proofs.lemmas.Bool.{cond-true, cond-false, cases_Bool, and_parts, and_left}
 use Rattle.std.proofs.lemmas.Option.{none-some}
@@ -14,7 +14,7 @@ use Rattle.sv_journal.specs.History.{Authored, item_at}
 use Rattle.sv_client.specs.Traces.{head_held, with_items, results_of}
 use Rattle.sv_system.specs.Fronts.{IsFront}
 use Rattle.sv_system.specs.Serial.{IsSerial, AreSerial, AreSupplied}
-use Rattle.sv_system.specs.Delivery.{Delivery, Telling, told_positions, told_commits, head_objects, IsRelayed, IsLawful, AreLawful, tellings_to}
+use Rattle.sv_system.specs.Delivery.{Delivery, Telling, told_positions, told_commits, head_objects, IsRelayed, IsShown, IsLawful, AreLawful, tellings_to}
 use Rattle.sv_system.proofs.Tests.{any-right}
 use Rattle.sv_system.proofs.Every.{each-append, each-left, each-last, each-more}
 use Rattle.sv_system.proofs.Fronts.{front-all, front-then, front-append, get-push_cases}
@@ -22,7 +22,7 @@ use Rattle.sv_system.proofs.Covers.{is_held}
 use Rattle.sv_system.proofs.Items.{actions_in, item-action, IsPlain, AreWaiting, items-keep, items-have, items-supplied}
 use Rattle.sv_system.specs.Journals.{IsSerialResult}
 use Rattle.sv_system.proofs.Reported.{items-reported}
-use Rattle.sv_system.proofs.Relays.{head-has, Knows, positions-ascending, relay-waiting}
+use Rattle.sv_system.proofs.Relays.{head-has, Knows, relay-ascending, relay-serving, shown-ascending, shown-serving, serving-waiting}
 
 -- All that a telling tells is held: the values of its head at its commit, and of each item those of what it writes at its position.
 abbrev pub IsTaken : List Held → Telling → Type 0
@@ -115,13 +115,15 @@ module _ (objects : ℕ) (opening : List (List ℤ)) (count : length opening ≡
     pub taken : IsTaken (with_telling held (telling_of A d)) (telling_of A d)
     pub reported : AllByRecursion (IsSerialResult opening (actions_in A)) (results_of (held ++ head_held d.commit d.head) (map (item_at A) d.positions))
 
-  waiting-of : (held : List Held) (ds : List Delivery) (d : Delivery) → Knows (actions_in A) ds d.session held →
-      (d.positions ≡ []) ⊎ IsRelayed objects (actions_in A) ds d →
+  waiting-of : (held : List Held) (ds : List Delivery) (d : Delivery) → Knows (actions_in A) ds d.session held → d.count ≤ length (actions_in A) →
+      (d.positions ≡ []) ⊎ (IsRelayed objects (actions_in A) ds d ⊎ IsShown objects (actions_in A) ds d) →
       (is_ascending d.positions ≡ true) × AreWaiting (actions_in A) (held ++ head_held d.commit d.head) d.positions
-  waiting-of held ds d known (inl e) =
+  waiting-of held ds d known all (inl e) =
       subst (λ (ks : List ℕ). (is_ascending ks ≡ true) × AreWaiting (actions_in A) (held ++ head_held d.commit d.head) ks) (sym e) (refl, λ k m x r. absurd (true≢false (sym m)))
-  waiting-of held ds d known (inr r) =
-      (positions-ascending objects (actions_in A) plain ds d r, relay-waiting objects (actions_in A) plain ds d r held known)
+  waiting-of held ds d known all (inr (inl r)) =
+      (relay-ascending objects (actions_in A) plain ds d r, serving-waiting objects (actions_in A) ds d held known (relay-serving objects (actions_in A) plain ds d r))
+  waiting-of held ds d known all (inr (inr r)) =
+      (shown-ascending objects (actions_in A) plain ds d all r, serving-waiting objects (actions_in A) ds d held known (shown-serving objects (actions_in A) plain ds d all r))
 
   items-taken : (held : List Held) (ks js : List ℕ) → ((k : ℕ) → is_in k js ≡ true → is_in k ks ≡ true) →
       AllByRecursion (λ (item : Item). (x : ℕ) → is_in x (write_set item.action) ≡ true → is_held x item.pos (with_items held (map (item_at A) ks)) ≡ true) (map (item_at A) js)
@@ -135,7 +137,7 @@ module _ (objects : ℕ) (opening : List (List ℤ)) (count : length opening ≡
       IsLawful objects opening (actions_in A) ds d → IsTakenWell held d
   delivery-taken held ds d serial known lawful =
       let heads = head_held d.commit d.head in
-      let w = waiting-of held ds d known lawful.relayed in
+      let w = waiting-of held ds d known lawful.count lawful.relayed in
       let all : AreSerial opening (actions_in A) (held ++ heads) = each-append (IsSerial opening (actions_in A)) held heads serial lawful.serial in
       let items = items-supplied objects opening count A plain d.positions (held ++ heads) w.0 all w.1 in
       record {

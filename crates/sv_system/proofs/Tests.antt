@@ -22,6 +22,14 @@ four-false false false true d e f g h = absurd (true≢false g)
 four-false false false false true e f g h = absurd (true≢false h)
 four-false false false false false e f g h = refl
 
+pub five-false : (a b c d e : Bool) → a ≡ false → b ≡ false → c ≡ false → d ≡ false → e ≡ false → (a || b || c || d || e) ≡ false
+five-false true b c d e f g h i j = absurd (true≢false f)
+five-false false true c d e f g h i j = absurd (true≢false g)
+five-false false false true d e f g h i j = absurd (true≢false h)
+five-false false false false true e f g h i j = absurd (true≢false i)
+five-false false false false false true f g h i j = absurd (true≢false j)
+five-false false false false false false f g h i j = refl
+
 pub any-into : {X : Type 0} (p q : X → Bool) (xs : List X) → ((x : X) → p x ≡ true → q x ≡ true) → list_any p xs ≡ true → list_any q xs ≡ true
 any-into p q [] f h = h
 any-into p q (x ∷ xs) f h =

@@ -22,8 +22,10 @@ use Rattle.sv_journal.specs.Serving.{plain, LegalFor}
 use Rattle.sv_journal.proofs.Plain.{plain-keeping, plain-legal}
 use Rattle.sv_client.specs.declared.trace.Trace.{Trace}
 use Rattle.sv_client.specs.Traces.{held_at, held_of}
+use Rattle.sv_client.specs.Proper.{identity_of}
 use Rattle.sv_system.specs.Fits.{has_session, FitsOne, is_owned, Fits}
 use Rattle.sv_system.specs.Serial.{IsSerial, AreSerial, results_held, request_held, reply_held, entry_held, ValuesAreSerial, AreSufficient, RelaysAreSufficient}
+use Rattle.sv_system.specs.Cuts.{AreCuts, SeenAreCuts}
 use Rattle.sv_system.specs.Delivery.{AreLawful}
 use Rattle.sv_system.specs.Journals.{deliveries_of, serial_result, IsSerialResult, ResultsAreSerial}
 use Rattle.sv_system.proofs.Tests.{at_mask-members, at_mask-ascending}
@@ -31,6 +33,7 @@ use Rattle.sv_system.proofs.Every.{each-append, each-is_in, each-member}
 use Rattle.sv_system.proofs.Serials.{serial-step, put-serial}
 use Rattle.sv_system.proofs.Histories.{IsEarlier, same, earlier-rest}
 use Rattle.sv_system.proofs.Asking.{fits-but_values}
+use Rattle.sv_system.proofs.Observed.{are-cuts}
 use Rattle.sv_system.proofs.Induction.{plain-acts, lawful_at, done-serial, whole-well, reply-all-held}
 
 -- ---- Results that were reported
@@ -61,6 +64,7 @@ one-reported opening A p (requests.Done results) vs low each is = some-reported 
 one-reported opening A p (requests.Join client life interest) vs low each is = absurd (none-some vs is)
 one-reported opening A p (requests.Submit seq a) vs low each is = absurd (none-some vs is)
 one-reported opening A p requests.Poll vs low each is = absurd (none-some vs is)
+one-reported opening A p (requests.Observe objects wait) vs low each is = absurd (none-some vs is)
 one-reported opening A p requests.Leave vs low each is = absurd (none-some vs is)
 one-reported opening A p requests.Bad vs low each is = absurd (none-some vs is)
 one-reported opening A p requests.End vs low each is = absurd (none-some vs is)
@@ -106,6 +110,7 @@ module _ (r : Rules) (H : List Entry) (Ls : List Trace) (count : length r.world.
   entry-serial e h (requests.Join client life interest) is b before owned = tt
   entry-serial e h (requests.Submit seq a) is b before owned = tt
   entry-serial e h requests.Poll is b before owned = tt
+  entry-serial e h (requests.Observe objects wait) is b before owned = tt
   entry-serial e h requests.Leave is b before owned = tt
   entry-serial e h requests.Bad is b before owned = tt
   entry-serial e h requests.End is b before owned = tt
@@ -151,6 +156,7 @@ module _ (r : Rules) (H : List Entry) (Ls : List Trace) (count : length r.world.
   request-all-held (requests.Join client life interest) h = tt
   request-all-held (requests.Submit seq a) h = tt
   request-all-held requests.Poll h = tt
+  request-all-held (requests.Observe objects wait) h = tt
   request-all-held requests.Leave h = tt
   request-all-held requests.Bad h = tt
   request-all-held requests.End h = tt
@@ -169,6 +175,16 @@ module _ (r : Rules) (H : List Entry) (Ls : List Trace) (count : length r.world.
   got-sufficient : (Ms : List Trace) → AllByRecursion (FitsOne r.world.shape H) Ms → AllByRecursion (λ (L : Trace). AreSufficient acts (reverse L.events)) Ms
   got-sufficient [] each = tt
   got-sufficient (L ∷ Ms) each = ((whole-well plain plain-keeping r H count legal_for noted-serial L (fits-but_values r.world.shape H L each.0)).sufficient, got-sufficient Ms each.1)
+
+  all-cuts : (Ms : List Trace) → AllByRecursion (FitsOne r.world.shape H) Ms → AllByRecursion (λ (L : Trace). AreCuts r.world.values acts (identity_of r.world.shape L) (reverse L.events)) Ms
+  all-cuts [] each = tt
+  all-cuts (L ∷ Ms) each = (
+    are-cuts plain r H L (record { keeps = plain-keeping; legal = legal_for; fits = fits-but_values r.world.shape H L each.0 }) count noted-serial,
+    all-cuts Ms each.1,
+  )
+
+  pub seen-cuts : SeenAreCuts r.world.shape r.world.values H Ls
+  seen-cuts = All-from_recursion (λ (L : Trace). AreCuts r.world.values acts (identity_of r.world.shape L) (reverse L.events)) Ls (all-cuts Ls (recursion_from_All (FitsOne r.world.shape H) Ls fits.each))
 
   pub values-serial : ValuesAreSerial r.world.values H Ls
   values-serial = record {

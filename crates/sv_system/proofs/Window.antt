@@ -82,6 +82,7 @@ module _ (who : Identity) (first : ℕ) where
       grows (events.Got m r) = omega arith
       grows (events.Make action) = omega arith
       grows events.Poll = omega arith
+      grows (events.Observe objects wait) = omega arith
       grows events.Leave = omega arith
       grows events.Cut = omega arith
       grows events.Quit = omega arith
@@ -104,6 +105,10 @@ module _ (who : Identity) (first : ℕ) where
       done-now true (replies.Relay seq commit head items) (suc j) g = none-some (requests.Submit n a) g
       done-now true (replies.Welcome commit head) j g = none-some (requests.Submit n a) g
       done-now true (replies.Dropped seq chain far) j g = none-some (requests.Submit n a) g
+      done-now true (replies.Denied seq object) j g = none-some (requests.Submit n a) g
+      done-now true (replies.Seen last commit head []) j g = none-some (requests.Submit n a) g
+      done-now true (replies.Seen last commit head (item ∷ items)) zero g = true≢false (sym (ap is_submit (same_Some _ (requests.Submit n a) g)))
+      done-now true (replies.Seen last commit head (item ∷ items)) (suc j) g = none-some (requests.Submit n a) g
       done-now true (replies.Settled seq pos) j g = none-some (requests.Submit n a) g
       done-now true (replies.Noted commit) j g = none-some (requests.Submit n a) g
       done-now true replies.Idle j g = none-some (requests.Submit n a) g
@@ -115,6 +120,7 @@ module _ (who : Identity) (first : ℕ) where
       now (events.Got m r) j g = absurd (done-now (m == s) r j g)
       now (events.Make action) j g = make-now (is_session (current_session t) s) action j g
       now events.Poll j g = absurd (no-submit (is_session (current_session t) s) requests.Poll j n a refl g)
+      now (events.Observe objects wait) j g = absurd (no-submit (is_session (current_session t) s) (requests.Observe objects wait) j n a refl g)
       now events.Leave j g = absurd (no-submit (is_session (current_session t) s) requests.Leave j n a refl g)
       now events.Cut j g = absurd (none-some (requests.Submit n a) g)
       now events.Quit j g = absurd (none-some (requests.Submit n a) g)
@@ -148,6 +154,7 @@ submit-of (requests.Submit n a) e = (n, (a, refl))
 submit-of (requests.Join client life interest) e = absurd (true≢false (sym e))
 submit-of (requests.Done results) e = absurd (true≢false (sym e))
 submit-of requests.Poll e = absurd (true≢false (sym e))
+submit-of (requests.Observe objects wait) e = absurd (true≢false (sym e))
 submit-of requests.Leave e = absurd (true≢false (sym e))
 submit-of requests.Bad e = absurd (true≢false (sym e))
 submit-of requests.End e = absurd (true≢false (sym e))
@@ -208,6 +215,7 @@ answered-next K keeps r A d h l n a q (logged.Settled seq pos) is s =
     let old : seq < next_seq h k = kept_known h k seq t.1.1.1.1.0 t.1.1.1.1.1 in
     (k, (t.1.0, omega arith))
 answered-next K keeps r A d h l n a q (logged.Welcome commit head) is s = absurd (true≢false (sym s))
+answered-next K keeps r A d h l n a q (logged.Seen last commit head positions) is s = absurd (true≢false (sym s))
 answered-next K keeps r A d h l n a q (logged.Noted commit) is s = absurd (true≢false (sym s))
 answered-next K keeps r A d h l n a q logged.Idle is s = absurd (true≢false (sym s))
 answered-next K keeps r A d h l n a q (logged.Refused code detail) is s = absurd (true≢false (sym s))
@@ -284,6 +292,7 @@ module _ (owner : Owner) (g : List Entry) (earlier : IsEarlier g owner.journal)
       omega arith
   settled-next (events.Join o ∷ t) p = settled-next t (part-rest t (events.Join o) whole p)
   settled-next (events.Poll ∷ t) p = settled-next t (part-rest t events.Poll whole p)
+  settled-next (events.Observe objects wait ∷ t) p = settled-next t (part-rest t (events.Observe objects wait) whole p)
   settled-next (events.Leave ∷ t) p = settled-next t (part-rest t events.Leave whole p)
   settled-next (events.Cut ∷ t) p = settled-next t (part-rest t events.Cut whole p)
   settled-next (events.Quit ∷ t) p = settled-next t (part-rest t events.Quit whole p)

@@ -1,9 +1,10 @@
 -- Deliveries: the heads and positions that a server tells its sessions, apart from how it comes to tell them. Where they are lawful, every
 -- client that takes them holds serial values alone.
-use Rattle.std.specs.Prelude.{◌≡◌, ◌⊎◌, ℕ, ◌+◌, ◌<◌, ◌≤◌, ℤ, false, ◌==◌, ◌&&◌, nat_le, List, [], ◌∷◌, ◌++◌, map, filter, length, take, if◌then◌else◌}
+use Rattle.std.specs.Prelude.{◌≡◌, ◌⊎◌, ℕ, ◌+◌, ◌<◌, ◌≤◌, ℤ, true, false, ◌==◌, ◌&&◌, nat_le, List, [], ◌∷◌, ◌++◌, map, filter, length, take, if◌then◌else◌}
 use Rattle.std.specs.List.{list_any}
 use Rattle.sv_world.specs.declared.action.Action.{Action}
-use Rattle.sv_world.specs.Control.{is_in, below, action_at, last_writer, needed_for, head_for}
+use Rattle.sv_world.specs.Control.{is_in, below, action_at, last_writer, needed_for, head_for, needed_to_see, head_to_see}
+use Rattle.sv_world.specs.Faults.{may_be_observed}
 use Rattle.sv_world.specs.Sets.{write_set}
 use Rattle.sv_wire.specs.declared.message.ObjectValue.{ObjectValue as Sent}
 use Rattle.sv_wire.specs.declared.message.Item.{Item}
@@ -55,12 +56,22 @@ pub record IsRelayed (objects : ℕ) (A : List Action) (ds : List Delivery) (d :
   pub positions : d.positions ≡ needed_for (take d.count A) d.commit (told_positions ds d.session) target
   pub head : head_objects d.head ≡ head_for objects (take d.count A) d.commit (told_positions ds d.session) (known_values objects A d.commit ds d.session) target
 
--- A delivery is lawful after the earlier ones: its commit is among its accepted actions, and these are the first of A; it is a relay, or has no
--- positions; and its head has serial values.
+-- The positions and base values of a delivery are those that a session lacks of some objects at one of the accepted positions.
+pub record IsShown (objects : ℕ) (A : List Action) (ds : List Delivery) (d : Delivery) : Type 0 where
+  pub seen : List ℕ
+  pub last : ℕ
+  pub good : may_be_observed objects seen ≡ true
+  pub low : d.commit ≤ last
+  pub accepted : last ≤ d.count
+  pub positions : d.positions ≡ needed_to_see (take d.count A) d.commit (told_positions ds d.session) seen last
+  pub head : head_objects d.head ≡ head_to_see objects (take d.count A) d.commit (told_positions ds d.session) (known_values objects A d.commit ds d.session) seen last
+
+-- A delivery is lawful after the earlier ones: its commit is among its accepted actions, and these are the first of A; it is a relay, or shows
+-- objects, or has no positions; and its head has serial values.
 pub record IsLawful (objects : ℕ) (opening : List (List ℤ)) (A : List Action) (ds : List Delivery) (d : Delivery) : Type 0 where
   pub commit : d.commit ≤ d.count
   pub count : d.count ≤ length A
-  pub relayed : (d.positions ≡ []) ⊎ IsRelayed objects A ds d
+  pub relayed : (d.positions ≡ []) ⊎ (IsRelayed objects A ds d ⊎ IsShown objects A ds d)
   pub serial : AreSerial opening A (head_held d.commit d.head)
 
 abbrev pub AreLawful : ℕ → List (List ℤ) → List Action → List Delivery → Type 0
@@ -85,6 +96,7 @@ tellings_to A (d ∷ ds) s = if d.session == s
 abbrev pub telling_in : Reply → List Telling
 telling_in (replies.Welcome commit head) = record { commit = commit; head = head; items = [] } ∷ []
 telling_in (replies.Relay seq commit head items) = record { commit = commit; head = head; items = items } ∷ []
+telling_in (replies.Seen last commit head items) = record { commit = commit; head = head; items = items } ∷ []
 telling_in _ = []
 
 -- The tellings that were got in a session, in order.

@@ -18,9 +18,11 @@ abbrev pub delivery_by : ℕ → ℕ → Logged → List Delivery
 delivery_by s count (logged.Welcome commit head) = record { session = s; count = count; commit = commit; head = head; positions = [] } ∷ []
 delivery_by s count (logged.Relay seq commit head positions) =
     record { session = s; count = count; commit = commit; head = head; positions = positions } ∷ []
+delivery_by s count (logged.Seen last commit head positions) =
+    record { session = s; count = count; commit = commit; head = head; positions = positions } ∷ []
 delivery_by s count _ = []
 
--- The deliveries of a history's welcomes and relays, with the latest first.
+-- The deliveries of a history's welcomes and relays, and of what was seen, with the latest first.
 abbrev pub deliveries_of : List Entry → List Delivery
 deliveries_of [] = []
 deliveries_of (e ∷ h) = delivery_by e.session (length (accepted (e ∷ h))) e.reply ++ deliveries_of h

@@ -1,7 +1,7 @@
 -- The laws of whole runs that the laws of other crates rest on.
 -- A history is the list of a journal's entries with the latest first.
 use Rattle.std.specs.Prelude.{◌≡◌, ◌≤◌, ℕ, ℤ, List, All, length, reverse, slice_get, None, Some}
-use Rattle.sv_world.specs.Limits.{most_bound, most_requests}
+use Rattle.sv_world.specs.Limits.{most_bound, most_positions, most_requests}
 use Rattle.sv_wire.specs.declared.message.Reply.{Reply}
 use Rattle.sv_journal.specs.declared.entry.Entry.{Entry}
 use Rattle.sv_journal.specs.History.{accepted}
@@ -19,11 +19,12 @@ abbrev pub ReplicasAreSerial : Type 0
 ReplicasAreSerial = (r : Rules) (h : List Entry) (Ls : List Trace) → length r.world.values ≡ r.world.shape.objects → Legal r h →
     Fits r.world.shape h Ls → ValuesAreSerial r.world.values h Ls
 
--- The next reply of the session that an honest client began last has no fault, where at most so many requests are asked in it.
+-- The next reply of the session that an honest client began last has no fault, where at most so many requests are asked in it and all accepted
+-- actions have their positions.
 abbrev pub NeverRefused : Type 0
 NeverRefused = (r : Rules) (h : List Entry) (Ls : List Trace) (i : ℕ) (L : Trace) (s : ℕ) (reply : Reply) →
     length r.world.values ≡ r.world.shape.objects → All (λ (v : List ℤ). length v ≡ r.world.shape.attrs) r.world.values → r.bound ≤ most_bound →
-    Legal r h → Fits r.world.shape h Ls → slice_get Ls i ≡ Some L →
+    length (accepted h) ≤ most_positions → Legal r h → Fits r.world.shape h Ls → slice_get Ls i ≡ Some L →
     current_session (reverse L.events) ≡ Some s → length (requests_of L s) ≤ most_requests →
     slice_get (replies_in (accepted h) h s) (length (got (reverse L.events) s)) ≡ Some reply →
     first_fault_of_reply (identity_of r.world.shape L) (reverse L.events) reply ≡ None

@@ -4,6 +4,7 @@ pub mod Places
 pub mod Fits
 pub mod Journals
 pub mod Serial
+pub mod Cuts
 pub mod Served
 pub mod Delivery
 pub mod Outcomes

@@ -16,6 +16,7 @@ use Rattle.sv_system.specs.declared.played.Played.{Played}
 use Rattle.sv_system.specs.Fits.{Fits}
 use Rattle.sv_system.specs.Outcomes.{OutcomesAreRight}
 use Rattle.sv_system.specs.Serial.{ValuesAreSerial, RelaysAreSufficient}
+use Rattle.sv_system.specs.Cuts.{SeenAreCuts}
 
 -- The rules that a scenario's server is opened with.
 abbrev pub rules_of : Scenario → Rules
@@ -62,13 +63,14 @@ ScriptsAreDone shape plans Ls = EachTrace (λ plan L. IsCarriedOut shape plan.st
 
 -- ---- The whole
 
--- The record of a run: its traffic, each value at a position the serial execution's, the committed world too, each relay sufficient, each
--- script carried out, and one outcome for each action of a client that did not quit.
+-- The record of a run: its traffic, each value at a position the serial execution's, the committed world too, each relay sufficient, all that
+-- was seen one cut, each script carried out, and one outcome for each action of a client that did not quit.
 pub record IsFullRecord (scenario : Scenario) (h : List Entry) (Ls : List Trace) : Type 0 where
   pub traffic : IsRecordOf scenario h Ls
   pub values : ValuesAreSerial scenario.world.values h Ls
   pub world : committed_of scenario.world.values h ≡ serial_world scenario.world.values (actions_of h) (commit_of h)
   pub relays : RelaysAreSufficient h Ls
+  pub seen : SeenAreCuts scenario.world.shape scenario.world.values h Ls
   pub scripts : ScriptsAreDone scenario.world.shape scenario.clients Ls
   pub outcomes : OutcomesAreRight (rules_of scenario) h Ls
 

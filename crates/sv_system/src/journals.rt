@@ -7,7 +7,7 @@ ghost use Rattle.sv_journal.specs.Answer.{Rules, Legal};
 ghost use Rattle.sv_system.specs.Delivery.{AreLawful};
 ghost use Rattle.sv_system.specs.Journals.{deliveries_of, ResultsAreSerial};
 
-/// The welcomes and relays of a legal journal are lawful deliveries of good actions, where the results that it notes are those of the
+/// The welcomes and relays of a legal journal, and what is seen, are lawful deliveries of good actions, where the results that it notes are those of the
 /// serial execution.
 ///
 /// `r` are the rules that the server was opened with, and `h` are the journal's entries with the latest first. A server that keeps a

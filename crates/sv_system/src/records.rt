@@ -12,7 +12,7 @@ use sv_script::steps_are_done_in_order;
 
 /// Runs of good scenarios leave full records, whatever the schedule: where a journal and traces are the record of a run's traffic, and each
 /// trace follows its script to the end, all values and the committed world are those of the serial execution, each relay brought what its
-/// items read, each client did all of its script, and each action has its outcome.
+/// items read, what was seen is one cut of the serial execution, each client did all of its script, and each action has its outcome.
 ///
 /// `h` are the journal's entries with the latest first, and `Ls` the traces of the clients.
 pub fn runs_leave_full_records()

@@ -2,7 +2,7 @@
 //! A server that goes by all of them, and whose clients are all honest, is the case of the other laws of this crate.
 ghost use Rattle.std.specs.Prelude.{◌≡◌, ◌≤◌, ℕ, ℤ, true, List, All, length, reverse, slice_get, None, Some, [], ◌∷◌, ◌++◌};
 ghost use Rattle.sv_world.specs.Faults.{IsGoodAction};
-ghost use Rattle.sv_world.specs.Limits.{most_bound, most_requests};
+ghost use Rattle.sv_world.specs.Limits.{most_bound, most_positions, most_requests};
 ghost use Rattle.sv_eval.specs.Serial.{serial_world};
 ghost use Rattle.sv_wire.specs.declared.message.Done1.{Done1};
 ghost use Rattle.sv_wire.specs.declared.message.ObjectValue.{ObjectValue};
@@ -21,6 +21,7 @@ ghost use Rattle.sv_client.specs.Proper.{identity_of};
 ghost use Rattle.sv_system.specs.Fits.{replies_in, has_session, FitsOne, Fits};
 ghost use Rattle.sv_system.specs.Served.{FitsBut, no_client, OwnsSessions, FitsButValues};
 ghost use Rattle.sv_system.specs.Serial.{AreSerial, AreSufficient, reply_held};
+ghost use Rattle.sv_system.specs.Cuts.{AreCuts};
 ghost use Rattle.sv_system.specs.Delivery.{AreLawful};
 ghost use Rattle.sv_system.specs.Journals.{deliveries_of, IsSerialResult, ResultsAreSerial};
 
@@ -48,8 +49,8 @@ pub fn honest_reports_are_serial()
 {}
 
 /// Where the results that a server goes by are those of the serial execution, so are its committed world and each value that it sends; and
-/// each client whose trace fits its journal, but for the values that it reports, holds serial values alone, and got what its items read with
-/// each relay.
+/// each client whose trace fits its journal, but for the values that it reports, holds serial values alone, got what its items read with each
+/// relay, and saw the objects that it observed as the serial execution has them at one position.
 ///
 /// `k`, `r` and `h` are as above, and `L` is the client's trace.
 pub fn served_values_are_serial()
@@ -63,6 +64,9 @@ pub fn served_values_are_serial()
         AreSerial r.world.values (actions_of h) (held_of (reverse L.events)) }
     ensures relays { (k : Keeping) (r : Rules) (h : List Entry) (L : Trace) → IsKeeping k → length r.world.values ≡ r.world.shape.objects → LegalFor k r h →
         ResultsAreSerial r.world.values (actions_of h) (k.kept h) → FitsButValues r.world.shape h L → AreSufficient (actions_of h) (reverse L.events) }
+    ensures seen { (k : Keeping) (r : Rules) (h : List Entry) (L : Trace) → IsKeeping k → length r.world.values ≡ r.world.shape.objects → LegalFor k r h →
+        ResultsAreSerial r.world.values (actions_of h) (k.kept h) → FitsButValues r.world.shape h L →
+        AreCuts r.world.values (actions_of h) (identity_of r.world.shape L) (reverse L.events) }
 {}
 
 /// Clients are never refused, where the results that their server goes by are those of the serial execution: the next reply of the session
@@ -70,11 +74,12 @@ pub fn served_values_are_serial()
 /// trace fits the journal but for the values that it reports, and has each session that was joined as the client; where all clients but one
 /// are honest, each honest one's is such a trace; and where all clients are honest, the one is a client that there is not.
 ///
-/// `k`, `r` and `h` are as above, `L` is the client's trace, and at most 1,024 requests are asked in the session `s`.
+/// `k`, `r` and `h` are as above, `L` is the client's trace, at most 1,024 requests are asked in the session `s`, and all accepted actions have
+/// their positions.
 pub fn served_clients_are_never_refused()
     ensures faults { (k : Keeping) (r : Rules) (h : List Entry) (L : Trace) (s : ℕ) (reply : Reply) → IsKeeping k →
         length r.world.values ≡ r.world.shape.objects → All (λ (v : List ℤ). length v ≡ r.world.shape.attrs) r.world.values → r.bound ≤ most_bound →
-        LegalFor k r h → ResultsAreSerial r.world.values (actions_of h) (k.kept h) → FitsButValues r.world.shape h L → OwnsSessions h L →
+        length (accepted h) ≤ most_positions → LegalFor k r h → ResultsAreSerial r.world.values (actions_of h) (k.kept h) → FitsButValues r.world.shape h L → OwnsSessions h L →
         current_session (reverse L.events) ≡ Some s → length (requests_of L s) ≤ most_requests →
         slice_get (replies_in (accepted h) h s) (length (got (reverse L.events) s)) ≡ Some reply →
         first_fault_of_reply (identity_of r.world.shape L) (reverse L.events) reply ≡ None }

@@ -16,7 +16,7 @@ use Rattle.sv_wire.specs.declared.message.Done1.{Done1}
 use Rattle.sv_wire.specs.Steps.{Read, Turn, several, in_turn}
 use Rattle.sv_wire.specs.Fields.{byte_from, number_from, int_from, count_from, head_count_from, object_from, objects_from, value_from, held_from, helds_from, head_from, result_from}
 use Rattle.sv_wire.specs.Spelling.{int_bytes, object_bytes, value_bytes, held_bytes, head_bytes, result_bytes}
-use Rattle.sv_wire.specs.Grammar.{IsWireValue, IsWireHead, IsWireResult}
+use Rattle.sv_wire.specs.Grammar.{IsWireValue, IsWireHeadUpTo, IsWireResult}
 use Rattle.sv_world.specs.Ranges.{ObjectFits}
 use Rattle.sv_wire.specs.Ranges.{ValueFits, HeldFits, ResultFits}
 
@@ -109,14 +109,14 @@ pub both_of_each : {A : Type 0} (P Q : A → Type 0) (xs : List A) → AllByRecu
 both_of_each P Q [] p q = tt
 both_of_each P Q (x ∷ xs) p q = ((p.0, q.0), both_of_each P Q xs p.1 q.1)
 
-pub head_again : (head : List ObjectValue) (rest : List ℕ) → IsWireHead head → AllByRecursion HeldFits head → head_from (head_bytes head ++ rest) ≡ Ok (head, rest)
+pub head_again : (most : ℕ) (head : List ObjectValue) (rest : List ℕ) → most ≤ 65535 → IsWireHeadUpTo most head → AllByRecursion HeldFits head → head_from most (head_bytes head ++ rest) ≡ Ok (head, rest)
 unfolding head_from helds_from head_count_from
-head_again head rest is fits =
+head_again most head rest small is fits =
     let regrouped : head_bytes head ++ rest ≡ big_bytes 2 (length head) ++ (flat_map held_bytes head ++ rest) = append_assoc (big_bytes 2 (length head)) (flat_map held_bytes head) rest in
     let each = both_of_each (λ (h : ObjectValue). IsWireValue h.value) HeldFits head (recursion_from_All (λ (h : ObjectValue). IsWireValue h.value) head is.values) fits in
-    let few : ltb 528 (length head) ≡ false = le-ltb 528 (length head) is.few in
+    let few : ltb most (length head) ≡ false = le-ltb most (length head) is.few in
     let turns = in_turn_again held_from held_bytes (λ (h : ObjectValue). h.object.0) (λ h. IsWireValue h.value × HeldFits h) held_again 0 head rest (climbs (λ (h : ObjectValue). h.object.0) head is.ascending) each in
-    ap head_from regrouped ∙ rw (number_again 2 (length head) (flat_map held_bytes head ++ rest) (omega (arith, is.few)), few, turns) refl
+    ap (head_from most) regrouped ∙ rw (number_again 2 (length head) (flat_map held_bytes head ++ rest) (omega (arith, is.few, small)), few, turns) refl
 
 pub result_again : (r : Done1) (rest : List ℕ) → IsWireResult r × ResultFits r → result_from (result_bytes r ++ rest) ≡ Ok (r, rest)
 unfolding result_from

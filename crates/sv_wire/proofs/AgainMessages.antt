@@ -1,5 +1,5 @@
 -- What was written is read again, whatever follows it: actions and messages.
-use Rattle.std.proofs.Common.{◌≡◌, ℕ, ◌^◌, ◌<◌, List, [], ◌∷◌, ◌++◌, length, Result, Ok, FitsSigned, refl, sym, ap, ◌∙◌, append_assoc, arith}
+use Rattle.std.proofs.Common.{◌≡◌, ℕ, ◌^◌, ◌<◌, ◌≤◌, List, [], ◌∷◌, ◌++◌, length, Result, Ok, FitsSigned, refl, sym, ap, ◌∙◌, append_assoc, arith}
 use Rattle.std.specs.List.{flat_map, AllByRecursion}
 use Rattle.std.specs.Int.{w32}
 use Rattle.std.proofs.lemmas.Bool.{lt-leb, le-leb}
@@ -8,19 +8,21 @@ use Rattle.std.proofs.lemmas.List.Elements.{recursion_from_All}
 use Rattle.byteorder.specs.Endian.{big_bytes}
 use Rattle.sv_world.specs.declared.action.Action.{Action}
 use Rattle.sv_world.specs.declared.action.Point.{Point}
+use Rattle.sv_world.specs.declared.world.ObjectId.{ObjectId}
+use Rattle.sv_world.specs.Ranges.{ObjectFits}
 use Rattle.sv_wire.specs.declared.fault.Stop.{Stop}
 use Rattle.sv_wire.specs.declared.message.ObjectValue.{ObjectValue}
 use Rattle.sv_wire.specs.declared.message.Item.{Item}
 use Rattle.sv_wire.specs.declared.message.Request.{Request}
-use Rattle.sv_wire.specs.declared.message.Request.TheVariants.{Join, Submit, Done, Poll, Leave, Bad, End}
+use Rattle.sv_wire.specs.declared.message.Request.TheVariants.{Join, Submit, Done, Poll, Observe, Leave, Bad, End}
 use Rattle.sv_wire.specs.declared.message.Reply.{Reply}
-use Rattle.sv_wire.specs.declared.message.Reply.TheVariants.{Welcome, Relay, Dropped, Settled, Noted, Idle, Refused, Bye}
+use Rattle.sv_wire.specs.declared.message.Reply.TheVariants.{Welcome, Relay, Dropped, Denied, Seen, Settled, Noted, Idle, Refused, Bye}
 use Rattle.sv_wire.specs.Steps.{Read}
 use Rattle.sv_wire.specs.Fields.{byte_from, result_from}
-use Rattle.sv_wire.specs.Messages.{mask_from, point_from, action_from, item_from, join_request_from, submit_from, done_from, request_front, request_kind_of, welcome_from, relay_from, dropped_from, settled_from, noted_from, code_from, refused_from, reply_front, reply_kind_of, whole, placed, request_at, reply_at}
-use Rattle.sv_wire.specs.Spelling.{int_bytes, object_bytes, head_bytes, result_bytes, point_bytes, body_bytes, action_bytes, item_bytes, request_bytes, reply_bytes}
-use Rattle.sv_wire.specs.Grammar.{IsWireHead, IsWireResult, IsWireAction, IsWireRequest, IsWireReply}
-use Rattle.sv_wire.specs.Laws.{IsRequest, IsReply, RequestsDiffer, RepliesDiffer, RequestsAreApart, RepliesAreApart, KindsAreApart}
+use Rattle.sv_wire.specs.Messages.{mask_from, point_from, action_from, item_from, join_request_from, submit_from, done_from, observe_from, request_front, request_kind_of, welcome_from, work_from, relay_from, seen_from, dropped_from, denied_from, settled_from, noted_from, code_from, refused_from, reply_front, reply_kind_of, whole, placed, request_at, reply_at}
+use Rattle.sv_wire.specs.Spelling.{int_bytes, object_bytes, head_bytes, result_bytes, point_bytes, body_bytes, action_bytes, item_bytes, work_bytes, request_bytes, reply_bytes}
+use Rattle.sv_wire.specs.Grammar.{IsWireHead, IsWireResult, IsWireAction, IsWireObserved, IsWireWork, IsWireRequest, IsWireReply}
+use Rattle.sv_wire.specs.Laws.{RequestsDiffer, RepliesDiffer, RequestsAreApart, RepliesAreApart, KindsAreApart}
 use Rattle.sv_wire.specs.Ranges.{HeldFits, ResultFits, ActionFits, ItemFits, RequestFits, ReplyFits}
 use Rattle.sv_wire.proofs.Again.{number_again, int32_again, count_again, several_again, objects_again, head_again, result_again, both_of_each}
 use Rattle.sv_wire.proofs.AgainTrees.{body_again}
@@ -71,6 +73,16 @@ item_again i rest h =
       action_again i.action rest (h.0, h.1.action),
     ) refl
 
+observe_again : (objects : List ObjectId) (wait : ℕ) (rest : List ℕ) → IsWireObserved objects → AllByRecursion ObjectFits objects → wait < 2 ^ 16
+    → observe_from (length objects ∷ (flat_map object_bytes objects ++ (big_bytes 2 wait ++ rest))) ≡ Ok (Observe objects wait, rest)
+unfolding observe_from
+observe_again objects wait rest is fits lt =
+    rw (
+      count_again 1 16 (length objects) (flat_map object_bytes objects ++ (big_bytes 2 wait ++ rest)) is.some is.few,
+      objects_again objects (big_bytes 2 wait ++ rest) is.ascending fits,
+      number_again 2 wait rest (omega arith),
+    ) refl
+
 -- A request at the front, whatever follows it.
 pub request_again : (m : Request) (rest : List ℕ) → IsWireRequest m → RequestFits m → request_front (request_bytes m ++ rest) ≡ Ok (m, rest)
 unfolding request_front request_bytes request_kind_of byte_from join_request_from submit_from done_from
@@ -95,53 +107,78 @@ request_again (Done results) rest is fits =
       several_again result_from result_bytes (λ r. IsWireResult r × ResultFits r) result_again results rest each,
     ) refl
 request_again Poll rest is fits = refl
+request_again (Observe objects wait) rest is fits =
+    let list = length objects ∷ flat_map object_bytes objects in
+    ap observe_from (append_assoc list (big_bytes 2 wait) rest) ∙ observe_again objects wait rest is fits.0 fits.1
 request_again Leave rest is fits = refl
 request_again Bad rest is fits = absurd is
 request_again End rest is fits = absurd is
 
 welcome_again : (commit : ℕ) (head : List ObjectValue) (rest : List ℕ) → IsWireHead head → commit < 2 ^ 32 → AllByRecursion HeldFits head → welcome_from (big_bytes 4 commit ++ (head_bytes head ++ rest)) ≡ Ok (Welcome commit head, rest)
 unfolding welcome_from
-welcome_again commit head rest is lt fits = rw (number_again 4 commit (head_bytes head ++ rest) (omega arith), head_again head rest is fits) refl
+welcome_again commit head rest is lt fits = rw (number_again 4 commit (head_bytes head ++ rest) (omega arith), head_again 528 head rest (omega arith) is fits) refl
 
-relay_again : (seq commit : ℕ) (head : List ObjectValue) (items : List Item) (rest : List ℕ) → IsWireReply (Relay seq commit head items) → ReplyFits (Relay seq commit head items)
-    → relay_from (big_bytes 4 seq ++ (big_bytes 4 commit ++ (head_bytes head ++ (length items ∷ (flat_map item_bytes items ++ rest))))) ≡ Ok (Relay seq commit head items, rest)
-unfolding relay_from
-relay_again seq commit head items rest is fits =
-    let each = both_of_each (λ (i : Item). IsWireAction i.action) ItemFits items (recursion_from_All (λ (i : Item). IsWireAction i.action) items is.each) fits.3 in
+work_again : (most : ℕ) (head : List ObjectValue) (items : List Item) (rest : List ℕ) → most ≤ 65535 → IsWireWork most head items → AllByRecursion HeldFits head → AllByRecursion ItemFits items
+    → work_from most (work_bytes head items ++ rest) ≡ Ok ((head, items), rest)
+unfolding work_from
+work_again most head items rest small is heads fit =
+    let each = both_of_each (λ (i : Item). IsWireAction i.action) ItemFits items (recursion_from_All (λ (i : Item). IsWireAction i.action) items is.each) fit in
     let last = flat_map item_bytes items ++ rest in
-    rw (
-      number_again 4 seq (big_bytes 4 commit ++ (head_bytes head ++ (length items ∷ last))) (omega (arith, fits.0)),
-      number_again 4 commit (head_bytes head ++ (length items ∷ last)) (omega (arith, fits.1)),
-      head_again head (length items ∷ last) is.base fits.2,
+    ap (work_from most) (append_assoc (head_bytes head) (length items ∷ flat_map item_bytes items) rest)
+    ∙ rw (
+      head_again most head (length items ∷ last) small is.base heads,
       count_again 0 33 (length items) last (omega arith) is.few,
       several_again item_from item_bytes (λ (i : Item). IsWireAction i.action × ItemFits i) item_again items rest each,
     ) refl
 
+relay_again : (seq commit : ℕ) (head : List ObjectValue) (items : List Item) (rest : List ℕ) → IsWireReply (Relay seq commit head items) → ReplyFits (Relay seq commit head items)
+    → relay_from (big_bytes 4 seq ++ (big_bytes 4 commit ++ (work_bytes head items ++ rest))) ≡ Ok (Relay seq commit head items, rest)
+unfolding relay_from
+relay_again seq commit head items rest is fits =
+    rw (
+      number_again 4 seq (big_bytes 4 commit ++ (work_bytes head items ++ rest)) (omega (arith, fits.0)),
+      number_again 4 commit (work_bytes head items ++ rest) (omega (arith, fits.1)),
+      work_again 528 head items rest (omega arith) is fits.2 fits.3,
+    ) refl
+
+seen_again : (last commit : ℕ) (head : List ObjectValue) (items : List Item) (rest : List ℕ) → IsWireReply (Seen last commit head items) → ReplyFits (Seen last commit head items)
+    → seen_from (big_bytes 4 last ++ (big_bytes 4 commit ++ (work_bytes head items ++ rest))) ≡ Ok (Seen last commit head items, rest)
+unfolding seen_from
+seen_again last commit head items rest is fits =
+    rw (
+      number_again 4 last (big_bytes 4 commit ++ (work_bytes head items ++ rest)) (omega (arith, fits.0)),
+      number_again 4 commit (work_bytes head items ++ rest) (omega (arith, fits.1)),
+      work_again 544 head items rest (omega arith) is fits.2 fits.3,
+    ) refl
+
+regrouped : (a b c d : List ℕ) → a ++ b ++ c ++ d ≡ a ++ (b ++ (c ++ d))
+regrouped a b c d = append_assoc (a ++ b) c d ∙ append_assoc a b (c ++ d)
+
 -- A reply at the front, whatever follows it.
 pub reply_again : (m : Reply) (rest : List ℕ) → IsWireReply m → ReplyFits m → reply_front (reply_bytes m ++ rest) ≡ Ok (m, rest)
-unfolding reply_front reply_bytes reply_kind_of byte_from dropped_from settled_from noted_from code_from refused_from
+unfolding reply_front reply_bytes reply_kind_of byte_from dropped_from denied_from settled_from noted_from code_from refused_from
 reply_again (Welcome commit head) rest is fits =
     let regrouped : big_bytes 4 commit ++ head_bytes head ++ rest ≡ big_bytes 4 commit ++ (head_bytes head ++ rest) = append_assoc (big_bytes 4 commit) (head_bytes head) rest in
     ap welcome_from regrouped ∙ welcome_again commit head rest is fits.0 fits.1
 reply_again (Relay seq commit head items) rest is fits =
-    let s = big_bytes 4 seq in
-    let c = big_bytes 4 commit in
-    let h = head_bytes head in
-    let l = length items ∷ flat_map item_bytes items in
-    let regrouped : s ++ c ++ h ++ l ++ rest ≡ s ++ (c ++ (h ++ (l ++ rest))) =
-    append_assoc (s ++ c ++ h) l rest ∙ append_assoc (s ++ c) h (l ++ rest) ∙ append_assoc s c (h ++ (l ++ rest)) in
-    ap relay_from regrouped ∙ relay_again seq commit head items rest is fits
+    ap relay_from (regrouped (big_bytes 4 seq) (big_bytes 4 commit) (work_bytes head items) rest) ∙ relay_again seq commit head items rest is fits
 reply_again (Dropped seq chain far) rest is fits =
     let read : dropped_from (big_bytes 4 seq ++ (big_bytes 4 chain ++ (big_bytes 4 far ++ rest))) ≡ Ok (Dropped seq chain far, rest) =
     rw (number_again 4 seq (big_bytes 4 chain ++ (big_bytes 4 far ++ rest)) (omega (arith, fits.0)), number_again 4 chain (big_bytes 4 far ++ rest) (omega (arith, fits.1)), number_again 4 far rest (omega (arith, fits.2))) refl in
     read
+reply_again (Denied seq object) rest is fits =
+    let read : denied_from (big_bytes 4 seq ++ (object_bytes object ++ rest)) ≡ Ok (Denied seq object, rest) =
+    rw (number_again 4 seq (object_bytes object ++ rest) (omega (arith, fits.0)), number_again 2 object.0 rest (omega (arith, fits.1))) refl in
+    read
+reply_again (Seen last commit head items) rest is fits =
+    ap seen_from (regrouped (big_bytes 4 last) (big_bytes 4 commit) (work_bytes head items) rest) ∙ seen_again last commit head items rest is fits
 reply_again (Settled seq position) rest is fits =
     let read : settled_from (big_bytes 4 seq ++ (big_bytes 4 position ++ rest)) ≡ Ok (Settled seq position, rest) =
     rw (number_again 4 seq (big_bytes 4 position ++ rest) (omega (arith, fits.0)), number_again 4 position rest (omega (arith, fits.1))) refl in
     read
 reply_again (Noted commit) rest is fits = rw (number_again 4 commit rest (omega (arith, fits))) refl
 reply_again Idle rest is fits = refl
-reply_again (Refused code detail) rest is fits = rw (le-leb 1 code is.0, le-leb code 11 is.1, number_again 4 detail rest (omega (arith, fits.1))) refl
+reply_again (Refused code detail) rest is fits = rw (le-leb 1 code is.0, le-leb code 12 is.1, number_again 4 detail rest (omega (arith, fits.1))) refl
 reply_again Bye rest is fits = refl
 
 -- A whole payload is read as its message.
@@ -187,6 +224,8 @@ unfolding request_front reply_bytes request_kind_of byte_from
 not_request (Welcome commit head) y x e = cc
 not_request (Relay seq commit head items) y x e = cc
 not_request (Dropped seq chain far) y x e = cc
+not_request (Denied seq object) y x e = cc
+not_request (Seen last commit head items) y x e = cc
 not_request (Settled seq position) y x e = cc
 not_request (Noted commit) y x e = cc
 not_request Idle y x e = cc

@@ -17,7 +17,7 @@ use Rattle.sv_wire.specs.declared.message.Done1.{Done1}
 use Rattle.sv_wire.specs.Steps.{◌>>=◌, Read, Turn, stop, several, in_turn}
 use Rattle.sv_wire.specs.Fields.{byte_from, number_from, int_from, count_from, head_count_from, object_from, objects_from, value_from, held_from, helds_from, head_from, result_from}
 use Rattle.sv_wire.specs.Spelling.{int_bytes, object_bytes, value_bytes, held_bytes, head_bytes, result_bytes}
-use Rattle.sv_wire.specs.Grammar.{IsWireValue, IsWireHead, IsWireResult}
+use Rattle.sv_wire.specs.Grammar.{IsWireValue, IsWireHeadUpTo, IsWireResult}
 use Rattle.sv_wire.proofs.Near.{ok_is}
 use Rattle.sv_wire.proofs.NearFields.{bind_ok, kept_if, kept_unless, count_is}
 use Rattle.sv_wire.proofs.Again.{Climbs}
@@ -183,19 +183,19 @@ held_takes least bytes x fits e =
     let t = value_takes o.0.2 v.0 s.0.bytes_left v.1 in
     subst (λ (y : ObjectValue × ℕ × List ℕ). Takes bytes (held_bytes y.0) y.2 × (least ≤ y.0.object.0) × (y.1 ≡ y.0.object.0 + 1) × IsWireValue y.0.value) (ok_is (record { object = o.0.0; value = v.0.0 }, o.0.1, v.0.1) x v.2) (after s.0 t.0, s.1, s.2, t.1)
 
-pub head_takes : (bytes : List ℕ) (x : List ObjectValue × List ℕ) → IsBytes bytes → head_from bytes ≡ Ok x → Takes bytes (head_bytes x.0) x.1 × IsWireHead x.0
+pub head_takes : (most : ℕ) (bytes : List ℕ) (x : List ObjectValue × List ℕ) → IsBytes bytes → head_from most bytes ≡ Ok x → Takes bytes (head_bytes x.0) x.1 × IsWireHeadUpTo most x.0
 unfolding head_from helds_from head_count_from
-head_takes bytes x fits e =
-    let n = bind_ok (number_from 2 bytes >>= λ n. cond (ltb 528 n.0) (stop bytes Count) (Ok (n.0, n.1))) (λ n. in_turn held_from n.0 0 n.1 >>= λ head. Ok (head.0, head.2)) x e in
-    let m = bind_ok (number_from 2 bytes) (λ n. cond (ltb 528 n.0) (stop bytes Count) (Ok (n.0, n.1))) n.0 n.1 in
-    let g = kept_unless (ltb 528 m.0.0) (m.0.0, m.0.1) n.0 _ m.2 in
-    let few : m.0.0 ≤ 528 = ltb-false 528 m.0.0 g.0 in
+head_takes most bytes x fits e =
+    let n = bind_ok (number_from 2 bytes >>= λ n. cond (ltb most n.0) (stop bytes Count) (Ok (n.0, n.1))) (λ n. in_turn held_from n.0 0 n.1 >>= λ head. Ok (head.0, head.2)) x e in
+    let m = bind_ok (number_from 2 bytes) (λ n. cond (ltb most n.0) (stop bytes Count) (Ok (n.0, n.1))) n.0 n.1 in
+    let g = kept_unless (ltb most m.0.0) (m.0.0, m.0.1) n.0 _ m.2 in
+    let few : m.0.0 ≤ most = ltb-false most m.0.0 g.0 in
     let s = number_takes 2 exact2 bytes m.0 fits m.1 in
-    let c : Takes bytes (big_bytes 2 n.0.0) n.0.1 × (n.0.0 ≤ 528) = subst (λ (y : ℕ × List ℕ). Takes bytes (big_bytes 2 y.0) y.1 × (y.0 ≤ 528)) g.1 (s.0, few) in
+    let c : Takes bytes (big_bytes 2 n.0.0) n.0.1 × (n.0.0 ≤ most) = subst (λ (y : ℕ × List ℕ). Takes bytes (big_bytes 2 y.0) y.1 × (y.0 ≤ most)) g.1 (s.0, few) in
     let h = bind_ok (in_turn held_from n.0.0 0 n.0.1) (λ head. Ok (head.0, head.2)) x n.2 in
     let t = in_turn_takes held_from held_bytes (λ (h : ObjectValue). h.object.0) (λ (h : ObjectValue). IsWireValue h.value) held_takes n.0.0 0 n.0.1 h.0 c.0.bytes_left h.1 in
     let whole : Takes bytes (head_bytes h.0.0) h.0.2 = subst (λ (k : ℕ). Takes bytes (big_bytes 2 k ++ flat_map held_bytes h.0.0) h.0.2) (sym t.1) (after c.0 t.0) in
-    subst (λ (y : List ObjectValue × List ℕ). Takes bytes (head_bytes y.0) y.1 × IsWireHead y.0) (ok_is (h.0.0, h.0.2) x h.2) (
+    subst (λ (y : List ObjectValue × List ℕ). Takes bytes (head_bytes y.0) y.1 × IsWireHeadUpTo most y.0) (ok_is (h.0.0, h.0.2) x h.2) (
       whole,
       record {
         few = omega (arith, c.1, t.1);

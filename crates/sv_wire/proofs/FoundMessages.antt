@@ -13,6 +13,7 @@ use Rattle.sv_world.specs.declared.action.Stmt.{Stmt}
 use Rattle.sv_wire.specs.declared.fault.Stop.{Stop}
 use Rattle.sv_wire.specs.declared.fault.WireCause.TheVariants.{Mask, Code, Rest}
 use Rattle.sv_wire.specs.declared.message.Item.{Item}
+use Rattle.sv_wire.specs.declared.message.ObjectValue.{ObjectValue}
 use Rattle.sv_wire.specs.declared.message.Request.{Request}
 use Rattle.sv_wire.specs.declared.message.Request.TheVariants as request
 use Rattle.sv_wire.specs.declared.message.Reply.{Reply}
@@ -25,9 +26,9 @@ use Rattle.sv_wire.specs.Steps.{◌>>=◌, Read, stop, several}
 use Rattle.sv_wire.specs.Fields.{byte_from, number_from, int_from, count_from, objects_from, head_from, result_from}
 use Rattle.sv_wire.specs.Nodes.{kind_in}
 use Rattle.sv_wire.specs.Trees.{list_by, stmt_from, body_from}
-use Rattle.sv_wire.specs.Messages.{mask_from, point_from, action_from, item_from, join_request_from, submit_from, done_from, request_of, request_front, request_kind_of, welcome_from, relay_from, dropped_from, settled_from, noted_from, code_from, refused_from, reply_of, reply_front, reply_kind_of, whole, placed, request_at, reply_at}
-use Rattle.sv_wire.specs.Spelling.{object_bytes, head_bytes, result_bytes, point_bytes, body_bytes, action_bytes, item_bytes, request_bytes, reply_bytes}
-use Rattle.sv_wire.specs.Grammar.{IsWireResult, IsWireAction, IsWireRequest, IsWireReply}
+use Rattle.sv_wire.specs.Messages.{mask_from, point_from, action_from, item_from, join_request_from, submit_from, done_from, observe_from, request_of, request_front, request_kind_of, welcome_from, work_from, relay_from, seen_from, dropped_from, denied_from, settled_from, noted_from, code_from, refused_from, reply_of, reply_front, reply_kind_of, whole, placed, request_at, reply_at}
+use Rattle.sv_wire.specs.Spelling.{object_bytes, head_bytes, result_bytes, point_bytes, body_bytes, action_bytes, item_bytes, work_bytes, request_bytes, reply_bytes}
+use Rattle.sv_wire.specs.Grammar.{IsWireResult, IsWireAction, IsWireWork, IsWireRequest, IsWireReply}
 use Rattle.sv_wire.proofs.Near.{ok_is}
 use Rattle.sv_wire.proofs.NearFields.{bind_ok, kept_if, kept_unless, count_is, within}
 use Rattle.sv_wire.proofs.NearTrees.{list_near, stmt_near}
@@ -152,11 +153,30 @@ done_takes bytes x fits e =
       record { some = omega (arith, few.0, tr.1); few = omega (arith, few.1, tr.1); each = All-from_recursion IsWireResult r.0.0 tr.2 },
     )
 
+observe_takes : (bytes : List ℕ) (x : Request × List ℕ) → IsBytes bytes → observe_from bytes ≡ Ok x → RequestRest 0x07 bytes x
+unfolding observe_from request_bytes
+observe_takes bytes x fits e =
+    let n = bind_ok (count_from 1 16 bytes) (λ n. objects_from n.0 n.1 >>= λ objects. number_from 2 objects.1 >>= λ wait. Ok (request.Observe objects.0 wait.0, wait.1)) x e in
+    let o = bind_ok (objects_from n.0.0 n.0.1) (λ objects. number_from 2 objects.1 >>= λ wait. Ok (request.Observe objects.0 wait.0, wait.1)) x n.2 in
+    let w = bind_ok (number_from 2 o.0.1) (λ wait. Ok (request.Observe o.0.0 wait.0, wait.1)) x o.2 in
+    let tn = count_takes 1 16 bytes n.0 fits n.1 in
+    let few = count_is 1 16 bytes n.0 n.1 in
+    let to = objects_takes n.0.0 n.0.1 o.0 tn.bytes_left o.1 in
+    let tw = number_takes 2 exact2 o.0.1 w.0 to.0.bytes_left w.1 in
+    let list : Takes bytes (length o.0.0 ∷ flat_map object_bytes o.0.0) o.0.1 = subst (λ (k : ℕ). Takes bytes (k ∷ flat_map object_bytes o.0.0) o.0.1) (sym to.1) (after tn to.0) in
+    subst (λ (y : Request × List ℕ). RequestRest 0x07 bytes y) (ok_is (request.Observe o.0.0 w.0.0, w.0.1) x w.2) (
+      length o.0.0 ∷ flat_map object_bytes o.0.0 ++ big_bytes 2 w.0.0,
+      after list tw.0,
+      refl,
+      record { some = omega (arith, few.0, to.1); few = omega (arith, few.1, to.1); ascending = to.2 },
+    )
+
 abbrev request_byte : RequestKind → ℕ
 request_byte request_kind.Join = 0x01
 request_byte request_kind.Submit = 0x06
 request_byte request_kind.Done = 0x03
 request_byte request_kind.Poll = 0x04
+request_byte request_kind.Observe = 0x07
 request_byte request_kind.Leave = 0x05
 
 abbrev request_table : List (ℕ × RequestKind)
@@ -165,11 +185,12 @@ request_table = ((0x01, request_kind.Join)
     ∷ (0x04, request_kind.Poll)
     ∷ (0x05, request_kind.Leave)
     ∷ (0x06, request_kind.Submit)
+    ∷ (0x07, request_kind.Observe)
     ∷ [])
 
 request_byte_is : (b : ℕ) (k : RequestKind) → request_kind_of b ≡ Some k → b ≡ request_byte k
 unfolding request_kind_of
-request_byte_is b k e = among_found request_byte request_table (refl, (refl, (refl, (refl, (refl, tt))))) b k e
+request_byte_is b k e = among_found request_byte request_table (refl, (refl, (refl, (refl, (refl, (refl, tt)))))) b k e
 
 request_of_takes : (kind : RequestKind) (bytes : List ℕ) (x : Request × List ℕ) → IsBytes bytes → request_of kind bytes ≡ Ok x → RequestRest (request_byte kind) bytes x
 unfolding request_bytes
@@ -178,6 +199,7 @@ request_of_takes request_kind.Submit bytes x fits e = submit_takes bytes x fits 
 request_of_takes request_kind.Done bytes x fits e = done_takes bytes x fits e
 request_of_takes request_kind.Poll bytes x fits e =
     subst (λ (y : Request × List ℕ). RequestRest 0x04 bytes y) (ok_is (request.Poll, bytes) x e) ([], record { parts = refl; bytes_left = fits }, refl, tt)
+request_of_takes request_kind.Observe bytes x fits e = observe_takes bytes x fits e
 request_of_takes request_kind.Leave bytes x fits e =
     subst (λ (y : Request × List ℕ). RequestRest 0x05 bytes y) (ok_is (request.Leave, bytes) x e) ([], record { parts = refl; bytes_left = fits }, refl, tt)
 
@@ -220,34 +242,60 @@ ReplyRest b bytes x = (t : List ℕ) × Takes bytes t x.1 × (reply_bytes x.0 �
 welcome_takes : (bytes : List ℕ) (x : Reply × List ℕ) → IsBytes bytes → welcome_from bytes ≡ Ok x → ReplyRest 0x81 bytes x
 unfolding welcome_from reply_bytes
 welcome_takes bytes x fits e =
-    let c = bind_ok (number_from 4 bytes) (λ commit. head_from commit.1 >>= λ head. Ok (reply.Welcome commit.0 head.0, head.1)) x e in
-    let h = bind_ok (head_from c.0.1) (λ head. Ok (reply.Welcome c.0.0 head.0, head.1)) x c.2 in
+    let c = bind_ok (number_from 4 bytes) (λ commit. head_from 528 commit.1 >>= λ head. Ok (reply.Welcome commit.0 head.0, head.1)) x e in
+    let h = bind_ok (head_from 528 c.0.1) (λ head. Ok (reply.Welcome c.0.0 head.0, head.1)) x c.2 in
     let tc = number_takes 4 exact4 bytes c.0 fits c.1 in
-    let th = head_takes c.0.1 h.0 tc.0.bytes_left h.1 in
+    let th = head_takes 528 c.0.1 h.0 tc.0.bytes_left h.1 in
     subst (λ (y : Reply × List ℕ). ReplyRest 0x81 bytes y) (ok_is (reply.Welcome c.0.0 h.0.0, h.0.1) x h.2)
     (big_bytes 4 c.0.0 ++ head_bytes h.0.0, after tc.0 th.0, refl, th.1)
 
-relay_takes : (bytes : List ℕ) (x : Reply × List ℕ) → IsBytes bytes → relay_from bytes ≡ Ok x → ReplyRest 0x89 bytes x
-unfolding relay_from reply_bytes
-relay_takes bytes x fits e =
-    let s = bind_ok (number_from 4 bytes) (λ seq. number_from 4 seq.1 >>= λ commit. head_from commit.1 >>= λ head. count_from 0 33 head.1 >>= λ n. several item_from n.0 n.1 >>= λ items. Ok (reply.Relay seq.0 commit.0 head.0 items.0, items.1)) x e in
-    let c = bind_ok (number_from 4 s.0.1) (λ commit. head_from commit.1 >>= λ head. count_from 0 33 head.1 >>= λ n. several item_from n.0 n.1 >>= λ items. Ok (reply.Relay s.0.0 commit.0 head.0 items.0, items.1)) x s.2 in
-    let h = bind_ok (head_from c.0.1) (λ head. count_from 0 33 head.1 >>= λ n. several item_from n.0 n.1 >>= λ items. Ok (reply.Relay s.0.0 c.0.0 head.0 items.0, items.1)) x c.2 in
-    let n = bind_ok (count_from 0 33 h.0.1) (λ n. several item_from n.0 n.1 >>= λ items. Ok (reply.Relay s.0.0 c.0.0 h.0.0 items.0, items.1)) x h.2 in
-    let i = bind_ok (several item_from n.0.0 n.0.1) (λ items. Ok (reply.Relay s.0.0 c.0.0 h.0.0 items.0, items.1)) x n.2 in
-    let ts = number_takes 4 exact4 bytes s.0 fits s.1 in
-    let tc = number_takes 4 exact4 s.0.1 c.0 ts.0.bytes_left c.1 in
-    let th = head_takes c.0.1 h.0 tc.0.bytes_left h.1 in
+work_takes : (most : ℕ) (bytes : List ℕ) (x : (List ObjectValue × List Item) × List ℕ) → IsBytes bytes → work_from most bytes ≡ Ok x → Takes bytes (work_bytes x.0.0 x.0.1) x.1 × IsWireWork most x.0.0 x.0.1
+unfolding work_from
+work_takes most bytes x fits e =
+    let h = bind_ok (head_from most bytes) (λ head. count_from 0 33 head.1 >>= λ n. several item_from n.0 n.1 >>= λ items. Ok ((head.0, items.0), items.1)) x e in
+    let n = bind_ok (count_from 0 33 h.0.1) (λ n. several item_from n.0 n.1 >>= λ items. Ok ((h.0.0, items.0), items.1)) x h.2 in
+    let i = bind_ok (several item_from n.0.0 n.0.1) (λ items. Ok ((h.0.0, items.0), items.1)) x n.2 in
+    let th = head_takes most bytes h.0 fits h.1 in
     let tn = count_takes 0 33 h.0.1 n.0 th.0.bytes_left n.1 in
     let few = count_is 0 33 h.0.1 n.0 n.1 in
     let ti = several_takes item_from item_bytes (λ (i : Item). IsWireAction i.action) item_takes n.0.0 n.0.1 i.0 tn.bytes_left i.1 in
     let list : Takes h.0.1 (length i.0.0 ∷ flat_map item_bytes i.0.0) i.0.1 = subst (λ (k : ℕ). Takes h.0.1 (k ∷ flat_map item_bytes i.0.0) i.0.1) (sym ti.1) (after tn ti.0) in
-    subst (λ (y : Reply × List ℕ). ReplyRest 0x89 bytes y) (ok_is (reply.Relay s.0.0 c.0.0 h.0.0 i.0.0, i.0.1) x i.2) (
-      big_bytes 4 s.0.0 ++ big_bytes 4 c.0.0 ++ head_bytes h.0.0 ++ length i.0.0 ∷ flat_map item_bytes i.0.0,
-      after (after (after ts.0 tc.0) th.0) list,
-      refl,
-      record { base = th.1; few = omega (arith, few.1, ti.1); each = All-from_recursion (λ (i : Item). IsWireAction i.action) i.0.0 ti.2 },
-    )
+    subst (λ (y : (List ObjectValue × List Item) × List ℕ). Takes bytes (work_bytes y.0.0 y.0.1) y.1 × IsWireWork most y.0.0 y.0.1) (ok_is ((h.0.0, i.0.0), i.0.1) x i.2)
+    (after th.0 list, record { base = th.1; few = omega (arith, few.1, ti.1); each = All-from_recursion (λ (i : Item). IsWireAction i.action) i.0.0 ti.2 })
+
+relay_takes : (bytes : List ℕ) (x : Reply × List ℕ) → IsBytes bytes → relay_from bytes ≡ Ok x → ReplyRest 0x89 bytes x
+unfolding relay_from reply_bytes
+relay_takes bytes x fits e =
+    let s = bind_ok (number_from 4 bytes) (λ seq. number_from 4 seq.1 >>= λ commit. work_from 528 commit.1 >>= λ work. Ok (reply.Relay seq.0 commit.0 work.0.0 work.0.1, work.1)) x e in
+    let c = bind_ok (number_from 4 s.0.1) (λ commit. work_from 528 commit.1 >>= λ work. Ok (reply.Relay s.0.0 commit.0 work.0.0 work.0.1, work.1)) x s.2 in
+    let w = bind_ok (work_from 528 c.0.1) (λ work. Ok (reply.Relay s.0.0 c.0.0 work.0.0 work.0.1, work.1)) x c.2 in
+    let ts = number_takes 4 exact4 bytes s.0 fits s.1 in
+    let tc = number_takes 4 exact4 s.0.1 c.0 ts.0.bytes_left c.1 in
+    let tw = work_takes 528 c.0.1 w.0 tc.0.bytes_left w.1 in
+    subst (λ (y : Reply × List ℕ). ReplyRest 0x89 bytes y) (ok_is (reply.Relay s.0.0 c.0.0 w.0.0.0 w.0.0.1, w.0.1) x w.2)
+    (big_bytes 4 s.0.0 ++ big_bytes 4 c.0.0 ++ work_bytes w.0.0.0 w.0.0.1, after (after ts.0 tc.0) tw.0, refl, tw.1)
+
+seen_takes : (bytes : List ℕ) (x : Reply × List ℕ) → IsBytes bytes → seen_from bytes ≡ Ok x → ReplyRest 0x8b bytes x
+unfolding seen_from reply_bytes
+seen_takes bytes x fits e =
+    let l = bind_ok (number_from 4 bytes) (λ last. number_from 4 last.1 >>= λ commit. work_from 544 commit.1 >>= λ work. Ok (reply.Seen last.0 commit.0 work.0.0 work.0.1, work.1)) x e in
+    let c = bind_ok (number_from 4 l.0.1) (λ commit. work_from 544 commit.1 >>= λ work. Ok (reply.Seen l.0.0 commit.0 work.0.0 work.0.1, work.1)) x l.2 in
+    let w = bind_ok (work_from 544 c.0.1) (λ work. Ok (reply.Seen l.0.0 c.0.0 work.0.0 work.0.1, work.1)) x c.2 in
+    let tl = number_takes 4 exact4 bytes l.0 fits l.1 in
+    let tc = number_takes 4 exact4 l.0.1 c.0 tl.0.bytes_left c.1 in
+    let tw = work_takes 544 c.0.1 w.0 tc.0.bytes_left w.1 in
+    subst (λ (y : Reply × List ℕ). ReplyRest 0x8b bytes y) (ok_is (reply.Seen l.0.0 c.0.0 w.0.0.0 w.0.0.1, w.0.1) x w.2)
+    (big_bytes 4 l.0.0 ++ big_bytes 4 c.0.0 ++ work_bytes w.0.0.0 w.0.0.1, after (after tl.0 tc.0) tw.0, refl, tw.1)
+
+denied_takes : (bytes : List ℕ) (x : Reply × List ℕ) → IsBytes bytes → denied_from bytes ≡ Ok x → ReplyRest 0x8c bytes x
+unfolding denied_from reply_bytes
+denied_takes bytes x fits e =
+    let s = bind_ok (number_from 4 bytes) (λ seq. number_from 2 seq.1 >>= λ object. Ok (reply.Denied seq.0 (record { 0 = object.0 }), object.1)) x e in
+    let o = bind_ok (number_from 2 s.0.1) (λ object. Ok (reply.Denied s.0.0 (record { 0 = object.0 }), object.1)) x s.2 in
+    let ts = number_takes 4 exact4 bytes s.0 fits s.1 in
+    let to = number_takes 2 exact2 s.0.1 o.0 ts.0.bytes_left o.1 in
+    subst (λ (y : Reply × List ℕ). ReplyRest 0x8c bytes y) (ok_is (reply.Denied s.0.0 (record { 0 = o.0.0 }), o.0.1) x o.2)
+    (big_bytes 4 s.0.0 ++ big_bytes 2 o.0.0, after ts.0 to.0, refl, tt)
 
 dropped_takes : (bytes : List ℕ) (x : Reply × List ℕ) → IsBytes bytes → dropped_from bytes ≡ Ok x → ReplyRest 0x8a bytes x
 unfolding dropped_from reply_bytes
@@ -281,12 +329,12 @@ noted_takes bytes x fits e =
 refused_takes : (bytes : List ℕ) (x : Reply × List ℕ) → IsBytes bytes → refused_from bytes ≡ Ok x → ReplyRest 0x87 bytes x
 unfolding refused_from code_from reply_bytes
 refused_takes bytes x fits e =
-    let c = bind_ok (byte_from bytes >>= λ n. cond (leb 1 n.0 && leb n.0 11) (Ok (n.0, n.1)) (stop bytes Code)) (λ code. number_from 4 code.1 >>= λ detail. Ok (reply.Refused code.0 detail.0, detail.1)) x e in
-    let b = bind_ok (byte_from bytes) (λ n. cond (leb 1 n.0 && leb n.0 11) (Ok (n.0, n.1)) (stop bytes Code)) c.0 c.1 in
-    let g = kept_if (leb 1 b.0.0 && leb b.0.0 11) (b.0.0, b.0.1) c.0 _ b.2 in
+    let c = bind_ok (byte_from bytes >>= λ n. cond (leb 1 n.0 && leb n.0 12) (Ok (n.0, n.1)) (stop bytes Code)) (λ code. number_from 4 code.1 >>= λ detail. Ok (reply.Refused code.0 detail.0, detail.1)) x e in
+    let b = bind_ok (byte_from bytes) (λ n. cond (leb 1 n.0 && leb n.0 12) (Ok (n.0, n.1)) (stop bytes Code)) c.0 c.1 in
+    let g = kept_if (leb 1 b.0.0 && leb b.0.0 12) (b.0.0, b.0.1) c.0 _ b.2 in
     let d = bind_ok (number_from 4 c.0.1) (λ detail. Ok (reply.Refused c.0.0 detail.0, detail.1)) x c.2 in
     let tb = byte_takes bytes b.0 fits b.1 in
-    let tc : Takes bytes (c.0.0 ∷ []) c.0.1 × ((1 ≤ c.0.0) × (c.0.0 ≤ 11)) = subst (λ (y : ℕ × List ℕ). Takes bytes (y.0 ∷ []) y.1 × ((1 ≤ y.0) × (y.0 ≤ 11))) g.1 (tb.0, within 1 11 b.0.0 g.0) in
+    let tc : Takes bytes (c.0.0 ∷ []) c.0.1 × ((1 ≤ c.0.0) × (c.0.0 ≤ 12)) = subst (λ (y : ℕ × List ℕ). Takes bytes (y.0 ∷ []) y.1 × ((1 ≤ y.0) × (y.0 ≤ 12))) g.1 (tb.0, within 1 12 b.0.0 g.0) in
     let td = number_takes 4 exact4 c.0.1 d.0 tc.0.bytes_left d.1 in
     subst (λ (y : Reply × List ℕ). ReplyRest 0x87 bytes y) (ok_is (reply.Refused c.0.0 d.0.0, d.0.1) x d.2) (c.0.0 ∷ big_bytes 4 d.0.0, after tc.0 td.0, refl, tc.1)
 
@@ -294,6 +342,8 @@ abbrev reply_byte : ReplyKind → ℕ
 reply_byte reply_kind.Welcome = 0x81
 reply_byte reply_kind.Relay = 0x89
 reply_byte reply_kind.Dropped = 0x8a
+reply_byte reply_kind.Denied = 0x8c
+reply_byte reply_kind.Seen = 0x8b
 reply_byte reply_kind.Settled = 0x84
 reply_byte reply_kind.Noted = 0x85
 reply_byte reply_kind.Idle = 0x86
@@ -309,17 +359,21 @@ reply_table = ((0x81, reply_kind.Welcome)
     ∷ (0x88, reply_kind.Bye)
     ∷ (0x89, reply_kind.Relay)
     ∷ (0x8a, reply_kind.Dropped)
+    ∷ (0x8b, reply_kind.Seen)
+    ∷ (0x8c, reply_kind.Denied)
     ∷ [])
 
 reply_byte_is : (b : ℕ) (k : ReplyKind) → reply_kind_of b ≡ Some k → b ≡ reply_byte k
 unfolding reply_kind_of
-reply_byte_is b k e = among_found reply_byte reply_table (refl, (refl, (refl, (refl, (refl, (refl, (refl, (refl, tt)))))))) b k e
+reply_byte_is b k e = among_found reply_byte reply_table (refl, (refl, (refl, (refl, (refl, (refl, (refl, (refl, (refl, (refl, tt)))))))))) b k e
 
 reply_of_takes : (kind : ReplyKind) (bytes : List ℕ) (x : Reply × List ℕ) → IsBytes bytes → reply_of kind bytes ≡ Ok x → ReplyRest (reply_byte kind) bytes x
 unfolding reply_bytes
 reply_of_takes reply_kind.Welcome bytes x fits e = welcome_takes bytes x fits e
 reply_of_takes reply_kind.Relay bytes x fits e = relay_takes bytes x fits e
 reply_of_takes reply_kind.Dropped bytes x fits e = dropped_takes bytes x fits e
+reply_of_takes reply_kind.Denied bytes x fits e = denied_takes bytes x fits e
+reply_of_takes reply_kind.Seen bytes x fits e = seen_takes bytes x fits e
 reply_of_takes reply_kind.Settled bytes x fits e = settled_takes bytes x fits e
 reply_of_takes reply_kind.Noted bytes x fits e = noted_takes bytes x fits e
 reply_of_takes reply_kind.Idle bytes x fits e =

@@ -1,5 +1,5 @@
 -- How many bytes each field has at most.
-use Rattle.std.proofs.Common.{◌≡◌, ℕ, suc, ◌*◌, ◌≤◌, Bool, true, false, cond, ltb, leb, ◌&&◌, List, [], ◌∷◌, length, Result, Ok, Err, refl, subst, arith}
+use Rattle.std.proofs.Common.{◌≡◌, ℕ, suc, ◌+◌, ◌*◌, ◌≤◌, Bool, true, false, cond, ltb, leb, ◌&&◌, List, [], ◌∷◌, length, Result, Ok, Err, refl, subst, arith}
 use Rattle.std.specs.Int.{Width, w64, byte_len}
 use Rattle.std.proofs.lemmas.List.{length-drop}
 use Rattle.std.proofs.lemmas.Bool.{ltb-false}
@@ -32,9 +32,9 @@ pub count_near : (low high : ℕ) (bytes : List ℕ) → Near left2 1 (length by
 unfolding count_from
 count_near low high bytes = near_check left2 left2 1 (length bytes) (byte_from bytes) _ (byte_near bytes) (λ n. checked_if left2 (length n.1) (length bytes) _ _ _ refl refl)
 
-pub head_count_near : (bytes : List ℕ) → Near left2 2 (length bytes) (head_count_from bytes)
+pub head_count_near : (most : ℕ) (bytes : List ℕ) → Near left2 2 (length bytes) (head_count_from most bytes)
 unfolding head_count_from
-head_count_near bytes = near_check left2 left2 2 (length bytes) (number_from 2 bytes) _ (number_near 2 bytes) (λ n. checked_unless left2 (length n.1) (length bytes) _ _ _ refl refl)
+head_count_near most bytes = near_check left2 left2 2 (length bytes) (number_from 2 bytes) _ (number_near 2 bytes) (λ n. checked_unless left2 (length n.1) (length bytes) _ _ _ refl refl)
 
 pub object_near : (least : ℕ) (bytes : List ℕ) → Near left3 2 (length bytes) (object_from least bytes)
 unfolding object_from
@@ -64,13 +64,12 @@ count_is low high bytes x e =
     let g = kept_if (leb low a.0.0 && leb a.0.0 high) (a.0.0, a.0.1) x _ a.2 in
     subst (λ (y : ℕ × List ℕ). (low ≤ y.0) × (y.0 ≤ high)) g.1 (within low high a.0.0 g.0)
 
-pub head_count_is : (bytes : List ℕ) (x : ℕ × List ℕ) → head_count_from bytes ≡ Ok x → x.0 ≤ 528
+pub head_count_is : (most : ℕ) (bytes : List ℕ) (x : ℕ × List ℕ) → head_count_from most bytes ≡ Ok x → x.0 ≤ most
 unfolding head_count_from
-head_count_is bytes x e =
-    let a = bind_ok (number_from 2 bytes) (λ n. cond (ltb 528 n.0) (stop bytes Count) (Ok (n.0, n.1))) x e in
-    let g = kept_unless (ltb 528 a.0.0) (a.0.0, a.0.1) x _ a.2 in
-    let h : a.0.0 ≤ 528 = omega (arith, ltb-false 528 a.0.0 g.0) in
-    subst (λ (y : ℕ × List ℕ). y.0 ≤ 528) g.1 h
+head_count_is most bytes x e =
+    let a = bind_ok (number_from 2 bytes) (λ n. cond (ltb most n.0) (stop bytes Count) (Ok (n.0, n.1))) x e in
+    let g = kept_unless (ltb most a.0.0) (a.0.0, a.0.1) x _ a.2 in
+    subst (λ (y : ℕ × List ℕ). y.0 ≤ most) g.1 (ltb-false most a.0.0 g.0)
 
 pub objects_near : (n : ℕ) (bytes : List ℕ) → Near left2 (n * 2) (length bytes) (objects_from n bytes)
 unfolding objects_from
@@ -97,11 +96,11 @@ helds_near n bytes =
     near_then left3 left2 (n * 35) 0 (n * 35) (length bytes) (in_turn held_from n 0 bytes) _ (omega arith) (in_turn_near held_from 35 held_near n 0 bytes)
     (λ head _. near_done left2 0 (length head.2) _ (omega arith) (omega arith))
 
-pub head_near : (bytes : List ℕ) → Near left2 18482 (length bytes) (head_from bytes)
+pub head_near : (most : ℕ) (bytes : List ℕ) → Near left2 (most * 35 + 2) (length bytes) (head_from most bytes)
 unfolding head_from
-head_near bytes =
-    near_then left2 left2 2 18480 18482 (length bytes) (head_count_from bytes) _ (omega arith) (head_count_near bytes)
-    (λ n e. let few = head_count_is bytes n e in near_more left2 (n.0 * 35) 18480 (length n.1) (helds_from n.0 n.1) (omega arith) (helds_near n.0 n.1))
+head_near most bytes =
+    near_then left2 left2 2 (most * 35) (most * 35 + 2) (length bytes) (head_count_from most bytes) _ (omega arith) (head_count_near most bytes)
+    (λ n e. let few = head_count_is most bytes n e in near_more left2 (n.0 * 35) (most * 35) (length n.1) (helds_from n.0 n.1) (omega arith) (helds_near n.0 n.1))
 
 pub result_near : (bytes : List ℕ) → Near left2 533 (length bytes) (result_from bytes)
 unfolding result_from

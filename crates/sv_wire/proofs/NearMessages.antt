@@ -10,7 +10,7 @@ use Rattle.sv_wire.specs.declared.fault.WireCause.TheVariants.{Short, Kind, Rest
 use Rattle.sv_wire.specs.Steps.{◌>>=◌, Read, stop, several}
 use Rattle.sv_wire.specs.Fields.{byte_from, number_from, int_from, count_from, objects_from, head_from, result_from}
 use Rattle.sv_wire.specs.Trees.{body_from}
-use Rattle.sv_wire.specs.Messages.{mask_from, point_from, action_from, item_from, join_request_from, submit_from, done_from, request_of, request_front, request_kind_of, welcome_from, relay_from, dropped_from, settled_from, noted_from, code_from, refused_from, reply_of, reply_front, reply_kind_of, whole}
+use Rattle.sv_wire.specs.Messages.{mask_from, point_from, action_from, item_from, join_request_from, submit_from, done_from, observe_from, request_of, request_front, request_kind_of, welcome_from, work_from, relay_from, seen_from, dropped_from, denied_from, settled_from, noted_from, code_from, refused_from, reply_of, reply_front, reply_kind_of, whole}
 use Rattle.sv_wire.specs.Nodes.{kind_in}
 use Rattle.sv_wire.proofs.Near.{left2, Near, near_done, near_stop, near_more, near_then, near_check, checked_unless, checked_if, several_near, err_is, failed_is}
 use Rattle.sv_wire.proofs.NearFields.{byte_near, number_near, int_near, count_near, count_is, objects_near, head_near, result_near}
@@ -72,30 +72,54 @@ done_near bytes =
     near_then left2 left2 (n.0 * 533) 0 17589 (length n.1) (several result_from n.0 n.1) _ (omega arith) (several_near result_from 533 result_near n.0 n.1)
     (λ results _. near_done left2 0 (length results.1) _ (omega arith) (omega arith)))
 
+observe_near : (bytes : List ℕ) → Near left2 35 (length bytes) (observe_from bytes)
+unfolding observe_from
+observe_near bytes =
+    near_then left2 left2 1 34 35 (length bytes) (count_from 1 16 bytes) _ (omega arith) (count_near 1 16 bytes)
+    (λ n e. let few = count_is 1 16 bytes n e in
+    near_then left2 left2 (n.0 * 2) 2 34 (length n.1) (objects_from n.0 n.1) _ (omega arith) (objects_near n.0 n.1)
+    (λ objects _. near_then left2 left2 2 0 2 (length objects.1) (number_from 2 objects.1) _ (omega arith) (number_near 2 objects.1)
+    (λ wait _. near_done left2 0 (length wait.1) _ (omega arith) (omega arith))))
+
 request_of_near : (kind : RequestKind) (bytes : List ℕ) → Near left2 39999 (length bytes) (request_of kind bytes)
 request_of_near request_kind.Join bytes = near_more left2 135 39999 (length bytes) (join_request_from bytes) (omega arith) (join_near bytes)
 request_of_near request_kind.Submit bytes = near_more left2 624 39999 (length bytes) (submit_from bytes) (omega arith) (submit_near bytes)
 request_of_near request_kind.Done bytes = near_more left2 17590 39999 (length bytes) (done_from bytes) (omega arith) (done_near bytes)
 request_of_near request_kind.Poll bytes = near_done left2 39999 (length bytes) _ (omega arith) (omega arith)
+request_of_near request_kind.Observe bytes = near_more left2 35 39999 (length bytes) (observe_from bytes) (omega arith) (observe_near bytes)
 request_of_near request_kind.Leave bytes = near_done left2 39999 (length bytes) _ (omega arith) (omega arith)
 
 welcome_near : (bytes : List ℕ) → Near left2 18486 (length bytes) (welcome_from bytes)
 unfolding welcome_from
 welcome_near bytes =
     near_then left2 left2 4 18482 18486 (length bytes) (number_from 4 bytes) _ (omega arith) (number_near 4 bytes)
-    (λ commit _. near_then left2 left2 18482 0 18482 (length commit.1) (head_from commit.1) _ (omega arith) (head_near commit.1)
+    (λ commit _. near_then left2 left2 18482 0 18482 (length commit.1) (head_from 528 commit.1) _ (omega arith) (head_near 528 commit.1)
     (λ head _. near_done left2 0 (length head.1) _ (omega arith) (omega arith)))
+
+work_near : (most : ℕ) (bytes : List ℕ) → Near left2 (most * 35 + 20793) (length bytes) (work_from most bytes)
+unfolding work_from
+work_near most bytes =
+    near_then left2 left2 (most * 35 + 2) 20791 (most * 35 + 20793) (length bytes) (head_from most bytes) _ (omega arith) (head_near most bytes)
+    (λ head _. near_then left2 left2 1 20790 20791 (length head.1) (count_from 0 33 head.1) _ (omega arith) (count_near 0 33 head.1)
+    (λ n e. let few = count_is 0 33 head.1 n e in
+    near_then left2 left2 (n.0 * 630) 0 20790 (length n.1) (several item_from n.0 n.1) _ (omega arith) (several_near item_from 630 item_near n.0 n.1)
+    (λ items _. near_done left2 0 (length items.1) _ (omega arith) (omega arith))))
 
 relay_near : (bytes : List ℕ) → Near left2 39281 (length bytes) (relay_from bytes)
 unfolding relay_from
 relay_near bytes =
     near_then left2 left2 4 39277 39281 (length bytes) (number_from 4 bytes) _ (omega arith) (number_near 4 bytes)
     (λ seq _. near_then left2 left2 4 39273 39277 (length seq.1) (number_from 4 seq.1) _ (omega arith) (number_near 4 seq.1)
-    (λ commit _. near_then left2 left2 18482 20791 39273 (length commit.1) (head_from commit.1) _ (omega arith) (head_near commit.1)
-    (λ head _. near_then left2 left2 1 20790 20791 (length head.1) (count_from 0 33 head.1) _ (omega arith) (count_near 0 33 head.1)
-    (λ n e. let few = count_is 0 33 head.1 n e in
-    near_then left2 left2 (n.0 * 630) 0 20790 (length n.1) (several item_from n.0 n.1) _ (omega arith) (several_near item_from 630 item_near n.0 n.1)
-    (λ items _. near_done left2 0 (length items.1) _ (omega arith) (omega arith))))))
+    (λ commit _. near_then left2 left2 39273 0 39273 (length commit.1) (work_from 528 commit.1) _ (omega arith) (work_near 528 commit.1)
+    (λ work _. near_done left2 0 (length work.1) _ (omega arith) (omega arith))))
+
+seen_near : (bytes : List ℕ) → Near left2 39841 (length bytes) (seen_from bytes)
+unfolding seen_from
+seen_near bytes =
+    near_then left2 left2 4 39837 39841 (length bytes) (number_from 4 bytes) _ (omega arith) (number_near 4 bytes)
+    (λ last _. near_then left2 left2 4 39833 39837 (length last.1) (number_from 4 last.1) _ (omega arith) (number_near 4 last.1)
+    (λ commit _. near_then left2 left2 39833 0 39833 (length commit.1) (work_from 544 commit.1) _ (omega arith) (work_near 544 commit.1)
+    (λ work _. near_done left2 0 (length work.1) _ (omega arith) (omega arith))))
 
 dropped_near : (bytes : List ℕ) → Near left2 12 (length bytes) (dropped_from bytes)
 unfolding dropped_from
@@ -104,6 +128,13 @@ dropped_near bytes =
     (λ seq _. near_then left2 left2 4 4 8 (length seq.1) (number_from 4 seq.1) _ (omega arith) (number_near 4 seq.1)
     (λ chain _. near_then left2 left2 4 0 4 (length chain.1) (number_from 4 chain.1) _ (omega arith) (number_near 4 chain.1)
     (λ far _. near_done left2 0 (length far.1) _ (omega arith) (omega arith))))
+
+denied_near : (bytes : List ℕ) → Near left2 6 (length bytes) (denied_from bytes)
+unfolding denied_from
+denied_near bytes =
+    near_then left2 left2 4 2 6 (length bytes) (number_from 4 bytes) _ (omega arith) (number_near 4 bytes)
+    (λ seq _. near_then left2 left2 2 0 2 (length seq.1) (number_from 2 seq.1) _ (omega arith) (number_near 2 seq.1)
+    (λ object _. near_done left2 0 (length object.1) _ (omega arith) (omega arith)))
 
 settled_near : (bytes : List ℕ) → Near left2 8 (length bytes) (settled_from bytes)
 unfolding settled_from
@@ -133,6 +164,8 @@ reply_of_near : (kind : ReplyKind) (bytes : List ℕ) → Near left2 39999 (leng
 reply_of_near reply_kind.Welcome bytes = near_more left2 18486 39999 (length bytes) (welcome_from bytes) (omega arith) (welcome_near bytes)
 reply_of_near reply_kind.Relay bytes = near_more left2 39281 39999 (length bytes) (relay_from bytes) (omega arith) (relay_near bytes)
 reply_of_near reply_kind.Dropped bytes = near_more left2 12 39999 (length bytes) (dropped_from bytes) (omega arith) (dropped_near bytes)
+reply_of_near reply_kind.Denied bytes = near_more left2 6 39999 (length bytes) (denied_from bytes) (omega arith) (denied_near bytes)
+reply_of_near reply_kind.Seen bytes = near_more left2 39841 39999 (length bytes) (seen_from bytes) (omega arith) (seen_near bytes)
 reply_of_near reply_kind.Settled bytes = near_more left2 8 39999 (length bytes) (settled_from bytes) (omega arith) (settled_near bytes)
 reply_of_near reply_kind.Noted bytes = near_more left2 4 39999 (length bytes) (noted_from bytes) (omega arith) (noted_near bytes)
 reply_of_near reply_kind.Idle bytes = near_done left2 39999 (length bytes) _ (omega arith) (omega arith)

@@ -33,10 +33,14 @@ count_from low high bytes = do
 abbrev pub most_held : ℕ
 most_held = 528
 
-unfoldable pub head_count_from : List ℕ → Read ℕ
-head_count_from bytes = do
+-- The objects of the head of what was seen: as many as its actions read, and those that were asked for.
+abbrev pub most_seen : ℕ
+most_seen = 544
+
+unfoldable pub head_count_from : ℕ → List ℕ → Read ℕ
+head_count_from most bytes = do
   n ← number_from 2 bytes
-  if nat_lt most_held n.0 then stop bytes Count else Ok (n.0, n.1)
+  if nat_lt most n.0 then stop bytes Count else Ok (n.0, n.1)
 
 -- an object that is at least least, and the least that may follow it
 unfoldable pub object_from : ℕ → List ℕ → Turn ObjectId
@@ -69,9 +73,10 @@ held_from least bytes = do
 unfoldable pub helds_from : ℕ → List ℕ → Read (List ObjectValue)
 helds_from n bytes = ascending_from held_from n bytes
 
-unfoldable pub head_from : List ℕ → Read (List ObjectValue)
-head_from bytes = do
-  n ← head_count_from bytes
+-- a head of at most so many objects
+unfoldable pub head_from : ℕ → List ℕ → Read (List ObjectValue)
+head_from most bytes = do
+  n ← head_count_from most bytes
   helds_from n.0 n.1
 
 unfoldable pub result_from : List ℕ → Read Done1

@@ -10,6 +10,7 @@ use Rattle.sv_wire.specs.declared.fault.WireFault.{WireFault}
 use Rattle.sv_wire.specs.declared.fault.WireFault.TheVariants as faults
 use Rattle.sv_wire.specs.declared.fault.WireCause.TheVariants.{Mask, Code, Rest}
 use Rattle.sv_wire.specs.declared.message.Item.{Item}
+use Rattle.sv_wire.specs.declared.message.ObjectValue.{ObjectValue}
 use Rattle.sv_wire.specs.declared.message.Request.{Request}
 use Rattle.sv_wire.specs.declared.message.Request.TheVariants as request
 use Rattle.sv_wire.specs.declared.message.Reply.{Reply}
@@ -19,7 +20,7 @@ use Rattle.sv_wire.specs.declared.kinds.RequestKind.TheVariants as request_kind
 use Rattle.sv_wire.specs.declared.kinds.ReplyKind.{ReplyKind}
 use Rattle.sv_wire.specs.declared.kinds.ReplyKind.TheVariants as reply_kind
 use Rattle.sv_wire.specs.Steps.{Read, ◌>>=◌, stop, several}
-use Rattle.sv_wire.specs.Fields.{byte_from, number_from, int_from, count_from, objects_from, head_from, result_from}
+use Rattle.sv_wire.specs.Fields.{most_held, most_seen, byte_from, number_from, int_from, count_from, objects_from, head_from, result_from}
 use Rattle.sv_wire.specs.Nodes.{among, kind_in}
 use Rattle.sv_wire.specs.Refusals.{last_code}
 use Rattle.sv_wire.specs.Trees.{body_from}
@@ -73,6 +74,13 @@ done_from bytes = do
   results ← several result_from n.0 n.1
   Ok (request.Done results.0, results.1)
 
+unfoldable pub observe_from : List ℕ → Read Request
+observe_from bytes = do
+  n ← count_from 1 most_reads bytes
+  objects ← objects_from n.0 n.1
+  wait ← number_from 2 objects.1
+  Ok (request.Observe objects.0 wait.0, wait.1)
+
 unfoldable pub request_kind_of : ℕ → Option RequestKind
 request_kind_of = among
     ((0x01, request_kind.Join)
@@ -80,6 +88,7 @@ request_kind_of = among
     ∷ (0x04, request_kind.Poll)
     ∷ (0x05, request_kind.Leave)
     ∷ (0x06, request_kind.Submit)
+    ∷ (0x07, request_kind.Observe)
     ∷ [])
 
 abbrev pub request_of : RequestKind → List ℕ → Read Request
@@ -87,6 +96,7 @@ request_of request_kind.Join bytes = join_request_from bytes
 request_of request_kind.Submit bytes = submit_from bytes
 request_of request_kind.Done bytes = done_from bytes
 request_of request_kind.Poll bytes = Ok (request.Poll, bytes)
+request_of request_kind.Observe bytes = observe_from bytes
 request_of request_kind.Leave bytes = Ok (request.Leave, bytes)
 
 -- a request at the front of the bytes
@@ -99,17 +109,30 @@ request_front bytes = do
 unfoldable pub welcome_from : List ℕ → Read Reply
 welcome_from bytes = do
   commit ← number_from 4 bytes
-  head ← head_from commit.1
+  head ← head_from most_held commit.1
   Ok (reply.Welcome commit.0 head.0, head.1)
+
+-- a head of at most so many objects, and the actions that are evaluated on it
+unfoldable pub work_from : ℕ → List ℕ → Read (List ObjectValue × List Item)
+work_from most bytes = do
+  head ← head_from most bytes
+  n ← count_from 0 most_items head.1
+  items ← several item_from n.0 n.1
+  Ok ((head.0, items.0), items.1)
 
 unfoldable pub relay_from : List ℕ → Read Reply
 relay_from bytes = do
   seq ← number_from 4 bytes
   commit ← number_from 4 seq.1
-  head ← head_from commit.1
-  n ← count_from 0 most_items head.1
-  items ← several item_from n.0 n.1
-  Ok (reply.Relay seq.0 commit.0 head.0 items.0, items.1)
+  work ← work_from most_held commit.1
+  Ok (reply.Relay seq.0 commit.0 work.0.0 work.0.1, work.1)
+
+unfoldable pub seen_from : List ℕ → Read Reply
+seen_from bytes = do
+  last ← number_from 4 bytes
+  commit ← number_from 4 last.1
+  work ← work_from most_seen commit.1
+  Ok (reply.Seen last.0 commit.0 work.0.0 work.0.1, work.1)
 
 unfoldable pub dropped_from : List ℕ → Read Reply
 dropped_from bytes = do
@@ -117,6 +140,12 @@ dropped_from bytes = do
   chain ← number_from 4 seq.1
   far ← number_from 4 chain.1
   Ok (reply.Dropped seq.0 chain.0 far.0, far.1)
+
+unfoldable pub denied_from : List ℕ → Read Reply
+denied_from bytes = do
+  seq ← number_from 4 bytes
+  object ← number_from 2 seq.1
+  Ok (reply.Denied seq.0 (record { 0 = object.0 }), object.1)
 
 unfoldable pub settled_from : List ℕ → Read Reply
 settled_from bytes = do
@@ -151,12 +180,16 @@ reply_kind_of = among
     ∷ (0x88, reply_kind.Bye)
     ∷ (0x89, reply_kind.Relay)
     ∷ (0x8a, reply_kind.Dropped)
+    ∷ (0x8b, reply_kind.Seen)
+    ∷ (0x8c, reply_kind.Denied)
     ∷ [])
 
 abbrev pub reply_of : ReplyKind → List ℕ → Read Reply
 reply_of reply_kind.Welcome bytes = welcome_from bytes
 reply_of reply_kind.Relay bytes = relay_from bytes
 reply_of reply_kind.Dropped bytes = dropped_from bytes
+reply_of reply_kind.Denied bytes = denied_from bytes
+reply_of reply_kind.Seen bytes = seen_from bytes
 reply_of reply_kind.Settled bytes = settled_from bytes
 reply_of reply_kind.Noted bytes = noted_from bytes
 reply_of reply_kind.Idle bytes = Ok (reply.Idle, bytes)

@@ -8,9 +8,9 @@ use Rattle.sv_wire.specs.declared.message.ObjectValue.{ObjectValue}
 use Rattle.sv_wire.specs.declared.message.Done1.{Done1}
 use Rattle.sv_wire.specs.declared.message.Item.{Item}
 use Rattle.sv_wire.specs.declared.message.Request.{Request}
-use Rattle.sv_wire.specs.declared.message.Request.TheVariants.{Join, Submit, Done, Poll, Leave, Bad, End}
+use Rattle.sv_wire.specs.declared.message.Request.TheVariants.{Join, Submit, Done, Poll, Observe, Leave, Bad, End}
 use Rattle.sv_wire.specs.declared.message.Reply.{Reply}
-use Rattle.sv_wire.specs.declared.message.Reply.TheVariants.{Welcome, Relay, Dropped, Settled, Noted, Idle, Refused, Bye}
+use Rattle.sv_wire.specs.declared.message.Reply.TheVariants.{Welcome, Relay, Dropped, Denied, Seen, Settled, Noted, Idle, Refused, Bye}
 
 abbrev pub ValueFits : List ℤ → Type 0
 ValueFits v = AllByRecursion (FitsSigned w64) v
@@ -39,6 +39,7 @@ RequestFits (Join client life interest) = (client.0 < 2 ^ 16) × (life < 2 ^ 32)
 RequestFits (Submit seq action) = (seq < 2 ^ 32) × ActionFits action
 RequestFits (Done results) = AllByRecursion ResultFits results
 RequestFits Poll = Unit {0}
+RequestFits (Observe objects wait) = AllByRecursion ObjectFits objects × (wait < 2 ^ 16)
 RequestFits Leave = Unit {0}
 RequestFits Bad = Unit {0}
 RequestFits End = Unit {0}
@@ -47,6 +48,8 @@ abbrev pub ReplyFits : Reply → Type 0
 ReplyFits (Welcome commit head) = (commit < 2 ^ 32) × AllByRecursion HeldFits head
 ReplyFits (Relay seq commit head items) = (seq < 2 ^ 32) × (commit < 2 ^ 32) × AllByRecursion HeldFits head × AllByRecursion ItemFits items
 ReplyFits (Dropped seq chain far) = (seq < 2 ^ 32) × (chain < 2 ^ 32) × (far < 2 ^ 32)
+ReplyFits (Denied seq object) = (seq < 2 ^ 32) × ObjectFits object
+ReplyFits (Seen last commit head items) = (last < 2 ^ 32) × (commit < 2 ^ 32) × AllByRecursion HeldFits head × AllByRecursion ItemFits items
 ReplyFits (Settled seq position) = (seq < 2 ^ 32) × (position < 2 ^ 32)
 ReplyFits (Noted commit) = commit < 2 ^ 32
 ReplyFits Idle = Unit {0}

@@ -27,9 +27,9 @@ use Rattle.sv_wire.specs.declared.message.ObjectValue.{ObjectValue}
 use Rattle.sv_wire.specs.declared.message.Done1.{Done1}
 use Rattle.sv_wire.specs.declared.message.Item.{Item}
 use Rattle.sv_wire.specs.declared.message.Request.{Request}
-use Rattle.sv_wire.specs.declared.message.Request.TheVariants.{Join, Submit, Done, Poll, Leave, Bad, End}
+use Rattle.sv_wire.specs.declared.message.Request.TheVariants.{Join, Submit, Done, Poll, Observe, Leave, Bad, End}
 use Rattle.sv_wire.specs.declared.message.Reply.{Reply}
-use Rattle.sv_wire.specs.declared.message.Reply.TheVariants.{Welcome, Relay, Dropped, Settled, Noted, Idle, Refused, Bye}
+use Rattle.sv_wire.specs.declared.message.Reply.TheVariants.{Welcome, Relay, Dropped, Denied, Seen, Settled, Noted, Idle, Refused, Bye}
 
 -- a signed number, in two's complement
 abbrev pub int_bytes : Width → ℤ → List ℕ
@@ -131,20 +131,27 @@ action_bytes a = length a.reads ∷ flat_map object_bytes a.reads ++ big_bytes 2
 abbrev pub item_bytes : Item → List ℕ
 item_bytes i = big_bytes 4 i.pos ++ big_bytes 2 i.client.0 ++ big_bytes 4 i.seq ++ action_bytes i.action
 
+-- A head, and the actions that are evaluated on it.
+abbrev pub work_bytes : List ObjectValue → List Item → List ℕ
+work_bytes head items = head_bytes head ++ length items ∷ flat_map item_bytes items
+
 -- The payload of a request. Bad and End have none.
 unfoldable pub request_bytes : Request → List ℕ
 request_bytes (Join client life interest) = 0x01 ∷ big_bytes 2 client.0 ++ big_bytes 4 life ++ length interest ∷ flat_map object_bytes interest
 request_bytes (Submit seq action) = 0x06 ∷ big_bytes 4 seq ++ action_bytes action
 request_bytes (Done results) = 0x03 ∷ length results ∷ flat_map result_bytes results
 request_bytes Poll = 0x04 ∷ []
+request_bytes (Observe objects wait) = 0x07 ∷ length objects ∷ flat_map object_bytes objects ++ big_bytes 2 wait
 request_bytes Leave = 0x05 ∷ []
 request_bytes Bad = []
 request_bytes End = []
 
 unfoldable pub reply_bytes : Reply → List ℕ
 reply_bytes (Welcome commit head) = 0x81 ∷ big_bytes 4 commit ++ head_bytes head
-reply_bytes (Relay seq commit head items) = 0x89 ∷ big_bytes 4 seq ++ big_bytes 4 commit ++ head_bytes head ++ length items ∷ flat_map item_bytes items
+reply_bytes (Relay seq commit head items) = 0x89 ∷ big_bytes 4 seq ++ big_bytes 4 commit ++ work_bytes head items
 reply_bytes (Dropped seq chain far) = 0x8a ∷ big_bytes 4 seq ++ big_bytes 4 chain ++ big_bytes 4 far
+reply_bytes (Denied seq object) = 0x8c ∷ big_bytes 4 seq ++ object_bytes object
+reply_bytes (Seen last commit head items) = 0x8b ∷ big_bytes 4 last ++ big_bytes 4 commit ++ work_bytes head items
 reply_bytes (Settled seq pos) = 0x84 ∷ big_bytes 4 seq ++ big_bytes 4 pos
 reply_bytes (Noted commit) = 0x85 ∷ big_bytes 4 commit
 reply_bytes Idle = 0x86 ∷ []

@@ -89,6 +89,10 @@ pub fn copy_request(alloc: Global, request: &Request) -> Result<Request, AllocEr
             results: copy_results(alloc, results.as_slice())?,
         },
         Request::Poll => Request::Poll,
+        Request::Observe { objects, wait } => Request::Observe {
+            objects: copy_objects(alloc, objects.as_slice())?,
+            wait: *wait,
+        },
         Request::Leave => Request::Leave,
         Request::Bad => Request::Bad,
         Request::End => Request::End,
@@ -108,6 +112,25 @@ fn copy_relay(
     let items = copy_items(alloc, items)?;
     Ok(Reply::Relay {
         seq,
+        commit,
+        head,
+        items,
+    })
+}
+
+fn copy_seen(
+    alloc: Global,
+    last: u32,
+    commit: u32,
+    head: &[ObjectValue],
+    items: &[Item],
+) -> Result<Reply, AllocError>
+    ensures { IfOk result (λ copy. copy ≡ reply.Seen last commit head.now items.now) }
+{
+    let head = copy_head(alloc, head)?;
+    let items = copy_items(alloc, items)?;
+    Ok(Reply::Seen {
+        last,
         commit,
         head,
         items,
@@ -134,6 +157,16 @@ pub fn copy_reply(alloc: Global, reply: &Reply) -> Result<Reply, AllocError>
             chain: *chain,
             far: *far,
         }),
+        Reply::Denied { seq, object } => Ok(Reply::Denied {
+            seq: *seq,
+            object: *object,
+        }),
+        Reply::Seen {
+            last,
+            commit,
+            head,
+            items,
+        } => copy_seen(alloc, *last, *commit, head.as_slice(), items.as_slice()),
         Reply::Settled { seq, pos } => Ok(Reply::Settled {
             seq: *seq,
             pos: *pos,

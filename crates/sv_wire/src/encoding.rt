@@ -3,9 +3,11 @@ ghost use Rattle.std.specs.Prelude.{◌≡◌, ◌≤◌, [], ◌++◌, ◌∷�
 ghost use Rattle.std.specs.List.{flat_map};
 ghost use Rattle.byteorder.specs.Endian.{big_bytes};
 ghost use Rattle.sv_world.specs.Limits.{most_items};
+ghost use Rattle.sv_wire.specs.declared.message.Request.TheVariants as request;
 ghost use Rattle.sv_wire.specs.declared.message.Reply.TheVariants as reply;
-ghost use Rattle.sv_wire.specs.Spelling.{action_bytes, item_bytes, request_bytes, reply_bytes};
-ghost use Rattle.sv_wire.specs.Grammar.{IsWireAction, IsWireRelay, IsWireRequest, IsWireReply};
+ghost use Rattle.sv_wire.specs.Fields.{most_held, most_seen};
+ghost use Rattle.sv_wire.specs.Spelling.{action_bytes, item_bytes, work_bytes, request_bytes, reply_bytes};
+ghost use Rattle.sv_wire.specs.Grammar.{IsWireValue, IsWireAction, IsWireObserved, IsWireWork, IsWireRequest, IsWireReply};
 ghost use Rattle.sv_wire.specs.Messages.{request_at, reply_at};
 
 use crate::message::{Item, ObjectValue, Reply, Request};
@@ -13,7 +15,7 @@ use crate::numbers::{read_reply, read_request};
 use crate::put::{put_head, put_objects, put_point, put_results, put_u16, put_u32};
 use crate::put_body::put_body;
 use std::alloc::{AllocError, Global};
-use sv_world::Action;
+use sv_world::{Action, ObjectId};
 
 /// Most payloads fit, so that they are written without moving what is written.
 const PAYLOAD_ROOM: usize = 256;
@@ -70,6 +72,18 @@ fn put_two(out: &mut Vec<u8>, first: u32, second: u32) -> Result<(), AllocError>
 }
 
 #[tactic(auto, unfolding(crate::specs::Spelling::request_bytes))]
+fn put_observe(out: &mut Vec<u8>, objects: &[ObjectId], wait: u16) -> Result<(), AllocError>
+    requires { IsWireObserved objects.now }
+    ensures { OnOk result (out.new.items ≡ out.old.items ++ request_bytes (request.Observe objects.now wait)) }
+{
+    out.push(0x07)?;
+    out.push(objects.len() as u8)?;
+    put_objects(out, objects)?;
+    put_u16(out, wait)?;
+    Ok(())
+}
+
+#[tactic(auto, unfolding(crate::specs::Spelling::request_bytes))]
 fn put_request(out: &mut Vec<u8>, request: &Request) -> Result<(), AllocError>
     requires { IsWireRequest request.now }
     ensures { OnOk result (out.new.items ≡ out.old.items ++ request_bytes request.now) }
@@ -100,9 +114,22 @@ fn put_request(out: &mut Vec<u8>, request: &Request) -> Result<(), AllocError>
             Ok(())
         }
         Request::Poll => Ok(out.push(0x04)?),
+        Request::Observe { objects, wait } => put_observe(out, objects.as_slice(), *wait),
         Request::Leave => Ok(out.push(0x05)?),
         Request::Bad | Request::End => Ok(()),
     }
+}
+
+fn put_work(out: &mut Vec<u8>, head: &[ObjectValue], items: &[Item]) -> Result<(), AllocError>
+    requires base { length head.now ≤ most_seen }
+    requires values { All (λ h. IsWireValue h.value) head.now }
+    requires few { length items.now ≤ most_items }
+    requires each { All (λ i. IsWireAction i.action) items.now }
+    ensures { OnOk result (out.new.items ≡ out.old.items ++ work_bytes head.now items.now) }
+{
+    put_head(out, head)?;
+    put_item_list(out, items)?;
+    Ok(())
 }
 
 fn put_relay(
@@ -112,13 +139,28 @@ fn put_relay(
     head: &[ObjectValue],
     items: &[Item],
 ) -> Result<(), AllocError>
-    requires { IsWireRelay head.now items.now }
+    requires { IsWireWork most_held head.now items.now }
     ensures { OnOk result (out.new.items ≡ out.old.items ++ reply_bytes (reply.Relay seq commit head.now items.now)) }
 {
     out.push(0x89)?;
     put_two(out, seq, commit)?;
-    put_head(out, head)?;
-    put_item_list(out, items)?;
+    put_work(out, head, items)?;
+    Ok(())
+}
+
+fn put_seen(
+    out: &mut Vec<u8>,
+    last: u32,
+    commit: u32,
+    head: &[ObjectValue],
+    items: &[Item],
+) -> Result<(), AllocError>
+    requires { IsWireWork most_seen head.now items.now }
+    ensures { OnOk result (out.new.items ≡ out.old.items ++ reply_bytes (reply.Seen last commit head.now items.now)) }
+{
+    out.push(0x8b)?;
+    put_two(out, last, commit)?;
+    put_work(out, head, items)?;
     Ok(())
 }
 
@@ -132,6 +174,16 @@ fn put_dropped(out: &mut Vec<u8>, seq: u32, chain: u32, far: u32) -> Result<(), 
 }
 
 #[tactic(auto, unfolding(crate::specs::Spelling::reply_bytes))]
+fn put_denied(out: &mut Vec<u8>, seq: u32, object: ObjectId) -> Result<(), AllocError>
+    ensures { OnOk result (out.new.items ≡ out.old.items ++ reply_bytes (reply.Denied seq object)) }
+{
+    out.push(0x8c)?;
+    put_u32(out, seq)?;
+    put_u16(out, object.0)?;
+    Ok(())
+}
+
+#[tactic(auto, unfolding(crate::specs::Spelling::reply_bytes))]
 fn put_reply(out: &mut Vec<u8>, reply: &Reply) -> Result<(), AllocError>
     requires { IsWireReply reply.now }
     ensures { OnOk result (out.new.items ≡ out.old.items ++ reply_bytes reply.now) }
@@ -140,8 +192,7 @@ fn put_reply(out: &mut Vec<u8>, reply: &Reply) -> Result<(), AllocError>
         Reply::Welcome { commit, head } => {
             out.push(0x81)?;
             put_u32(out, *commit)?;
-            put_head(out, head.as_slice())?;
-            Ok(())
+            put_head(out, head.as_slice())
         }
         Reply::Relay {
             seq,
@@ -150,23 +201,26 @@ fn put_reply(out: &mut Vec<u8>, reply: &Reply) -> Result<(), AllocError>
             items,
         } => put_relay(out, *seq, *commit, head.as_slice(), items.as_slice()),
         Reply::Dropped { seq, chain, far } => put_dropped(out, *seq, *chain, *far),
+        Reply::Denied { seq, object } => put_denied(out, *seq, *object),
+        Reply::Seen {
+            last,
+            commit,
+            head,
+            items,
+        } => put_seen(out, *last, *commit, head.as_slice(), items.as_slice()),
         Reply::Settled { seq, pos } => {
             out.push(0x84)?;
-            put_u32(out, *seq)?;
-            put_u32(out, *pos)?;
-            Ok(())
+            put_two(out, *seq, *pos)
         }
         Reply::Noted { commit } => {
             out.push(0x85)?;
-            put_u32(out, *commit)?;
-            Ok(())
+            put_u32(out, *commit)
         }
         Reply::Idle => Ok(out.push(0x86)?),
         Reply::Refused { code, detail } => {
             out.push(0x87)?;
             out.push(*code)?;
-            put_u32(out, *detail)?;
-            Ok(())
+            put_u32(out, *detail)
         }
         Reply::Bye => Ok(out.push(0x88)?),
     }

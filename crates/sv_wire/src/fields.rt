@@ -11,7 +11,10 @@ use std::alloc::{AllocError, Global};
 use sv_world::{List, MOST_ATTRS, MOST_READS, ObjectId, Reads, Value};
 
 /// The objects of a head: as many as the actions of a relay read.
-const MOST_HELD: u16 = 528;
+pub const MOST_HELD: u16 = 528;
+
+/// The objects of the head of what was seen: as many as its actions read, and those that were asked for.
+pub const MOST_SEEN: u16 = 544;
 
 /// The empty list, with room for the elements that its count announces.
 pub fn list_for<T>(alloc: Global, count: usize) -> Result<List<T>, AllocError>
@@ -83,11 +86,11 @@ pub fn count_of(low: u8, high: u8, bytes: &[u8]) -> Result<(u8, &[u8]), ReadFaul
 }
 
 #[tactic(auto, unfolding(crate::specs::Fields::head_count_from))]
-fn head_count_of(bytes: &[u8]) -> Result<(u16, &[u8]), ReadFault>
-    ensures { Gives (λ x. (x.0, x.1.now)) result (head_count_from bytes.now) }
+fn head_count_of(most: u16, bytes: &[u8]) -> Result<(u16, &[u8]), ReadFault>
+    ensures { Gives (λ x. (x.0, x.1.now)) result (head_count_from most bytes.now) }
 {
     let (count, rest) = u16_of(bytes)?;
-    if MOST_HELD < count {
+    if most < count {
         return Err(stop_at(bytes, WireCause::Count));
     }
     Ok((count, rest))
@@ -170,10 +173,14 @@ fn helds_of(
 }
 
 #[tactic(auto, unfolding(crate::specs::Fields::head_from))]
-pub fn head_of(alloc: Global, bytes: &[u8]) -> Result<(List<ObjectValue>, &[u8]), ReadFault>
-    ensures { Gives (λ x. (x.0, x.1.now)) result (head_from bytes.now) }
+pub fn head_of(
+    alloc: Global,
+    most: u16,
+    bytes: &[u8],
+) -> Result<(List<ObjectValue>, &[u8]), ReadFault>
+    ensures { Gives (λ x. (x.0, x.1.now)) result (head_from most bytes.now) }
 {
-    let (count, rest) = head_count_of(bytes)?;
+    let (count, rest) = head_count_of(most, bytes)?;
     helds_of(alloc, count, rest)
 }
 

@@ -8,6 +8,7 @@ pub enum RequestKind {
     Submit,
     Done,
     Poll,
+    Observe,
     Leave,
 }
 
@@ -16,6 +17,8 @@ pub enum ReplyKind {
     Welcome,
     Relay,
     Dropped,
+    Denied,
+    Seen,
     Settled,
     Noted,
     Idle,
@@ -33,6 +36,7 @@ pub fn request_kind(byte: u8) -> Option<RequestKind>
         0x04 => Some(RequestKind::Poll),
         0x05 => Some(RequestKind::Leave),
         0x06 => Some(RequestKind::Submit),
+        0x07 => Some(RequestKind::Observe),
         _ => None,
     }
 }
@@ -50,6 +54,8 @@ pub fn reply_kind(byte: u8) -> Option<ReplyKind>
         0x88 => Some(ReplyKind::Bye),
         0x89 => Some(ReplyKind::Relay),
         0x8a => Some(ReplyKind::Dropped),
+        0x8b => Some(ReplyKind::Seen),
+        0x8c => Some(ReplyKind::Denied),
         _ => None,
     }
 }

@@ -112,6 +112,18 @@ fn read_items(items: &[Item])
     }
 }
 
+fn read_work(first: u32, commit: u32, head: &[ObjectValue], items: &[Item])
+    ensures first { first < 2 ^ 32 }
+    ensures commit { commit < 2 ^ 32 }
+    ensures head { All HeldFits head.now }
+    ensures items { All ItemFits items.now }
+{
+    read_u32(first);
+    read_u32(commit);
+    read_head(head);
+    read_items(items);
+}
+
 /// The numbers of a request are those of their types.
 pub fn read_request(request: &Request)
     ensures { RequestFits request.now }
@@ -131,6 +143,10 @@ pub fn read_request(request: &Request)
             read_action(action);
         }
         Request::Done { results } => read_results(results.as_slice()),
+        Request::Observe { objects, wait } => {
+            read_objects(objects.as_slice());
+            read_u16(*wait);
+        }
         Request::Poll | Request::Leave | Request::Bad | Request::End => {}
     }
 }
@@ -149,17 +165,22 @@ pub fn read_reply(reply: &Reply)
             commit,
             head,
             items,
-        } => {
-            read_u32(*seq);
-            read_u32(*commit);
-            read_head(head.as_slice());
-            read_items(items.as_slice());
-        }
+        } => read_work(*seq, *commit, head.as_slice(), items.as_slice()),
         Reply::Dropped { seq, chain, far } => {
             read_u32(*seq);
             read_u32(*chain);
             read_u32(*far);
         }
+        Reply::Denied { seq, object } => {
+            read_u32(*seq);
+            read_object(*object);
+        }
+        Reply::Seen {
+            last,
+            commit,
+            head,
+            items,
+        } => read_work(*last, *commit, head.as_slice(), items.as_slice()),
         Reply::Settled { seq, pos } => {
             read_u32(*seq);
             read_u32(*pos);

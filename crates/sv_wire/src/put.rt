@@ -3,8 +3,9 @@ ghost use Rattle.std.specs.Prelude.{◌≡◌, ◌≤◌, ◌<◌, ◌++◌, len
 ghost use Rattle.std.specs.Int.{w32, w64};
 ghost use Rattle.std.specs.List.{flat_map};
 ghost use Rattle.byteorder.specs.Endian.{big_bytes};
+ghost use Rattle.sv_wire.specs.Fields.{most_seen};
 ghost use Rattle.sv_wire.specs.Spelling.{int_bytes, object_bytes, value_bytes, held_bytes, head_bytes, result_bytes, point_bytes};
-ghost use Rattle.sv_wire.specs.Grammar.{IsWireValue, IsWireHead, IsWireResult};
+ghost use Rattle.sv_wire.specs.Grammar.{IsWireValue, IsWireResult};
 
 use crate::message::{Done1, ObjectValue};
 use byteorder::{BigEndian, ByteOrder};
@@ -94,7 +95,8 @@ fn put_helds(out: &mut Vec<u8>, head: &[ObjectValue]) -> Result<(), AllocError>
 }
 
 pub fn put_head(out: &mut Vec<u8>, head: &[ObjectValue]) -> Result<(), AllocError>
-    requires { IsWireHead head.now }
+    requires few { length head.now ≤ most_seen }
+    requires values { All (λ h. IsWireValue h.value) head.now }
     ensures { OnOk result (out.new.items ≡ out.old.items ++ head_bytes head.now) }
 {
     put_u16(out, head.len() as u16)?;

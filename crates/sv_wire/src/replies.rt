@@ -1,24 +1,38 @@
 //! Reading replies.
 ghost use Rattle.std.specs.Prelude.{◌≡◌};
 ghost use Rattle.sv_wire.specs.Steps.{Gives};
-ghost use Rattle.sv_wire.specs.Messages.{welcome_from, relay_from, dropped_from, settled_from, noted_from, code_from, refused_from, reply_front, whole};
+ghost use Rattle.sv_wire.specs.Fields.{most_held, most_seen};
+ghost use Rattle.sv_wire.specs.Messages.{welcome_from, work_from, relay_from, seen_from, dropped_from, denied_from, settled_from, noted_from, code_from, refused_from, reply_front, whole};
 
 use crate::actions::items_of;
 use crate::fault::{ReadFault, WireCause, stop_at};
-use crate::fields::{byte_of, count_of, head_of, u32_of};
+use crate::fields::{MOST_HELD, MOST_SEEN, byte_of, count_of, head_of, u16_of, u32_of};
 use crate::kinds::{ReplyKind, reply_kind};
-use crate::message::Reply;
+use crate::message::{Item, ObjectValue, Reply};
 use crate::refusal::LAST_CODE;
 use std::alloc::Global;
-use sv_world::MOST_ITEMS;
+use sv_world::{List, MOST_ITEMS, ObjectId};
+
+/// A head, and the actions that are evaluated on it.
+type Work = (List<ObjectValue>, List<Item>);
 
 #[tactic(auto, unfolding(crate::specs::Messages::welcome_from))]
 fn welcome_of(alloc: Global, bytes: &[u8]) -> Result<(Reply, &[u8]), ReadFault>
     ensures { Gives (λ x. (x.0, x.1.now)) result (welcome_from bytes.now) }
 {
     let (commit, rest) = u32_of(bytes)?;
-    let (head, rest) = head_of(alloc, rest)?;
+    let (head, rest) = head_of(alloc, MOST_HELD, rest)?;
     Ok((Reply::Welcome { commit, head }, rest))
+}
+
+#[tactic(auto, unfolding(crate::specs::Messages::work_from))]
+fn work_of(alloc: Global, most: u16, bytes: &[u8]) -> Result<(Work, &[u8]), ReadFault>
+    ensures { Gives (λ x. (x.0, x.1.now)) result (work_from most bytes.now) }
+{
+    let (head, rest) = head_of(alloc, most, bytes)?;
+    let (count, rest) = count_of(0, MOST_ITEMS as u8, rest)?;
+    let (items, rest) = items_of(alloc, count, rest)?;
+    Ok(((head, items), rest))
 }
 
 #[tactic(auto, unfolding(crate::specs::Messages::relay_from))]
@@ -27,12 +41,28 @@ fn relay_of(alloc: Global, bytes: &[u8]) -> Result<(Reply, &[u8]), ReadFault>
 {
     let (seq, rest) = u32_of(bytes)?;
     let (commit, rest) = u32_of(rest)?;
-    let (head, rest) = head_of(alloc, rest)?;
-    let (count, rest) = count_of(0, MOST_ITEMS as u8, rest)?;
-    let (items, rest) = items_of(alloc, count, rest)?;
+    let ((head, items), rest) = work_of(alloc, MOST_HELD, rest)?;
     Ok((
         Reply::Relay {
             seq,
+            commit,
+            head,
+            items,
+        },
+        rest,
+    ))
+}
+
+#[tactic(auto, unfolding(crate::specs::Messages::seen_from))]
+fn seen_of(alloc: Global, bytes: &[u8]) -> Result<(Reply, &[u8]), ReadFault>
+    ensures { Gives (λ x. (x.0, x.1.now)) result (seen_from bytes.now) }
+{
+    let (last, rest) = u32_of(bytes)?;
+    let (commit, rest) = u32_of(rest)?;
+    let ((head, items), rest) = work_of(alloc, MOST_SEEN, rest)?;
+    Ok((
+        Reply::Seen {
+            last,
             commit,
             head,
             items,
@@ -49,6 +79,21 @@ fn dropped_of(bytes: &[u8]) -> Result<(Reply, &[u8]), ReadFault>
     let (chain, rest) = u32_of(rest)?;
     let (far, rest) = u32_of(rest)?;
     Ok((Reply::Dropped { seq, chain, far }, rest))
+}
+
+#[tactic(auto, unfolding(crate::specs::Messages::denied_from))]
+fn denied_of(bytes: &[u8]) -> Result<(Reply, &[u8]), ReadFault>
+    ensures { Gives (λ x. (x.0, x.1.now)) result (denied_from bytes.now) }
+{
+    let (seq, rest) = u32_of(bytes)?;
+    let (object, rest) = u16_of(rest)?;
+    Ok((
+        Reply::Denied {
+            seq,
+            object: ObjectId(object),
+        },
+        rest,
+    ))
 }
 
 #[tactic(auto, unfolding(crate::specs::Messages::settled_from))]
@@ -100,6 +145,8 @@ fn reply_of(alloc: Global, payload: &[u8]) -> Result<(Reply, &[u8]), ReadFault>
         ReplyKind::Welcome => welcome_of(alloc, rest),
         ReplyKind::Relay => relay_of(alloc, rest),
         ReplyKind::Dropped => dropped_of(rest),
+        ReplyKind::Denied => denied_of(rest),
+        ReplyKind::Seen => seen_of(alloc, rest),
         ReplyKind::Settled => settled_of(rest),
         ReplyKind::Noted => noted_of(rest),
         ReplyKind::Idle => Ok((Reply::Idle, rest)),

@@ -1,7 +1,7 @@
 //! Reading requests.
 ghost use Rattle.std.specs.Prelude.{◌≡◌};
 ghost use Rattle.sv_wire.specs.Steps.{Gives};
-ghost use Rattle.sv_wire.specs.Messages.{join_request_from, submit_from, done_from, request_front, whole};
+ghost use Rattle.sv_wire.specs.Messages.{join_request_from, submit_from, done_from, observe_from, request_front, whole};
 
 use crate::actions::action_of;
 use crate::fault::{ReadFault, WireCause, stop_at};
@@ -9,7 +9,7 @@ use crate::fields::{byte_of, count_of, objects_of, results_of, u16_of, u32_of};
 use crate::kinds::{RequestKind, request_kind};
 use crate::message::Request;
 use std::alloc::Global;
-use sv_world::{ClientId, MOST_INTEREST, MOST_ITEMS, copy_objects};
+use sv_world::{ClientId, MOST_INTEREST, MOST_ITEMS, MOST_READS, copy_objects};
 
 #[tactic(auto, unfolding(crate::specs::Messages::join_request_from))]
 fn join_of(alloc: Global, bytes: &[u8]) -> Result<(Request, &[u8]), ReadFault>
@@ -48,6 +48,17 @@ fn done_of(alloc: Global, bytes: &[u8]) -> Result<(Request, &[u8]), ReadFault>
     Ok((Request::Done { results }, rest))
 }
 
+#[tactic(auto, unfolding(crate::specs::Messages::observe_from))]
+fn observe_of(alloc: Global, bytes: &[u8]) -> Result<(Request, &[u8]), ReadFault>
+    ensures { Gives (λ x. (x.0, x.1.now)) result (observe_from bytes.now) }
+{
+    let (count, rest) = count_of(1, MOST_READS as u8, bytes)?;
+    let (observed, rest) = objects_of(alloc, count, rest)?;
+    let (wait, rest) = u16_of(rest)?;
+    let objects = copy_objects(alloc, observed.as_slice())?;
+    Ok((Request::Observe { objects, wait }, rest))
+}
+
 #[tactic(auto, unfolding(crate::specs::Messages::request_front))]
 fn request_of(alloc: Global, payload: &[u8]) -> Result<(Request, &[u8]), ReadFault>
     ensures { Gives (λ x. (x.0, x.1.now)) result (request_front payload.now) }
@@ -61,6 +72,7 @@ fn request_of(alloc: Global, payload: &[u8]) -> Result<(Request, &[u8]), ReadFau
         RequestKind::Submit => submit_of(alloc, rest),
         RequestKind::Done => done_of(alloc, rest),
         RequestKind::Poll => Ok((Request::Poll, rest)),
+        RequestKind::Observe => observe_of(alloc, rest),
         RequestKind::Leave => Ok((Request::Leave, rest)),
     }
 }

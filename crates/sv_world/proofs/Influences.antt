@@ -145,7 +145,7 @@ needed-appended A c a =
     (λ j l h. is_in-append_right j (suc n ∷ []) (M (suc n)) h)
     (λ h. let b = lower (suc n) 0 h in absurd (omega arith)))
 
-length-above : (A : List Action) (c : ℕ) → c ≤ length A → length (replicate c blank ++ drop c A) ≡ length A
+pub length-above : (A : List Action) (c : ℕ) → c ≤ length A → length (replicate c blank ++ drop c A) ≡ length A
 length-above A c l = length-append (replicate c blank) (drop c A) ∙ (let r = length-replicate c blank in let d = length-drop c A in omega arith)
 
 -- Two lists of one length that agree above the commit give one influence.

@@ -3,6 +3,8 @@ pub mod Ascending
 pub mod Back
 pub mod Bases
 pub mod Good
+pub mod Greatest
+pub mod Growing
 pub mod Influences
 pub mod Layers
 pub mod Masks
@@ -13,6 +15,7 @@ pub mod NodeTests
 pub mod Places
 pub mod Ranged
 pub mod Same
+pub mod Seeing
 pub mod Sorted
 pub mod Sound
 pub mod Spells
@@ -20,3 +23,4 @@ pub mod Sweeps
 pub mod TreeInduction
 pub mod TreeMeasures
 pub mod Writers
+pub mod Written

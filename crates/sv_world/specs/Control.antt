@@ -96,6 +96,11 @@ influence_distance A commit a = greatest (map (λ j. distance a.origin (action_a
 
 -- ---- Cuts: what objects are at one position, for a session that acts on none of them
 
+-- Of each position sent to a session, each position above the commit that it reads from was sent too.
+abbrev pub SentIsClosed : List Action → ℕ → List ℕ → Type 0
+SentIsClosed A commit sent = (p x : ℕ) → is_in p sent ≡ true → is_in x (read_set (action_at A p)) ≡ true → commit < last_writer A x p →
+    is_in (last_writer A x p) sent ≡ true
+
 -- It reads the objects, writes nothing, and stands at (0, 0).
 abbrev pub reading : List ℕ → Action
 reading xs = record { reads = map object_numbered xs; mask = 0; origin = record { x = pos 0; y = pos 0 }; body = [] }

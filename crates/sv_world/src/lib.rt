@@ -7,6 +7,7 @@ mod boxed;
 mod check;
 mod copy;
 mod cursor;
+mod cuts;
 mod equal;
 mod fits;
 mod flatten;
@@ -30,6 +31,13 @@ pub use check::{
 };
 pub use copy::{copy_action, copy_objects, copy_value, copy_values};
 pub use cursor::NodeCursor;
+pub use cuts::{
+    an_older_cut_has_an_item, base_values_to_see_are_those_read_as_committed,
+    committed_actions_do_not_count_to_see, cuts_never_go_back,
+    only_marks_above_the_commit_count_to_see, the_greatest_cut_is_the_greatest,
+    what_is_needed_to_see_ascends, what_is_needed_to_see_grows,
+    what_is_needed_to_see_is_the_least_set,
+};
 pub use equal::{same_bodies_are_equal, same_body};
 pub use flatten::has_short_blocks;
 pub use heads::{
@@ -42,8 +50,9 @@ pub use laws::{
 };
 pub use limits::{
     MOST_ATTRS, MOST_BOUND, MOST_CLIENTS, MOST_DEPTH, MOST_INTEREST, MOST_ITEMS, MOST_NODES,
-    MOST_OBJECTS, MOST_OUTSTANDING, MOST_PENDING, MOST_POSITIONS, MOST_REACH, MOST_READS, MOST_REQUESTS,
-    MOST_SESSIONS, MOST_SHOWN, MOST_STEPS, MOST_TURNS, limits_are_those_of_contracts,
+    MOST_OBJECTS, MOST_OUTSTANDING, MOST_PENDING, MOST_POSITIONS, MOST_REACH, MOST_READS,
+    MOST_REQUESTS, MOST_SESSIONS, MOST_SHOWN, MOST_STEPS, MOST_TURNS,
+    limits_are_those_of_contracts,
 };
 pub use list::List;
 pub use names::is_in_mask;

@@ -8,6 +8,8 @@ mod calls;
 #[cfg(test)]
 mod lines;
 #[cfg(test)]
+mod observes;
+#[cfg(test)]
 mod plays;
 #[cfg(test)]
 mod rows;

@@ -12,7 +12,7 @@ use test_calls::scenarios::*;
 use test_calls::{Printed, held, words};
 
 /// The scenarios of the folder examples/, and these.
-const SCENARIOS: [&str; 19] = [
+const SCENARIOS: [&str; 20] = [
     FIRST,
     EMPTY_SCRIPT,
     CONFLICT,
@@ -25,6 +25,7 @@ const SCENARIOS: [&str; 19] = [
     ORPHAN,
     MARKETPLACE,
     LOOKS,
+    OBSERVE,
     GREAT_TOTALS,
     TWO_VIEWS,
     EDGES,

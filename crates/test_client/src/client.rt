@@ -2,6 +2,7 @@
 ghost use Rattle.std.specs.Prelude.{◌≡◌, ◌<◌, [], ◌∷◌, IfOk, if◌then◌else◌};
 
 mod data;
+mod observing;
 mod rows;
 mod steps;
 
@@ -57,6 +58,7 @@ fn told(alloc: Global, trace: &Trace) -> Result<String, Fail> {
             Event::Got(session, _) => write!(out, " g{session}")?,
             Event::Make(_) => out.push_str(" m")?,
             Event::Poll => out.push_str(" p")?,
+            Event::Observe(..) => out.push_str(" o")?,
             Event::Leave => out.push_str(" l")?,
             Event::Cut => out.push_str(" c")?,
             Event::Quit => out.push_str(" q")?,

@@ -6,8 +6,12 @@ mod actions;
 #[cfg(test)]
 mod calls;
 #[cfg(test)]
+mod cuts;
+#[cfg(test)]
 mod drawn;
 #[cfg(test)]
 mod influence;
 #[cfg(test)]
 mod queue;
+#[cfg(test)]
+mod shown;

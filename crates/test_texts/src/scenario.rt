@@ -76,6 +76,15 @@ const REFUSED: &str = "\
 /clients/0/steps/0/show: kind|{'attrs':1,'objects':[[5]],'bound':4,'clients':[{'interest':[],'steps':[{'show':'0'}]}]}
 /clients/0/steps/0/show: kind|{'attrs':1,'objects':[[5]],'bound':4,'clients':[{'interest':[],'steps':[{'show':{}}]}]}
 /clients/0/steps/0/show/1: kind|{'attrs':1,'objects':[[5]],'bound':4,'clients':[{'interest':[],'steps':[{'show':[0,0.5]}]}]}
+/clients/0/steps/0: kind|{'attrs':1,'objects':[[5]],'bound':4,'clients':[{'interest':[],'steps':['observe']}]}
+/clients/0/steps/0: kind|{'attrs':1,'objects':[[5]],'bound':4,'clients':[{'interest':[],'steps':[{'observe':[0],'show':[0]}]}]}
+/clients/0/steps/0: kind|{'attrs':1,'objects':[[5]],'bound':4,'clients':[{'interest':[],'steps':[{'observe':[0],'wait':0}]}]}
+/clients/0/steps/0/observe: kind|{'attrs':1,'objects':[[5]],'bound':4,'clients':[{'interest':[],'steps':[{'observe':0}]}]}
+/clients/0/steps/0/observe: kind|{'attrs':1,'objects':[[5]],'bound':4,'clients':[{'interest':[],'steps':[{'observe':'0'}]}]}
+/clients/0/steps/0/observe: kind|{'attrs':1,'objects':[[5]],'bound':4,'clients':[{'interest':[],'steps':[{'observe':{}}]}]}
+/clients/0/steps/0/observe: kind|{'attrs':1,'objects':[[5]],'bound':4,'clients':[{'interest':[],'steps':[{'observe':null}]}]}
+/clients/0/steps/0/observe/0: kind|{'attrs':1,'objects':[[5]],'bound':4,'clients':[{'interest':[],'steps':[{'observe':['0']}]}]}
+/clients/0/steps/0/observe/1: kind|{'attrs':1,'objects':[[5]],'bound':4,'clients':[{'interest':[],'steps':[{'observe':[0,0.5]}]}]}
 /schedule: kind|{'attrs':1,'objects':[[5]],'bound':4,'clients':[{'interest':[],'steps':[]}],'schedule':null}
 /schedule: kind|{'attrs':1,'objects':[[5]],'bound':4,'clients':[{'interest':[],'steps':[]}],'schedule':'c0'}
 /schedule/0: kind|{'attrs':1,'objects':[[5]],'bound':4,'clients':[{'interest':[],'steps':[]}],'schedule':[5]}
@@ -120,6 +129,9 @@ const REFUSED: &str = "\
 /clients/0/steps/0/show: range|{'attrs':1,'objects':[[5]],'bound':4,'clients':[{'interest':[],'steps':[{'show':[]}]}]}
 /clients/0/steps/0/show/0: range|{'attrs':1,'objects':[[5]],'bound':4,'clients':[{'interest':[],'steps':[{'show':[-1]}]}]}
 /clients/0/steps/0/show/1: range|{'attrs':1,'objects':[[5]],'bound':4,'clients':[{'interest':[],'steps':[{'show':[0,65536]}]}]}
+/clients/0/steps/0/observe: range|{'attrs':1,'objects':[[5]],'bound':4,'clients':[{'interest':[],'steps':[{'observe':[]}]}]}
+/clients/0/steps/0/observe/0: range|{'attrs':1,'objects':[[5]],'bound':4,'clients':[{'interest':[],'steps':[{'observe':[-1]}]}]}
+/clients/0/steps/0/observe/1: range|{'attrs':1,'objects':[[5]],'bound':4,'clients':[{'interest':[],'steps':[{'observe':[0,65536]}]}]}
 /attrs: key|{}
 /attrs: key|{'objects':[[5]],'bound':4,'clients':[]}
 /objects: key|{'attrs':1,'bound':4,'clients':[]}
@@ -144,11 +156,17 @@ const REFUSED: &str = "\
 /clients/0/interest/1: order|{'attrs':1,'objects':[[5],[6]],'bound':4,'clients':[{'interest':[1,0],'steps':[]}]}
 /clients/0/interest/2: order|{'attrs':1,'objects':[[5],[6]],'bound':4,'clients':[{'interest':[0,1,1],'steps':[]}]}
 /clients/1/interest/1: order|{'attrs':1,'objects':[[5]],'bound':4,'clients':[{'interest':[0],'steps':[]},{'interest':[0,0],'steps':[]}]}
+/clients/0/steps/0/observe/1: order|{'attrs':1,'objects':[[5]],'bound':4,'clients':[{'interest':[],'steps':[{'observe':[0,0]}]}]}
+/clients/0/steps/0/observe/1: order|{'attrs':1,'objects':[[5],[6]],'bound':4,'clients':[{'interest':[],'steps':[{'observe':[1,0]}]}]}
+/clients/0/steps/1/observe/2: order|{'attrs':1,'objects':[[5],[6]],'bound':4,'clients':[{'interest':[],'steps':['sync',{'observe':[0,1,1]}]}]}
 /clients/0/interest/0: object|{'attrs':1,'objects':[[5]],'bound':4,'clients':[{'interest':[1],'steps':[]}]}
 /clients/0/interest/0: object|{'attrs':1,'objects':[[5]],'bound':4,'clients':[{'interest':[65535],'steps':[]}]}
 /clients/0/interest/1: object|{'attrs':1,'objects':[[5],[6]],'bound':4,'clients':[{'interest':[0,2],'steps':[]}]}
 /clients/0/steps/0/show/0: object|{'attrs':1,'objects':[[5]],'bound':4,'clients':[{'interest':[],'steps':[{'show':[1]}]}]}
 /clients/0/steps/0/show/2: object|{'attrs':1,'objects':[[5],[6]],'bound':4,'clients':[{'interest':[],'steps':[{'show':[1,0,65535]}]}]}
+/clients/0/steps/0/observe/0: object|{'attrs':1,'objects':[[5]],'bound':4,'clients':[{'interest':[],'steps':[{'observe':[1]}]}]}
+/clients/0/steps/0/observe/0: object|{'attrs':1,'objects':[[5]],'bound':4,'clients':[{'interest':[],'steps':[{'observe':[65535]}]}]}
+/clients/0/steps/0/observe/1: object|{'attrs':1,'objects':[[5],[6]],'bound':4,'clients':[{'interest':[],'steps':[{'observe':[0,2]}]}]}
 /clients/0/steps/0: last|{'attrs':1,'objects':[[5]],'bound':4,'clients':[{'interest':[],'steps':['quit','poll']}]}
 /clients/0/steps/0: last|{'attrs':1,'objects':[[5]],'bound':4,'clients':[{'interest':[],'steps':['quit','quit']}]}
 /clients/0/steps/1: last|{'attrs':1,'objects':[[5]],'bound':4,'clients':[{'interest':[],'steps':['sync','quit','sync']}]}
@@ -181,6 +199,14 @@ const PAIRS: &str = "\
 /clients/0/interest/0: kind|{'attrs':1,'objects':[[5]],'bound':4,'clients':[{'interest':['x',9],'steps':[]}]}
 /clients/0/interest/0: object|{'attrs':1,'objects':[[5]],'bound':4,'clients':[{'interest':[9,'x'],'steps':[]}]}
 /clients/0/steps/0/show/0: object|{'attrs':1,'objects':[[5]],'bound':4,'clients':[{'interest':[],'steps':[{'show':[9,'x']}]}]}
+/clients/0/steps/0/observe/0: kind|{'attrs':1,'objects':[[5]],'bound':4,'clients':[{'interest':[],'steps':[{'observe':['x',9]}]}]}
+/clients/0/steps/0/observe/1: order|{'attrs':1,'objects':[[5]],'bound':4,'clients':[{'interest':[],'steps':[{'observe':[0,0,70000]}]}]}
+/clients/0/steps/0/observe/1: order|{'attrs':1,'objects':[[5],[6]],'bound':4,'clients':[{'interest':[],'steps':[{'observe':[1,0,9]}]}]}
+/clients/0/steps/0/observe/0: object|{'attrs':1,'objects':[[5]],'bound':4,'clients':[{'interest':[],'steps':[{'observe':[9,0]}]}]}
+/clients/0/steps/0/observe/0: range|{'attrs':1,'objects':[[5]],'bound':4,'clients':[{'interest':[],'steps':[{'observe':[65536,0]}]}]}
+/clients/0/steps/0/observe: range|{'attrs':1,'objects':[[5]],'bound':4,'clients':[{'interest':[],'steps':[{'observe':[]},{'act':''}]}]}
+/clients/0/steps/0/show: range|{'attrs':1,'objects':[[5]],'bound':4,'clients':[{'interest':[],'steps':[{'show':[]},{'observe':[]}]}]}
+/clients/0/steps/0/observe/1: order|{'attrs':1,'objects':[[5]],'bound':4,'clients':[{'interest':[],'steps':[{'observe':[0,0]},'quit','poll']}]}
 /clients/0/steps/0: kind|{'attrs':1,'objects':[[5]],'bound':4,'clients':[{'interest':[],'steps':[5,'quit','poll']}]}
 /clients/0/steps/0: kind|{'attrs':1,'objects':[[5]],'bound':4,'clients':[{'interest':[],'steps':[5,{'act':''}]}]}
 /clients/0/steps/0/act: text 0 3|{'attrs':1,'objects':[[5]],'bound':4,'clients':[{'interest':[],'steps':[{'act':''},5]}]}
@@ -254,6 +280,9 @@ const READ: &str = "\
 {'attrs':1,'objects':[[5]],'bound':32,'clients':[{'interest':[],'steps':[]}],'schedule':[]}
 {'schedule':['c0','t0','s0','c0'],'clients':[{'interest':[],'steps':[]}],'reach':5,'bound':0,'objects':[[-9223372036854775808,9223372036854775807]],'attrs':2}
 {'attrs':1,'objects':[[5]],'bound':4,'clients':[{'interest':[],'steps':[{'show':[0,0,0]}]}]}
+{'attrs':1,'objects':[[5]],'bound':4,'clients':[{'interest':[],'steps':[{'observe':[0]}]}]}
+{'attrs':1,'objects':[[5],[6]],'bound':4,'clients':[{'interest':[],'steps':[{'observe':[0,1]},'sync',{'observe':[1]}]}]}
+{'attrs':1,'objects':[[0],[0],[0],[0],[0],[0],[0],[0],[0],[0],[0],[0],[0],[0],[0],[0]],'bound':4,'clients':[{'interest':[],'steps':[{'observe':[0,1,2,3,4,5,6,7,8,9,10,11,12,13,14,15]}]}]}
 {'attrs':1,'objects':[[5]],'bound':4,'clients':[{'interest':[],'steps':['poll','sync','cut','quit']}]}
 {'attrs':1,'objects':[[5],[6]],'bound':4,'clients':[{'interest':[0,1],'steps':[]}]}
 {'attrs':1,'objects':[[5]],'bound':4,'clients':[{'interest':[],'steps':['cut']}],'schedule':['s0','s1']}
@@ -392,6 +421,9 @@ const TURNS: &str =
 const SHOW: &str =
     "{'attrs':1,'objects':[[5]],'bound':4,'clients':[{'interest':[],'steps':[{'show':[";
 
+const OBSERVE: &str =
+    "{'attrs':1,'objects':[[5]],'bound':4,'clients':[{'interest':[],'steps':[{'observe':[";
+
 const CLIENT: &str = "{'interest':[],'steps':[]}";
 
 #[test]
@@ -418,6 +450,14 @@ fn keeps_the_limits_of_lists(rt: HostRuntime) -> Result<(), Fail> {
         (
             (SHOW, "0", 17, "]}]}]}"),
             "scenario: /clients/0/steps/0/show: range\n",
+        ),
+        (
+            (OBSERVE, "0", 16, "]}]}]}"),
+            "scenario: /clients/0/steps/0/observe/1: order\n",
+        ),
+        (
+            (OBSERVE, "0", 17, "]}]}]}"),
+            "scenario: /clients/0/steps/0/observe: range\n",
         ),
         ((TURNS, "'s0'", 16_384, "]}"), "read"),
         (
@@ -562,7 +602,7 @@ fn reads_the_longest_text_of_an_action(rt: HostRuntime) -> Result<(), Fail> {
 
 /// The conflict of two clients, whose turns are fixed.
 const CONFLICT: &str =
-    "{'attrs':1,'objects':[[10]],'bound':4,'clients':[{'interest':[],'steps':[{'act':'reads 0 writes 0 { set @0.0 (@0.0 * 2); }'}]},{'interest':[0],'steps':[{'act':'reads 0 writes 0 { set @0.0 (@0.0 + 1); }'},'cut','poll',{'show':[0,0]},'quit']}],'schedule':['c0','s2','t1']}";
+    "{'attrs':1,'objects':[[10]],'bound':4,'clients':[{'interest':[],'steps':[{'act':'reads 0 writes 0 { set @0.0 (@0.0 * 2); }'}]},{'interest':[0],'steps':[{'act':'reads 0 writes 0 { set @0.0 (@0.0 + 1); }'},'cut','poll',{'show':[0,0]},{'observe':[0]},'quit']}],'schedule':['c0','s2','t1']}";
 
 fn scenario(alloc: Global, bytes: &[u8]) -> Result<Scenario, Fail>
     ensures { IfOk result IsGoodScenario }
@@ -583,12 +623,14 @@ fn is_second_plan(plan: &Plan) -> bool {
         Step::Cut,
         Step::Poll,
         Step::Show(shown),
+        Step::Observe(observed),
         Step::Quit,
     ] = plan.steps.as_slice()
     else {
         return false;
     };
     shown.as_slice() == [ObjectId(0), ObjectId(0)].as_slice()
+        && observed.as_slice() == [ObjectId(0)].as_slice()
         && plan.interest.as_slice() == [ObjectId(0)].as_slice()
         && sessions_of_plan(plan) == 2
 }

@@ -24,6 +24,10 @@ pub type Sent = (u32, u16, u32, Deed);
 pub enum Answer<'a> {
     Welcome(u32, &'a [(u16, i64)]),
     Relay(u32, u32, &'a [(u16, i64)], &'a [Sent]),
+    /// The cut, the commit, the head and the items.
+    Seen(u32, u32, &'a [(u16, i64)], &'a [Sent]),
+    /// The action's number, and the object that it may not write.
+    Denied(u32, u16),
     Noted(u32),
     Idle,
     Refused(u8, u32),
@@ -112,6 +116,20 @@ pub fn reply_of(alloc: Global, answer: Answer) -> Result<Reply, Fail> {
                 items,
             }
         }
+        Answer::Seen(last, commit, head, items) => {
+            let head = head_of(alloc, head)?;
+            let items = items_of(alloc, items)?;
+            Reply::Seen {
+                last,
+                commit,
+                head,
+                items,
+            }
+        }
+        Answer::Denied(seq, object) => Reply::Denied {
+            seq,
+            object: ObjectId(object),
+        },
         Answer::Noted(commit) => Reply::Noted { commit },
         Answer::Idle => Reply::Idle,
         Answer::Refused(code, detail) => Reply::Refused { code, detail },

@@ -4,7 +4,7 @@ ghost use Rattle.std.specs.Prelude.{◌≡◌};
 use super::data::{Answer, Deed, action_of, objects_of, reply_of};
 use std::alloc::Global;
 use std::test::Fail;
-use sv_client::{Client, TakeFault, TraceMark, View};
+use sv_client::{Client, ObserveFault, TakeFault, TraceMark, View};
 use sv_wire::{Done1, Request};
 use sv_world::ObjectId;
 
@@ -21,6 +21,10 @@ pub enum Step<'a> {
     Join,
     Make(Deed),
     Poll,
+    /// It asks what these objects are.
+    Observe(&'a [u16]),
+    /// So many objects from 0 on, or others, are not observed, for this cause.
+    Refuse(&'a [u16], ObserveFault),
     Leave,
     Cut,
     /// A reply is handed in.
@@ -71,6 +75,60 @@ fn polls(client: &mut Client) -> Result<bool, Fail>
     }
     drop(client.poll()?);
     Ok(true)
+}
+
+fn are_numbered(objects: &[ObjectId], numbers: &[u16]) -> bool {
+    if objects.len() != numbers.len() {
+        return false;
+    }
+    for (object, number) in objects.iter().zip(numbers) {
+        if object.0 != *number {
+            return false;
+        }
+    }
+    true
+}
+
+/// The request asks what these objects are, and waits for so many milliseconds. It is let go.
+fn is_observe(request: Request, numbers: &[u16], expected: u16) -> bool {
+    match request {
+        Request::Observe { objects, wait } => {
+            wait == expected && are_numbered(objects.as_slice(), numbers)
+        }
+        _ => false,
+    }
+}
+
+fn observes(alloc: Global, client: &mut Client, numbers: &[u16]) -> Result<bool, Fail>
+    ensures { client.new.who ≡ client.old.who }
+{
+    if !client.in_session() {
+        return Ok(false);
+    }
+    let objects = objects_of(alloc, numbers)?;
+    let request = client.observe(objects, 250)?;
+    Ok(is_observe(request, numbers, 250))
+}
+
+fn refuses(
+    alloc: Global,
+    client: &mut Client,
+    numbers: &[u16],
+    expected: ObserveFault,
+) -> Result<bool, Fail>
+    ensures { client.new.who ≡ client.old.who }
+{
+    if !client.in_session() {
+        return Ok(false);
+    }
+    let objects = objects_of(alloc, numbers)?;
+    match client.observe(objects, 0) {
+        Ok(request) => {
+            drop(request);
+            Ok(false)
+        }
+        Err(fault) => Ok(fault == expected),
+    }
 }
 
 fn leaves(client: &mut Client) -> Result<bool, Fail>
@@ -166,6 +224,8 @@ pub fn goes(alloc: Global, client: &mut Client, step: Step) -> Result<bool, Fail
         Step::Join => joins(client),
         Step::Make(deed) => makes(alloc, client, deed),
         Step::Poll => polls(client),
+        Step::Observe(numbers) => observes(alloc, client, numbers),
+        Step::Refuse(numbers, expected) => refuses(alloc, client, numbers, expected),
         Step::Leave => leaves(client),
         Step::Cut => cuts(client),
         Step::Take(answer, expected) => takes(alloc, client, answer, expected),

@@ -34,7 +34,7 @@ loop-next-init g c =
 pub returns-in_err-push-clause-ticks : goal.returns-in_err-push-clause-ticks
 returns-in_err-push-clause-ticks g c =
     let is = ap (λ (o : Option ℕ). c.loop-next.missing.wanted ++ option_to_list o) c.in-Some.is in
-    let room = next-room c.args.queue.now c.args.session c.args.pos c.in-Some.greatest (c.loop-next.missing.wanted ++ option_to_list c.loop-next.next) c.loop-next.missing.wanted c.loop-next.items.items
+    let room = next-room c.args.queue.now c.args.session c.args.pos c.in-Some.greatest (lacking c.args.queue.now c.args.session c.args.pos) (c.loop-next.missing.wanted ++ option_to_list c.loop-next.next) c.loop-next.missing.wanted c.loop-next.items.items
     c.loop-next.invariant.within c.loop-next.invariant.ascending is c.loop-next.invariant.whole in
     let u = c.loop-next.invariant.ticks in
     omega arith
@@ -50,7 +50,7 @@ expand-requires g c =
 pub loop-next-smaller : goal.loop-next-smaller
 loop-next-smaller g c =
     let is = ap (λ (o : Option ℕ). c.loop-next.missing.wanted ++ option_to_list o) c.in-Some.is in
-    let room = next-room c.args.queue.now c.args.session c.args.pos c.in-Some.greatest (c.loop-next.missing.wanted ++ option_to_list c.loop-next.next) c.loop-next.missing.wanted c.loop-next.items.items
+    let room = next-room c.args.queue.now c.args.session c.args.pos c.in-Some.greatest (lacking c.args.queue.now c.args.session c.args.pos) (c.loop-next.missing.wanted ++ option_to_list c.loop-next.next) c.loop-next.missing.wanted c.loop-next.items.items
     c.loop-next.invariant.within c.loop-next.invariant.ascending is c.loop-next.invariant.whole in
     let l : length c.push.new.self.items ≡ length c.loop-next.items.items + 1 = ap length c.in_ok-push.ensures.items ∙ length-append c.loop-next.items.items (c.in-Some.greatest ∷ []) in
     omega arith
@@ -75,7 +75,7 @@ loop-next-preserved g c =
       whole =
           ap (λ (xs : List ℕ). wanted_up_to (queue_actions v) v.commit (sent_positions v session) c.args.pos xs ++ reverse c.push.new.self.items) (sym left)
           ∙ ap (λ (xs : List ℕ). wanted_up_to (queue_actions v) v.commit (sent_positions v session) c.args.pos c.expand.new.self.wanted ++ reverse xs) pushed
-          ∙ next-whole v session c.args.pos next wanted c.loop-next.missing.wanted c.expand.new.self.wanted c.loop-next.items.items c.loop-next.invariant.within
+          ∙ next-whole v session c.args.pos next (lacking v session c.args.pos) wanted c.loop-next.missing.wanted c.expand.new.self.wanted c.loop-next.items.items c.loop-next.invariant.within
           c.loop-next.invariant.ascending is c.in_ok-expand.ensures.wanted c.loop-next.invariant.whole;
       bases =
           subst (λ (xs : List ℕ). AreBases v.shape.objects (queue_actions v) v.commit (given_objects v session) xs c.expand.new.self.bases) (sym pushed)
@@ -89,7 +89,7 @@ loop-next-preserved g c =
 pub returns-in_err-expand-clause-ticks : goal.returns-in_err-expand-clause-ticks
 returns-in_err-expand-clause-ticks g c =
     let is = ap (λ (o : Option ℕ). c.loop-next.missing.wanted ++ option_to_list o) c.in-Some.is in
-    let room = next-room c.args.queue.now c.args.session c.args.pos c.in-Some.greatest (c.loop-next.missing.wanted ++ option_to_list c.loop-next.next) c.loop-next.missing.wanted c.loop-next.items.items
+    let room = next-room c.args.queue.now c.args.session c.args.pos c.in-Some.greatest (lacking c.args.queue.now c.args.session c.args.pos) (c.loop-next.missing.wanted ++ option_to_list c.loop-next.next) c.loop-next.missing.wanted c.loop-next.items.items
     c.loop-next.invariant.within c.loop-next.invariant.ascending is c.loop-next.invariant.whole in
     let t = c.in_err-expand.ensures.ticks in
     let u = c.loop-next.invariant.ticks in
@@ -98,18 +98,18 @@ returns-in_err-expand-clause-ticks g c =
 pub returns-clause-items : goal.returns-clause-items
 returns-clause-items g c =
     c.reverse.ensures.items
-    ∙ all-taken c.args.queue.now c.args.session c.args.pos c.loop-next.missing.wanted c.loop-next.items.items c.loop-next.next c.in_default.is c.loop-next.invariant.last c.loop-next.invariant.whole
+    ∙ all-taken c.args.queue.now c.args.session c.args.pos (lacking c.args.queue.now c.args.session c.args.pos) c.loop-next.missing.wanted c.loop-next.items.items c.loop-next.next c.in_default.is c.loop-next.invariant.last c.loop-next.invariant.whole
 
 pub returns-clause-bases : goal.returns-clause-bases
 returns-clause-bases g c =
     let v = c.args.queue.now in
     bases-all v.shape.objects (queue_actions v) v.commit (sent_positions v c.args.session) (given_objects v c.args.session) c.loop-next.items.items c.loop-next.missing.bases c.args.pos
     c.loop-next.invariant.bases
-    (all-taken v c.args.session c.args.pos c.loop-next.missing.wanted c.loop-next.items.items c.loop-next.next c.in_default.is c.loop-next.invariant.last c.loop-next.invariant.whole)
+    (all-taken v c.args.session c.args.pos (lacking v c.args.session c.args.pos) c.loop-next.missing.wanted c.loop-next.items.items c.loop-next.next c.in_default.is c.loop-next.invariant.last c.loop-next.invariant.whole)
 
 pub returns-clause-ticks : goal.returns-clause-ticks
 returns-clause-ticks g c =
-    let all = all-taken c.args.queue.now c.args.session c.args.pos c.loop-next.missing.wanted c.loop-next.items.items c.loop-next.next c.in_default.is c.loop-next.invariant.last c.loop-next.invariant.whole in
+    let all = all-taken c.args.queue.now c.args.session c.args.pos (lacking c.args.queue.now c.args.session c.args.pos) c.loop-next.missing.wanted c.loop-next.items.items c.loop-next.next c.in_default.is c.loop-next.invariant.last c.loop-next.invariant.whole in
     let l : length c.loop-next.items.items ≡ length (lacking c.args.queue.now c.args.session c.args.pos) = sym (length-reverse c.loop-next.items.items) ∙ ap length all in
     let u = c.loop-next.invariant.ticks in
     omega arith

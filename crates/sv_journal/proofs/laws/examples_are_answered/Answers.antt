@@ -16,4 +16,6 @@ returns c = record {
   reach = worked.reach;
   one_action = worked.one_action;
   repeated_relay = worked.repeated_relay;
+  observed = worked.observed;
+  seen_counts_as_sent = worked.seen_counts_as_sent;
 }

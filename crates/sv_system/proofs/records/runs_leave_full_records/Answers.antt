@@ -14,6 +14,7 @@ returns c = λ scenario h Ls good traffic scripts.
       values = c.replicas_equal_serial_execution.ensures.values r h Ls good.world.objects traffic.legal traffic.fits;
       world = c.committed_world_is_serial.ensures.world r h Ls good.world.objects traffic.legal traffic.fits;
       relays = c.replicas_equal_serial_execution.ensures.relays r h Ls good.world.objects traffic.legal traffic.fits;
+      seen = c.replicas_equal_serial_execution.ensures.seen r h Ls good.world.objects traffic.legal traffic.fits;
       scripts = scripts-done c.steps_are_done_in_order.ensures.whole shape h scenario.clients Ls good.plans (recursion_from_All (FitsOne shape h) Ls traffic.fits.each) scripts;
       outcomes = record {
         once = c.actions_have_outcomes.ensures.once h;

@@ -6,8 +6,8 @@ use Rattle.sv_system.proofs.NonEmpty.{served-never_empty}
 use Rattle.sv_system.proofs.served.served_clients_are_never_refused.Goals as goal
 
 pub returns-clause-faults : goal.returns-clause-faults
-returns-clause-faults c k r h L s reply keeps count shaped bound legal serial fits owns current few is =
-    served-no_fault k r h L (record { keeps = keeps; legal = legal; fits = fits }) owns s reply count shaped bound serial current few is
+returns-clause-faults c k r h L s reply keeps count shaped bound room legal serial fits owns current few is =
+    served-no_fault k r h L (record { keeps = keeps; legal = legal; fits = fits }) owns s reply count shaped bound room serial current few is
 
 pub returns-clause-items : goal.returns-clause-items
 returns-clause-items c k r h L s seq commit head items keeps legal fits owns current few is none =

@@ -1,5 +1,6 @@
 -- Values are serial, whatever results are kept, if these are.
 use Rattle.sv_system.proofs.Histories.{same}
+use Rattle.sv_system.proofs.Observed.{are-cuts}
 use Rattle.sv_system.proofs.Induction.{committed-serial, heads-serial, whole-well}
 use Rattle.sv_system.proofs.served.served_values_are_serial.Goals as goal
 
@@ -14,3 +15,6 @@ returns-clause-held c k r h L keeps count legal serial fits = (whole-well k keep
 
 pub returns-clause-relays : goal.returns-clause-relays
 returns-clause-relays c k r h L keeps count legal serial fits = (whole-well k keeps r h count legal serial L fits).sufficient
+
+pub returns-clause-seen : goal.returns-clause-seen
+returns-clause-seen c k r h L keeps count legal serial fits = are-cuts k r h L (record { keeps = keeps; legal = legal; fits = fits }) count serial

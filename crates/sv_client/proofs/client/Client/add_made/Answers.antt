@@ -5,7 +5,6 @@ use Rattle.sv_world.specs.declared.world.Shape.{Shape}
 use Rattle.sv_world.specs.Faults.{first_fault_of_action, IsGoodAction}
 use Rattle.sv_world.proofs.Good.{good_of_none}
 use Rattle.sv_pending.specs.Made.{PendingList}
-use Rattle.sv_pending.specs.Pending.{kept_of}
 use Rattle.sv_client.specs.declared.kinds.Awaited.{Awaited}
 use Rattle.sv_client.specs.declared.kinds.Awaited.TheVariants as kinds
 use Rattle.sv_client.specs.declared.trace.Event.{Event}

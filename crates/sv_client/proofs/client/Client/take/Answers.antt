@@ -1,5 +1,6 @@
 -- What is proved by hand of `Client::take`.
 use Rattle.std.proofs.Common.{ℕ, ◌-◌, ◌≤◌, List, [], ◌∷◌, ◌++◌, reverse, sym, ap, subst, ◌∙◌, arith}
+use Rattle.std.specs.Prelude.{All}
 use Rattle.std.proofs.lemmas.Result.{err_from_is_err_and}
 use Rattle.sv_world.specs.declared.world.Shape.{Shape}
 use Rattle.sv_versions.specs.Held.{AnswersAbove, count_up_to}
@@ -8,11 +9,12 @@ use Rattle.sv_client.specs.declared.trace.Event.TheVariants as events
 use Rattle.sv_client.specs.Traces.{held_of}
 use Rattle.sv_client.specs.Taking.{told}
 use Rattle.sv_client.specs.Seen.{ClientView}
-use Rattle.sv_client.specs.Evaluating.{IsFitting}
+use Rattle.sv_client.specs.Evaluating.{IsFitting, AsksWithin}
 use Rattle.sv_client.specs.Invariant.{who_is, IsClientOf}
 use Rattle.sv_client.specs.Answers.{IsFine, IsTaken, IsTakeFault, got_now}
 use Rattle.sv_client.proofs.Keeping.{reverse_push, got_keeps}
 use Rattle.sv_client.proofs.Looking.{fitting}
+use Rattle.sv_client.proofs.Within.{awaited_within}
 use Rattle.sv_client.proofs.Takes.{awaits_one, sessions_are, got_event}
 use Rattle.sv_client.proofs.client.Client.take.Goals as goal
 
@@ -41,6 +43,13 @@ take_reply-requires-clause-awaited c =
     let reply = c.args.reply in
     let fine : IsFine who t reply = subst (λ (v : ClientView). IsFine v.who v.events reply) (sym c.self.view_is) c.in_ok-look_at.ensures.ok in
     awaits_one who t reply c.self.inside.versions c.self.inside.pending c.self.inside.awaited.items c.self.inside.sessions c.self.inside.made c.self.inside.told c.self.inside.joined c.self.invariant fine
+
+pub take_reply-requires-clause-within : goal.take_reply-requires-clause-within
+take_reply-requires-clause-within c =
+    let who = who_is c.self.inside in
+    let t = reverse c.self.inside.events.items in
+    subst (λ (s : Shape). All (AsksWithin s.objects) c.self.inside.awaited.items) (sym c.self.invariant.held.shape)
+    (awaited_within who 0 t c.self.inside.awaited.items c.self.invariant.proper c.self.invariant.awaited.same)
 
 pub invariant_of-self-2 : goal.invariant_of-self-2
 invariant_of-self-2 c =

@@ -1,37 +1,11 @@
 -- What the check leaves to prove of `Missing::look_up`.
-use Rattle.std.proofs.Common.{ℕ, ◌∷◌, sym, ap, ◌∙◌}
-use Rattle.sv_world.specs.Control.{is_in, last_writer}
+use Rattle.std.proofs.Common.{ℕ, arith, ap, ◌∙◌}
+use Rattle.sv_world.specs.Control.{last_writer}
 use Rattle.sv_queue.specs.Queue.{queue_actions}
-use Rattle.sv_influence.proofs.Looks.{writer-uncommitted, look-base, look-given, look-late, look-unsent}
+use Rattle.sv_influence.proofs.Looks.{writer-queued}
 use Rattle.sv_influence.proofs.lacking.Missing.look_up.Goals as goal
 
-pub is_marked-requires : goal.is_marked-requires
-is_marked-requires g c =
-    writer-uncommitted c.args.queue.now c.args.read.object.0 c.args.read.pos c.source-writer.result c.requires.pos (c.source-writer.ensures.writer ∙ ap (λ (x : ℕ). last_writer (queue_actions c.args.queue.now) x c.args.read.pos) c.requires.read) c.if-writer-eq0.false
-
-pub returns-in_ok-insert-clause-bases : goal.returns-in_ok-insert-clause-bases
-returns-in_ok-insert-clause-bases g c =
-    look-base c.args.queue.now c.args.session c.args.read.pos c.args.read.object.0 c.args.self.now.bases c.insert.new.self c.requires.object
-    (sym (c.source-writer.ensures.writer ∙ ap (λ (x : ℕ). last_writer (queue_actions c.args.queue.now) x c.args.read.pos) c.requires.read) ∙ c.if-writer-eq0.true) (sym c.if-not-is_given.ensures)
-    (λ x. c.in_ok-insert.ensures x ∙ ap (λ (n : ℕ). is_in x (n ∷ c.args.self.now.bases)) c.from.ensures)
-
-pub returns-else-not-is_given-clause-bases : goal.returns-else-not-is_given-clause-bases
-returns-else-not-is_given-clause-bases g c =
-    look-given c.args.queue.now c.args.session c.args.read.pos c.args.read.object.0 c.args.self.now.bases c.requires.object (sym c.if-not-is_given.ensures)
-
-pub returns-in_ok-insert-2-clause-wanted : goal.returns-in_ok-insert-2-clause-wanted
-returns-in_ok-insert-2-clause-wanted g c =
-    look-unsent c.args.queue.now c.args.session c.args.read.pos c.args.read.object.0 c.source-writer.result c.args.self.now.wanted c.insert-then-not-is_marked.new.self
+pub add_writer-requires-clause-writer : goal.add_writer-requires-clause-writer
+add_writer-requires-clause-writer g c =
+    writer-queued c.args.queue.now c.args.read.object.0 c.args.read.pos c.source-writer.result (let w = c.requires.pos.1 in omega arith)
     (c.source-writer.ensures.writer ∙ ap (λ (x : ℕ). last_writer (queue_actions c.args.queue.now) x c.args.read.pos) c.requires.read)
-    (writer-uncommitted c.args.queue.now c.args.read.object.0 c.args.read.pos c.source-writer.result c.requires.pos (c.source-writer.ensures.writer ∙ ap (λ (x : ℕ). last_writer (queue_actions c.args.queue.now) x c.args.read.pos) c.requires.read) c.if-writer-eq0.false).0
-    (sym c.if-not-is_marked.ensures.marked) c.in_ok-insert-2.ensures
-
-pub returns-in_ok-insert-2-clause-bases : goal.returns-in_ok-insert-2-clause-bases
-returns-in_ok-insert-2-clause-bases g c =
-    look-late c.args.queue.now c.args.session c.args.read.pos c.args.read.object.0 c.source-writer.result c.args.self.now.bases (c.source-writer.ensures.writer ∙ ap (λ (x : ℕ). last_writer (queue_actions c.args.queue.now) x c.args.read.pos) c.requires.read)
-    (writer-uncommitted c.args.queue.now c.args.read.object.0 c.args.read.pos c.source-writer.result c.requires.pos (c.source-writer.ensures.writer ∙ ap (λ (x : ℕ). last_writer (queue_actions c.args.queue.now) x c.args.read.pos) c.requires.read) c.if-writer-eq0.false).0
-
-pub returns-else-not-is_marked-clause-bases : goal.returns-else-not-is_marked-clause-bases
-returns-else-not-is_marked-clause-bases g c =
-    look-late c.args.queue.now c.args.session c.args.read.pos c.args.read.object.0 c.source-writer.result c.args.self.now.bases (c.source-writer.ensures.writer ∙ ap (λ (x : ℕ). last_writer (queue_actions c.args.queue.now) x c.args.read.pos) c.requires.read)
-    (writer-uncommitted c.args.queue.now c.args.read.object.0 c.args.read.pos c.source-writer.result c.requires.pos (c.source-writer.ensures.writer ∙ ap (λ (x : ℕ). last_writer (queue_actions c.args.queue.now) x c.args.read.pos) c.requires.read) c.if-writer-eq0.false).0

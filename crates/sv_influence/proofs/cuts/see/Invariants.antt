@@ -1,0 +1,22 @@
+-- The loop invariant of `see`, and what gets smaller.
+use Rattle.std.proofs.Common.{◌≡◌, ℕ, true, ◌+◌, ◌-◌, ◌*◌, ◌<◌, ◌≤◌, ◌++◌, length, reverse}
+use Rattle.sv_world.specs.Control.{is_in, wanted_up_to}
+use Rattle.sv_world.specs.Limits.{most_items}
+use Rattle.sv_world.specs.Sets.{numbers_of}
+use Rattle.sv_queue.specs.Queue.{queue_actions, sent_positions}
+use Rattle.sv_influence.specs.Lacking.{lacking_to_see}
+use Rattle.sv_influence.specs.Writers.{most_look_ups}
+use Rattle.sv_influence.proofs.Sights.{AreSeenBases}
+use Rattle.sv_influence.proofs.cuts.see.Given as goal
+
+abbrev pub invariant-loop-greatest : goal.invariant-loop-greatest
+invariant-loop-greatest g l = record {
+  within : (j : ℕ) → is_in j l.missing.wanted ≡ true → (l.queue.commit < j) × (j ≤ l.pos);
+  whole : wanted_up_to (queue_actions l.queue) l.queue.commit (sent_positions l.queue l.session) l.pos l.missing.wanted ++ reverse l.items.items ≡ lacking_to_see l.queue l.session (numbers_of l.objects) l.pos;
+  bases : AreSeenBases l.queue l.session (numbers_of l.objects) l.pos l.items.items l.missing.bases;
+  few : length l.items.items ≤ most_items;
+  ticks : l.steps ≤ l.fn.steps + 2 * length l.objects + most_look_ups * length l.items.items;
+}
+
+abbrev pub decreases-loop-greatest : goal.decreases-loop-greatest
+decreases-loop-greatest g l = most_items - length l.items.items
