@@ -598,8 +598,8 @@ export class Client {
         const knowledge = new Knowledge(world), seen = new Map(knowledge.interest.map(object => [object, null]));
         Object.assign(this, { knowledge, seen, connect, key, onChange, onStatus, pause, wait, requests, patience,
             retry: { first: 200, longest: 10_000, tries: Infinity, ...retry }, status: "new", knows: false, isLeaving: false,
-            link: null, asked: 0, submitted: 0, tries: 0, turn: 0, queue: [], answers: new Set(), outcomes: new Map(),
-            watchers: new Set() });
+            link: null, entry: null, left: null, asked: 0, submitted: 0, tries: 0, turn: 0, queue: [], answers: new Set(),
+            outcomes: new Map(), watchers: new Set() });
     }
 
     /** A client that goes on where another program's stood when it called `saved()`. */
@@ -922,7 +922,7 @@ export class Client {
                 await new Promise(done => { setTimeout(done, Math.max(0, began + this.pause - Date.now())); });
             }
         } catch (fault) {
-            if (!(fault instanceof Fault)) throw fault;
+            if (turn === this.turn) throw fault;
         }
     }
 

@@ -21,7 +21,7 @@ const choice = nuggets => me === 0 ? Number(nuggets % 4n) || 1 : Math.ceil(Math.
 const client = new Client({
     number: me, objects: 3, attributes: 2, interest: [0, 1, 2], connect: () => nodeLink(port),
     onChange: (object, old, now) => console.log(`player ${me} sees object ${object}: ${now}`),
-    onStatus: status => console.log(`player ${me} is ${status}`) });
+    onStatus: status => console.log(`player ${me}: ${status}`) });
 await client.join();
 await new Promise(end => {
     client.watch([0, 1, 2], () => {

@@ -10,6 +10,7 @@ so.
 """
 
 import importlib.util
+import itertools
 import json
 import os
 import random
@@ -24,7 +25,8 @@ import types
 
 import js_cases
 import test_client
-from counting import ROOT, Count
+from counting import BUILT, ROOT, Count
+from programs import free_port
 from random_scenario import Maker
 from scenario import scenario_of
 from stand_in import StandIn
@@ -167,28 +169,54 @@ def test_taking_up(count):
 
 # The examples.
 
-def test_mine(count):
-    """The game of two players, against the stand-in: both in JavaScript, and one of each."""
+PAGE = """reads 0 3 writes 0 3 { if [0 < @3.1] { set @0.1 (@0.1 + @3.1); set @3.1 0; } }
+happens at position 1
+at 1: 1,35 and 4,0
+action 4 action 4
+draws 0,1,35 3,4,0 at 1
+draws 0,1,35 3,4,9 at 2
+life 2, 2 actions made, sees 4,9
+"""
+
+
+def test_page(count, room):
+    """The lines of docs/JAVASCRIPT.md."""
+    plan = scenario([[1, 5], [2, 10], [3, 20], [4, 30]], 8, (2,))
+    server = StandIn(plan).start()
+    done = node(os.path.join(TESTS, "page.js"), str(server.port), os.path.join(room, "kept.json"))
+    count.same((done.stdout, done.stderr), (PAGE, ""), "the lines of the page")
+    count.expect(server.wait(LONGEST), "the page: all sessions are over")
+
+
+def servers():
+    """The words of a server of mine.json, but for the port: the stand-in, and the program, where it is built."""
     path = os.path.join(CLIENTS, "mine.json")
+    yield [sys.executable, os.path.join(os.path.dirname(os.path.abspath(__file__)), "stand_in.py"), path]
+    if os.access(BUILT, os.X_OK):
+        yield [BUILT, "serve", path]
+
+
+def test_mine(count):
+    """The game of two players: both in JavaScript, and one of each."""
     js, py = ["node", os.path.join(JS, "mine.js")], [sys.executable, os.path.join(CLIENTS, "mine.py")]
-    for programs in ((js, js), (py, js)):
-        server = subprocess.Popen([sys.executable, os.path.join(os.path.dirname(__file__), "stand_in.py"), path, "0"],
-                                  stdout=subprocess.PIPE, text=True)
-        port = server.stdout.readline().split()[1]
+    with open(os.path.join(CLIENTS, "mine.json"), "rb") as file:
+        plan = scenario_of(file.read())
+    for server, programs in itertools.product(servers(), ((js, js), (py, js))):
+        port = str(free_port())
+        serving = subprocess.Popen([*server, port], stdout=subprocess.PIPE, text=True)
         players = [subprocess.Popen([*program, str(number), port], stdout=subprocess.PIPE, stderr=subprocess.STDOUT, text=True)
                    for number, program in enumerate(programs)]
         shown = [player.communicate(timeout=LONGEST)[0] for player in players]
-        text = server.communicate(timeout=LONGEST)[0]
-        count.same([player.returncode for player in players] + [server.returncode], [0, 0, 0], "statuses of the game")
-        with open(path, "rb") as file:
-            history, serial = test_client.history_of(scenario_of(file.read()), text.rsplit("commit ", 1)[0])
+        text = serving.communicate(timeout=LONGEST)[0]
+        count.same([player.returncode for player in players] + [serving.returncode], [0, 0, 0], f"statuses of the game: {shown}")
+        history, serial = test_client.history_of(plan, text.rsplit("commit ", 1)[0])
         last = [serial.value(target, len(history.accepted)) for target in range(3)]
         count.same((last[0][0], last[1][0] + last[2][0]), (0, 21), "all nuggets are in the purses")
         for number, lines in enumerate(shown):
             if programs[number] is js:
-                seen = [[line for line in lines.split("\n") if f"player {number} sees object {target}: " in line] for target in range(3)]
+                seen = [re.findall(rf"^player {number} sees object {target}: (.*)$", lines, re.M) for target in range(3)]
                 wanted = [",".join(map(str, value)) for value in last]
-                count.same([each[-1].split(": ")[1] for each in seen], wanted, f"what player {number} sees at last")
+                count.same([each[-1] for each in seen], wanted, f"what player {number} sees at last")
 
 
 def test_package(count, room):
@@ -234,6 +262,7 @@ def main():
             run_tests(count, name)
         test_random_runs(count, room)
         test_taking_up(count)
+        test_page(count, room)
         test_mine(count)
         test_package(count, room)
     return count.close()

@@ -184,6 +184,11 @@ async function tryJoiningAgain() {
     count.same(one.client.status, "closed", "no further link: it is over");
     const wrong = clientOf({ connect: () => { throw new SyntaxError("address"); } });
     await count.breaks(wrong.client.join(), "address", "a link that can't be made");
+    const later = await joined({ connect: ({ link, links }) => links.length > 1 ? missing.address : link }), missing = null;
+    later.client.watch([0], () => {});
+    later.link.onClose(new Error("broken"));
+    await pause(20);
+    count.same(later.client.status, "closed", "nor later; who watches is not told");
 }
 
 async function tryPauses() {
