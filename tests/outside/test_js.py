@@ -22,6 +22,7 @@ import subprocess
 import sys
 import tempfile
 import types
+from concurrent.futures import ThreadPoolExecutor
 
 import js_cases
 import test_client
@@ -33,8 +34,20 @@ from stand_in import StandIn
 from test_client import CLIENTS, judge, scenario
 
 LONGEST = 60
+RUNS, ACTS = 10, 12
 JS = os.path.join(ROOT, "clients", "js")
 TESTS = os.path.join(JS, "test")
+
+
+class Counted(Count):
+    """What passed and what failed; of random runs, how much happened."""
+
+    shown = lost = dropped = 0
+
+    def add(self, other):
+        """What another one counted."""
+        for name in ("passed", "failed", "shown", "lost", "dropped"):
+            setattr(self, name, getattr(self, name) + getattr(other, name))
 
 
 def node(*words, **more):
@@ -53,15 +66,13 @@ def run_tests(count, name, *words):
     count.failed += int(found[2]) if found else 0
 
 
-def test_cases(count, room):
-    """The cases of the Python client's tests."""
-    path = os.path.join(room, "cases.json")
+def write_cases(path):
+    """Writes the cases of the Python client's tests; answers how many of the random actions there are, and are void."""
     cases = js_cases.cases()
     with open(path, "w", encoding="utf-8") as file:
         json.dump(cases, file)
-    void = [each for each in cases["actions"] if each["result"] and js_cases.is_void(each["text"], each["values"])]
-    count.expect(len(cases["actions"]) >= 1000 and len(void) > 50, f"{len(void)} of {len(cases['actions'])} actions are void")
-    run_tests(count, "cases.js", path)
+    void = [each for each in cases["actions"] if js_cases.is_void(each["text"], each["values"])]
+    return len(cases["actions"]), len(void)
 
 
 # Sessions over TCP.
@@ -75,9 +86,8 @@ def close_rest(server):
             server.wait(0.05)
 
 
-def played(room, server, clients):
+def played(path, server, clients):
     """What the players of a plan kept and were told."""
-    path = os.path.join(room, "plan.json")
     with open(path, "w", encoding="utf-8") as file:
         json.dump({"port": server.port, "clients": clients}, file)
     done = node(os.path.join(TESTS, "play.js"), path)
@@ -100,47 +110,49 @@ def judged(found):
         seen=dict.fromkeys(found["plan"]["world"]["interest"])), told
 
 
-def test_random_runs(count, room):
+def plan_of(seed):
+    """A scenario, and what its players shall do."""
+    chance, maker = random.Random(seed), Maker(seed)
+    drops = [chance.choice([0, 2, 5]) for _ in range(chance.choice([2, 2, 3]))]
+    opening = [[maker.number() for _ in range(maker.attributes)] for _ in range(maker.objects)]
+    several = range(maker.objects)
+    clients = [{"drops": each, "seed": 100 * seed + number, "acts": [maker.act() for _ in range(ACTS)],
+                "watched": sorted(chance.sample(several, chance.choice([0, maker.objects]))),
+                "world": {"number": number, "objects": maker.objects, "attributes": maker.attributes,
+                          "interest": sorted(chance.sample(several, chance.randrange(maker.objects + 1)))}}
+               for number, each in enumerate(drops)]
+    return scenario(opening, maker.bound, drops, [], maker.reach), clients
+
+
+def test_random_run(count, room, seed):
     """Random players whose connections break: the journal is legal, and at last each sees the world as it is."""
-    shown = lost = dropped = 0
-    for seed in range(10):
-        chance, maker = random.Random(seed), Maker(seed)
-        drops = [chance.choice([0, 2, 5]) for _ in range(chance.choice([2, 2, 3]))]
-        opening = [[maker.number() for _ in range(maker.attributes)] for _ in range(maker.objects)]
-        plan = scenario(opening, maker.bound, drops, [], maker.reach)
-        server = StandIn(plan, at_once=True).start()
-        several = range(maker.objects)
-        clients = [{"drops": each, "seed": 100 * seed + number, "acts": [maker.act() for _ in range(12)],
-                    "watched": sorted(chance.sample(several, chance.choice([0, maker.objects]))),
-                    "world": {"number": number, "objects": maker.objects, "attributes": maker.attributes,
-                              "interest": sorted(chance.sample(several, chance.randrange(maker.objects + 1)))}}
-                   for number, each in enumerate(drops)]
-        name = f"random run {seed}"
-        try:
-            found = [{**each, "plan": one} for one, each in zip(clients, played(room, server, clients))]
-        except (AssertionError, subprocess.TimeoutExpired) as fault:
-            count.expect(False, f"{name}: {fault}")
-            continue
-        close_rest(server)
-        history, serial = judge(count, plan, server, [judged(each) for each in found], name)
-        if not history:
-            continue
-        last = len(history.accepted)
-        count.same(history.commit, last, f"{name}: all is committed")
-        for each in found:
-            number = each["number"]
-            count.same(len(history.outcomes.get(number, [])), 12, f"{name}: an outcome for each action of client {number}")
-            kinds = [{"accepted": "position", "dropped": "chain"}[one["kind"]] for one in each["outcomes"]]
-            count.expect(all(kind in one for kind, one in zip(kinds, each["outcomes"])), f"{name}: {each['outcomes']}")
-            places = [(one["number"], one["position"]) for one in each["outcomes"] if one["kind"] == "accepted"]
-            wanted = [(one.number, place) for place, one in enumerate(history.accepted, 1) if one.author == number]
-            count.same(places, wanted, f"{name}: what client {number} was told of its actions")
-            count.same([tuple(map(int, view)) for view in each["views"]], [serial.value(target, last) for target in several],
-                       f"{name}: the views of client {number} at last")
-            count.same(each["statuses"][-1], "left", f"{name}: client {number} left")
-            shown, lost = shown + len(each["shown"]), lost + sum("lost" in status for status in each["statuses"])
-            dropped += sum(one["kind"] == "dropped" for one in each["outcomes"])
-    count.expect(shown > 100 and lost > 20 and dropped > 5, f"shown {shown}, lost {lost}, dropped {dropped}")
+    plan, clients = plan_of(seed)
+    server, name = StandIn(plan, at_once=True).start(), f"random run {seed}"
+    try:
+        players = played(os.path.join(room, f"plan{seed}.json"), server, clients)
+    except (AssertionError, subprocess.TimeoutExpired) as fault:
+        count.expect(False, f"{name}: {fault}")
+        return
+    close_rest(server)
+    found = [{**each, "plan": one} for one, each in zip(clients, players)]
+    history, serial = judge(count, plan, server, [judged(each) for each in found], name)
+    if not history:
+        return
+    last = len(history.accepted)
+    world = [serial.value(target, last) for target in range(len(plan.opening))]
+    count.same(history.commit, last, f"{name}: all is committed")
+    for each in found:
+        number, outcomes = each["number"], each["outcomes"]
+        count.same(len(history.outcomes.get(number, [])), ACTS, f"{name}: an outcome for each action of client {number}")
+        count.same([one["number"] for one in outcomes], list(range(1, ACTS + 1)), f"{name}: client {number} was told of each")
+        count.same([(one["number"], one["position"]) for one in outcomes if one["kind"] == "accepted"],
+                   [(one.number, place) for place, one in enumerate(history.accepted, 1) if one.author == number],
+                   f"{name}: which of them happened, and where")
+        count.same([tuple(map(int, view)) for view in each["views"]], world, f"{name}: the views of client {number} at last")
+        count.same(each["statuses"][-1], "left", f"{name}: client {number} left")
+        count.shown += len(each["shown"])
+        count.lost += sum("lost" in status for status in each["statuses"])
+        count.dropped += sum(one["kind"] == "dropped" for one in outcomes)
 
 
 def test_taking_up(count):
@@ -188,53 +200,56 @@ def test_page(count, room):
     count.expect(server.wait(LONGEST), "the page: all sessions are over")
 
 
-def servers():
-    """The words of a server of mine.json, but for the port: the stand-in, and the program, where it is built."""
-    path = os.path.join(CLIENTS, "mine.json")
-    yield [sys.executable, os.path.join(os.path.dirname(os.path.abspath(__file__)), "stand_in.py"), path]
-    if os.access(BUILT, os.X_OK):
-        yield [BUILT, "serve", path]
+JS_MINE, PYTHON_MINE = ["node", os.path.join(JS, "mine.js")], [sys.executable, os.path.join(CLIENTS, "mine.py")]
+MINE = os.path.join(CLIENTS, "mine.json")
+STAND_IN = [sys.executable, os.path.join(os.path.dirname(os.path.abspath(__file__)), "stand_in.py"), MINE]
 
 
-def test_mine(count):
-    """The game of two players: both in JavaScript, and one of each."""
-    js, py = ["node", os.path.join(JS, "mine.js")], [sys.executable, os.path.join(CLIENTS, "mine.py")]
-    with open(os.path.join(CLIENTS, "mine.json"), "rb") as file:
-        plan = scenario_of(file.read())
-    for server, programs in itertools.product(servers(), ((js, js), (py, js))):
-        port = str(free_port())
-        serving = subprocess.Popen([*server, port], stdout=subprocess.PIPE, text=True)
-        players = [subprocess.Popen([*program, str(number), port], stdout=subprocess.PIPE, stderr=subprocess.STDOUT, text=True)
-                   for number, program in enumerate(programs)]
-        shown = [player.communicate(timeout=LONGEST)[0] for player in players]
-        text = serving.communicate(timeout=LONGEST)[0]
-        count.same([player.returncode for player in players] + [serving.returncode], [0, 0, 0], f"statuses of the game: {shown}")
-        history, serial = test_client.history_of(plan, text.rsplit("commit ", 1)[0])
-        last = [serial.value(target, len(history.accepted)) for target in range(3)]
-        count.same((last[0][0], last[1][0] + last[2][0]), (0, 21), "all nuggets are in the purses")
-        for number, lines in enumerate(shown):
-            if programs[number] is js:
-                seen = [re.findall(rf"^player {number} sees object {target}: (.*)$", lines, re.M) for target in range(3)]
-                wanted = [",".join(map(str, value)) for value in last]
-                count.same([each[-1] for each in seen], wanted, f"what player {number} sees at last")
+def test_mine(count, server, programs):
+    """The game of two players."""
+    port = str(free_port())
+    serving = subprocess.Popen([*server, port], stdout=subprocess.PIPE, text=True)
+    players = [subprocess.Popen([*program, str(number), port], stdout=subprocess.PIPE, stderr=subprocess.STDOUT, text=True)
+               for number, program in enumerate(programs)]
+    shown = [player.communicate(timeout=LONGEST)[0] for player in players]
+    text = serving.communicate(timeout=LONGEST)[0]
+    count.same([player.returncode for player in players] + [serving.returncode], [0, 0, 0], f"statuses of the game: {shown}")
+    with open(MINE, "rb") as file:
+        history, serial = test_client.history_of(scenario_of(file.read()), text.rsplit("commit ", 1)[0])
+    last = [serial.value(target, len(history.accepted)) for target in range(3)]
+    count.same((last[0][0], last[1][0] + last[2][0]), (0, 21), "all nuggets are in the purses")
+    for number, lines in enumerate(shown):
+        if programs[number] is JS_MINE:
+            seen = [re.findall(rf"^player {number} sees object {target}: (.*)$", lines, re.M) for target in range(3)]
+            count.same([each[-1] for each in seen], [",".join(map(str, value)) for value in last], f"what player {number} sees at last")
 
 
-def test_package(count, room):
-    """The types name what the module exports; pip and npm install the folders of the clients, where they are."""
+def test_types(count):
+    """The types name what the module exports."""
     with open(os.path.join(JS, "dimboetu.d.ts"), encoding="utf-8") as file:
-        named = set(re.findall(r"^export (?:declare )?(?:class|function|const) (\w+)", file.read(), re.M))
+        named = set(re.findall(r"^export declare (?:class|function|const) (\w+)", file.read(), re.M))
     done = node("--input-type=module", "-e", "console.log(Object.keys(await import('./dimboetu.js')).join(' '))", cwd=JS)
     count.same(named, set(done.stdout.split()), "the types of dimboetu.d.ts")
-    if importlib.util.find_spec("pip"):
-        place = os.path.join(room, "installed")
-        done = subprocess.run([sys.executable, "-m", "pip", "install", "--quiet", "--no-index", "--no-deps", "--target", place, CLIENTS],
-                              capture_output=True, text=True, timeout=LONGEST, check=False)
-        count.same(done.returncode, 0, f"pip install: {done.stderr}")
-        done = subprocess.run([sys.executable, "-c", "import dimboetu; print(dimboetu.__file__)"], capture_output=True,
-                              text=True, cwd=room, env={**os.environ, "PYTHONPATH": place}, check=False)
-        count.same(done.stdout, os.path.join(place, "dimboetu.py") + "\n", "the Python package is found by its name")
+
+
+def test_pip(count, room):
+    """pip installs the folder of the Python client, where pip is."""
+    if not importlib.util.find_spec("pip"):
+        print("pip is not there: nothing is installed by it")
+        return
+    place = os.path.join(room, "installed")
+    done = subprocess.run([sys.executable, "-m", "pip", "install", "--quiet", "--no-index", "--no-deps", "--target", place, CLIENTS],
+                          capture_output=True, text=True, timeout=LONGEST, check=False)
+    count.same(done.returncode, 0, f"pip install: {done.stderr}")
+    done = subprocess.run([sys.executable, "-c", "import dimboetu; print(dimboetu.__file__)"], capture_output=True,
+                          text=True, cwd=room, env={**os.environ, "PYTHONPATH": place}, check=False)
+    count.same(done.stdout, os.path.join(place, "dimboetu.py") + "\n", "the Python package is found by its name")
+
+
+def test_npm(count, room):
+    """npm installs the folder of the JavaScript client, where npm is."""
     if shutil.which("npm") is None:
-        print("npm is not there: nothing is installed")
+        print("npm is not there: nothing is installed by it")
         return
     done = subprocess.run(["npm", "install", "--offline", "--no-audit", "--no-fund", "--silent", JS], cwd=room,
                           capture_output=True, text=True, timeout=LONGEST, check=False)
@@ -242,6 +257,27 @@ def test_package(count, room):
     done = node("--input-type=module", "-e", "import { parseAction } from 'dimboetu'; import { nodeLink } from 'dimboetu/node-link.js';"
                 "console.log(String(parseAction('reads 0   writes { }')), typeof nodeLink)", cwd=room)
     count.same((done.stdout, done.stderr), ("reads 0 writes { } function\n", ""), "the package is found by its name")
+
+
+def tests_in(room):
+    """All tests, as functions and what they are given."""
+    cases = os.path.join(room, "cases.json")
+    actions, void = write_cases(cases)
+    yield lambda count: count.expect(actions >= 1000 and void > 50, f"{void} of {actions} actions are void")
+    yield from [lambda count, words=words: run_tests(count, *words) for words in (("cases.js", cases), ("client.js",), ("links.js",))]
+    yield from [lambda count, seed=seed: test_random_run(count, room, seed) for seed in range(RUNS)]
+    yield from [test_taking_up, test_types]
+    yield from [lambda count, test=test: test(count, room) for test in (test_page, test_pip, test_npm)]
+    servers = [STAND_IN, [BUILT, "serve", MINE]] if os.access(BUILT, os.X_OK) else [STAND_IN]
+    for words in itertools.product(servers, ((JS_MINE, JS_MINE), (PYTHON_MINE, JS_MINE))):
+        yield lambda count, words=words: test_mine(count, *words)
+
+
+def counted(test):
+    """What a test counts."""
+    count = Counted()
+    test(count)
+    return count
 
 
 def main():
@@ -255,16 +291,12 @@ def main():
     if int(version.lstrip("v").split(".")[0]) < 20:
         print(f"node is {version}, and 20 is needed: the JavaScript client is not tested")
         return 0
-    count = Count()
-    with tempfile.TemporaryDirectory() as room:
-        test_cases(count, room)
-        for name in ("client.js", "links.js"):
-            run_tests(count, name)
-        test_random_runs(count, room)
-        test_taking_up(count)
-        test_page(count, room)
-        test_mine(count)
-        test_package(count, room)
+    count = Counted()
+    with tempfile.TemporaryDirectory() as room, ThreadPoolExecutor(4) as crew:
+        for each in crew.map(counted, tests_in(room)):
+            count.add(each)
+    count.expect(count.shown > 100 and count.lost > 20 and count.dropped > 5,
+                 f"shown {count.shown}, lost {count.lost}, dropped {count.dropped}")
     return count.close()
 
 

@@ -5,11 +5,11 @@
  *     node clients/js/test/client.js
  */
 
-import { setTimeout as pause } from "node:timers/promises";
 import { Client, Fault, action, decodeReply, number, obj, parseAction, when } from "../dimboetu.js";
-import { Count, TestLink, bytesOf, encodeReply } from "./count.js";
+import { Clock, Count, TestLink, bytesOf, encodeReply } from "./count.js";
 
-const count = new Count();
+const count = new Count(), clock = new Clock();
+const pause = milliseconds => clock.pause(milliseconds);
 const ADD_ONE = "reads 0 writes 0 { set @0.0 (@0.0 + 1); }";
 const QUICK = { first: 4, longest: 16 };
 const gold = obj(0).attr(0);
@@ -192,28 +192,17 @@ async function tryJoiningAgain() {
 }
 
 async function tryPauses() {
-    const { setTimeout: kept } = globalThis, asked = [];
-    const { client, link } = await joined({ retry: { first: 100, longest: 1000 } });
-    globalThis.setTimeout = (callback, milliseconds) => {
-        asked.push(milliseconds);
-        callback();
-    };
-    let tries = 0;
-    client.connect = () => {
-        const next = new TestLink();
-        tries += 1;
-        if (tries < 6) queueMicrotask(() => next.onClose(new Error("nobody there")));
-        return next;
-    };
-    link.onClose(new Error("broken"));
-    await pause(5);
-    client.link.say(encodeReply(welcome(0, 5, 7)));
-    client.link.onClose(new Error("broken"));
-    await pause(5);
-    globalThis.setTimeout = kept;
-    const longest = [100, 200, 400, 800, 1000, 1000, 100];
-    count.same(asked.map((each, place) => longest[place] / 2 <= each && each <= longest[place]), longest.map(() => true), `growing pauses: ${asked}`);
-    client.close();
+    const found = await joined({ retry: { first: 100, longest: 1000 } }), longest = [100, 200, 400, 800, 1000, 1000, 100];
+    for (const [place, most] of longest.entries()) {
+        if (place === 6) found.say(welcome(0, 5, 7));
+        found.link.onClose(new Error("broken"));
+        const { links: { length } } = found;
+        await pause(most / 2 - 1);
+        count.same(found.links.length, length, `pause ${place} is not too short`);
+        await pause(most / 2 + 1);
+        count.same(found.links.length, length + 1, `pause ${place} is not too long`);
+    }
+    found.client.close();
 }
 
 async function tryLimits() {

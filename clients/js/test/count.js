@@ -113,3 +113,43 @@ export function encodeReply({ kind, number = 0, commit = 0, last = 0, head = [],
         refused: () => [0x87, more.code, ...big(4, more.detail)] };
     return Uint8Array.from(rest[kind]());
 }
+
+/** A clock that goes on only when a test says so, in the place of setTimeout, clearTimeout and Date.now. */
+export class Clock {
+    now = 0;
+
+    timers = new Map();
+
+    constructor() {
+        let made = 0;
+        globalThis.setTimeout = (callback, milliseconds = 0) => {
+            made += 1;
+            this.timers.set(made, { at: this.now + milliseconds, callback });
+            return made;
+        };
+        globalThis.clearTimeout = timer => { this.timers.delete(timer); };
+        Date.now = () => this.now;
+    }
+
+    /** Lets so many milliseconds pass. */
+    async pause(milliseconds) {
+        const end = this.now + milliseconds;
+        for (let due = await this.due(end); due; due = await this.due(end)) {
+            this.timers.delete(due[0]);
+            this.now = due[1].at;
+            due[1].callback();
+        }
+        this.now = end;
+    }
+
+    /** The next timer that is due by then, once all that is under way is done. */
+    async due(end) {
+        await new Promise(done => { setImmediate(done); });
+        return [...this.timers].filter(([, { at }]) => at <= end).sort(([, one], [, other]) => one.at - other.at)[0];
+    }
+}
+
+/** Waits until something holds, for five seconds at most. */
+export async function until(holds) {
+    for (let tries = 0; !holds() && tries < 1000; tries += 1) await new Promise(done => { setTimeout(done, 5); });
+}

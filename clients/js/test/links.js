@@ -6,10 +6,9 @@
 
 import { createServer } from "node:net";
 import { once } from "node:events";
-import { setTimeout as pause } from "node:timers/promises";
 import { Client, webSocketLink } from "../dimboetu.js";
 import { frame, nodeLink } from "../node-link.js";
-import { Count, bytesOf, encodeReply, hexOf } from "./count.js";
+import { Count, bytesOf, encodeReply, hexOf, until } from "./count.js";
 
 const count = new Count();
 const WORLD = { number: 3, objects: 2, attributes: 1, interest: [0] };
@@ -59,10 +58,10 @@ async function tryWebSocket() {
     last().say(encodeReply({ kind: "idle" }));
     last().onerror({});
     last().onclose({ code: 1006 });
-    await pause(20);
+    await until(() => TestSocket.made.length > 1);
     count.same([TestSocket.made.length, client.life, client.status], [2, 2, "joining"], "joined again over another one");
     last().onclose({ code: 1006 });
-    await pause(20);
+    await until(() => TestSocket.made.length > 2);
     count.same([TestSocket.made.length, client.life], [3, 2], "one that was never open takes no life");
     last().open();
     last().say(WELCOME);
@@ -95,26 +94,24 @@ async function tryNodeLink() {
     const framed = frame(WELCOME);
     for (const byte of framed) {
         socket.write(Uint8Array.of(byte));
-        await pause(1);
+        await new Promise(done => { setTimeout(done, 1); });
     }
     await entry;
     count.same(client.view(0), [5n], "a reply that comes byte by byte");
-    socket.write(frame(WELCOME).subarray(0, 9));
-    await pause(10);
-    socket.destroy();
+    socket.end(framed.subarray(0, 9));
     const second = await next();
     count.same([client.life, faults.includes("lost") || faults.includes("closed")], [2, true], "half a frame, and the line breaks");
     second.write(bytesOf("00010001ff"));
-    await pause(20);
+    await until(() => client.status === "refused");
     count.same([client.status, faults.at(-1)], ["refused", "toolong 65537"], "a length that is too long");
 
     const late = nodeLink(port), third = await next(), told = [];
-    third.destroy();
-    await pause(10);
     late.onClose = fault => told.push(fault.message);
+    third.destroy();
+    await until(() => told.length);
     late.send(Uint8Array.of(4));
-    await pause(5);
-    count.same(told.length, 1, "a link that closed before it was used says so when it is");
+    await until(() => told.length > 1);
+    count.same(told.length, 2, "a link that closed before it was used says so when it is");
     for (const each of [second, third]) each.destroy();
     server.close();
     await once(server, "close");

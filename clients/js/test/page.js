@@ -11,7 +11,11 @@ import { Client, action, obj, when } from "../dimboetu.js";
 import { nodeLink } from "../node-link.js";
 
 const port = Number(process.argv[2]), path = process.argv[3];
-const draw = (values, position) => console.log(`draws ${[...values].join(" ")} at ${position}`);
+let drawn = 0;
+const draw = (values, position) => {
+    console.log(`draws ${[...values].join(" ")} at ${position}`);
+    drawn += 1;
+};
 
 const links = [nodeLink(port), nodeLink(port), nodeLink(port)];     // all of them before the first join
 const client = new Client({ number: 0, objects: 4, attributes: 2, interest: [0, 3], connect: () => links.shift() });
@@ -36,8 +40,7 @@ try {
 
 const watching = client.watch([0, 3], draw);
 await client.act("reads 3 writes 3 { set @3.1 9; }");
-await client.observe([3]);
-await new Promise(done => { setTimeout(done, 300); });
+while (drawn < 2) await new Promise(done => { setTimeout(done, 10); });
 watching.stop();
 
 await writeFile(path, JSON.stringify(client.saved()));

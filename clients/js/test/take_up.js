@@ -28,7 +28,7 @@ await second.join();
 const tookUp = [second.life, second.made];
 const outcome = await second.act(ADD_ONE);
 await first.observe([0]).catch(() => {});
-await pause(30);
+await pause(30);                                // it does not join again
 
 const view = second.view(0);
 second.act(ADD_ONE);
