@@ -697,12 +697,16 @@ export class Client {
 
     /** Gives all up at once. What is pending stays so: `join` goes on with it. */
     close() {
-        this.finish("closed", new Fault("closed"));
+        if (this.isActive()) this.finish("closed", new Fault("closed"));
+    }
+
+    isActive() {
+        return this.status === "joining" || this.status === "joined" || this.status === "lost";
     }
 
     /** Nothing is asked before the client was in the world, nor after it left. */
     needWorld() {
-        if (!this.knows || this.isLeaving || !["joining", "joined", "lost"].includes(this.status)) throw new Fault("outside");
+        if (!this.knows || this.isLeaving || !this.isActive()) throw new Fault("outside");
     }
 
     needObjects(objects) {
@@ -917,9 +921,9 @@ export class Client {
         const { turn } = this;
         try {
             while (turn === this.turn && this.watchers.size) {
-                const began = Date.now(), shown = await this.observeWatched();
+                const next = performance.now() + this.pause, shown = await this.observeWatched();
                 if (turn === this.turn) this.show(shown);
-                await new Promise(done => { setTimeout(done, Math.max(0, began + this.pause - Date.now())); });
+                await new Promise(done => { setTimeout(done, Math.max(0, next - performance.now())); });
             }
         } catch (fault) {
             if (turn === this.turn) throw fault;
@@ -930,7 +934,7 @@ export class Client {
     observeWatched() {
         const objects = ascending([...this.watchers].flatMap(each => each.objects)), parts = [];
         while (objects.length) parts.push(objects.splice(0, MOST.observed));
-        const wait = parts.length > 1 ? this.pause : this.wait;
+        const wait = parts.length > 1 ? Math.min(Math.round(this.pause), MOST.wait) : this.wait;
         return Promise.all(parts.map((part, place) => this.observe(part, place + 1 < parts.length ? 0 : wait)));
     }
 

@@ -179,8 +179,9 @@ def actions():
         maker, chance = Maker(seed), random.Random(seed)
         act = read_action(text := maker.act())
         shape = (chance.choice([maker.objects, 2]), chance.choice([maker.attributes, 1]))
-        values = {target: tuple(maker.number() if chance.random() < 0.8 else chance.choice([0, test_client.GREATEST, test_client.LEAST])
-                                for _ in range(maker.attributes)) for target in act.reads}
+        ends = [0, test_client.GREATEST, test_client.LEAST]
+        values = {target: tuple(maker.number() if chance.random() < 0.8 else chance.choice(ends) for _ in range(maker.attributes))
+                  for target in act.reads}
         yield {"text": text, "canonical": action_text(act), "bytes": wire.action_bytes(act).hex(), "shape": shape,
                "cause": fault_of_action(act, *shape), "values": [texts(value) for value in values.values()],
                "result": [texts(value) for value in evaluate(act, values)]}
@@ -296,7 +297,8 @@ class Notes:
         return self.step(super().give_up, do="give up")
 
     def say(self, payload, more=b""):
-        return self.step(lambda: super(Notes, self).say(payload, more), do="say", payload=None if payload is None else payload.hex())
+        text = None if payload is None else payload.hex()
+        return self.step(lambda: super(Notes, self).say(payload, more), do="say", payload=text)
 
     def accept(self, reply):
         return self.step(lambda: super(Notes, self).accept(reply), do="say", payload=getattr(reply, "payload", None))

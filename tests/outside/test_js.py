@@ -221,7 +221,8 @@ def test_mine(count, server, programs):
     for number, lines in enumerate(shown):
         if programs[number] is JS_MINE:
             seen = [re.findall(rf"^player {number} sees object {target}: (.*)$", lines, re.M) for target in range(3)]
-            count.same([each[-1] for each in seen], [",".join(map(str, value)) for value in last], f"what player {number} sees at last")
+            wanted = [",".join(map(str, value)) for value in last]
+            count.same([each[-1] for each in seen], wanted, f"what player {number} sees at last")
 
 
 def test_types(count):
@@ -238,8 +239,8 @@ def test_pip(count, room):
         print("pip is not there: nothing is installed by it")
         return
     place = os.path.join(room, "installed")
-    done = subprocess.run([sys.executable, "-m", "pip", "install", "--quiet", "--no-index", "--no-deps", "--target", place, CLIENTS],
-                          capture_output=True, text=True, timeout=LONGEST, check=False)
+    words = ["pip", "install", "--quiet", "--no-index", "--no-deps", "--target", place, CLIENTS]
+    done = subprocess.run([sys.executable, "-m", *words], capture_output=True, text=True, timeout=LONGEST, check=False)
     count.same(done.returncode, 0, f"pip install: {done.stderr}")
     done = subprocess.run([sys.executable, "-c", "import dimboetu; print(dimboetu.__file__)"], capture_output=True,
                           text=True, cwd=room, env={**os.environ, "PYTHONPATH": place}, check=False)
@@ -254,7 +255,8 @@ def test_npm(count, room):
     done = subprocess.run(["npm", "install", "--offline", "--no-audit", "--no-fund", "--silent", JS], cwd=room,
                           capture_output=True, text=True, timeout=LONGEST, check=False)
     count.same((done.returncode, done.stderr), (0, ""), "npm install")
-    done = node("--input-type=module", "-e", "import { parseAction } from 'dimboetu'; import { nodeLink } from 'dimboetu/node-link.js';"
+    done = node("--input-type=module", "-e", "import { parseAction } from 'dimboetu';"
+                "import { nodeLink } from 'dimboetu/node-link.js';"
                 "console.log(String(parseAction('reads 0   writes { }')), typeof nodeLink)", cwd=room)
     count.same((done.stdout, done.stderr), ("reads 0 writes { } function\n", ""), "the package is found by its name")
 
@@ -264,12 +266,13 @@ def tests_in(room):
     cases = os.path.join(room, "cases.json")
     actions, void = write_cases(cases)
     yield lambda count: count.expect(actions >= 1000 and void > 50, f"{void} of {actions} actions are void")
-    yield from [lambda count, words=words: run_tests(count, *words) for words in (("cases.js", cases), ("client.js",), ("links.js",))]
+    for words in (("cases.js", cases), ("client.js",), ("links.js",)):
+        yield lambda count, words=words: run_tests(count, *words)
     yield from [lambda count, seed=seed: test_random_run(count, room, seed) for seed in range(RUNS)]
     yield from [test_taking_up, test_types]
     yield from [lambda count, test=test: test(count, room) for test in (test_page, test_pip, test_npm)]
     servers = [STAND_IN, [BUILT, "serve", MINE]] if os.access(BUILT, os.X_OK) else [STAND_IN]
-    for words in itertools.product(servers, ((JS_MINE, JS_MINE), (PYTHON_MINE, JS_MINE))):
+    for words in itertools.product(servers, ((JS_MINE, JS_MINE), (JS_MINE, PYTHON_MINE))):
         yield lambda count, words=words: test_mine(count, *words)
 
 
@@ -295,7 +298,7 @@ def main():
     with tempfile.TemporaryDirectory() as room, ThreadPoolExecutor(4) as crew:
         for each in crew.map(counted, tests_in(room)):
             count.add(each)
-    count.expect(count.shown > 100 and count.lost > 20 and count.dropped > 5,
+    count.expect(count.shown > 60 and count.lost > 20 and count.dropped > 5,
                  f"shown {count.shown}, lost {count.lost}, dropped {count.dropped}")
     return count.close()
 

@@ -156,7 +156,8 @@ class Repeating {
             waiting: outstanding.map(each => each.kind),
             views: Array.from({ length: objects }, (_, object) => textsOf(this.client.view(object))),
             pending: pending.map(each => [each.number, each.kept && each.kept.map(textsOf)]),
-            held: inOrder(versions).map(([object, held]) => [object, inOrder(held).map(([place, value]) => [place, textsOf(value)])]) };
+            held: inOrder(versions).map(([object, held]) =>
+                [object, inOrder(held).map(([place, value]) => [place, textsOf(value)])]) };
     }
 }
 

@@ -12,6 +12,7 @@ const count = new Count(), clock = new Clock();
 const pause = milliseconds => clock.pause(milliseconds);
 const ADD_ONE = "reads 0 writes 0 { set @0.0 (@0.0 + 1); }";
 const QUICK = { first: 4, longest: 16 };
+const WORLD = { number: 3, objects: 40, attributes: 1, interest: [0, 1] };
 const gold = obj(0).attr(0);
 
 /** A client whose links and statuses the test has. */
@@ -25,7 +26,7 @@ function clientOf(more = {}, saved = null) {
         },
         onStatus: (status, fault) => found.statuses.push(fault ? `${status}: ${fault.message}` : status),
         onChange: (object, old, now) => found.changes.push(`${object} ${old} ${now}`) };
-    found.client = saved ? Client.from(saved, options) : new Client({ number: 3, objects: 40, attributes: 1, interest: [0, 1], ...options });
+    found.client = saved ? Client.from(saved, options) : new Client({ ...WORLD, ...options });
     found.say = reply => found.link.say(encodeReply(reply));
     found.said = () => found.link.said();
     return found;
@@ -80,17 +81,16 @@ async function tryTakingUp() {
     count.same(found.said().length, 1, "its next number is still asked for");
     found.client.close();
 
-    for (const [replies, message, name] of [
-        [[{ kind: "refused", code: 11, detail: 0 }], "wrongkind", "a greatest life below the one that joined"],
-        [[{ kind: "refused", code: 11, detail: 2 ** 32 - 1 }], "wrongkind", "no greater life"],
-        [[{ kind: "refused", code: 10, detail: 0 }], "wrongkind", "no such client"],
-        [[{ kind: "refused", code: 11, detail: 4 }, welcome(0, 1, 1), { kind: "refused", code: 5, detail: 0 }], "wrongkind", "no next number"],
-        [[{ kind: "refused", code: 11, detail: 4 }, welcome(0, 1, 1), { kind: "settled", number: 0, position: 1 }], "wrongkind", "number 0 is settled"],
-        [[{ kind: "refused", code: 5, detail: 4 }], "wrongkind", "a refusal that does not belong to a Join"]]) {
+    const refused = (code, detail) => ({ kind: "refused", code, detail });
+    for (const [name, ...replies] of [
+        ["a greatest life below the one that joined", refused(11, 0)], ["no greater life", refused(11, 2 ** 32 - 1)],
+        ["no such client", refused(10, 0)], ["a refusal that does not belong to a Join", refused(5, 4)],
+        ["no next number", refused(11, 4), welcome(0, 1, 1), refused(5, 0)],
+        ["number 0 is settled", refused(11, 4), welcome(0, 1, 1), { kind: "settled", number: 0, position: 1 }]]) {
         found = clientOf();
         entry = found.client.join();
         for (const reply of replies) found.say(reply);
-        await count.breaks(entry, message, name);
+        await count.breaks(entry, "wrongkind", name);
         count.same([found.client.status, found.link.isClosed], ["refused", true], name);
     }
 }
@@ -127,7 +127,8 @@ async function tryPushedOut() {
     }
     const unasked = await joined();
     unasked.say({ kind: "refused", code: 4, detail: 0 });
-    count.same([unasked.client.status, unasked.statuses.at(-1)], ["pushed out", "pushed out: unasked"], "a refusal that nobody asked for");
+    count.same([unasked.client.status, unasked.statuses.at(-1)], ["pushed out", "pushed out: unasked"],
+        "a refusal that nobody asked for");
 }
 
 async function tryJoiningAgain() {
@@ -251,6 +252,7 @@ async function tryOutcomes() {
     count.refuses(() => client.act(ADD_ONE), "outside", "nothing is made after that");
     say({ kind: "bye" });
     await left;
+    client.close();
     count.same(client.status, "left", "the session is over");
 }
 
@@ -262,7 +264,8 @@ async function tryObserving() {
     for (const wait of [-1, 65_536, 1.5, "1"]) count.expect(isTypeError(() => client.observe([0], wait)), `wait ${wait}`);
     const seen = client.observe([0, 1], 65_535);
     count.same(said(), ["070200000001ffff"], "objects and wait");
-    say({ kind: "seen", last: 1, commit: 0, items: [{ position: 1, client: 2, number: 1, action: parseAction("reads 1 writes 1 { set @1.0 9; }") }] });
+    const act = parseAction("reads 1 writes 1 { set @1.0 9; }");
+    say({ kind: "seen", last: 1, commit: 0, items: [{ position: 1, client: 2, number: 1, action: act }] });
     count.same(await seen, { last: 1, values: new Map([[0, [5n]], [1, [9n]]]) }, "values at one position");
     count.same(said(), ["03010000000101010000000000000009"], "and the result is reported");
     say({ kind: "noted", commit: 1 });
@@ -276,7 +279,7 @@ const waits = said => said.filter(each => each.startsWith("07")).map(each => par
 
 async function tryWatching() {
     const { client, say, said, statuses } = await joined(), shown = [];
-    const seen = (last, ...values) => say({ kind: "seen", last, commit: last, head: values.map((one, object) => [object, [BigInt(one)]]) });
+    const seen = (last, ...values) => say({ ...welcome(last, ...values), kind: "seen", last });
     count.refuses(() => client.watch([40], () => {}), "objects", "no such object");
     const watching = client.watch([1, 0, 1], (values, last) => shown.push([...values, last].join(" ")));
     count.same(said(), ["0702000000011388"], "one Observe with a wait");
@@ -354,8 +357,10 @@ async function tryKeys() {
     await pause(20);
     count.same(found.said()[0], hello, "over each connection");
     found.client.close();
-    for (const length of [15, 65]) count.expect(isTypeError(() => clientOf({ key: new Uint8Array(length) })), `a key of ${length} bytes`);
-    count.expect(!isTypeError(() => clientOf({ key: new Uint8Array(64) })), "a key of 64 bytes");
+    for (const length of [15, 64, 65]) {
+        const isWrong = isTypeError(() => clientOf({ key: new Uint8Array(length) }));
+        count.same(isWrong, length !== 64, `a key of ${length} bytes`);
+    }
 }
 
 async function trySaving() {
@@ -369,7 +374,8 @@ async function trySaving() {
     count.same(saved, client.saved(), "plain data, which JSON can write");
     const next = clientOf({}, saved);
     count.same(next.client.saved(), client.saved(), "the same again");
-    count.same([next.client.view(0), next.client.view(1), next.client.made, next.client.life], [null, [8n], 3, 1], "it sees the same");
+    const { client: other } = next, views = () => [other.view(0), other.view(1)];
+    count.same([...views(), other.made, other.life], [null, [8n], 3, 1], "it sees the same");
     count.refuses(() => next.client.act(ADD_ONE), "outside", "it is in no session yet");
     const entry = next.client.join();
     count.same(next.said().map(each => each.slice(0, 14)), ["01000300000002", "06000000020200", "06000000030100"],
@@ -377,7 +383,7 @@ async function trySaving() {
     next.say(welcome(1, 6, 7));
     next.say({ kind: "dropped", number: 2, chain: 1, far: 2 });
     await entry;
-    count.same([next.client.view(0), next.client.view(1), next.client.pending, next.client.status], [[6n], [8n], 1, "joined"], "it goes on");
+    count.same([...views(), other.pending, other.status], [[6n], [8n], 1, "joined"], "it goes on");
     const fresh = clientOf({}, JSON.parse(JSON.stringify(clientOf().client.saved())));
     fresh.client.join();
     fresh.say({ kind: "refused", code: 11, detail: 3 });
@@ -428,8 +434,9 @@ async function tryPatience() {
 function tryLargeAndDeep() {
     const start = "89 00000000 00000000 0000 01 00000001 0000 00000001 01 0000 0001 00000000 00000000 1d";
     const before = `${start}${"100000 20 0000000000000001".repeat(28)} 11 ${"35".repeat(7)}`;
-    count.refuses(() => decodeReply(bytesOf(`${before} 30`)), `malformed ${bytesOf(before).length} 7`, "too many nodes, and too deep");
-    count.refuses(() => decodeReply(bytesOf(`${before} 20`)), `malformed ${bytesOf(before).length} 2`, "and of another kind");
+    const { length } = bytesOf(before), read = byte => decodeReply(bytesOf(before + byte));
+    count.refuses(() => read("30"), `malformed ${length} 7`, "too many nodes, and too deep");
+    count.refuses(() => read("20"), `malformed ${length} 2`, "and of another kind");
 }
 
 function isTypeError(call) {
@@ -447,7 +454,8 @@ function tryBuilder() {
         [action([a.set(a.plus(1))]), "reads 3 writes 3 { set @3.1 (@3.1 + 1); }"],
         [action([b.set(number(2).minus(a)), a.set(b.max(0).min(a))]),
             "reads 3 300 writes 3 300 { set @300.0 (2 - @3.1); set @3.1 ((@300.0 max 0) min @3.1); }"],
-        [action([when(a.moreThan(1).and(b.equals(5).not().not()), [b.set(a.times(-3))], [b.set(b.dividedBy(2n).remainder(7))])], { at: [1, -2] }),
+        [action([when(a.moreThan(1).and(b.equals(5).not().not()), [b.set(a.times(-3))],
+            [b.set(b.dividedBy(2n).remainder(7))])], { at: [1, -2] }),
             "reads 3 300 writes 300 at 1 -2 { if ([1 < @3.1] and not not [@300.0 == 5]) { set @300.0 (@3.1 * -3); } "
             + "else { set @300.0 ((@300.0 / 2) % 7); } }"],
         [action([when(a.atMost(1).or(b.lessThan(5)), [])]), "reads 3 300 writes { if ([@3.1 <= 1] or [@300.0 < 5]) { } }"],
@@ -460,7 +468,7 @@ function tryBuilder() {
         count.same(made, parseAction(text), text);
     }
     for (const [name, wrong] of Object.entries({
-        "an operator": () => a + 1, "a comparison": () => a > 1, "a text": () => `${a}`, "a number that is not whole": () => a.set(0.5),
+        "an operator": () => a + 1, "a comparison": () => a > 1, "a text": () => `${a}`, "no whole number": () => a.set(0.5),
         "a number over 64 bits": () => action([a.set(2n ** 63n)]), "a condition as a value": () => action([a.set(a.equals(1))]),
         "a value as a condition": () => action([when(a, [])]), "a term as a statement": () => action([a.plus(1)]),
         "set of a sum": () => a.plus(1).set(1), "a number of no safe size": () => a.plus(2 ** 60), "null": () => a.plus(null),

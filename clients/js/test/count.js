@@ -114,7 +114,7 @@ export function encodeReply({ kind, number = 0, commit = 0, last = 0, head = [],
     return Uint8Array.from(rest[kind]());
 }
 
-/** A clock that goes on only when a test says so, in the place of setTimeout, clearTimeout and Date.now. */
+/** A clock that goes on only when a test says so, in the place of setTimeout, clearTimeout and performance.now. */
 export class Clock {
     now = 0;
 
@@ -128,7 +128,7 @@ export class Clock {
             return made;
         };
         globalThis.clearTimeout = timer => { this.timers.delete(timer); };
-        Date.now = () => this.now;
+        performance.now = () => this.now;
     }
 
     /** Lets so many milliseconds pass. */

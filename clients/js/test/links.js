@@ -48,7 +48,8 @@ async function tryWebSocket() {
     const client = new Client({ ...WORLD, connect: () => webSocketLink("ws://here/", TestSocket), retry: { first: 4 },
         onStatus: status => statuses.push(status) });
     const entry = client.join();
-    count.same([last().address, last().binaryType, last().sent], ["ws://here/", "arraybuffer", []], "nothing is sent before it is open");
+    const { address, binaryType, sent } = last();
+    count.same([address, binaryType, sent], ["ws://here/", "arraybuffer", []], "nothing is sent before it is open");
     last().open();
     count.same(last().sent, ["01000300000001010000"], "one binary message for each message of the wire");
     last().say(WELCOME);
@@ -81,7 +82,11 @@ async function serving() {
     });
     server.listen(0, "127.0.0.1");
     await once(server, "listening");
-    return { server, port: server.address().port, next: async () => sockets.shift() ?? (await once(server, "connection"), sockets.shift()) };
+    const next = async () => {
+        if (!sockets.length) await once(server, "connection");
+        return sockets.shift();
+    };
+    return { server, port: server.address().port, next };
 }
 
 async function tryNodeLink() {
