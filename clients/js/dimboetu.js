@@ -905,7 +905,6 @@ export class Client {
         for (const answer of this.answers) answer.reject(fault ?? new Fault("outside"));
         for (const each of this.knowledge.outstanding) delete each.answer;
         this.queue.length = 0;
-        this.outcomes.clear();
         this.entry = null;
         this.say(status, fault);
     }

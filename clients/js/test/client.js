@@ -256,6 +256,44 @@ async function tryOutcomes() {
     count.same(client.status, "left", "the session is over");
 }
 
+async function tryLeaving() {
+    const found = await joined(), { client } = found;
+    const left = client.leave();
+    found.link.onClose(new Error("broken"));
+    await left;
+    await pause(40);
+    count.same([client.status, found.links.length], ["left", 1], "a line that breaks before the Bye");
+    const again = client.join();
+    found.say(welcome(0, 5, 7));
+    await again;
+    found.link.onClose(new Error("broken"));
+    await client.leave();
+    await pause(40);
+    count.same([client.status, found.links.length], ["left", 2], "a line that is broken, and nothing is due");
+    const last = client.join();
+    found.say(welcome(0, 5, 7));
+    await last;
+    found.link.onClose(new Error("broken"));
+    const outcome = client.act(ADD_ONE), end = client.leave();
+    await pause(20);
+    count.same(found.said().map(each => each.slice(0, 2)), ["01", "06"], "what is due is still sent");
+    found.say(welcome(0, 5, 7));
+    found.say({ kind: "dropped", number: 1, chain: 1, far: 1 });
+    count.same(found.said(), ["05"], "before it leaves");
+    found.say({ kind: "bye" });
+    await end;
+    count.same((await outcome).kind, "dropped", "and its outcome is told");
+
+    const other = await joined();
+    other.link.onClose(new Error("broken"));
+    const seen = other.client.observe([0]);
+    other.client.close();
+    await count.breaks(seen, "closed", "closed while the line is broken");
+    other.client.join();
+    count.same(other.said().length, 1, "what was asked then is not asked again");
+    other.client.close();
+}
+
 async function tryObserving() {
     const { client, say, said, link } = await joined();
     for (const objects of [[], Array.from({ length: 17 }, (_, one) => one), [1, 0], [0, 0], [40], [-1, 0], [0.5], ["0"]]) {
@@ -479,7 +517,7 @@ function tryBuilder() {
     count.same([fault.place, fault.cause, fault.word, fault instanceof Fault], [15, 4, "text", true], "its place and cause");
 }
 
-const tests = [tryTakingUp, tryPushedOut, tryJoiningAgain, tryPauses, tryLimits, tryOutcomes, tryObserving, tryWatching,
+const tests = [tryTakingUp, tryPushedOut, tryJoiningAgain, tryPauses, tryLimits, tryOutcomes, tryLeaving, tryObserving, tryWatching,
     tryWatchingMore, tryKeys, trySaving, tryFaultyCallbacks, tryPatience, tryLargeAndDeep, tryBuilder];
 for (const each of tests) await each();
 count.close();

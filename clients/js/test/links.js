@@ -66,7 +66,7 @@ async function tryWebSocket() {
     count.same([TestSocket.made.length, client.life], [3, 2], "one that was never open takes no life");
     last().open();
     last().say(WELCOME);
-    last().onmessage({ data: "a text" });
+    last().onmessage({ data: "9999999999999999" });
     count.same([client.status, last().readyState, statuses.at(-1)], ["refused", 2, "refused"], "a text message is no reply");
     globalThis.WebSocket = TestSocket;
     webSocketLink("ws://there/").close();
