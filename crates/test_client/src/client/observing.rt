@@ -1,5 +1,5 @@
 //! Tables of steps in which objects are observed, typed from the rules by hand.
-use super::data::Answer::{Bye, Denied, Idle, Noted, Relay, Seen, Welcome};
+use super::data::Answer::{Bye, Denied, Idle, Noted, Relay, Seen, Welcome, Wide};
 use super::data::Deed::{Plus, PlusOther, Times};
 use super::steps::Step::{Below, Counts, Cut, Join, Leave, Make, Observe, Poll, Refuse, Show, Take};
 use super::steps::Told::{Done, Fault, Nothing};
@@ -265,12 +265,15 @@ fn bad_items(rt: HostRuntime) -> Result<(), Fail> {
             Take(Welcome(0, &[(0, 1)]), Nothing),
             Observe(&[0]),
             Take(Seen(0, 0, &[(2, 0)], &[]), Fault(TakeFault::BadItem)),
+            Take(Wide(0, &[]), Fault(TakeFault::BadItem)),
+            Take(Wide(0, &[1, 2]), Fault(TakeFault::BadItem)),
             Take(
                 Seen(1, 0, &[], &[(1, 0, 1, Plus(2, 1))]),
                 Fault(TakeFault::BadItem),
             ),
             Counts(0, 1, 0),
-            Take(Seen(0, 0, &[], &[]), Nothing),
+            Take(Wide(0, &[2]), Nothing),
+            Show(0, Some(2)),
         ],
     )
 }
