@@ -1,9 +1,9 @@
 #!/usr/bin/env python3
-"""Lists the public calls of the crates with the clauses of their contracts, for docs/GUARANTEES.md.
+"""Lists the public calls of the crates with the clauses of their contracts, for docs/CALLS.md.
 
     python3 tools/guarantees/calls.py          prints the table
-    python3 tools/guarantees/calls.py --write  puts it into docs/GUARANTEES.md
-    python3 tools/guarantees/calls.py --check  fails where docs/GUARANTEES.md has another one
+    python3 tools/guarantees/calls.py --write  puts it into docs/CALLS.md
+    python3 tools/guarantees/calls.py --check  fails where docs/CALLS.md has another one
 
 A call is public where its crate exports it: a function or a type that lib.rt names by `pub use` (or has itself as `pub fn`),
 with the type's `pub fn`s, and the methods of an exported trait. Laws, which are functions without code for proofs, are left out.
@@ -15,7 +15,7 @@ import sys
 
 HERE = os.path.dirname(os.path.abspath(__file__))
 TOP = os.path.normpath(os.path.join(HERE, "..", ".."))
-PAGE = os.path.join(TOP, "docs", "GUARANTEES.md")
+PAGE = os.path.join(TOP, "docs", "CALLS.md")
 BEGIN, END = "<!-- calls: begin -->", "<!-- calls: end -->"
 WAITS = re.compile(r"\bR: [^,>{]*\bWait\b|impl Wait")
 SYSTEM = {"End", "Net", "Crew", "Door"}
@@ -209,7 +209,7 @@ def main(words):
         with open(PAGE, "w", encoding="utf-8") as file:
             file.write(fresh)
     elif page != fresh:
-        print("docs/GUARANTEES.md is not what tools/guarantees/calls.py writes", file=sys.stderr)
+        print("docs/CALLS.md is not what tools/guarantees/calls.py writes", file=sys.stderr)
         return 1
     return 0
 
