@@ -178,22 +178,21 @@ def columns(owner, function, front, result, clauses, waiting):
 
 
 def table():
-    """The tables of all crates."""
+    """The table of all crates: the calls of a crate with the same answers share a row."""
     with open(os.path.join(TOP, "crates.txt"), encoding="utf-8") as file:
         crates = sorted(line.split(":")[0] for line in file if line.startswith(("sv_", "law_")))
-    parts = []
+    parts = ["| Calls | Ends | Refusals, by which clause | State afterwards, by which clause |", "|---|---|---|---|"]
     for crate in crates:
-        rows = []
+        rows = {}
         for owner, function, front, result, clauses, waiting in calls_of(crate):
             if not re.search(r"[&A-Za-z]", re.sub(r".*?\(", "", front, count=1).split(")")[0]) and not result:
                 continue
-            ends, named, kept = columns(owner, function, front, result, clauses, waiting)
             call = f"{owner}::{function}" if owner else function
-            rows.append(f"| `{call}` | {ends} | {named} | {kept} |")
+            rows.setdefault(columns(owner, function, front, result, clauses, waiting), []).append(f"`{call}`")
         if rows:
-            parts.append(f"**`{crate}`**\n\n| Call | Ends | Refusals, by which clause | State afterwards, by which clause |\n|---|---|---|---|\n"
-                         + "\n".join(rows))
-    return "\n\n".join(parts) + "\n"
+            parts.append(f"| **`{crate}`** | | | |")
+            parts += [f"| {', '.join(calls)} | {' | '.join(answers)} |" for answers, calls in rows.items()]
+    return "\n" + "\n".join(parts) + "\n"
 
 
 def main(words):
