@@ -1,23 +1,28 @@
 //! The line that tells a snapshot.
-ghost use Rattle.std.specs.Prelude.{◌≡◌, string_bytes, IfOk};
+ghost use Rattle.std.specs.Prelude.{◌≡◌, ◌++◌, string_bytes, IfOk, OnOk};
 ghost use Rattle.sv_snapshot.specs.Lines.{look_line, moment_text};
 
 use crate::snapshot::Snapshot;
 use std::alloc::{AllocError, Global};
 use sv_journal::append_head;
 use sv_watch::Line;
-use sv_world::Text;
+use sv_world::{ClientId, Text};
 
-fn moment_text(alloc: Global, snapshot: &Snapshot) -> Result<String, AllocError>
-    ensures { IfOk result (λ text. string_bytes text ≡ moment_text snapshot.now.client.0 snapshot.now.seq snapshot.now.pos) }
+/// Appends who looked, and when.
+fn append_moment(
+    client: ClientId,
+    seq: Option<u32>,
+    pos: u32,
+    out: &mut String,
+) -> Result<(), AllocError>
+    ensures { OnOk result (string_bytes out.new ≡ string_bytes out.old ++ moment_text client.0 seq pos) }
 {
-    let client = snapshot.client.0;
-    let pos = snapshot.pos;
-    match snapshot.seq {
-        Some(seq) => format!(in alloc; "look c{client} {seq} at {pos}"),
+    let number = client.0;
+    match seq {
+        Some(seq) => write!(out, "look c{number} {seq} at {pos}"),
         None => {
             let last = pos.saturating_sub(1);
-            format!(in alloc; "seen c{client} at {last}")
+            write!(out, "seen c{number} at {last}")
         }
     }
 }
@@ -27,7 +32,8 @@ fn moment_text(alloc: Global, snapshot: &Snapshot) -> Result<String, AllocError>
 pub fn look_line(alloc: Global, snapshot: &Snapshot) -> Result<Line, AllocError>
     ensures { IfOk result (λ line. line ≡ look_line snapshot.now) }
 {
-    let mut text = moment_text(alloc, snapshot)?;
+    let mut text = String::new(alloc);
+    append_moment(snapshot.client, snapshot.seq, snapshot.pos, &mut text)?;
     text.push_str(" ")?;
     append_head(snapshot.values.as_slice(), &mut text)?;
     Ok(Text::from_string(text))
