@@ -311,7 +311,7 @@ def forms_of_help():
 
 def is_command(words, forms):
     """Whether words are those of a command that `--help` has."""
-    if words in (["build"], ["--help"], ["--version"]):
+    if words in (["build"], ["--help"], ["--version"]) or words[:-1] == ["explain"]:
         return True
     return any(len(words) == len(form) and all(each.isupper() or each == word
                                                for word, each in zip(words, form)) for form in forms)
@@ -559,7 +559,7 @@ class Checker(Count):
         causes = re.findall(r'format!\(in alloc; "([a-z]+)', text_of("crates/sv_scenario/src/line.rt"))
         for cause in causes:
             if cause != "scenario":
-                self.expect(re.search(rf"\*\*`{cause}[ `]", errors), f"ERRORS.md has no cause {cause}")
+                self.expect(f"\n### `scenario: {cause}`\n" in errors, f"ERRORS.md has no cause {cause}")
         for status in re.findall(r"^\| ([0-9]+) \|", text_of("README.md"), re.M):
             self.expect(re.search(rf"^\| {status} \| ", errors, re.M), f"ERRORS.md has no status {status}")
             self.expect(re.search(rf"(^|\s){status} [a-z]", help_text()), f"--help has no status {status}")
