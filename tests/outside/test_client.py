@@ -940,9 +940,9 @@ def test_saved(count):
         client.asked, new = 0, again(client)
         count.same(kept_by(new)[:-1], kept_by(client)[:-1], f"saved while it waits for {asked}")
         count.same(new.saved(), client.saved(), f"saved again, {asked}")
-    for at_once in (False, True):
+    for at_once, forgets in ((False, False), (True, False), (True, True)):
         plan = scenario([[5], [7]], 8, (1, 0), [0])
-        server, name = StandIn(plan, at_once=at_once).start(), f"taken up, at once {at_once}"
+        server, name = StandIn(plan, at_once=at_once).start(), f"taken up, at once {at_once}, versions forgotten {forgets}"
         links = [link_to(server) for _ in range(3)] if not at_once else []
         client, told = client_of(plan, 0)
         client.join(links[0] if links else link_to(server))
@@ -950,10 +950,13 @@ def test_saved(count):
         for _ in range(3):
             client.make(ADD_ONE)
         client.take()
-        changes = []
-        new = Observer.from_saved(json.loads(json.dumps(client.saved())), on_change=lambda *change: changes.append(change))
+        changes, data = [], json.loads(json.dumps(client.saved()))
+        if forgets:
+            data.update(versions=[], told=0, pending=[[number, text, None] for number, text, _ in data["pending"]])
+        new = Observer.from_saved(data, on_change=lambda *change: changes.append(change))
         client.give_up()
-        count.same((new.life, new.made, [one[0] for one in new.pending], new.view(0)), (1, 3, [2, 3], (8,)), f"{name}: what it keeps")
+        kept = (new.life, new.made, [one[0] for one in new.pending], new.view(0))
+        count.same(kept, (1, 3, [2, 3], None if forgets else (8,)), f"{name}: what it keeps")
         count.refuses(lambda: new.make(ADD_ONE), "outside", f"{name}: it is in no session")
         new.join(links[1] if links else link_to(server))
         new.make(ADD_ONE)
