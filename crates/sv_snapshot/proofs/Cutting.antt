@@ -107,7 +107,7 @@ module _ (opening : List (List ℤ)) (A : List Action) where
   -- ---- One snapshot
 
   taken_cut : (client : ClientId) (seq : ℕ) (held : List Held) (item : Item) → 0 < item.pos → ReadsWithin (length opening) item.action → AreSerial opening A held →
-      IsCoveredBy A held item → IsCut opening A (record { client = client; seq = seq; pos = item.pos; values = read_all_below held item.pos item.action.reads })
+      IsCoveredBy A held item → IsCut opening A (record { client = client; seq = Some seq; pos = item.pos; values = read_all_below held item.pos item.action.reads })
   taken_cut client seq held item l within serial covered = record {
     place = l;
     objects = All-map (λ (v : ObjectValue). v.object.0 < length opening) _ item.action.reads within;
