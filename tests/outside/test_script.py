@@ -143,7 +143,8 @@ def test_lines(script):
         script.expect((code, err) == (0, b"") and len(out) > 60, f"explain {line}: {out} {err}")
         script.same(script.run("explain", *line.split()), (code, out, err), f"explain {line}, in words")
     for line, heading in (("link", "link of serve"), ("wrongkind", "reply: wrongkind"), ("json", "scenario: json"), ("text 3 4", "scenario: text"),
-                          ("refused 9 0", "Refusals of the server"), ("dropped 1 chain 1 far 0", "An action was dropped"), ("9", "status 9 ")):
+                          ("refused 9 0", "Refusals of the server"), ("dropped 1 chain 1 far 0", "An action was dropped"), ("9", "status 9 "), ("stopped: spent", "no request left"),
+                          ("spent", "no request left"), ("the build stopped", "was not proved")):
         script.expect(heading in script.run("explain", line)[1].decode(), f"explain {line} has {heading}")
     script.expect("behind 'reads'" in script.run("explain", "scenario: /a: text 3 4")[1].decode(), "the row of a cause")
     script.same(script.run("explain", "nothing"), (2, b"", b"dimboetu: docs/ERRORS.md has no such line\n"), "explain nothing")
