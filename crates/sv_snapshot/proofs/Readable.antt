@@ -55,8 +55,7 @@ by_tests bound commit head items cut o =
     let places = not (is_ascending (map (λ (i : Item). i.pos) items)) in
     let w = or_parts (ascends || places || begins_by commit items || nat_lt commit bound) cut o in
     let u = or_parts (ascends || places || begins_by commit items) (nat_lt commit bound) w.0 in
-    let v = or_parts (ascends || places) (begins_by commit items) u.0 in
-    (
+    let v = or_parts (ascends || places) (begins_by commit items) u.0 in (
       record {
         low = ltb-false commit bound u.1;
         ascending = not-false (is_ascending (map (λ (i : Item). i.pos) items)) (or_parts ascends places v.0).1;
@@ -86,8 +85,7 @@ follows t (replies.Seen last commit head items) o =
     let low : told t ≤ commit = both.0.low in
     let v = or_parts (nat_lt last commit || past) (nat_lt most_positions last) both.1 in
     let w = or_parts (nat_lt last commit) past v.0 in
-    let high : commit ≤ last = ltb-false last commit w.0 in
-    (
+    let high : commit ≤ last = ltb-false last commit w.0 in (
       all_above t reply commit items (omega (arith, low)) both.0,
       (omega (arith, low, high), ltb-false most_positions last v.1),
     )
