@@ -17,7 +17,7 @@ const ROWS: &[Row] = &[
     (
         &[WELCOME, DENIED, BYE],
         0,
-        "told c0 2 0 ? -> (5)\nmade 1\n",
+        "told c0 2 0 ? -> (5)\ntold c0 3 0 (5) -> (6)\ntold c0 4 0 (6) -> (5)\nmade 1\n",
         "",
     ),
     (&[NOTED_0], 11, "", "reply: wrongkind\n"),
