@@ -9,4 +9,4 @@ pub mod Items
 pub mod Ascends
 pub mod InOrder
 pub mod Answered
-pub mod Cuts
+pub mod Observed

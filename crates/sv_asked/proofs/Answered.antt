@@ -4,10 +4,12 @@ use Rattle.std.specs.List.{AllByRecursion}
 use Rattle.sv_world.specs.declared.action.Action.{Action}
 use Rattle.sv_world.specs.declared.world.ClientId.{ClientId}
 use Rattle.sv_world.specs.declared.world.ObjectId.{ObjectId}
-use Rattle.sv_world.specs.Control.{is_in, below, needed_for, reads_committed, head_for, chain_length, influence_distance}
+use Rattle.sv_world.specs.Control.{is_in, below, needed_for, reads_committed, head_for, with_reading, up_to, chain_length, influence_distance}
 use Rattle.sv_world.specs.Faults.{first_fault_of_action}
+use Rattle.sv_world.specs.Sets.{numbers_of}
 use Rattle.sv_world.proofs.Bases.{below-is_in}
 use Rattle.sv_world.proofs.Good.{good_of_none}
+use Rattle.sv_world.proofs.Greatest.{cut-high}
 use Rattle.sv_wire.specs.declared.message.Request.{Request}
 use Rattle.sv_wire.specs.declared.message.Request.TheVariants as requests
 use Rattle.sv_wire.specs.Ranges.{ValueFits, HeldFits, RequestFits}
@@ -19,7 +21,7 @@ use Rattle.sv_journal.specs.Sessions.{kept_outcome, outcome_at, sent_to, already
 use Rattle.sv_journal.specs.Answer.{Rules, relay_of, committed_held}
 use Rattle.sv_journal.specs.Serving.{Keeping, reply_for, IsKeeping}
 use Rattle.sv_journal.proofs.Kept.{commit_within-kept}
-use Rattle.sv_journal.proofs.Replies.{IsDetail, each_row}
+use Rattle.sv_journal.proofs.Replies.{IsDetail, cut_for, seen_now, each_row}
 use Rattle.sv_system.proofs.Histories.{actions-count, kept-is, kept-within}
 use Rattle.sv_system.proofs.Every.{each-at, each-get, each-append, each-if, each-map, each-member}
 use Rattle.sv_asked.proofs.Evaluated.{AreNumbers}
@@ -30,6 +32,7 @@ abbrev pub LoggedFits : Logged → Type 0
 LoggedFits (logged.Welcome commit head) = (commit < 2 ^ 32) × AllByRecursion HeldFits head
 LoggedFits (logged.Relay seq commit head positions) = (seq < 2 ^ 32) × (commit < 2 ^ 32) × AllByRecursion HeldFits head
 LoggedFits (logged.Dropped seq chain far) = (seq < 2 ^ 32) × (chain < 2 ^ 32) × (far < 2 ^ 32)
+LoggedFits (logged.Seen last commit head positions) = (last < 2 ^ 32) × (commit < 2 ^ 32) × AllByRecursion HeldFits head
 LoggedFits (logged.Settled seq place) = (seq < 2 ^ 32) × (place < 2 ^ 32)
 LoggedFits (logged.Noted commit) = commit < 2 ^ 32
 LoggedFits logged.Idle = Unit {0}
@@ -48,6 +51,7 @@ OutcomeFits (Dropped chain far) = (chain < 2 ^ 32) × (far < 2 ^ 32)
 outcome-fits : (p : ℕ) (w : Logged) → LoggedFits w → AllByRecursion OutcomeFits (outcome_in p w)
 outcome-fits p (logged.Relay seq commit head positions) f = (tt, tt)
 outcome-fits p (logged.Dropped seq chain far) f = ((f.1, f.2), tt)
+outcome-fits p (logged.Seen last commit head positions) f = tt
 outcome-fits p (logged.Welcome commit head) f = tt
 outcome-fits p (logged.Settled seq place) f = tt
 outcome-fits p (logged.Noted commit) f = tt
@@ -96,13 +100,26 @@ module _ (k : Keeping) (law : IsKeeping k) (r : Rules) (objects : r.world.shape.
   detail-fits n (inr (j, inl next)) = omega (arith, next, outcomes-short h j, few)
   detail-fits n (inr (j, inr life)) = omega (arith, life, life-fits h j asked)
 
-  relay-fits : (A : List Action) (seq i : ℕ) → seq < 2 ^ 32 → LoggedFits (relay_of r (k.kept h) A s seq i)
-  relay-fits A seq i small =
+  base-fits : (A : List Action) (sent given : List ℕ) (i : ℕ) → AllByRecursion HeldFits (committed_held r (k.kept h) (head_for r.world.shape.objects A (commit_of (k.kept h)) sent given i))
+  base-fits A sent given i =
       let g = k.kept h in
       let all = each-member (λ x. x < 2 ^ 16) (below r.world.shape.objects) (λ x m. omega (arith, below-is_in r.world.shape.objects x m, objects)) in
-      let given = already_given r.world.shape.objects g s in
-      let test = λ (x : ℕ). reads_committed A (commit_of g) x (needed_for A (commit_of g) (sent_to g s) i) && not (is_in x given) in
-      (small, commit-fits, head-fits (head_for r.world.shape.objects A (commit_of g) (sent_to g s) given i) (each-kept (λ x. x < 2 ^ 16) test (below r.world.shape.objects) all))
+      let test = λ (x : ℕ). reads_committed A (commit_of g) x (needed_for A (commit_of g) sent i) && not (is_in x given) in
+      head-fits (head_for r.world.shape.objects A (commit_of g) sent given i) (each-kept (λ x. x < 2 ^ 16) test (below r.world.shape.objects) all)
+
+  relay-fits : (A : List Action) (seq i : ℕ) → seq < 2 ^ 32 → LoggedFits (relay_of r (k.kept h) A s seq i)
+  relay-fits A seq i small = (small, commit-fits, base-fits A (sent_to (k.kept h) s) (already_given r.world.shape.objects (k.kept h) s) i)
+
+  seen-fits : (xs : List ℕ) → LoggedFits (seen_now r (k.kept h) (actions_of h) s xs)
+  seen-fits xs =
+      let g = k.kept h in
+      let last = cut_for g (actions_of h) s xs in
+      let most : commit_of g ≤ length (actions_of h) = omega (arith, commit_within-kept k law h, actions-count h) in
+      let high = cut-high (actions_of h) (commit_of g) (sent_to g s) xs most in (
+        omega (arith, high, actions-count h, accepted-short h, few),
+        commit-fits,
+        base-fits (with_reading (actions_of h) last xs) (up_to last (sent_to g s)) (already_given r.world.shape.objects g s) (suc last),
+      )
 
   seq-fits : (q : Request) (seq : ℕ) (a : Action) → q ≡ requests.Submit seq a → RequestFits q → seq < 2 ^ 32
   seq-fits q seq a is fits = (subst RequestFits is fits).0
@@ -133,4 +150,5 @@ module _ (k : Keeping) (law : IsKeeping k) (r : Rules) (objects : r.world.shape.
         omega (arith, commit_within-kept k law (later ∷ h), accepted-short (later ∷ h), few);
     idle = tt;
     poll = λ j p ps client is open_still first. relay-fits (actions_of h) 0 p (omega arith);
+    seen = λ j wait xs client is open_still good. seen-fits (numbers_of xs);
   })

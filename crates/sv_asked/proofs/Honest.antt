@@ -1,17 +1,20 @@
 -- Each request that a client asks is a message, though its server may hear other values of it.
-use Rattle.std.proofs.Common.{◌≡◌, ℕ, ◌+◌, ◌^◌, ◌<◌, ◌≤◌, List, [], ◌∷◌, length, reverse, Some, None, slice_get, sym, subst, arith}
+use Rattle.std.proofs.Common.{◌≡◌, ℕ, ◌^◌, ◌<◌, ◌≤◌, true, ◌&&◌, nat_le, nat_lt, leb-true, ltb-true, List, [], ◌∷◌, length, reverse, Some, None, slice_get, sym, subst, arith}
 use Rattle.std.specs.Prelude.{All, slice_index_or}
 use Rattle.std.specs.List.{AllByRecursion}
+use Rattle.std.proofs.lemmas.Bool.{and_parts}
+use Rattle.std.proofs.lemmas.List.{length-map}
 use Rattle.std.proofs.lemmas.List.Elements.{recursion_from_All, All-from_recursion}
-use Rattle.sv_world.specs.Sets.{read_set}
-use Rattle.sv_world.specs.Faults.{first_fault_of_action, IsGoodAction}
+use Rattle.sv_world.specs.Control.{is_in}
+use Rattle.sv_world.specs.Sets.{numbers_of, read_set}
+use Rattle.sv_world.specs.Faults.{first_fault_of_action, is_ascending, may_be_observed, IsGoodAction}
+use Rattle.sv_world.proofs.Members.{is_in-head, is_in-tail}
 use Rattle.sv_world.proofs.Good.{good_of_none}
 use Rattle.sv_world.specs.declared.action.Action.{Action}
 use Rattle.sv_world.specs.declared.world.ClientId.{ClientId}
 use Rattle.sv_world.specs.declared.world.ObjectId.{ObjectId}
 use Rattle.sv_world.specs.declared.world.Shape.{Shape}
 use Rattle.sv_eval.specs.Serial.{serial_world}
-use Rattle.sv_wire.specs.declared.message.Done1.{Done1}
 use Rattle.sv_wire.specs.declared.message.Request.{Request}
 use Rattle.sv_wire.specs.declared.message.Request.TheVariants as requests
 use Rattle.sv_world.specs.Ranges.{ObjectFits}
@@ -23,13 +26,13 @@ use Rattle.sv_journal.specs.Answer.{Rules}
 use Rattle.sv_journal.specs.Serving.{plain}
 use Rattle.sv_journal.specs.Sessions.{positions_in}
 use Rattle.sv_journal.specs.Text.{NamesAccepted}
-use Rattle.sv_journal.specs.Laws.{AreWithinLimits, ServedRelaysNameAccepted, ServedRelaysAreSmall, ServedActionsAreGood}
+use Rattle.sv_journal.specs.Laws.{most_sent, AreWithinLimits, ServedRelaysNameAccepted, ServedRelaysAreSmall, ServedActionsAreGood}
 use Rattle.sv_journal.proofs.Plain.{plain-keeping, plain-legal}
 use Rattle.sv_client.specs.declared.trace.Event.{Event}
 use Rattle.sv_client.specs.declared.trace.Event.TheVariants as events
 use Rattle.sv_client.specs.declared.trace.Trace.{Trace}
 use Rattle.sv_client.specs.Traces.{joins, held_of, requests_of}
-use Rattle.sv_client.specs.Taking.{Identity}
+use Rattle.sv_client.specs.Taking.{Identity, items_of}
 use Rattle.sv_client.specs.Proper.{AreProper, IsGoodIdentity, identity_of}
 use Rattle.sv_client.proofs.Sendable.{wire_action}
 use Rattle.sv_client.proofs.Sessions.{few_makes}
@@ -40,13 +43,15 @@ use Rattle.sv_system.specs.Serial.{AreSerial}
 use Rattle.sv_system.proofs.Asking.{fits-but_values}
 use Rattle.sv_system.proofs.Asked.{done-when}
 use Rattle.sv_system.proofs.Leaving.{join-asked}
+use Rattle.sv_system.proofs.Relays.{observed-within}
+use Rattle.sv_system.proofs.Allowed.{asked-good}
 use Rattle.sv_system.proofs.Window.{submit-most}
 use Rattle.sv_asked.specs.Asked.{EventFits, HasNumbers, RequestsAreMessages, ServedRequestsFit}
 use Rattle.sv_system.proofs.Every.{each-at, each-map, each-more, each-place, each-reverse}
 use Rattle.sv_asked.proofs.Worlds.{HasFit, IsGoodValue, serial_good}
 use Rattle.sv_asked.proofs.Made.{Makes, Asks, asked-have}
 use Rattle.sv_asked.proofs.Owned.{actions-fit}
-use Rattle.sv_asked.proofs.Items.{relay-items}
+use Rattle.sv_asked.proofs.Items.{got-items}
 use Rattle.sv_asked.proofs.Reported.{IsFineItem, done-is}
 
 -- ---- Counts
@@ -56,6 +61,7 @@ few-joins who first [] p = omega arith
 few-joins who first (events.Join s ∷ t) p = omega (arith, p.0.few)
 few-joins who first (events.Make a ∷ t) p = few-joins who first t p.1
 few-joins who first (events.Poll ∷ t) p = few-joins who first t p.1
+few-joins who first (events.Observe objects wait ∷ t) p = few-joins who first t p.1
 few-joins who first (events.Leave ∷ t) p = few-joins who first t p.1
 few-joins who first (events.Got s reply ∷ t) p = few-joins who first t p.1
 few-joins who first (events.Cut ∷ t) p = few-joins who first t p.1
@@ -73,6 +79,7 @@ made who first [] p f = tt
 made who first (events.Make a ∷ t) p f = ((p.0.good, f.0), made who first t p.1 f.1)
 made who first (events.Join s ∷ t) p f = (tt, made who first t p.1 f.1)
 made who first (events.Poll ∷ t) p f = (tt, made who first t p.1 f.1)
+made who first (events.Observe objects wait ∷ t) p f = (f.0, made who first t p.1 f.1)
 made who first (events.Leave ∷ t) p f = (tt, made who first t p.1 f.1)
 made who first (events.Got s reply ∷ t) p f = (tt, made who first t p.1 f.1)
 made who first (events.Cut ∷ t) p f = (tt, made who first t p.1 f.1)
@@ -95,8 +102,27 @@ join-is who life good objects few =
 submit-is : (shape : Shape) (n : ℕ) (a : Action) → n ≤ 65536 → IsMade shape a → IsRequest (requests.Submit n a)
 submit-is shape n a few m = record { within = wire_action shape a (good_of_none shape a m.0); fits = (omega (arith, few), m.1) }
 
+within-few : (n : ℕ) (xs : List ObjectId) → ((x : ℕ) → is_in x (numbers_of xs) ≡ true → x < n) → n ≤ 2 ^ 16 → AllByRecursion ObjectFits xs
+within-few n [] f few = tt
+within-few n (x ∷ xs) f few = (omega (arith, f x.0 (is_in-head x.0 (numbers_of xs)), few), within-few n xs (λ y m. f y (is_in-tail y x.0 (numbers_of xs) m)) few)
+
+observe-is : (n : ℕ) (xs : List ObjectId) (wait : ℕ) → n ≤ 2 ^ 16 → may_be_observed n (numbers_of xs) ≡ true → wait < 2 ^ 16 → IsRequest (requests.Observe xs wait)
+observe-is n xs wait few good short =
+    let all = and_parts (nat_lt 0 (length (numbers_of xs)) && nat_le (length (numbers_of xs)) 16 && is_ascending (numbers_of xs)) _ good in
+    let ordered = and_parts (nat_lt 0 (length (numbers_of xs)) && nat_le (length (numbers_of xs)) 16) (is_ascending (numbers_of xs)) all.0 in
+    let counted = and_parts (nat_lt 0 (length (numbers_of xs))) (nat_le (length (numbers_of xs)) 16) ordered.0 in
+    let count : length (numbers_of xs) ≡ length xs = length-map xs (λ (o : ObjectId). o.0) in
+    record {
+      within = record {
+        some = omega (arith, count, ltb-true 0 (length (numbers_of xs)) counted.0);
+        few = omega (arith, count, leb-true (length (numbers_of xs)) 16 counted.1);
+        ascending = ordered.1;
+      };
+      fits = (within-few n xs (observed-within n (numbers_of xs) good) few, short);
+    }
+
 module _ (r : Rules) (H : List Entry) (L : Trace) (s : ℕ) (limits : AreWithinLimits r) (numbers : HasNumbers r H (L ∷ [])) (one : FitsButValues r.world.shape H L)
-    (named : All (λ (e : Entry). NamesAccepted (length (accepted H)) e.reply) H) (small : All (λ (e : Entry). length (positions_in e.reply) ≤ r.bound + 1) H)
+    (named : All (λ (e : Entry). NamesAccepted (length (accepted H)) e.reply) H) (small : All (λ (e : Entry). length (positions_in e.reply) ≤ most_sent r e.reply) H)
     (goods : All (λ (a : Authored). first_fault_of_action r.world.shape a.action ≡ None) (accepted H)) (fit : All ActionFits (actions_of H))
     (held-serial : AreSerial r.world.values (actions_of H) (held_of (reverse L.events))) where
   abbrev whole : List Event
@@ -142,11 +168,12 @@ module _ (r : Rules) (H : List Entry) (L : Trace) (s : ℕ) (limits : AreWithinL
       submit-is r.world.shape seq a (omega (arith, most, few_makes who L.first whole one.proper.events)) (asks n (requests.Submit seq a) there)
   each n (requests.Done results) there =
       let d = done-when who L.first whole s n results there in
-      let items = relay-items r H L one limits.bound numbers.positions named small (All-from_recursion (λ (a : Authored). IsGoodAction r.world.shape a.action) (accepted H) good-actions) s d.seq d.commit d.head d.items d.before d.part in
-      subst (λ (l : List Done1). IsRequest (requests.Done l)) (sym d.results_are)
-      (done-is r.world.shape.attrs r.world.values (actions_of H) limits.some_attrs limits.few_attrs good s d.seq d.commit d.head d.items d.before whole d.part held-serial
-      (subst (λ (n : ℕ). AllByRecursion (IsFineItem n) d.items) (sym limits.objects) items.each) items.some items.few)
+      let items = got-items r H L one limits.bound numbers.positions named small (All-from_recursion (λ (a : Authored). IsGoodAction r.world.shape a.action) (accepted H) good-actions) s d.reply results d.before d.part d.asks in
+      done-is r.world.shape.attrs r.world.values (actions_of H) limits.some_attrs limits.few_attrs good s d.reply results d.before whole d.part d.asks held-serial
+      (subst (λ (n : ℕ). AllByRecursion (IsFineItem n) (items_of d.reply)) (sym limits.objects) items.each) items.some items.few
   each n requests.Poll there = record { within = tt; fits = tt }
+  each n (requests.Observe objects wait) there =
+      observe-is r.world.shape.objects objects wait numbers.objects (asked-good who L.first whole one.proper.events s n objects wait there) (asks n (requests.Observe objects wait) there)
   each n requests.Leave there = record { within = tt; fits = tt }
   each n requests.Bad there = absurd (asks n requests.Bad there)
   each n requests.End there = absurd (asks n requests.End there)

@@ -1,20 +1,18 @@
--- The items of a relay that a client got: how many there are, and what they are.
-use Rattle.std.proofs.Common.{◌≡◌, ℕ, zero, suc, ◌+◌, ◌^◌, ◌<◌, ◌≤◌, Bool, true, false, ◌||◌, ◌==◌, List, [], ◌∷◌, ◌++◌, length, map, reverse, Some, slice_get, refl, sym, ap, subst, ◌∙◌, arith, eq-eqb, true≢false}
+-- The items of a reply that a client got and answered: how many there are, and what they are.
+use Rattle.std.proofs.Common.{◌≡◌, ℕ, zero, suc, ◌^◌, ◌<◌, ◌≤◌, true, ◌==◌, List, [], ◌∷◌, ◌++◌, length, map, reverse, Some, slice_get, refl, sym, ap, subst, ◌∙◌, arith, eq-eqb}
 use Rattle.std.specs.Prelude.{All}
 use Rattle.std.specs.List.{AllByRecursion}
-use Rattle.std.proofs.lemmas.Bool.{cond-true}
+use Rattle.std.proofs.lemmas.Bool.{cond-true, eqb-false}
 use Rattle.std.proofs.lemmas.List.{length-map}
 use Rattle.std.proofs.lemmas.List.Elements.{recursion_from_All}
 use Rattle.sv_world.specs.Control.{blank}
 use Rattle.sv_world.specs.Sets.{read_set}
 use Rattle.sv_world.specs.Faults.{IsGoodAction}
 use Rattle.sv_world.specs.declared.action.Action.{Action}
-use Rattle.sv_pending.specs.Pending.{PendingAction}
-use Rattle.sv_wire.specs.declared.message.ObjectValue.{ObjectValue as Sent}
 use Rattle.sv_wire.specs.declared.message.Item.{Item}
-use Rattle.sv_wire.specs.declared.message.Request.{Request}
+use Rattle.sv_wire.specs.declared.message.Done1.{Done1}
+use Rattle.sv_wire.specs.declared.message.Request.TheVariants as requests
 use Rattle.sv_wire.specs.declared.message.Reply.{Reply}
-use Rattle.sv_wire.specs.declared.message.Reply.TheVariants as replies
 use Rattle.sv_journal.specs.declared.entry.Entry.{Entry}
 use Rattle.sv_journal.specs.declared.entry.Logged.{Logged}
 use Rattle.sv_journal.specs.declared.entry.Logged.TheVariants as logged
@@ -22,11 +20,12 @@ use Rattle.sv_journal.specs.History.{Authored, accepted, authored_at, item_at}
 use Rattle.sv_journal.specs.Sessions.{positions_in}
 use Rattle.sv_journal.specs.Text.{NamesAccepted}
 use Rattle.sv_journal.specs.Answer.{Rules}
+use Rattle.sv_journal.specs.Laws.{most_sent}
 use Rattle.sv_client.specs.declared.trace.Event.{Event}
 use Rattle.sv_client.specs.declared.trace.Event.TheVariants as events
 use Rattle.sv_client.specs.declared.trace.Trace.{Trace}
-use Rattle.sv_client.specs.Traces.{pending_of, got}
-use Rattle.sv_client.specs.Taking.{Identity, items_of, is_bad_head, has_bad_item}
+use Rattle.sv_client.specs.Traces.{held_of, done_for, pending_of, got}
+use Rattle.sv_client.specs.Taking.{items_of}
 use Rattle.sv_client.specs.Proper.{identity_of}
 use Rattle.sv_system.specs.Fits.{is_join_of, has_session}
 use Rattle.sv_system.specs.Served.{FitsButValues}
@@ -34,18 +33,10 @@ use Rattle.sv_system.proofs.Fronts.{get-last}
 use Rattle.sv_system.proofs.Entered.{entered}
 use Rattle.sv_system.proofs.Asked.{IsPart, part-rest, proper-part, got-part, got-when, got-answers, may-answer, current-joined, any-part, any-reverse}
 use Rattle.sv_system.proofs.Every.{each-get, each-map, each-more}
-use Rattle.sv_system.proofs.Allowed.{items-logged}
+use Rattle.sv_system.proofs.BoundedRelays.{sent-of}
+use Rattle.sv_system.proofs.Allowed.{some-items, items-logged}
 use Rattle.sv_asked.proofs.Owned.{entry-at}
 use Rattle.sv_asked.proofs.Reported.{IsFineItem}
-
--- A relay without items is not taken.
-some-items : (who : Identity) (ps : List PendingAction) (q : Request) (seq commit : ℕ) (head : List Sent) (items : List Item) → has_bad_item who ps q (replies.Relay seq commit head items) ≡ false → 1 ≤ length items
-some-items who ps q seq commit head (i ∷ is) e = omega arith
-some-items who ps q seq commit head [] e = absurd (go (is_bad_head who.shape head) e)
-  where
-    go : (b : Bool) → (b || true) ≡ false → ⊥
-    go true f = true≢false f
-    go false f = true≢false f
 
 -- An action with few reads, among so many objects.
 abbrev IsPlainAction : ℕ → Action → Type 0
@@ -62,7 +53,7 @@ authored-plain objects A zero all = blank-plain objects
 authored-plain objects A (suc n) all = each-get (IsPlain objects) A n (record { client = 0; seq = 0; action = blank }) all (blank-plain objects)
 
 module _ (r : Rules) (H : List Entry) (L : Trace) (fits : FitsButValues r.world.shape H L) (bound : r.bound ≤ 32) (positions : length (accepted H) < 2 ^ 32)
-    (named : All (λ (e : Entry). NamesAccepted (length (accepted H)) e.reply) H) (small : All (λ (e : Entry). length (positions_in e.reply) ≤ r.bound + 1) H)
+    (named : All (λ (e : Entry). NamesAccepted (length (accepted H)) e.reply) H) (small : All (λ (e : Entry). length (positions_in e.reply) ≤ most_sent r e.reply) H)
     (good : All (λ (a : Authored). IsGoodAction r.world.shape a.action) (accepted H)) where
   abbrev objects : ℕ
   objects = r.world.shape.objects
@@ -73,7 +64,7 @@ module _ (r : Rules) (H : List Entry) (L : Trace) (fits : FitsButValues r.world.
       (λ a g. (g.few_reads, recursion_from_All (λ x. x < objects) (read_set a.action) g.objects))
       (accepted H) (recursion_from_All (λ (a : Authored). IsGoodAction r.world.shape a.action) (accepted H) good)
 
-  -- What is known of the items of a relay that was got.
+  -- What is known of the items of such a reply.
   pub record AreFine (items : List Item) : Type 0 where
     pub each : AllByRecursion (IsFineItem objects) items
     pub some : 1 ≤ length items
@@ -91,6 +82,10 @@ module _ (r : Rules) (H : List Entry) (L : Trace) (fits : FitsButValues r.world.
       (recursion_from_All (λ p. (1 ≤ p) × (p ≤ length (accepted H))) ps among))
   reply-items (logged.Welcome commit head) among = tt
   reply-items (logged.Dropped seq chain far) among = tt
+  reply-items (logged.Seen last commit head ps) among =
+      each-map (item_at (accepted H)) (IsFineItem objects) ps
+      (each-more (λ p. (1 ≤ p) × (p ≤ length (accepted H))) (λ p. IsFineItem objects (item_at (accepted H) p)) (λ p m. item-fine p m.1) ps
+      (recursion_from_All (λ p. (1 ≤ p) × (p ≤ length (accepted H))) ps among))
   reply-items (logged.Settled seq pos) among = tt
   reply-items (logged.Noted commit) among = tt
   reply-items logged.Idle among = tt
@@ -106,11 +101,12 @@ module _ (r : Rules) (H : List Entry) (L : Trace) (fits : FitsButValues r.world.
       let a = got-answers who L.first whole fits.proper.events s n reply g in
       any-reverse (is_join_of s) L.events (any-part (is_join_of s) g.before whole (part-rest g.before (events.Got s reply) whole g.part) (current-joined g.before s a.current))
 
-  pub relay-items : (s seq commit : ℕ) (head : List Sent) (items : List Item) (before : List Event) → IsPart (events.Got s (replies.Relay seq commit head items) ∷ before) (reverse L.events) → AreFine items
-  relay-items s seq commit head items before part =
+  pub got-items : (s : ℕ) (reply : Reply) (results : List Done1) (before : List Event) → IsPart (events.Got s reply ∷ before) (reverse L.events) →
+      done_for (held_of before) reply ≡ requests.Done results ∷ [] → AreFine (items_of reply)
+  got-items s reply results before part asks =
+      let items = items_of reply in
       let whole = reverse L.events in
       let who = identity_of r.world.shape L in
-      let reply = replies.Relay seq commit head items in
       let t = events.Got s reply ∷ before in
       let n = length (got before s) in
       let last : slice_get (got t s) n ≡ Some reply =
@@ -121,9 +117,11 @@ module _ (r : Rules) (H : List Entry) (L : Trace) (fits : FitsButValues r.world.
       let a = may-answer who L.first before s reply (proper-part who L.first t whole part fits.proper.events).0 in
       let count : length items ≡ length (positions_in x.entry.reply) = ap length is ∙ length-map (positions_in x.entry.reply) (item_at (accepted H)) in
       let among = entry-at (λ (e : Entry). NamesAccepted (length (accepted H)) e.reply) x.entry x.before H x.earlier (recursion_from_All (λ (e : Entry). NamesAccepted (length (accepted H)) e.reply) H named) in
-      let few = entry-at (λ (e : Entry). length (positions_in e.reply) ≤ r.bound + 1) x.entry x.before H x.earlier (recursion_from_All (λ (e : Entry). length (positions_in e.reply) ≤ r.bound + 1) H small) in
+      let few = entry-at (λ (e : Entry). length (positions_in e.reply) ≤ most_sent r e.reply) x.entry x.before H x.earlier (recursion_from_All (λ (e : Entry). length (positions_in e.reply) ≤ most_sent r e.reply) H small) in
+      let most = sent-of r x.entry.reply bound in
+      let some = eqb-false (length items) 0 (some-items who (pending_of before) a.request (held_of before) reply results asks a.good) in
       record {
         each = subst (AllByRecursion (IsFineItem objects)) (sym is) (reply-items x.entry.reply among);
-        some = some-items who (pending_of before) a.request seq commit head items a.good;
-        few = omega (arith, count, few, bound);
+        some = omega (arith, some);
+        few = omega (arith, count, few, most);
       }

@@ -1,5 +1,5 @@
 -- The actions that a trace asks for are those that its client made.
-use Rattle.std.proofs.Common.{ℕ, suc, Bool, true, false, cond, eqb, List, [], ◌∷◌, map, sym, subst}
+use Rattle.std.proofs.Common.{ℕ, suc, ◌^◌, ◌<◌, Bool, true, false, cond, eqb, List, [], ◌∷◌, map, sym, subst}
 use Rattle.std.specs.List.{AllByRecursion}
 use Rattle.std.proofs.lemmas.List.{map-append}
 use Rattle.sv_world.specs.declared.action.Action.{Action}
@@ -18,14 +18,16 @@ use Rattle.sv_system.proofs.Pendings.{Numbered, key_of, keys, without_first, set
 use Rattle.sv_system.proofs.Every.{each-append, each-if}
 
 module _ (P : Action → Type 0) where
-  -- It holds of the action that an event makes.
+  -- It holds of the action that an event makes; and the time that an observing client would wait is a number of its type.
   abbrev pub Makes : Event → Type 0
   Makes (events.Make a) = P a
+  Makes (events.Observe objects wait) = wait < 2 ^ 16
   Makes _ = Unit {0}
 
   -- It holds of the action of a request, which is one that can be sent.
   abbrev pub Asks : Request → Type 0
   Asks (requests.Submit n a) = P a
+  Asks (requests.Observe objects wait) = wait < 2 ^ 16
   Asks requests.Bad = ⊥
   Asks requests.End = ⊥
   Asks _ = Unit {0}
@@ -50,6 +52,7 @@ module _ (P : Action → Type 0) where
       subst (AllByRecursion KeyHas) (sym (keys-with (held_of t) (with_reply (held_of t) reply) reply (pending_of t))) (settled-or_not (settles reply) (keys (pending_of t)) (pending-have t all.1))
   pending-have (events.Join s ∷ t) all = pending-have t all.1
   pending-have (events.Poll ∷ t) all = pending-have t all.1
+  pending-have (events.Observe objects wait ∷ t) all = pending-have t all.1
   pending-have (events.Leave ∷ t) all = pending-have t all.1
   pending-have (events.Cut ∷ t) all = pending-have t all.1
   pending-have (events.Quit ∷ t) all = pending-have t all.1
@@ -63,6 +66,9 @@ module _ (P : Action → Type 0) where
   done-have held (replies.Relay seq commit head items) = (tt, tt)
   done-have held (replies.Welcome commit head) = tt
   done-have held (replies.Dropped seq chain far) = tt
+  done-have held (replies.Denied seq object) = tt
+  done-have held (replies.Seen last commit head []) = tt
+  done-have held (replies.Seen last commit head (item ∷ items)) = (tt, tt)
   done-have held (replies.Settled seq pos) = tt
   done-have held (replies.Noted commit) = tt
   done-have held replies.Idle = tt
@@ -74,6 +80,7 @@ module _ (P : Action → Type 0) where
       each-if Asks (eqb n s) (requests.Join client (suc (joins t)) interest ∷ map submit_of (pending_of t)) (tt, submits-have (pending_of t) (pending-have t all))
   by-have client interest t (events.Make a) s h all = each-if Asks (is_session (current_session t) s) (requests.Submit (suc (makes t)) a ∷ []) (h, tt)
   by-have client interest t events.Poll s h all = each-if Asks (is_session (current_session t) s) (requests.Poll ∷ []) (tt, tt)
+  by-have client interest t (events.Observe objects wait) s h all = each-if Asks (is_session (current_session t) s) (requests.Observe objects wait ∷ []) (h, tt)
   by-have client interest t events.Leave s h all = each-if Asks (is_session (current_session t) s) (requests.Leave ∷ []) (tt, tt)
   by-have client interest t (events.Got n reply) s h all = each-if Asks (eqb n s) (done_for (held_of t) reply) (done-have (held_of t) reply)
   by-have client interest t events.Cut s h all = tt

@@ -53,6 +53,8 @@ full-fits A (logged.Relay seq commit head positions) all f low =
     (f.0, f.1, f.2, each-map (item_at A) ItemFits positions (each-more (λ p. p < 2 ^ 32) (λ p. ItemFits (item_at A p)) (λ p l. item-fits A p all l) positions low))
 full-fits A (logged.Welcome commit head) all f low = f
 full-fits A (logged.Dropped seq chain far) all f low = f
+full-fits A (logged.Seen last commit head positions) all f low =
+    (f.0, f.1, f.2, each-map (item_at A) ItemFits positions (each-more (λ p. p < 2 ^ 32) (λ p. ItemFits (item_at A p)) (λ p l. item-fits A p all l) positions low))
 full-fits A (logged.Settled seq place) all f low = f
 full-fits A (logged.Noted commit) all f low = f
 full-fits A logged.Idle all f low = tt
@@ -65,6 +67,8 @@ positions-fit count (logged.Relay seq commit head positions) few named =
     each-more (λ p. (1 ≤ p) × (p ≤ count)) (λ p. p < 2 ^ 32) (λ p n. omega (arith, n.1, few)) positions (recursion_from_All (λ p. (1 ≤ p) × (p ≤ count)) positions named)
 positions-fit count (logged.Welcome commit head) few named = tt
 positions-fit count (logged.Dropped seq chain far) few named = tt
+positions-fit count (logged.Seen last commit head positions) few named =
+    each-more (λ p. (1 ≤ p) × (p ≤ count)) (λ p. p < 2 ^ 32) (λ p n. omega (arith, n.1, few)) positions (recursion_from_All (λ p. (1 ≤ p) × (p ≤ count)) positions named)
 positions-fit count (logged.Settled seq place) few named = tt
 positions-fit count (logged.Noted commit) few named = tt
 positions-fit count logged.Idle few named = tt

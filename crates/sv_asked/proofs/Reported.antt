@@ -10,7 +10,6 @@ use Rattle.sv_world.specs.declared.world.ObjectId.{ObjectId}
 use Rattle.sv_eval.specs.Serial.{serial_world}
 use Rattle.sv_eval.proofs.Effects.{effect_counted}
 use Rattle.sv_versions.specs.Held.{Held, read_below}
-use Rattle.sv_wire.specs.declared.message.ObjectValue.{ObjectValue}
 use Rattle.sv_wire.specs.declared.message.Item.{Item}
 use Rattle.sv_wire.specs.declared.message.Done1.{Done1}
 use Rattle.sv_wire.specs.declared.message.Request.TheVariants as requests
@@ -21,11 +20,13 @@ use Rattle.sv_wire.specs.Ranges.{ValueFits, ResultFits}
 use Rattle.sv_wire.specs.Laws.{IsRequest}
 use Rattle.sv_client.specs.declared.trace.Event.{Event}
 use Rattle.sv_client.specs.declared.trace.Event.TheVariants as events
-use Rattle.sv_client.specs.Traces.{head_held, held_at, item_result, item_held, with_items, with_reply, held_of, results_of}
+use Rattle.sv_client.specs.Traces.{head_held, held_at, item_result, item_held, with_items, with_reply, held_of, results_of, done_for}
+use Rattle.sv_client.specs.Taking.{items_of}
 use Rattle.sv_client.proofs.Items.{results_count}
 use Rattle.sv_client.proofs.Sendable.{masked_fewer}
 use Rattle.sv_system.specs.Serial.{IsSerial}
 use Rattle.sv_system.proofs.Asked.{IsPart, all, then_one}
+use Rattle.sv_system.proofs.Allowed.{brought-by}
 use Rattle.sv_system.proofs.Every.{each-left, each-right, each-more}
 use Rattle.sv_asked.proofs.Evaluated.{mask_fits}
 use Rattle.sv_asked.proofs.Worlds.{IsGoodValue}
@@ -88,6 +89,8 @@ module _ (attrs : ℕ) (opening : List (List ℤ)) (acts : List Action) (some : 
   reply-front held (replies.Welcome commit head) h = each-left Serial held (head_held commit head) h
   reply-front held (replies.Relay seq commit head items) h = each-left Serial held (head_held commit head) (items-front (held ++ head_held commit head) items h)
   reply-front held (replies.Dropped seq chain far) h = h
+  reply-front held (replies.Denied seq object) h = h
+  reply-front held (replies.Seen last commit head items) h = each-left Serial held (head_held commit head) (items-front (held ++ head_held commit head) items h)
   reply-front held (replies.Settled seq pos) h = h
   reply-front held (replies.Noted commit) h = h
   reply-front held replies.Idle h = h
@@ -99,6 +102,7 @@ module _ (attrs : ℕ) (opening : List (List ℤ)) (acts : List Action) (some : 
   event-front (events.Join s) t h = h
   event-front (events.Make a) t h = h
   event-front events.Poll t h = h
+  event-front (events.Observe objects wait) t h = h
   event-front events.Leave t h = h
   event-front events.Cut t h = h
   event-front events.Quit t h = h
@@ -108,20 +112,24 @@ module _ (attrs : ℕ) (opening : List (List ℤ)) (acts : List Action) (some : 
   held-part t whole all h = h
   held-part t whole (then_one {u} e b) h = held-part t u b (event-front e u h)
 
-  -- The Done for a relay that was got is a message.
-  pub done-is : (s seq commit : ℕ) (head : List ObjectValue) (items : List Item) (before u : List Event) → IsPart (events.Got s (replies.Relay seq commit head items) ∷ before) u →
-      AllByRecursion Serial (held_of u) → AllByRecursion (IsFineItem (length opening)) items → 1 ≤ length items → length items ≤ 33 →
-      IsRequest (requests.Done (results_of (held_of before ++ head_held commit head) items))
-  done-is s seq commit head items before u part h fine one most =
-      let held = held_of before ++ head_held commit head in
-      let results = results_of held items in
-      let each = results-fine held items fine (held-part (events.Got s (replies.Relay seq commit head items) ∷ before) u part h) in
-      record {
+  -- The Done for a reply that was got is a message.
+  pub done-is : (s : ℕ) (reply : Reply) (results : List Done1) (before u : List Event) → IsPart (events.Got s reply ∷ before) u →
+      done_for (held_of before) reply ≡ requests.Done results ∷ [] →
+      AllByRecursion Serial (held_of u) → AllByRecursion (IsFineItem (length opening)) (items_of reply) → 1 ≤ length (items_of reply) → length (items_of reply) ≤ 33 →
+      IsRequest (requests.Done results)
+  done-is s reply results before u part asks h fine one most =
+      let b = brought-by (held_of before) reply results asks in
+      let items = items_of reply in
+      let held = held_of before ++ head_held b.commit b.head in
+      let own = results_of held items in
+      let each : AllByRecursion IsFineResult own = results-fine held items fine (subst (AllByRecursion Serial) b.held_after (held-part (events.Got s reply ∷ before) u part h)) in
+      subst (λ (l : List Done1). IsRequest (requests.Done l)) (sym b.results_are)
+      (record {
         within =
             record {
               some = omega (arith, results_count held items, one);
               few = omega (arith, results_count held items, most);
-              each = All-from_recursion IsWireResult results (each-more IsFineResult IsWireResult (λ d f. f.0) results each);
+              each = All-from_recursion IsWireResult own (each-more IsFineResult IsWireResult (λ d f. f.0) own each);
             };
-        fits = each-more IsFineResult ResultFits (λ d f. f.1) results each;
-      }
+        fits = each-more IsFineResult ResultFits (λ d f. f.1) own each;
+      })

@@ -71,6 +71,7 @@ module _ (k : Keeping) (law : IsKeeping k) (r : Rules) (h : List Entry) (s : ℕ
   relay-few (requests.Submit seq a) f = (refl, open-few (requests.Submit seq a) _ f)
   relay-few (requests.Done results) f = (refl, open-few (requests.Done results) _ f)
   relay-few requests.Poll f = (refl, open-few requests.Poll _ f)
+  relay-few (requests.Observe objects wait) f = (refl, open-few (requests.Observe objects wait) _ f)
   relay-few requests.Leave f = (refl, open-few requests.Leave _ f)
   relay-few requests.Bad f = (refl, open-few requests.Bad _ f)
   relay-few requests.End f = absurd (true≢false (sym f))
@@ -84,6 +85,7 @@ new-few (Some k) next (requests.Submit seq a) = one-if (eqb seq (next k)) (recor
 new-few (Some k) next (requests.Join client life interest) = omega arith
 new-few (Some k) next (requests.Done results) = omega arith
 new-few (Some k) next requests.Poll = omega arith
+new-few (Some k) next (requests.Observe objects wait) = omega arith
 new-few (Some k) next requests.Leave = omega arith
 new-few (Some k) next requests.Bad = omega arith
 new-few (Some k) next requests.End = omega arith

@@ -16,13 +16,14 @@ use Rattle.sv_system.specs.Fits.{Fits}
 use Rattle.sv_system.specs.Served.{FitsButValues}
 use Rattle.sv_system.specs.Serial.{AreSerial}
 
--- The numbers of an action that is made are those of their types.
+-- The numbers of an action that is made, and the time that an observing client would wait, are those of their types.
 abbrev pub EventFits : Event → Type 0
 EventFits (events.Make action) = ActionFits action
+EventFits (events.Observe objects wait) = wait < 2 ^ 16
 EventFits _ = Unit {0}
 
--- What a run is given has numbers of their types: its objects, the values of its opening world, and the actions that clients made. And there
--- are numbers for the positions of the accepted actions.
+-- What a run is given has numbers of their types: its objects, the values of its opening world, and the actions that clients made and what they
+-- would wait. And there are numbers for the positions of the accepted actions.
 pub record HasNumbers (r : Rules) (h : List Entry) (Ls : List Trace) : Type 0 where
   pub objects : r.world.shape.objects ≤ 2 ^ 16
   pub opening : All ValueFits r.world.values

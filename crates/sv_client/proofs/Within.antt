@@ -1,9 +1,9 @@
 -- What is outstanding observes objects of the world.
-use Rattle.std.proofs.Common.{◌≡◌, ℕ, ◌<◌, Bool, true, false, nat_lt, nat_le, eqb, zero, suc, ◌&&◌, List, [], ◌∷◌, length, drop, map, Option, Some, None, subst}
+use Rattle.std.proofs.Common.{◌≡◌, ℕ, ◌<◌, Bool, true, false, nat_lt, nat_le, eqb, zero, suc, ◌&&◌, List, [], ◌∷◌, length, drop, map, slice_get, Option, Some, None, subst}
 use Rattle.std.specs.Prelude.{if◌then◌else◌, All}
 use Rattle.std.specs.List.{list_all}
 use Rattle.std.proofs.lemmas.Bool.{and_parts, ltb-true}
-use Rattle.std.proofs.lemmas.List.Elements.{All-nil, All-cons, All-head, All-tail, All-append}
+use Rattle.std.proofs.lemmas.List.Elements.{All-nil, All-cons, All-head, All-tail, All-append, All-map}
 use Rattle.sv_world.specs.declared.world.ObjectId.{ObjectId}
 use Rattle.sv_world.specs.Limits.{most_reads}
 use Rattle.sv_world.specs.Sets.{numbers_of}
@@ -14,11 +14,12 @@ use Rattle.sv_wire.specs.declared.message.Reply.{Reply}
 use Rattle.sv_wire.specs.declared.message.Reply.TheVariants as replies
 use Rattle.sv_wire.specs.declared.message.Request.{Request}
 use Rattle.sv_client.specs.declared.kinds.Awaited.{Awaited}
+use Rattle.sv_client.specs.declared.kinds.Awaited.TheVariants as kinds
 use Rattle.sv_client.specs.declared.trace.Event.{Event}
 use Rattle.sv_client.specs.declared.trace.Event.TheVariants as events
 use Rattle.sv_client.specs.Kinds.{kind_of}
 use Rattle.sv_client.specs.Traces.{current_session, is_session, asked, asked_by_event, got, done_for, held_of, pending_of, submit_of}
-use Rattle.sv_client.specs.Taking.{Identity, outstanding, unanswered}
+use Rattle.sv_client.specs.Taking.{Identity, outstanding, unanswered, observed_by, observed_first, observed_now}
 use Rattle.sv_client.specs.Proper.{AreProper}
 use Rattle.sv_client.specs.Evaluating.{AreWithin, AsksWithin}
 
@@ -112,3 +113,25 @@ outstanding_within who first t p = go (current_session t)
 
 pub awaited_within : (who : Identity) (first : ℕ) (t : List Event) (ks : List Awaited) → AreProper who first t → map (λ k. Some k) ks ≡ map kind_of (outstanding who t) → All (AsksWithin who.shape.objects) ks
 awaited_within who first t ks p e = kinds_within who.shape.objects ks (outstanding who t) e (outstanding_within who first t p)
+
+-- ---- What the oldest request observes
+
+pub first_within : (n : ℕ) (ks : List Awaited) (k : Awaited) → All (AsksWithin n) ks → slice_get ks 0 ≡ Some k → AsksWithin n k
+first_within n [] k w e = cc
+first_within n (j ∷ ks) k w e = let same : j ≡ k = cc in subst (AsksWithin n) same (All-head (AsksWithin n) j ks w)
+
+seen_within : (n : ℕ) (o : Option Awaited) → KindWithin n o → All (λ x. x < n) (observed_by o)
+seen_within n None w = All-nil (λ x. x < n)
+seen_within n (Some (kinds.Observe objects)) w = All-map (λ x. x < n) (λ (o : ObjectId). o.0) objects w
+seen_within n (Some kinds.Join) w = All-nil (λ x. x < n)
+seen_within n (Some kinds.Submit) w = All-nil (λ x. x < n)
+seen_within n (Some kinds.Done) w = All-nil (λ x. x < n)
+seen_within n (Some kinds.Poll) w = All-nil (λ x. x < n)
+seen_within n (Some kinds.Leave) w = All-nil (λ x. x < n)
+
+pub seen_now_within : (who : Identity) (first : ℕ) (t : List Event) → AreProper who first t → All (λ x. x < who.shape.objects) (observed_now who t)
+seen_now_within who first t p = go (outstanding who t) (outstanding_within who first t p)
+  where
+    go : (rs : List Request) → All (RequestWithin who.shape.objects) rs → All (λ x. x < who.shape.objects) (observed_first rs)
+    go [] w = All-nil (λ x. x < who.shape.objects)
+    go (r ∷ rs) w = seen_within who.shape.objects (kind_of r) (All-head (RequestWithin who.shape.objects) r rs w)

@@ -1,11 +1,13 @@
 //! A client of a world: its calls, and what each of them changes of its trace.
 ghost use Rattle.std.specs.Prelude.{◌≡◌, ℕ, ◌-◌, ◌<◌, ◌≤◌, true, ◌∷◌, [], length, option_map, option_to_list, slice_get, IfOk, IfErr, OnOk, OnErr, MatchResult};
 ghost use Rattle.sv_world.specs.Limits.{most_outstanding, most_sessions};
+ghost use Rattle.sv_world.specs.Sets.{numbers_of};
 ghost use Rattle.sv_versions.specs.Held.{AnswersAbove, count_up_to, latest, read_below};
 ghost use Rattle.sv_pending.specs.Seen.{item_seen};
 ghost use Rattle.sv_client.specs.declared.trace.Event.TheVariants as events;
 ghost use Rattle.sv_client.specs.Traces.{joins, makes, held_of, pending_of, view_of};
-ghost use Rattle.sv_client.specs.Taking.{outstanding, told, first_fault_of_reply};
+ghost use Rattle.sv_client.specs.Taking.{outstanding, observed_now, told, first_fault_of_reply};
+ghost use Rattle.sv_client.specs.Evaluating.{AreWithin};
 ghost use Rattle.sv_client.specs.Proper.{IsGoodIdentity, MayMake, MayPoll, MayObserve, MayLeave, Proper, in_session, most_made};
 ghost use Rattle.sv_client.specs.Seen.{new_client, with_event, newly_asked, event_of_mark, trace_from};
 ghost use Rattle.sv_client.specs.Answers.{view_seen, IsMakeFault, IsPollFault, IsObserveFault, IsTakeFault, IsFine, got_now};
@@ -13,7 +15,7 @@ ghost use Rattle.sv_client.specs.Answers.{view_seen, IsMakeFault, IsPollFault, I
 use crate::asking::{awaited_at_join, joining, note_asked};
 use crate::checks::{is_out_of_order, is_unfit};
 use crate::fault::{MakeFault, ObserveFault, PollFault, TakeFault};
-use crate::kinds::{Awaited, allows_kind};
+use crate::kinds::{Awaited, allows_kind, observed_by};
 use crate::raising::raise_events;
 use crate::taken::take_reply;
 use crate::trace::{Event, Trace, TraceMark};
@@ -122,6 +124,17 @@ impl Client {
         ensures few { result ≤ most_outstanding }
     {
         self.awaited.len()
+    }
+
+    /// The objects that the oldest request without a reply observes, and so those that its reply shows.
+    pub fn observed(&self) -> &[ObjectId]
+        ensures numbers { numbers_of result.now ≡ observed_now self.now.who self.now.events }
+        ensures within { AreWithin self.now.who.shape.objects result.now }
+    {
+        match self.awaited.first() {
+            Some(awaited) => observed_by(awaited),
+            None => &[],
+        }
     }
 
     /// Whether the client began a session and did not leave the latest one.

@@ -23,6 +23,7 @@ use Rattle.sv_script.specs.Following.{Follows}
 use Rattle.sv_system.specs.Fits.{replies_in}
 use Rattle.sv_system.specs.Records.{rules_of}
 use Rattle.sv_asked.specs.Asked.{RepliesAreMessages}
+use Rattle.sv_asked.proofs.Facts.{accepted-short}
 use Rattle.sv_player.specs.Carried.{BeginsWithReplies}
 use Rattle.sv_player.specs.Stops.{IsBadRest}
 use Rattle.sv_player.specs.Played.{IsOpenSession, replies_of}
@@ -72,12 +73,16 @@ module _ (law : NeverRefused) (messages : RepliesAreMessages) (scenario : Scenar
   current : current_session (reverse (numbered_from server.first L).events) ≡ Some (s + server.first)
   current = ap current_session up ∙ (up_current server.first done ∙ ap (option_map (λ n. n + server.first)) session.current)
 
+  -- All accepted actions have their positions.
+  positions-few : length (accepted server.journal) ≤ 4294967294
+  positions-few = (let most = accepted-short server.journal in let short = server.short in omega (arith, most, short))
+
   taken : (reply : Reply) → slice_get all (length (replies_of L s)) ≡ Some reply → first_fault_of_reply own done reply ≡ None
   taken reply is =
       let limits = limits_of scenario good in
       let count : length (got (reverse (numbered_from server.first L).events) (s + server.first)) ≡ length (replies_of L s) =
       ap (λ (l : List Event). length (got l (s + server.first))) up ∙ ap length (up_got server.first done s) in
-      let none = law (rules_of scenario) server.journal server.traces server.place (numbered_from server.first L) (s + server.first) reply limits.objects limits.attrs limits.bound server.legal server.fits server.member current few_here (ap (slice_get all) count ∙ is) in
+      let none = law (rules_of scenario) server.journal server.traces server.place (numbered_from server.first L) (s + server.first) reply limits.objects limits.attrs limits.bound positions-few server.legal server.fits server.member current few_here (ap (slice_get all) count ∙ is) in
       sym (up_fault server.first own done reply) ∙ (ap (λ (l : List Event). first_fault_of_reply own l reply) (sym up) ∙ none)
 
   pub not_refused : (payload : List ℕ) (fault : ReplyFault) → IsBadRest own done rest payload fault → ⊥

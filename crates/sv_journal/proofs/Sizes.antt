@@ -14,7 +14,6 @@ use Rattle.sv_wire.specs.declared.message.Request.{Request}
 use Rattle.sv_wire.specs.declared.message.Request.TheVariants as requests
 use Rattle.sv_journal.specs.declared.entry.Entry.{Entry}
 use Rattle.sv_journal.specs.declared.entry.Logged.{Logged}
-use Rattle.sv_journal.specs.declared.entry.Logged.TheVariants as logged
 use Rattle.sv_journal.specs.History.{is_relay, client_of, outcomes_of, Outcome, Accepted, Authored, new_action, accepted, actions_of, next_seq, commit_of}
 use Rattle.sv_journal.specs.Sessions.{kept_count, outcome_at, kept_outcome, sent_to, positions_in}
 use Rattle.sv_journal.specs.Answer.{Rules, relay_of}

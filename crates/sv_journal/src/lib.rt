@@ -14,8 +14,8 @@ pub use journal::Journal;
 pub use laws::{
     examples_are_answered, full_replies_stay, legal_actions_are_good, legal_journals_are_plain,
     legal_relays_are_small, legal_relays_name_accepted, legal_replies_are_messages,
-    sent_positions_are_closed, served_actions_are_good, served_relays_are_small, served_relays_name_accepted,
-    served_replies_are_messages,
+    sent_positions_are_closed, served_actions_are_good, served_relays_are_small,
+    served_relays_name_accepted, served_replies_are_messages,
 };
 pub use pieces::{append_head, append_values};
 pub use print::{print_journal, relays_name_accepted};

@@ -33,6 +33,11 @@ may_do first who t events.Poll m = record {
   joined = sym (up_session first t) ∙ m.joined;
   calm = subst (λ (rs : List Request). length rs < 16) (up_outstanding first who t) m.calm;
 }
+may_do first who t (events.Observe objects wait) m = record {
+  joined = sym (up_session first t) ∙ m.joined;
+  good = m.good;
+  calm = subst (λ (rs : List Request). length rs < 16) (up_outstanding first who t) m.calm;
+}
 may_do first who t events.Leave m = record { joined = sym (up_session first t) ∙ m.joined; settled = sym (up_outstanding first who t) ∙ m.settled }
 may_do first who t (events.Got s reply) m = sym (up_fault first who t reply) ∙ m.taken
 may_do first who t events.Cut m = tt
@@ -49,6 +54,7 @@ same_event first who t (events.Join s) m =
     let same : joins t + first ≡ s = omega (arith, m.next, up_joins first t) in ap (λ (n : ℕ). events.Join n) same
 same_event first who t (events.Make a) m = refl
 same_event first who t events.Poll m = refl
+same_event first who t (events.Observe objects wait) m = refl
 same_event first who t events.Leave m = refl
 same_event first who t (events.Got s reply) m =
     ap (λ (n : ℕ). events.Got n reply) (latest_is first s (current_session t) (sym (up_current first t) ∙ m.current))
@@ -74,6 +80,7 @@ same_text first entries place who t (events.Make a) m h =
     made_is (makes t + 1) (suc (makes (all_raised first t))) (held_of t) (held_of (all_raised first t)) (pending_of t) (pending_of (all_raised first t)) a
     (omega (arith, up_makes first t)) (sym (up_held first t)) (sym (up_pending first t))
 same_text first entries place who t events.Poll m h = refl
+same_text first entries place who t (events.Observe objects wait) m h = refl
 same_text first entries place who t events.Leave m h = refl
 same_text first entries place who t (events.Got s reply) m h =
     let n = length (got (all_raised first t) s) in

@@ -69,6 +69,7 @@ told_drop : (p : ℕ) (reply : Logged) → dropped_of (outcome_in p reply) ≡ b
 told_drop p (logged.Welcome commit head) = refl
 told_drop p (logged.Relay seq commit head positions) = refl
 told_drop p (logged.Dropped seq chain far) = refl
+told_drop p (logged.Seen last commit head positions) = refl
 told_drop p (logged.Settled seq pos) = refl
 told_drop p (logged.Noted commit) = refl
 told_drop p logged.Idle = refl

@@ -86,6 +86,7 @@ pub next_place : (who : Identity) (first : ℕ) (entries : List Entry) (t : List
 next_place who first entries t (events.Join s) place p m h = joined_place who first entries t s p m
 next_place who first entries t (events.Make a) place p m h = kept_place entries t (events.Make a ∷ t) place h refl (λ s. refl)
 next_place who first entries t events.Poll place p m h = kept_place entries t (events.Poll ∷ t) place h refl (λ s. refl)
+next_place who first entries t (events.Observe objects wait) place p m h = kept_place entries t (events.Observe objects wait ∷ t) place h refl (λ s. refl)
 next_place who first entries t events.Leave place p m h = kept_place entries t (events.Leave ∷ t) place h refl (λ s. refl)
 next_place who first entries t (events.Got s reply) place p m h = got_place entries t s place reply m.current h
 next_place who first entries t events.Cut place p m h = kept_place entries t (events.Cut ∷ t) place h refl (λ s. refl)

@@ -23,6 +23,7 @@ both_parts number t (events.Make a) =
     (pushed_last (pending_of t) (record { seq = suc (makes t); action = a; kept = kept_of (held_of t) (pending_of t) a }))
 both_parts number t (events.Join s) = append-nil (text_of number t (events.Join s))
 both_parts number t events.Poll = append-nil (text_of number t events.Poll)
+both_parts number t (events.Observe objects wait) = append-nil (text_of number t (events.Observe objects wait))
 both_parts number t events.Leave = append-nil (text_of number t events.Leave)
 both_parts number t (events.Got s reply) = append-nil (text_of number t (events.Got s reply))
 both_parts number t events.Cut = append-nil (text_of number t events.Cut)

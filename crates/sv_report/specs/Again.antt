@@ -6,13 +6,13 @@ use Rattle.sv_world.specs.declared.world.ObjectId.{ObjectId}
 use Rattle.sv_world.specs.Sets.{write_set}
 use Rattle.sv_world.specs.Limits.{most_sessions}
 use Rattle.sv_journal.specs.declared.entry.Entry.{Entry}
-use Rattle.sv_journal.specs.Pieces.{bracketed}
+use Rattle.sv_journal.specs.Pieces.{bracketed, objects_text}
 use Rattle.sv_pending.specs.Pending.{PendingAction, kept_of}
 use Rattle.sv_client.specs.declared.trace.Event.{Event}
 use Rattle.sv_client.specs.declared.trace.Event.TheVariants as events
 use Rattle.sv_client.specs.Traces.{joins, makes, current_session, held_of, pending_of, view_of, got}
 use Rattle.sv_client.specs.Taking.{Identity, first_fault_of_reply}
-use Rattle.sv_client.specs.Proper.{MayMake, MayPoll, MayLeave, MayFollow}
+use Rattle.sv_client.specs.Proper.{MayMake, MayPoll, MayObserve, MayLeave, MayFollow}
 use Rattle.sv_client.specs.Seen.{raised}
 use Rattle.sv_client.specs.Answers.{got_now}
 use Rattle.sv_report.specs.Report.{entry_number, event_text, kept_text, shown_text}
@@ -28,6 +28,7 @@ abbrev pub MayDo : Identity → List Event → Event → Type 0
 MayDo who t (events.Join s) = joins t < most_sessions
 MayDo who t (events.Make action) = MayMake who t action
 MayDo who t events.Poll = MayPoll who t
+MayDo who t (events.Observe objects wait) = MayObserve who t objects
 MayDo who t events.Leave = MayLeave who t
 MayDo who t (events.Got s reply) = first_fault_of_reply who t reply ≡ None
 MayDo who t _ = Unit {0}
@@ -51,6 +52,7 @@ text_of number t (events.Join s) = codes "join s" ++ decimal s
 text_of number t (events.Make action) =
     codes "make " ++ decimal (makes t + 1) ++ codes " kept " ++ kept_text (write_set action) (kept_of (held_of t) (pending_of t) action)
 text_of number t events.Poll = codes "poll"
+text_of number t (events.Observe objects wait) = codes "observe " ++ objects_text objects
 text_of number t events.Leave = codes "leave"
 text_of number t (events.Got s reply) = codes "got s" ++ decimal s ++ codes " #" ++ decimal number
 text_of number t events.Cut = codes "cut"

@@ -7,7 +7,7 @@ use Rattle.sv_world.specs.declared.world.ObjectId.{ObjectId}
 use Rattle.sv_world.specs.declared.world.World.{World}
 use Rattle.sv_journal.specs.declared.entry.Entry.{Entry}
 use Rattle.sv_journal.specs.History.{commit_of, committed_of}
-use Rattle.sv_journal.specs.Pieces.{bracketed, held_text}
+use Rattle.sv_journal.specs.Pieces.{bracketed, held_text, objects_text}
 use Rattle.sv_journal.specs.Text.{journal_text}
 use Rattle.sv_pending.specs.Pending.{kept_of}
 use Rattle.sv_client.specs.declared.trace.Event.{Event}
@@ -37,6 +37,7 @@ event_text entries t (events.Join s) = codes "join s" ++ decimal s
 event_text entries t (events.Make action) =
     codes "make " ++ decimal (suc (makes t)) ++ codes " kept " ++ kept_text (write_set action) (kept_of (held_of t) (pending_of t) action)
 event_text entries t events.Poll = codes "poll"
+event_text entries t (events.Observe objects wait) = codes "observe " ++ objects_text objects
 event_text entries t events.Leave = codes "leave"
 event_text entries t (events.Got s reply) = codes "got s" ++ decimal s ++ codes " #" ++ decimal (entry_number entries s (length (got t s)) 1)
 event_text entries t events.Cut = codes "cut"

@@ -4,12 +4,12 @@ ghost use Rattle.sv_world.specs.Limits.{most_sessions};
 ghost use Rattle.sv_client.specs.declared.trace.Event.TheVariants as events;
 ghost use Rattle.sv_client.specs.Traces.{joins};
 ghost use Rattle.sv_client.specs.Taking.{first_fault_of_reply};
-ghost use Rattle.sv_client.specs.Proper.{MayMake, MayPoll, MayLeave};
+ghost use Rattle.sv_client.specs.Proper.{MayMake, MayPoll, MayObserve, MayLeave};
 ghost use Rattle.sv_client.specs.Answers.{got_now};
 ghost use Rattle.sv_report.specs.Again.{MayDo, again};
 
 use std::alloc::{AllocError, Global};
-use sv_client::{Client, Event, MakeFault, PollFault, TakeFault, TraceMark};
+use sv_client::{Client, Event, MakeFault, ObserveFault, PollFault, TakeFault, TraceMark};
 use sv_wire::{Reply, copy_reply};
 use sv_world::{Action, List, ObjectId, copy_action, copy_objects};
 
@@ -47,6 +47,25 @@ fn poll_again(client: &mut Client) -> Result<(), AllocError>
         Ok(_) => Ok(()),
         Err(PollFault::Memory) => Err(AllocError),
         Err(PollFault::Busy) => unreachable!(),
+    }
+}
+
+fn observe_again(
+    alloc: Global,
+    client: &mut Client,
+    objects: &[ObjectId],
+    wait: u16,
+) -> Result<(), AllocError>
+    requires { MayObserve client.old.who client.old.events objects.now }
+    ensures who { OnOk result (client.new.who ≡ client.old.who) }
+    ensures events { OnOk result (client.new.events ≡ events.Observe objects.now wait ∷ client.old.events) }
+    ensures err { OnErr result (client.new ≡ client.old) }
+{
+    let copy = copy_objects(alloc, objects)?;
+    match client.observe(copy, wait) {
+        Ok(_) => Ok(()),
+        Err(ObserveFault::Memory) => Err(AllocError),
+        Err(_) => unreachable!(),
     }
 }
 
@@ -96,6 +115,7 @@ pub fn do_again(alloc: Global, client: &mut Client, event: &Event) -> Result<(),
         Event::Join(_) => join_again(client),
         Event::Make(action) => make_again(alloc, client, action),
         Event::Poll => poll_again(client),
+        Event::Observe(objects, wait) => observe_again(alloc, client, objects.as_slice(), *wait),
         Event::Leave => leave_again(client),
         Event::Got(_, reply) => take_again(alloc, client, reply),
         Event::Cut => client.note(TraceMark::Cut),

@@ -2,7 +2,7 @@
 ghost use Rattle.std.specs.Prelude.{◌≡◌, ◌+◌, ◌<◌, ◌++◌, ◌∷◌, [], codes, string_bytes, OnOk};
 ghost use Rattle.std.specs.Fmt.{decimal};
 ghost use Rattle.sv_world.specs.declared.world.ObjectId.{ObjectId};
-ghost use Rattle.sv_journal.specs.Pieces.{bracketed};
+ghost use Rattle.sv_journal.specs.Pieces.{bracketed, objects_text};
 ghost use Rattle.sv_client.specs.Traces.{makes, view_of};
 ghost use Rattle.sv_client.specs.Proper.{most_made};
 ghost use Rattle.sv_report.specs.Report.{shown_text};
@@ -13,6 +13,7 @@ use crate::kept::append_last;
 use crate::shown::append_views;
 use std::alloc::{AllocError, Global};
 use sv_client::{Client, Event};
+use sv_journal::append_objects;
 use sv_world::ObjectId;
 
 fn append_show(client: &Client, objects: &[ObjectId], out: &mut String) -> Result<(), AllocError>
@@ -21,6 +22,13 @@ fn append_show(client: &Client, objects: &[ObjectId], out: &mut String) -> Resul
 {
     out.push_str("show ")?;
     append_views(client, objects, out)
+}
+
+fn append_observe(objects: &[ObjectId], out: &mut String) -> Result<(), AllocError>
+    ensures { OnOk result (string_bytes out.new ≡ string_bytes out.old ++ codes "observe " ++ objects_text objects.now) }
+{
+    out.push_str("observe ")?;
+    append_objects(objects, out)
 }
 
 /// Appends the text of the event that a client does next, but for what it then keeps of an action.
@@ -37,6 +45,7 @@ pub fn append_before(
         Event::Join(session) => write!(out, "join s{session}"),
         Event::Make(_) => append_make(client, out),
         Event::Poll => out.push_str("poll"),
+        Event::Observe(objects, _) => append_observe(objects.as_slice(), out),
         Event::Leave => out.push_str("leave"),
         Event::Got(session, _) => write!(out, "got s{session} #{number}"),
         Event::Cut => out.push_str("cut"),
@@ -67,6 +76,7 @@ pub fn append_after(
         Event::Make(_) => append_last(alloc, client, out),
         Event::Join(_)
         | Event::Poll
+        | Event::Observe(_, _)
         | Event::Leave
         | Event::Got(_, _)
         | Event::Cut

@@ -47,10 +47,15 @@ pub(crate) fn next_for(entries: &[Entry], place: usize, event: &Event) -> Next
             behind: 0,
         },
         Event::Got(session, _) => next_entry(entries, *session, place),
-        Event::Make(_) | Event::Poll | Event::Leave | Event::Cut | Event::Quit | Event::Show(_) =>
-            Next {
-                number: 0,
-                behind: place,
-            },
+        Event::Make(_)
+        | Event::Poll
+        | Event::Observe(_, _)
+        | Event::Leave
+        | Event::Cut
+        | Event::Quit
+        | Event::Show(_) => Next {
+            number: 0,
+            behind: place,
+        },
     }
 }

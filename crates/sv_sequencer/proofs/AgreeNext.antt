@@ -91,6 +91,7 @@ agree-drop r h v rows next clients after owed s request k seq chain far o value 
     commit = omega (arith, commit);
     reported = λ q. absurd (both_ways false refl q);
     sent = λ p m. absurd (both_ways false refl m);
+    closed = λ p x m. absurd (both_ways false refl m);
     named = λ x q m. absurd (both_ways false refl m);
     outcomes = placed-next h e k seq (Dropped chain far) (length (accepted (e ∷ h))) is refl (λ p q. cc)
         (λ j n p g. omega (arith, a.sound.outcomes j n p g, ap length same));

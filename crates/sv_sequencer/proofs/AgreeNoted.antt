@@ -97,6 +97,7 @@ agree-noted r h v old next clients owed s request c ds at asks within a count lo
     commit = all.1.1;
     reported = λ q p high. ap (reports p) asks ∙ reported-none ds (last_position v) p within (omega (arith, high, a.fits.last));
     sent = λ p m. absurd (both_ways false refl m);
+    closed = λ p x m. absurd (both_ways false refl m);
     named = λ x q m. absurd (both_ways false refl m);
     outcomes = λ j n p q. omega (arith, a.sound.outcomes j n p (ap (λ os. slice_get os n) (sym (outcomes-quiet e h j refl)) ∙ q), ap length same);
   }) a.sound;

@@ -1,15 +1,17 @@
 -- A core's fields once positions are sent to a session, and once one begins.
 use Rattle.std.proofs.Common.{◌≡◌, ℕ, suc, ◌+◌, ◌<◌, Bool, true, false, ◌&&◌, cond, nat_eq, max, List, [], ◌∷◌, ◌++◌, map, length, All, is_some, slice_get, refl, sym, ◌∙◌, ap, subst, arith, length-append}
 use Rattle.std.proofs.lemmas.Bool.{both_ways, cond_both, cond-false, eqb-true, and_right}
-use Rattle.sv_world.specs.Control.{is_in}
+use Rattle.std.proofs.lemmas.List.{map_push}
+use Rattle.sv_world.specs.Control.{is_in, IsClosed}
 use Rattle.sv_world.proofs.Members.{is_in-one}
 use Rattle.sv_influence.proofs.Places.{members-all}
 use Rattle.sv_wire.specs.declared.message.ObjectValue.{ObjectValue}
 use Rattle.sv_wire.specs.declared.message.Request.{Request}
 use Rattle.sv_journal.specs.declared.entry.Entry.{Entry}
+use Rattle.sv_journal.specs.declared.entry.Logged.{Logged}
 use Rattle.sv_journal.specs.declared.entry.Logged.TheVariants as logged
-use Rattle.sv_journal.specs.History.{Accepted, is_client, is_noted, outcomes_of, accepted, result_at, run_length, commit_of}
-use Rattle.sv_journal.specs.Sessions.{is_end, life_in, life_of, names, sent_to, named_to}
+use Rattle.sv_journal.specs.History.{Authored, Accepted, is_client, is_noted, outcomes_of, accepted, actions_of, result_at, run_length, commit_of}
+use Rattle.sv_journal.specs.Sessions.{is_end, life_in, life_of, names, positions_in, named_in, sent_to, named_to}
 use Rattle.sv_journal.specs.Answer.{Rules}
 use Rattle.sv_queue.specs.Queue.{QueueView, IsUncommitted, last_position, with_action, with_given}
 use Rattle.sv_sequencer.specs.declared.clients.ClientRow.{ClientRow}
@@ -18,8 +20,8 @@ use Rattle.sv_sequencer.specs.declared.clients.Outcome.TheVariants as rows
 use Rattle.sv_sequencer.specs.declared.sessions.SessionRow.{SessionRow}
 use Rattle.sv_sequencer.specs.Agreement.{IsClientRow, Agrees}
 use Rattle.sv_sequencer.specs.Clients.{client_row, outcome_value}
-use Rattle.sv_sequencer.specs.Decisions.{IsOld, IsNextSubmit, IsJoin, action_in}
-use Rattle.sv_sequencer.specs.Fits.{QueueFits}
+use Rattle.sv_sequencer.specs.Decisions.{IsOld, IsNextSubmit, IsJoin, IsSending, action_in}
+use Rattle.sv_sequencer.specs.Fits.{actions_in, QueueFits}
 use Rattle.sv_sequencer.specs.Relays.{marked_all, given_all}
 use Rattle.sv_sequencer.specs.Step.{entry_of}
 use Rattle.sv_sequencer.proofs.AgreeNext.{settled_row, client-next, settles-next, placed-next}
@@ -33,30 +35,45 @@ pub commit-given : (v : QueueView) (head : List ObjectValue) (s : ℕ) → (give
 commit-given v [] s = refl
 commit-given v (x ∷ xs) s = commit-given (with_given v x.object.0 s) xs s
 
+-- Positions are closed over the accepted actions with an entry that they are of.
+closed-over : (e : Entry) (h : List Entry) (ps : List ℕ) (A : List Authored) (c : ℕ) → positions_in e.reply ≡ ps → accepted (e ∷ h) ≡ A → commit_of (e ∷ h) ≡ c →
+    IsClosed (actions_in A) c (sent_to h e.session) (λ p. is_in p ps) →
+    IsClosed (actions_of (e ∷ h)) (commit_of (e ∷ h)) (sent_to h e.session) (λ p. is_in p (positions_in e.reply))
+closed-over e h ps A c sends same commit closed =
+    subst (λ qs. IsClosed (actions_of (e ∷ h)) (commit_of (e ∷ h)) (sent_to h e.session) (λ p. is_in p qs)) (sym sends)
+    (subst (λ n. IsClosed (actions_of (e ∷ h)) n (sent_to h e.session) (λ p. is_in p ps)) (sym commit)
+    (subst (λ B. IsClosed (actions_in B) c (sent_to h e.session) (λ p. is_in p ps)) (sym same) closed))
+
 -- The commits that a reply's head names.
 head-at : (head : List ObjectValue) (c x q : ℕ) → is_in q (cond (names head x) (c ∷ []) []) ≡ true → q ≡ c
 head-at head c x q = cond_both (names head x) (c ∷ []) [] (λ xs. is_in q xs ≡ true → q ≡ c) (λ t m. is_in-one q c m) (λ t m. cc)
 
--- The queue after a relay, against a history with its entry.
-fits-relay : (r : Rules) (h : List Entry) (e : Entry) (v : QueueView) (s seq : ℕ) (head : List ObjectValue) (ps : List ℕ) → e.session ≡ s → e.reply ≡ logged.Relay seq v.commit head ps →
+-- The queue after a reply that sends and gives, against a history with its entry.
+fits-sent : (r : Rules) (h : List Entry) (e : Entry) (v : QueueView) (s : ℕ) (head : List ObjectValue) (ps : List ℕ) → e.session ≡ s → IsSending e.reply v.commit head ps →
     All (IsUncommitted v) ps → QueueFits r.world (accepted (e ∷ h)) (result_at h) (sent_to h) (named_to h) v →
     QueueFits r.world (accepted (e ∷ h)) (result_at (e ∷ h)) (sent_to (e ∷ h)) (named_to (e ∷ h)) (given_all (marked_all v ps s) head s)
-fits-relay r h e v s seq head ps at is low f =
+fits-sent r h e v s head ps at is low f =
     fits-same r.world (accepted (e ∷ h)) (result_at h) (result_at (e ∷ h)) (sent_also s ps (sent_to h)) (sent_to (e ∷ h))
     (named_also s head (marked_all v ps s).commit (named_to h)) (named_to (e ∷ h)) (given_all (marked_all v ps s) head s)
-    (λ p some. sym (result-quiet e h p (ap is_noted is)))
-    (λ t. rw (at, is) refl)
-    (λ t x. ap (λ c. cond (nat_eq s t) (named_to h t x ++ cond (names head x) (c ∷ []) []) (named_to h t x)) (commit-marked v ps s) ∙ rw (at, is) refl)
+    (λ p some. sym (result-quiet e h p is.noted))
+    (λ t. rw (at, is.sends) refl)
+    (λ t x. ap (λ c. cond (nat_eq s t) (named_to h t x ++ cond (names head x) (c ∷ []) []) (named_to h t x)) (commit-marked v ps s) ∙ rw (at, is.names_head x) refl)
     (fits-given r.world (accepted (e ∷ h)) (result_at h) (sent_also s ps (sent_to h)) (named_to h) (marked_all v ps s) head s
     (fits-marked r.world (accepted (e ∷ h)) (result_at h) (sent_to h) (named_to h) v ps s low f))
 
--- A position that is there is sent, on a Poll or a repeated Submit.
-pub agree-relay : (r : Rules) (h : List Entry) (v : QueueView) (old next : List SessionRow) (clients : Clients) (owed s : ℕ) (request : Request)
-    (seq c : ℕ) (head : List ObjectValue) (ps : List ℕ) → c ≡ v.commit →
+pub relay-sends : (seq c : ℕ) (head : List ObjectValue) (ps : List ℕ) → IsSending (logged.Relay seq c head ps) c head ps
+relay-sends seq c head ps = record { noted = refl; welcome = refl; sends = refl; names_head = λ x. refl }
+
+pub seen-sends : (n c : ℕ) (head : List ObjectValue) (ps : List ℕ) → IsSending (logged.Seen n c head ps) c head ps
+seen-sends n c head ps = record { noted = refl; welcome = refl; sends = refl; names_head = λ x. refl }
+
+-- Positions that are there are sent, on a request that brings nothing new.
+pub agree-sent : (r : Rules) (h : List Entry) (v : QueueView) (old next : List SessionRow) (clients : Clients) (owed s : ℕ) (request : Request)
+    (reply : Logged) (head : List ObjectValue) (ps : List ℕ) → IsSending reply v.commit head ps →
     Agrees r h v old clients owed → length old ≡ r.sessions → s < r.sessions → IsOld h s request → is_end request ≡ false →
-    AreAfter (entry_of s request (logged.Relay seq c head ps)) old next → All (IsUncommitted v) ps →
-    Agrees r (entry_of s request (logged.Relay seq c head ps) ∷ h) (given_all (marked_all v ps s) head s) next clients owed
-agree-relay r h v old next clients owed s request seq c head ps at a count low is more rows' within = record {
+    AreAfter (entry_of s request reply) old next → All (IsUncommitted v) ps → IsClosed (actions_of h) (commit_of h) (sent_to h s) (λ p. is_in p ps) →
+    Agrees r (entry_of s request reply ∷ h) (given_all (marked_all v ps s) head s) next clients owed
+agree-sent r h v old next clients owed s request reply head ps sends a count low is more rows' within closed = record {
   sound = sound-next r h e 0 (record {
     session = low;
     grows = omega (arith, ap length same);
@@ -64,28 +81,28 @@ agree-relay r h v old next clients owed s request seq c head ps at a count low i
     settles = λ k. omega (arith, ap length (outcomes-old e h k is));
     takes = omega (arith, all_left-falls e h r.sessions);
     commit = omega (arith, commit);
-    reported = λ q. absurd (both_ways false refl q);
-    sent = λ p m. omega (arith, (members-all (IsUncommitted v) ps within p m).1, a.fits.last, ap length same);
-    named = λ x q m. omega (arith, head-at head c x q m, at, a.commit, commit);
+    reported = λ q. absurd (both_ways (is_noted reply) sends.noted q);
+    sent = λ p m. omega (arith, (members-all (IsUncommitted v) ps within p (ap (is_in p) (sym sends.sends) ∙ m)).1, a.fits.last, ap length same);
+    closed = closed-over e h ps (accepted h) (commit_of h) sends.sends same commit closed;
+    named = λ x q m. omega (arith, head-at head v.commit x q (ap (is_in q) (sym (sends.names_head x)) ∙ m), a.commit, commit);
     outcomes = λ k n p q. omega (arith, a.sound.outcomes k n p (ap (λ os. slice_get os n) (sym (outcomes-old e h k is)) ∙ q), ap length same);
   }) a.sound;
   few_sessions = a.few_sessions;
-  fits = fits-relay r h e v s seq head ps refl (ap (λ n. logged.Relay seq n head ps) at) within
-      (subst (λ A. QueueFits r.world A (result_at h) (sent_to h) (named_to h) v) (sym same) a.fits);
+  fits = fits-sent r h e v s head ps refl sends within (subst (λ A. QueueFits r.world A (result_at h) (sent_to h) (named_to h) v) (sym same) a.fits);
   commit = commit-given (marked_all v ps s) head s ∙ commit-marked v ps s ∙ a.commit ∙ sym commit;
   session_rows = rows-next r e h old next count rows' a.session_rows;
-  client_rows = λ k. record { life = (a.client_rows k).life ∙ sym (life-quiet e h k refl); outcomes = (a.client_rows k).outcomes ∙ sym (outcomes-old e h k is) };
+  client_rows = λ k. record { life = (a.client_rows k).life ∙ sym (life-quiet e h k sends.welcome); outcomes = (a.client_rows k).outcomes ∙ sym (outcomes-old e h k is) };
   ends = a.ends ∙ sym (owed-same e h r.sessions more);
 }
   where
     e : Entry
-    e = entry_of s request (logged.Relay seq c head ps)
+    e = entry_of s request reply
 
     same : accepted (e ∷ h) ≡ accepted h
     same = accepted-old e h is
 
     commit : commit_of (e ∷ h) ≡ commit_of h
-    commit = commit-same e h same (λ p. result-quiet e h p refl)
+    commit = commit-same e h same (λ p. result-quiet e h p sends.noted)
 
 -- A new action is accepted as the last one, and sent.
 pub agree-accept : (r : Rules) (h : List Entry) (v : QueueView) (old next : List SessionRow) (clients after : Clients) (owed s : ℕ) (request : Request)
@@ -94,8 +111,9 @@ pub agree-accept : (r : Rules) (h : List Entry) (v : QueueView) (old next : List
     AreAfter (entry_of s request (logged.Relay seq c head ps)) old next →
     ((j : ℕ) → client_row after j ≡ settled_row (client_row clients) k (rows.Accepted m) j) →
     All (IsUncommitted (with_action v (record { 0 = k }) seq (action_in request))) ps →
+    IsClosed (actions_of h ++ action_in request ∷ []) (commit_of h) (sent_to h s) (λ p. is_in p ps) →
     Agrees r (entry_of s request (logged.Relay seq c head ps) ∷ h) (given_all (marked_all (with_action v (record { 0 = k }) seq (action_in request)) ps s) head s) next after owed
-agree-accept r h v old next clients after owed s request k seq c m head ps at last a count low is more rows' clients' within = record {
+agree-accept r h v old next clients after owed s request k seq c m head ps at last a count low is more rows' clients' within closed = record {
   sound = sound-next r h e 1 (record {
     session = low;
     grows = omega (arith, longer);
@@ -105,13 +123,15 @@ agree-accept r h v old next clients after owed s request k seq c m head ps at la
     commit = omega (arith, commit);
     reported = λ q. absurd (both_ways false refl q);
     sent = λ p q. omega (arith, (members-all (IsUncommitted w) ps within p q).1, fitted.last);
+    closed = closed-over e h ps (accepted h ++ authored_by k seq request ∷ []) (commit_of h) refl same commit
+        (subst (λ acts. IsClosed acts (commit_of h) (sent_to h s) (λ p. is_in p ps)) (sym (map_push (λ (b : Authored). b.action) (accepted h) (authored_by k seq request))) closed);
     named = λ x q t. omega (arith, head-at head c x q t, at, a.commit, commit);
     outcomes = placed-next h e k seq (Accepted (suc (length (accepted h)))) (length (accepted (e ∷ h))) is refl
         (λ p q. (let same : suc (length (accepted h)) ≡ p = cc in omega (arith, longer)))
         (λ j n p g. omega (arith, a.sound.outcomes j n p g, longer));
   }) a.sound;
   few_sessions = a.few_sessions;
-  fits = fits-relay r h e w s seq head ps refl (ap (λ n. logged.Relay seq n head ps) at) within fitted;
+  fits = fits-sent r h e w s head ps refl (subst (λ n. IsSending (logged.Relay seq n head ps) w.commit head ps) (sym at) (relay-sends seq v.commit head ps)) within fitted;
   commit = commit-given (marked_all w ps s) head s ∙ commit-marked w ps s ∙ a.commit ∙ sym commit;
   session_rows = rows-next r e h old next count rows' a.session_rows;
   client_rows = λ j. subst (IsClientRow (e ∷ h) j) (sym (clients' j))
@@ -168,6 +188,7 @@ agree-welcome r h v old next clients after owed s request k life c head at a cou
     commit = omega (arith, commit);
     reported = λ q. absurd (both_ways false refl q);
     sent = λ p m. absurd (both_ways false refl m);
+    closed = λ p x m. absurd (both_ways false refl m);
     named = λ x q m. omega (arith, head-at head c x q m, at, a.commit, commit);
     outcomes = λ j n p q. omega (arith, a.sound.outcomes j n p (ap (λ os. slice_get os n) (sym (outcomes-quiet e h j refl)) ∙ q), ap length same);
   }) a.sound;

@@ -65,6 +65,7 @@ agree-quiet r h v rows next clients owed s request reply a count low quiet after
     commit = omega (arith, commit);
     reported = λ q. absurd (both_ways (is_noted reply) quiet.noted q);
     sent = λ p m. absurd (none p quiet.positions m);
+    closed = λ p x m. absurd (none p quiet.positions m);
     named = λ x q m. absurd (none q (quiet.named x) m);
     outcomes = λ k n p q. omega (arith, a.sound.outcomes k n p (ap (λ os. slice_get os n) (sym (quiet.outcomes k)) ∙ q), ap length same);
   }) a.sound;

@@ -3,6 +3,7 @@ use Rattle.std.proofs.Common.{◌≡◌, ℕ, zero, suc, ◌+◌, ◌<◌, Bool,
 use Rattle.std.proofs.lemmas.Bool.{cond_both, cond-false, eqb-true, ne_eqb, and_right}
 use Rattle.std.proofs.lemmas.List.{length-map}
 use Rattle.sv_world.specs.declared.action.Action.{Action}
+use Rattle.sv_world.specs.declared.world.ObjectId.{ObjectId}
 use Rattle.sv_wire.specs.declared.message.Request.TheVariants as requests
 use Rattle.sv_journal.specs.declared.entry.Entry.{Entry}
 use Rattle.sv_journal.specs.History.{Outcome, is_client, new_action, client_of, outcomes_of, next_seq}
@@ -53,5 +54,15 @@ old-poll h s = record {
 }
   where
     go : (k : Option ℕ) → new_action k (next_seq h) requests.Poll ≡ []
+    go None = refl
+    go (Some k) = refl
+
+pub old-observe : (h : List Entry) (s : ℕ) (objects : List ObjectId) (wait : ℕ) → IsOld h s (requests.Observe objects wait)
+old-observe h s objects wait = record {
+  accepts = go (client_of h s);
+  outcomes = λ j. and_right (is_client (client_of h s) j) false refl;
+}
+  where
+    go : (k : Option ℕ) → new_action k (next_seq h) (requests.Observe objects wait) ≡ []
     go None = refl
     go (Some k) = refl

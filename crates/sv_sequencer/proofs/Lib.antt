@@ -7,6 +7,7 @@ pub mod AgreeSends
 pub mod AgreeNext
 pub mod AgreeSteps
 pub mod Dones
+pub mod FitCuts
 pub mod FitInstalls
 pub mod FitMarks
 pub mod FitMissing

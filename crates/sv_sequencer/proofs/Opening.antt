@@ -30,6 +30,7 @@ agree-opening r rows clients owed few are none owes = record {
   sound = record {
     results = λ p high. refl;
     sent = λ s p m. absurd (both_ways false refl m);
+    closed = λ s p x m. absurd (both_ways false refl m);
     named = λ s x q m. absurd (both_ways false refl m);
     sessions = λ i d low. absurd (omega arith);
     outcomes = λ k n p q. cc;

@@ -74,21 +74,23 @@ quiet-decided r h s request (decisions.Welcome client life) plain holds = absurd
 quiet-decided r h s request (decisions.Drop client seq chain far) plain holds = absurd (true≢false (sym plain))
 quiet-decided r h s request (decisions.Relay seq pos) plain holds = absurd (true≢false (sym plain))
 quiet-decided r h s request (decisions.Accept client seq) plain holds = absurd (true≢false (sym plain))
+quiet-decided r h s request decisions.See plain holds = absurd (true≢false (sym plain))
 quiet-decided r h s request decisions.Note plain holds = absurd (true≢false (sym plain))
 
 -- What is none of the decisions that change something changes nothing.
 pub nothing-changes : (d : Decision) → ((client life : ℕ) → d ≡ decisions.Welcome client life → ⊥) → ((client seq chain far : ℕ) → d ≡ decisions.Drop client seq chain far → ⊥) →
-    ((seq pos : ℕ) → d ≡ decisions.Relay seq pos → ⊥) → ((client seq : ℕ) → d ≡ decisions.Accept client seq → ⊥) → (d ≡ decisions.Note → ⊥) → changes_nothing d ≡ true
-nothing-changes (decisions.Welcome client life) welcome drop relay accept note = absurd (welcome client life refl)
-nothing-changes (decisions.Drop client seq chain far) welcome drop relay accept note = absurd (drop client seq chain far refl)
-nothing-changes (decisions.Relay seq pos) welcome drop relay accept note = absurd (relay seq pos refl)
-nothing-changes (decisions.Accept client seq) welcome drop relay accept note = absurd (accept client seq refl)
-nothing-changes decisions.Note welcome drop relay accept note = absurd (note refl)
-nothing-changes (decisions.Refuse refusal detail) welcome drop relay accept note = refl
-nothing-changes (decisions.Repeat seq chain far) welcome drop relay accept note = refl
-nothing-changes (decisions.Settle seq pos) welcome drop relay accept note = refl
-nothing-changes decisions.Idle welcome drop relay accept note = refl
-nothing-changes decisions.Leave welcome drop relay accept note = refl
+    ((seq pos : ℕ) → d ≡ decisions.Relay seq pos → ⊥) → ((client seq : ℕ) → d ≡ decisions.Accept client seq → ⊥) → (d ≡ decisions.See → ⊥) → (d ≡ decisions.Note → ⊥) → changes_nothing d ≡ true
+nothing-changes (decisions.Welcome client life) welcome drop relay accept see note = absurd (welcome client life refl)
+nothing-changes (decisions.Drop client seq chain far) welcome drop relay accept see note = absurd (drop client seq chain far refl)
+nothing-changes (decisions.Relay seq pos) welcome drop relay accept see note = absurd (relay seq pos refl)
+nothing-changes (decisions.Accept client seq) welcome drop relay accept see note = absurd (accept client seq refl)
+nothing-changes decisions.See welcome drop relay accept see note = absurd (see refl)
+nothing-changes decisions.Note welcome drop relay accept see note = absurd (note refl)
+nothing-changes (decisions.Refuse refusal detail) welcome drop relay accept see note = refl
+nothing-changes (decisions.Repeat seq chain far) welcome drop relay accept see note = refl
+nothing-changes (decisions.Settle seq pos) welcome drop relay accept see note = refl
+nothing-changes decisions.Idle welcome drop relay accept see note = refl
+nothing-changes decisions.Leave welcome drop relay accept see note = refl
 
 -- What changes nothing is one of those that do so.
 pub some-plain : (d : Decision) → changes_nothing d ≡ true → ((refusal : Refusal) (detail : ℕ) → d ≡ decisions.Refuse refusal detail → ⊥) →
@@ -102,4 +104,5 @@ some-plain (decisions.Welcome client life) plain refuse repeat settle idle leave
 some-plain (decisions.Drop client seq chain far) plain refuse repeat settle idle leave = true≢false (sym plain)
 some-plain (decisions.Relay seq pos) plain refuse repeat settle idle leave = true≢false (sym plain)
 some-plain (decisions.Accept client seq) plain refuse repeat settle idle leave = true≢false (sym plain)
+some-plain decisions.See plain refuse repeat settle idle leave = true≢false (sym plain)
 some-plain decisions.Note plain refuse repeat settle idle leave = true≢false (sym plain)

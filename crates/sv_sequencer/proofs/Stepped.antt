@@ -11,7 +11,7 @@ use Rattle.sv_wire.specs.declared.message.Request.TheVariants as requests
 use Rattle.sv_journal.specs.declared.entry.Entry.{Entry}
 use Rattle.sv_journal.specs.declared.entry.Logged.TheVariants as logged
 use Rattle.sv_journal.specs.View.{JournalView}
-use Rattle.sv_journal.specs.History.{Authored, full_reply}
+use Rattle.sv_journal.specs.History.{Authored, item_at, full_reply}
 use Rattle.sv_journal.specs.Sessions.{is_end}
 use Rattle.sv_journal.specs.Answer.{Rules, reply_to_request, reply_to, Legal}
 use Rattle.sv_influence.proofs.Places.{members-all}
@@ -33,6 +33,7 @@ reply-open r h s (requests.Join client life interest) more = refl
 reply-open r h s (requests.Submit seq action) more = refl
 reply-open r h s (requests.Done results) more = refl
 reply-open r h s requests.Poll more = refl
+reply-open r h s (requests.Observe objects wait) more = refl
 reply-open r h s requests.Leave more = refl
 reply-open r h s requests.Bad more = refl
 reply-open r h s requests.End more = absurd (true≢false more)
@@ -69,13 +70,24 @@ after-reply a core j s q d (Err error) is told done none = record {
   room = (let enough : owed_by a.core ≤ a.journal.spare = is.room in omega (arith, none.core.owed, none.room));
 }
 
--- A relay in full, from what a fitting queue has at its positions.
+-- What a reply sends, in full, from what a fitting queue has at its positions.
+items-whole : (w : World) (A : List Authored) (R : ℕ → Option (List (List ℤ))) (S : ℕ → List ℕ) (N : ℕ → ℕ → List ℕ) (v : QueueView)
+    (ps : List ℕ) (items : List Item) → QueueFits w A R S N v → items ≡ map (item_in v) ps → All (IsUncommitted v) ps → items ≡ map (item_at A) ps
+items-whole w A R S N v ps items f are within = are ∙ items-are w A R S N v ps f (λ p m.
+    let both = members-all (IsUncommitted v) ps within p m in
+    let low : v.commit < p = both.0 in
+    (low, omega (arith, both.1, f.last)))
+
+-- A relay in full.
 pub relayed-whole : (w : World) (A : List Authored) (R : ℕ → Option (List (List ℤ))) (S : ℕ → List ℕ) (N : ℕ → ℕ → List ℕ) (v : QueueView)
     (seq c : ℕ) (head sent : List ObjectValue) (ps : List ℕ) (items : List Item) → QueueFits w A R S N v → sent ≡ head → items ≡ map (item_in v) ps → All (IsUncommitted v) ps →
     replies.Relay seq c sent items ≡ full_reply A (logged.Relay seq c head ps)
 relayed-whole w A R S N v seq c head sent ps items f same are within =
-    ap (λ xs. replies.Relay seq c xs items) same
-    ∙ ap (replies.Relay seq c head) (are ∙ items-are w A R S N v ps f (λ p m.
-    let both = members-all (IsUncommitted v) ps within p m in
-    let low : v.commit < p = both.0 in
-    (low, omega (arith, both.1, f.last))))
+    ap (λ xs. replies.Relay seq c xs items) same ∙ ap (replies.Relay seq c head) (items-whole w A R S N v ps items f are within)
+
+-- What is seen, in full.
+pub seen-whole : (w : World) (A : List Authored) (R : ℕ → Option (List (List ℤ))) (S : ℕ → List ℕ) (N : ℕ → ℕ → List ℕ) (v : QueueView)
+    (n c : ℕ) (head sent : List ObjectValue) (ps : List ℕ) (items : List Item) → QueueFits w A R S N v → sent ≡ head → items ≡ map (item_in v) ps → All (IsUncommitted v) ps →
+    replies.Seen n c sent items ≡ full_reply A (logged.Seen n c head ps)
+seen-whole w A R S N v n c head sent ps items f same are within =
+    ap (λ xs. replies.Seen n c xs items) same ∙ ap (replies.Seen n c head) (items-whole w A R S N v ps items f are within)

@@ -1,10 +1,10 @@
 -- What a core's fields say of a history.
 use Rattle.std.specs.Prelude.{◌≡◌, ℕ, zero, suc, ◌+◌, ◌*◌, ◌<◌, ◌≤◌, true, Some, None, List, map, length, All, slice_get, slice_index_or, if◌then◌else◌}
-use Rattle.sv_world.specs.Control.{is_in}
+use Rattle.sv_world.specs.Control.{is_in, SentIsClosed}
 use Rattle.sv_world.specs.Limits.{most_requests, most_sessions}
 use Rattle.sv_queue.specs.Queue.{QueueView}
 use Rattle.sv_journal.specs.declared.entry.Entry.{Entry}
-use Rattle.sv_journal.specs.History.{Accepted, outcomes_of, accepted, result_at, commit_of}
+use Rattle.sv_journal.specs.History.{Accepted, outcomes_of, accepted, actions_of, result_at, commit_of}
 use Rattle.sv_journal.specs.Sessions.{life_of, sent_to, named_to, is_ended}
 use Rattle.sv_journal.specs.Answer.{Rules}
 use Rattle.sv_sequencer.specs.declared.clients.ClientRow.{ClientRow}
@@ -29,10 +29,11 @@ abbrev pub ends_owed : List Entry → ℕ → ℕ
 ends_owed h zero = 0
 ends_owed h (suc n) = ends_owed h n + (if is_ended h n then 0 else 1)
 
--- What holds of each history that a core keeps.
+-- What holds of each history that a core keeps. Among it: with a position a session was sent all that influences it and is above the commit.
 pub record IsSoundHistory (r : Rules) (h : List Entry) : Type 0 where
   pub results : (p : ℕ) → length (accepted h) < p → result_at h p ≡ None
   pub sent : (s p : ℕ) → is_in p (sent_to h s) ≡ true → p ≤ length (accepted h)
+  pub closed : (s : ℕ) → SentIsClosed (actions_of h) (commit_of h) (sent_to h s)
   pub named : (s x q : ℕ) → is_in q (named_to h s x) ≡ true → q ≤ commit_of h
   pub sessions : All (λ (e : Entry). e.session < r.sessions) h
   pub outcomes : (k n p : ℕ) → slice_get (outcomes_of h k) n ≡ Some (Accepted p) → p ≤ length (accepted h)

@@ -1,20 +1,22 @@
 -- What a core decides on a request, and the reply that this stands for.
-use Rattle.std.specs.Prelude.{◌≡◌, ℕ, suc, ◌<◌, ◌≤◌, Bool, true, false, ◌&&◌, List, [], ◌∷◌, ◌++◌, map, length, All, Some, None}
+use Rattle.std.specs.Prelude.{◌≡◌, ℕ, suc, ◌<◌, ◌≤◌, Bool, true, false, ◌&&◌, List, [], ◌∷◌, ◌++◌, map, length, All, Some, None, if◌then◌else◌}
 use Rattle.std.specs.List.{list_any}
 use Rattle.sv_world.specs.declared.action.Action.{Action}
 use Rattle.sv_world.specs.declared.world.ObjectId.{ObjectId}
-use Rattle.sv_world.specs.Control.{blank}
-use Rattle.sv_world.specs.Faults.{first_fault_of_action}
+use Rattle.sv_world.specs.Control.{blank, greatest_cut}
+use Rattle.sv_world.specs.Faults.{first_fault_of_action, may_be_observed}
 use Rattle.sv_world.specs.Limits.{most_requests}
+use Rattle.sv_world.specs.Sets.{numbers_of}
 use Rattle.sv_wire.specs.declared.message.Done1.{Done1}
+use Rattle.sv_wire.specs.declared.message.ObjectValue.{ObjectValue}
 use Rattle.sv_wire.specs.declared.message.Request.{Request}
 use Rattle.sv_wire.specs.declared.message.Request.TheVariants as requests
 use Rattle.sv_journal.specs.declared.entry.Entry.{Entry}
 use Rattle.sv_journal.specs.declared.entry.Logged.{Logged}
 use Rattle.sv_journal.specs.declared.entry.Logged.TheVariants as logged
 use Rattle.sv_journal.specs.History.{joining, is_welcome, is_relay, is_noted, client_of, is_client, is_submit_of, new_action, outcomes_of, accepted, actions_of, next_seq, commit_of}
-use Rattle.sv_journal.specs.Sessions.{positions_in, named_in, asked_in, life_in, life_of}
-use Rattle.sv_journal.specs.Answer.{Rules, refused_as, committed_held, relay_of, commit_with, is_bad_result}
+use Rattle.sv_journal.specs.Sessions.{names, positions_in, named_in, asked_in, life_in, life_of, sent_to}
+use Rattle.sv_journal.specs.Answer.{Rules, refused_as, committed_held, relay_of, seen_at, commit_with, is_bad_result}
 use Rattle.sv_sequencer.specs.declared.decision.Decision.{Decision}
 use Rattle.sv_sequencer.specs.declared.decision.Decision.TheVariants as decisions
 
@@ -30,6 +32,10 @@ abbrev pub results_in : Request → List Done1
 results_in (requests.Done results) = results
 results_in _ = []
 
+abbrev pub observed_in : Request → List ℕ
+observed_in (requests.Observe objects wait) = numbers_of objects
+observed_in _ = []
+
 -- The reply that a decision stands for.
 abbrev pub reply_by : Rules → List Entry → ℕ → Request → Decision → Logged
 reply_by r h s request (decisions.Refuse refusal detail) = refused_as refusal detail
@@ -39,6 +45,8 @@ reply_by r h s request (decisions.Repeat seq chain far) = logged.Dropped seq cha
 reply_by r h s request (decisions.Settle seq pos) = logged.Settled seq pos
 reply_by r h s request (decisions.Relay seq pos) = relay_of r h (actions_of h) s seq pos
 reply_by r h s request (decisions.Accept client seq) = relay_of r h (actions_of h ++ action_in request ∷ []) s seq (suc (length (actions_of h)))
+reply_by r h s request decisions.See =
+    seen_at r h s (observed_in request) (greatest_cut (actions_of h) (commit_of h) (sent_to h s) (observed_in request))
 reply_by r h s request decisions.Note = logged.Noted (commit_with h s (results_in request))
 reply_by r h s request decisions.Idle = logged.Idle
 reply_by r h s request decisions.Leave = logged.Bye
@@ -80,6 +88,7 @@ Holds r h s request (decisions.Repeat seq chain far) = IsOld h s request
 Holds r h s request (decisions.Settle seq pos) = Unit {0}
 Holds r h s request (decisions.Relay seq pos) = IsOld h s request × ((commit_of h < pos) × (pos ≤ length (accepted h)))
 Holds r h s request (decisions.Accept client seq) = IsNextSubmit h s request client seq × (first_fault_of_action r.world.shape (action_in request) ≡ None)
+Holds r h s request decisions.See = IsOld h s request × (may_be_observed r.world.shape.objects (observed_in request) ≡ true)
 Holds r h s request decisions.Note = (request ≡ requests.Done (results_in request)) × (list_any (is_bad_result r h s) (results_in request) ≡ false)
 Holds r h s request decisions.Idle = Unit {0}
 Holds r h s request decisions.Leave = Unit {0}
@@ -92,3 +101,10 @@ pub record IsQuiet (h : List Entry) (s : ℕ) (request : Request) (reply : Logge
   pub positions : positions_in reply ≡ []
   pub named : (x : ℕ) → named_in reply x ≡ []
   pub outcomes : (k : ℕ) → outcomes_of (record { session = s; request = request; reply = reply } ∷ h) k ≡ outcomes_of h k
+
+-- The reply sends these positions and names these objects at a commit, and it welcomes nobody and notes nothing.
+pub record IsSending (reply : Logged) (commit : ℕ) (head : List ObjectValue) (positions : List ℕ) : Type 0 where
+  pub noted : is_noted reply ≡ false
+  pub welcome : is_welcome reply ≡ false
+  pub sends : positions_in reply ≡ positions
+  pub names_head : (x : ℕ) → named_in reply x ≡ (if names head x then commit ∷ [] else [])

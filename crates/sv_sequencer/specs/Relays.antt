@@ -8,6 +8,7 @@ use Rattle.sv_wire.specs.declared.message.ObjectValue.{ObjectValue}
 use Rattle.sv_wire.specs.declared.message.Item.{Item}
 use Rattle.sv_world.specs.Worlds.{HaveAttrs}
 use Rattle.sv_queue.specs.Queue.{QueueView, last_position, entry_at, queue_actions, sent_positions, with_mark, with_given, with_result}
+use Rattle.sv_influence.specs.Lacking.{lacking_to_see, bases_to_see, latest_cut}
 
 -- Objects with their committed values in a queue.
 abbrev pub held_in : QueueView → List ℕ → List ObjectValue
@@ -16,6 +17,14 @@ held_in v xs = map (λ x. record { object = record { 0 = x }; value = slice_inde
 -- What a relay says of a position of a queue.
 abbrev pub item_in : QueueView → ℕ → Item
 item_in v p = record { pos = p; client = (entry_at v p).author; seq = (entry_at v p).seq; action = (entry_at v p).action }
+
+-- What a session is shown of objects, at the greatest cut.
+abbrev pub seen_positions : QueueView → ℕ → List ℕ → List ℕ
+seen_positions v s xs = lacking_to_see v s xs (latest_cut v s xs)
+
+-- The objects of the base values that go with it.
+abbrev pub seen_bases : QueueView → ℕ → List ℕ → List ℕ
+seen_bases v s xs = bases_to_see v s xs (latest_cut v s xs)
 
 -- The queue once some positions were sent to a session.
 abbrev pub marked_all : QueueView → List ℕ → ℕ → QueueView

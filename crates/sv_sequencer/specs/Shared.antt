@@ -11,11 +11,13 @@ use Rattle.sv_journal.specs.History.{accepted, full_reply}
 use Rattle.sv_journal.specs.Sessions.{is_end}
 use Rattle.sv_journal.specs.Answer.{Rules}
 
--- A reply as the journal keeps it: with the positions of its items in their place.
+-- A reply as the journal keeps it: with the positions of its items in their place. The journal has no Denied, since none is answered.
 abbrev pub logged_of : Reply → Logged
 logged_of (replies.Welcome commit head) = logged.Welcome commit head
 logged_of (replies.Relay seq commit head items) = logged.Relay seq commit head (map (λ (i : Item). i.pos) items)
 logged_of (replies.Dropped seq chain far) = logged.Dropped seq chain far
+logged_of (replies.Denied seq object) = logged.Dropped seq 0 0
+logged_of (replies.Seen last commit head items) = logged.Seen last commit head (map (λ (i : Item). i.pos) items)
 logged_of (replies.Settled seq pos) = logged.Settled seq pos
 logged_of (replies.Noted commit) = logged.Noted commit
 logged_of replies.Idle = logged.Idle

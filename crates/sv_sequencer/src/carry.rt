@@ -53,6 +53,7 @@ impl Core {
             Decision::Accept { client, seq } => {
                 self.accept_new(session, request, ActionId { client, seq })
             }
+            Decision::See => self.see(session, request),
             Decision::Note => self.note_results(session, request),
             _ => Ok(self.answer_plainly(session, request, decision)),
         }

@@ -1,14 +1,14 @@
 //! What is done on a request: the rows of the rules in order.
-ghost use Rattle.std.specs.Prelude.{◌≡◌, ℕ, List, ◌<◌, ◌≤◌, Some, None, [], ◌∷◌, map, length, nat_lt};
-ghost use Rattle.std.specs.List.{list_all};
+ghost use Rattle.std.specs.Prelude.{◌≡◌, ℕ, List, ◌<◌, ◌≤◌, Some, None, [], ◌∷◌, map, length};
 ghost use Rattle.sv_world.specs.declared.world.ObjectId.{ObjectId};
 ghost use Rattle.sv_world.specs.Faults.{first_fault_of_action, IsGoodAction};
+ghost use Rattle.sv_world.specs.Sets.{numbers_of};
 ghost use Rattle.sv_world.specs.Limits.{most_requests};
 ghost use Rattle.sv_wire.specs.declared.message.Request.TheVariants as requests;
 ghost use Rattle.sv_journal.specs.declared.entry.Entry.{Entry};
 ghost use Rattle.sv_journal.specs.History.{Accepted, accepted, client_of, next_seq};
 ghost use Rattle.sv_journal.specs.Sessions.{asked_in, is_live, kept_outcome};
-ghost use Rattle.sv_journal.specs.Answer.{reply_to_request, reply_to_open, reply_to_join, reply_to_member, reply_to_submit, reply_to_new, reply_to_good, reply_to_done, reply_to_poll, orphans, is_good_interest, is_over_reach};
+ghost use Rattle.sv_journal.specs.Answer.{reply_to_request, reply_to_open, reply_to_join, reply_to_member, reply_to_submit, reply_to_new, reply_to_good, reply_to_done, reply_to_poll, reply_to_observe, orphans, is_good_interest, is_over_reach};
 ghost use Rattle.sv_sequencer.specs.Decisions.{reply_by, Holds};
 ghost use Rattle.sv_sequencer.specs.Cores.{core_rules, Keeps};
 
@@ -17,7 +17,8 @@ use crate::decision::{ActionId, Decision};
 use crate::server_core::Core;
 use sv_wire::{Done1, Refusal, Request};
 use sv_world::{
-    Action, ClientId, List, MOST_CLIENTS, MOST_INTEREST, ObjectId, check_action, is_ascending,
+    Action, ClientId, List, MOST_CLIENTS, MOST_INTEREST, ObjectId, are_below, check_action,
+    is_ascending, may_be_observed,
 };
 
 impl Core {
@@ -142,6 +143,7 @@ impl Core {
             Request::Submit { seq, action } => self.decide_submit(session, client, *seq, action),
             Request::Done { results } => self.decide_done(session, results),
             Request::Poll => self.decide_poll(session, client),
+            Request::Observe { objects, wait } => self.decide_observe(session, objects, *wait),
             _ => Decision::Leave,
         }
     }
@@ -260,6 +262,23 @@ impl Core {
             None => Decision::Idle,
         }
     }
+
+    fn decide_observe(&self, session: u16, objects: &List<ObjectId>, wait: u16) -> Decision
+        ghost h: { List Entry }
+        requires { Keeps self.now h }
+        ensures reply { reply_by (core_rules self.now) h session (requests.Observe objects.now wait) result ≡ reply_to_observe (core_rules self.now) h session (numbers_of objects.now) }
+        ensures holds { Holds (core_rules self.now) h session (requests.Observe objects.now wait) result }
+    {
+        let shape = self.shape();
+        if may_be_observed(shape.objects, objects.as_slice()) {
+            Decision::See
+        } else {
+            Decision::Refuse {
+                refusal: Refusal::BadInterest,
+                detail: 0,
+            }
+        }
+    }
 }
 
 /// Whether an interest has few enough objects, of so many, ascending.
@@ -267,13 +286,4 @@ fn is_good_interest(objects: u16, interest: &[ObjectId]) -> bool
     ensures { result ≡ is_good_interest objects (map (λ (o : ObjectId). o.0) interest.now) }
 {
     interest.len() <= MOST_INTEREST && is_ascending(interest) && are_below(objects, interest)
-}
-
-fn are_below(objects: u16, interest: &[ObjectId]) -> bool
-    ensures { result ≡ list_all (λ x. nat_lt x objects) (map (λ (o : ObjectId). o.0) interest.now) }
-{
-    let [first, rest @ ..] = interest else {
-        return true;
-    };
-    first.0 < objects && are_below(objects, rest)
 }

@@ -47,6 +47,8 @@ pub enum Decision {
         client: u16,
         seq: u32,
     },
+    /// Objects are seen at the greatest cut.
+    See,
     Note,
     Idle,
     Leave,

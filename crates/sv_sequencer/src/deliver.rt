@@ -104,8 +104,8 @@ fn relay_and_settle(
     Ok(relayed)
 }
 
-/// Marks what a relay sends, and notes what it gives.
-fn deliver(queue: &mut Queue, relayed: &Relayed, session: u16)
+/// Marks what a reply sends, and notes what it gives.
+pub fn deliver(queue: &mut Queue, relayed: &Relayed, session: u16)
     requires positions { All (IsUncommitted queue.old) relayed.now.positions }
     requires objects { All (λ (x : ObjectValue). x.object.0 < queue.old.shape.objects) relayed.now.head }
     requires session { session < most_sessions }

@@ -13,6 +13,7 @@ mod orphans;
 mod positions;
 mod relays;
 mod reports;
+mod see;
 mod sequencer;
 mod server_core;
 mod sessions;

@@ -1,27 +1,36 @@
-//! What a relay takes from a queue, and its delivery.
-ghost use Rattle.std.specs.Prelude.{◌≡◌, ℕ, ◌<◌, ◌≤◌, [], ◌∷◌, map, length, All, IfOk};
+//! What a relay takes from a queue, and what is seen of one; and their delivery.
+ghost use Rattle.std.specs.Prelude.{◌≡◌, ℕ, ◌^◌, ◌-◌, ◌<◌, ◌≤◌, true, [], ◌∷◌, map, length, All, IfOk};
 ghost use Rattle.sv_world.specs.declared.world.ObjectId.{ObjectId};
+ghost use Rattle.sv_world.specs.Faults.{may_be_observed};
 ghost use Rattle.sv_world.specs.Limits.{most_sessions};
+ghost use Rattle.sv_world.specs.Sets.{numbers_of};
 ghost use Rattle.sv_wire.specs.declared.message.ObjectValue.{ObjectValue};
-ghost use Rattle.sv_queue.specs.Queue.{IsUncommitted};
-ghost use Rattle.sv_influence.specs.Lacking.{lacking, base_objects};
-ghost use Rattle.sv_sequencer.specs.Relays.{held_in, item_in, marked_all, given_all};
+ghost use Rattle.sv_queue.specs.Queue.{IsUncommitted, last_position};
+ghost use Rattle.sv_influence.specs.Lacking.{lacking, base_objects, latest_cut, MarksAreClosed};
+ghost use Rattle.sv_sequencer.specs.Relays.{held_in, item_in, marked_all, given_all, seen_positions, seen_bases};
 
 use std::alloc::{AllocError, Global};
 use std::marker::Brand;
 use std::sync::ledger::{Blank, Ledger};
-use sv_influence::closure;
+use sv_influence::{closure, cut};
 use sv_queue::{Queue, Steps};
 use sv_wire::{Item, ObjectValue, copy_head};
 use sv_world::{List, ObjectId, copy_action, copy_value};
 
-/// What a relay of a position has, once for the journal and once for the reply.
+/// What a reply sends and gives, once for the journal and once for the reply.
 #[derive(Drop)]
 pub struct Relayed {
     pub head: List<ObjectValue>,
     pub positions: List<u32>,
     pub sent_head: List<ObjectValue>,
     pub items: List<Item>,
+}
+
+/// What is seen at a cut.
+#[derive(Drop)]
+pub struct Seen {
+    pub last: u32,
+    pub relayed: Relayed,
 }
 
 /// What a relay of an uncommitted position has for a session.
@@ -54,12 +63,75 @@ fn counted<L: Ledger>(
 {
     let mut steps = Steps::<L>::new(blank);
     let found = closure(alloc, queue, session, pos, &mut steps)?;
-    let head = base_values(alloc, queue, found.head.as_slice())?;
-    let items = items_of(alloc, queue, found.items.as_slice(), &mut steps)?;
+    relayed_of(alloc, queue, found.items, found.head.as_slice(), &mut steps)
+}
+
+/// What a session may see of objects, at the greatest cut.
+pub fn seen_in(
+    alloc: Global,
+    queue: &Queue,
+    session: u16,
+    objects: &[ObjectId],
+) -> Result<Seen, AllocError>
+    requires objects { may_be_observed queue.now.shape.objects (numbers_of objects.now) ≡ true }
+    requires marks { MarksAreClosed queue.now session }
+    requires room { last_position queue.now < 2 ^ 32 - 1 }
+    ensures last { IfOk result (λ r. r.last ≡ latest_cut queue.now session (numbers_of objects.now)) }
+    ensures head { IfOk result (λ r. r.relayed.head ≡ held_in queue.now (seen_bases queue.now session (numbers_of objects.now))) }
+    ensures positions { IfOk result (λ r. r.relayed.positions ≡ seen_positions queue.now session (numbers_of objects.now)) }
+    ensures sent_head { IfOk result (λ r. r.relayed.sent_head ≡ held_in queue.now (seen_bases queue.now session (numbers_of objects.now))) }
+    ensures items { IfOk result (λ r. r.relayed.items ≡ map (item_in queue.now) (seen_positions queue.now session (numbers_of objects.now))) }
+{
+    seen_counted::<Brand>(alloc, queue, session, objects, Blank::new(1))
+}
+
+fn seen_counted<L: Ledger>(
+    alloc: Global,
+    queue: &Queue,
+    session: u16,
+    objects: &[ObjectId],
+    blank: Blank,
+) -> Result<Seen, AllocError>
+    requires name { blank.name ≡ L.name }
+    requires parts { blank.parts ≡ L.parts }
+    requires some { 0 < blank.parts }
+    requires objects { may_be_observed queue.now.shape.objects (numbers_of objects.now) ≡ true }
+    requires marks { MarksAreClosed queue.now session }
+    requires room { last_position queue.now < 2 ^ 32 - 1 }
+    ensures last { IfOk result (λ r. r.last ≡ latest_cut queue.now session (numbers_of objects.now)) }
+    ensures head { IfOk result (λ r. r.relayed.head ≡ held_in queue.now (seen_bases queue.now session (numbers_of objects.now))) }
+    ensures positions { IfOk result (λ r. r.relayed.positions ≡ seen_positions queue.now session (numbers_of objects.now)) }
+    ensures sent_head { IfOk result (λ r. r.relayed.sent_head ≡ held_in queue.now (seen_bases queue.now session (numbers_of objects.now))) }
+    ensures items { IfOk result (λ r. r.relayed.items ≡ map (item_in queue.now) (seen_positions queue.now session (numbers_of objects.now))) }
+{
+    let mut steps = Steps::<L>::new(blank);
+    let found = cut(alloc, queue, session, objects, &mut steps)?;
+    let last = found.last;
+    let relayed = relayed_of(alloc, queue, found.items, found.head.as_slice(), &mut steps)?;
+    Ok(Seen { last, relayed })
+}
+
+/// What a reply has that sends some uncommitted positions and gives some objects.
+fn relayed_of<L: Ledger>(
+    alloc: Global,
+    queue: &Queue,
+    positions: List<u32>,
+    objects: &[ObjectId],
+    steps: &mut Steps<L>,
+) -> Result<Relayed, AllocError>
+    requires positions { All (λ p. IsUncommitted queue.now p) positions }
+    requires objects { All (λ (o : ObjectId). o.0 < queue.now.shape.objects) objects.now }
+    ensures head { IfOk result (λ r. r.head ≡ held_in queue.now (map (λ (o : ObjectId). o.0) objects.now)) }
+    ensures positions { IfOk result (λ r. r.positions ≡ positions) }
+    ensures sent_head { IfOk result (λ r. r.sent_head ≡ held_in queue.now (map (λ (o : ObjectId). o.0) objects.now)) }
+    ensures items { IfOk result (λ r. r.items ≡ map (item_in queue.now) positions) }
+{
+    let head = base_values(alloc, queue, objects)?;
+    let items = items_of(alloc, queue, positions.as_slice(), steps)?;
     let sent_head = copy_head(alloc, head.as_slice())?;
     Ok(Relayed {
         head,
-        positions: found.items,
+        positions,
         sent_head,
         items,
     })

@@ -9,7 +9,7 @@ use Rattle.sv_wire.specs.declared.message.Request.{Request}
 use Rattle.sv_wire.specs.Steps.{Read, ◌>>=◌, stop, several}
 use Rattle.sv_wire.specs.Fields.{byte_from, number_from, count_from, objects_from, result_from}
 use Rattle.sv_wire.specs.Nodes.{kind_in}
-use Rattle.sv_wire.specs.Messages.{action_from, join_request_from, submit_from, done_from, request_of, request_kind_of, request_front, whole, placed, request_at}
+use Rattle.sv_wire.specs.Messages.{action_from, join_request_from, submit_from, done_from, observe_from, request_of, request_kind_of, request_front, whole, placed, request_at}
 use Rattle.sv_journal.specs.Sessions.{is_end}
 
 abbrev NoEnd : Request × List ℕ → Type 0
@@ -31,11 +31,16 @@ done_no_end : (bytes : List ℕ) → IfOk (done_from bytes) NoEnd
 unfolding done_from
 done_no_end bytes = after NoEnd (count_from 1 33 bytes) _ (λ n. after NoEnd (several result_from n.0 n.1) _ (λ results. refl))
 
+observe_no_end : (bytes : List ℕ) → IfOk (observe_from bytes) NoEnd
+unfolding observe_from
+observe_no_end bytes = after NoEnd (count_from 1 16 bytes) _ (λ n. after NoEnd (objects_from n.0 n.1) _ (λ objects. after NoEnd (number_from 2 objects.1) _ (λ wait. refl)))
+
 kind_no_end : (kind : RequestKind) (bytes : List ℕ) → IfOk (request_of kind bytes) NoEnd
 kind_no_end kinds.Join bytes = join_no_end bytes
 kind_no_end kinds.Submit bytes = submit_no_end bytes
 kind_no_end kinds.Done bytes = done_no_end bytes
 kind_no_end kinds.Poll bytes = refl
+kind_no_end kinds.Observe bytes = observe_no_end bytes
 kind_no_end kinds.Leave bytes = refl
 
 front_no_end : (bytes : List ℕ) → IfOk (request_front bytes) NoEnd

@@ -42,6 +42,7 @@ accepted_on before after p =
 
 names_more : (A more : List Authored) (l : Logged) → NamesAccepted (length A) l → NamesAccepted (length (A ++ more)) l
 names_more A more (logged.Relay seq commit head positions) f = λ k d low. let at = f k d low in (at.0, omega (arith, at.1, length-append A more))
+names_more A more (logged.Seen last commit head positions) f = λ k d low. let at = f k d low in (at.0, omega (arith, at.1, length-append A more))
 names_more A more (logged.Welcome commit head) f = tt
 names_more A more (logged.Dropped seq chain far) f = tt
 names_more A more (logged.Settled seq pos) f = tt

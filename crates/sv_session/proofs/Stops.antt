@@ -6,8 +6,9 @@ use Rattle.sv_world.specs.declared.action.Action.{Action}
 use Rattle.sv_world.specs.declared.check.BadAction.{BadAction}
 use Rattle.sv_world.specs.declared.world.ObjectId.{ObjectId}
 use Rattle.sv_world.specs.Control.{chain_length, influence_distance}
-use Rattle.sv_world.specs.Faults.{first_fault_of_action}
+use Rattle.sv_world.specs.Faults.{first_fault_of_action, may_be_observed}
 use Rattle.sv_world.specs.Limits.{most_requests}
+use Rattle.sv_world.specs.Sets.{numbers_of}
 use Rattle.sv_wire.specs.declared.message.Request.{Request}
 use Rattle.sv_wire.specs.declared.message.Request.TheVariants as requests
 use Rattle.sv_journal.specs.declared.entry.Entry.{Entry}
@@ -15,7 +16,7 @@ use Rattle.sv_journal.specs.declared.entry.Logged.{Logged}
 use Rattle.sv_journal.specs.declared.entry.Logged.TheVariants as logged
 use Rattle.sv_journal.specs.History.{client_of, Outcome, Accepted, Dropped, actions_of, next_seq, commit_of, either}
 use Rattle.sv_journal.specs.Sessions.{is_over, is_live, is_end, asked_in, life_of, kept_outcome}
-use Rattle.sv_journal.specs.Answer.{Rules, is_over_reach, is_bad_done, is_good_interest, orphans, reply_to, reply_to_request, reply_to_open, reply_to_member, reply_to_client, reply_to_join, reply_to_submit, reply_to_checked, reply_to_poll}
+use Rattle.sv_journal.specs.Answer.{Rules, is_over_reach, is_bad_done, is_good_interest, orphans, reply_to, reply_to_request, reply_to_open, reply_to_member, reply_to_client, reply_to_join, reply_to_submit, reply_to_checked, reply_to_poll, reply_to_observe}
 use Rattle.sv_session.specs.Requests.{stop_of, stop_after}
 use Rattle.sv_session.specs.declared.outcome.SessionOut.{SessionOut}
 use Rattle.sv_session.specs.declared.outcome.SessionOut.TheVariants as outs
@@ -52,6 +53,9 @@ poll_other : (r : Rules) (h : List Entry) (s : ℕ) (ps : List ℕ) → IsOther 
 poll_other r h s [] = refl
 poll_other r h s (p ∷ ps) = refl
 
+observe_other : (r : Rules) (h : List Entry) (s : ℕ) (xs : List ℕ) → IsOther (reply_to_observe r h s xs)
+observe_other r h s xs = cond_both (may_be_observed r.world.shape.objects xs) _ _ IsOther (λ _. refl) (λ _. refl)
+
 -- to a request that is no Leave, in a session that its client joined or not
 member_other : (r : Rules) (h : List Entry) (s : ℕ) (o : Option ℕ) (request : Request) → ((k : ℕ) → IsOther (reply_to_client r h s k request)) → IsOther (reply_to_member r h s o request)
 member_other r h s None request f = refl
@@ -69,6 +73,8 @@ other_reply r h s (requests.Done results) no_leave no_end =
     over_or_spent r h s (requests.Done results) (member_other r h s (client_of h s) (requests.Done results) (λ k. cond_both (is_bad_done r h s results) _ _ IsOther (λ _. refl) (λ _. refl)))
 other_reply r h s requests.Poll no_leave no_end =
     over_or_spent r h s requests.Poll (member_other r h s (client_of h s) requests.Poll (λ k. poll_other r h s (orphans h)))
+other_reply r h s (requests.Observe objects wait) no_leave no_end =
+    over_or_spent r h s (requests.Observe objects wait) (member_other r h s (client_of h s) (requests.Observe objects wait) (λ k. observe_other r h s (numbers_of objects)))
 other_reply r h s requests.Leave no_leave no_end = absurd (no_leave refl)
 other_reply r h s requests.Bad no_leave no_end = over_or_spent r h s requests.Bad refl
 other_reply r h s requests.End no_leave no_end = absurd cc
@@ -81,6 +87,7 @@ is_leave (requests.Join client life interest) = inr (λ e. cc)
 is_leave (requests.Submit seq a) = inr (λ e. cc)
 is_leave (requests.Done results) = inr (λ e. cc)
 is_leave requests.Poll = inr (λ e. cc)
+is_leave (requests.Observe objects wait) = inr (λ e. cc)
 is_leave requests.Bad = inr (λ e. cc)
 is_leave requests.End = inr (λ e. cc)
 
@@ -96,6 +103,7 @@ left_is_bye : (l : Logged) → stop_of l ≡ Some outs.Left → is_bye l ≡ tru
 left_is_bye (logged.Welcome commit head) e = absurd cc
 left_is_bye (logged.Relay seq commit head positions) e = absurd cc
 left_is_bye (logged.Dropped seq chain far) e = absurd cc
+left_is_bye (logged.Seen last commit head positions) e = absurd cc
 left_is_bye (logged.Settled seq pos) e = absurd cc
 left_is_bye (logged.Noted commit) e = absurd cc
 left_is_bye logged.Idle e = absurd cc
@@ -151,6 +159,7 @@ pub each_reason : (P : SessionOut → Type 0) (l : Logged) (out : SessionOut) �
 each_reason P (logged.Welcome commit head) out e left malformed ended spent = absurd cc
 each_reason P (logged.Relay seq commit head positions) out e left malformed ended spent = absurd cc
 each_reason P (logged.Dropped seq chain far) out e left malformed ended spent = absurd cc
+each_reason P (logged.Seen last commit head positions) out e left malformed ended spent = absurd cc
 each_reason P (logged.Settled seq pos) out e left malformed ended spent = absurd cc
 each_reason P (logged.Noted commit) out e left malformed ended spent = absurd cc
 each_reason P logged.Idle out e left malformed ended spent = absurd cc

@@ -1,11 +1,11 @@
--- Where values are serial and relays are sufficient, each snapshot is one cut.
+-- Where values are serial, relays are sufficient and what was seen is whole, each snapshot is one cut.
 use Rattle.std.proofs.Common.{◌≡◌, ℕ, zero, suc, ◌-◌, ◌<◌, ◌≤◌, true, ◌==◌, List, [], ◌∷◌, ◌++◌, map, reverse, length, ℤ, Option, Some, None, IfSome, option_map, slice_index_or, refl, sym, ap, ◌∙◌, subst, arith}
 use Rattle.std.specs.Prelude.{All, unwrap_or, option_to_list}
 use Rattle.std.specs.List.{AllByRecursion}
 use Rattle.std.proofs.lemmas.Bool.{cond_both}
 use Rattle.std.proofs.lemmas.List.Elements.{All-from_recursion, All-map, recursion_from_All}
 use Rattle.sv_world.specs.Control.{last_writer}
-use Rattle.sv_world.specs.Sets.{read_set}
+use Rattle.sv_world.specs.Sets.{object_numbered, read_set}
 use Rattle.sv_world.specs.declared.action.Action.{Action}
 use Rattle.sv_world.specs.declared.world.ClientId.{ClientId}
 use Rattle.sv_world.specs.declared.world.ObjectId.{ObjectId}
@@ -23,17 +23,19 @@ use Rattle.sv_client.specs.declared.trace.Event.{Event}
 use Rattle.sv_client.specs.declared.trace.Event.TheVariants as events
 use Rattle.sv_client.specs.declared.trace.Trace.{Trace}
 use Rattle.sv_client.specs.Traces.{head_held, held_of, item_held, with_items, with_reply}
-use Rattle.sv_client.specs.Taking.{Identity, told}
+use Rattle.sv_client.specs.Taking.{Identity, observed_now, told}
 use Rattle.sv_client.specs.Evaluating.{ItemsAreAbove, ItemsReadWithin}
 use Rattle.sv_client.specs.Proper.{AreProper, MayGet, Proper, identity_of}
 use Rattle.sv_client.specs.Answers.{got_now}
+use Rattle.sv_client.proofs.Within.{seen_now_within}
+use Rattle.sv_system.specs.Cuts.{IsCut as IsWhole, IsSeenWhole, AreCuts, SeenAreCuts}
 use Rattle.sv_system.specs.Serial.{IsSerial, AreSerial, is_covered, AreSupplied, IsSufficient, AreSufficient, ValuesAreSerial, RelaysAreSufficient}
 use Rattle.sv_system.proofs.Covers.{covered-found}
 use Rattle.sv_system.proofs.Serials.{serial-since}
 use Rattle.sv_system.proofs.Tests.{any-left}
 use Rattle.sv_system.proofs.Every.{each-append, each-left}
 use Rattle.sv_snapshot.specs.declared.snapshot.Snapshot.{Snapshot}
-use Rattle.sv_snapshot.specs.Snapshots.{is_look, last_item, read_all_below, snapshot_at, snapshot_by, snapshots_in, snapshots_of, snapshots_of_trace}
+use Rattle.sv_snapshot.specs.Snapshots.{is_look, last_item, read_all_below, snapshot_at, snapshot_seen, snapshot_by, snapshots_in, snapshots_of, snapshots_of_trace}
 use Rattle.sv_snapshot.specs.Cuts.{IsCut, IsShaped}
 use Rattle.sv_snapshot.proofs.Lasts.{last_has}
 use Rattle.sv_snapshot.proofs.Readable.{readable}
@@ -48,6 +50,8 @@ before_reply : (P : Held → Type 0) (reply : Reply) (held : List Held) → AllB
 before_reply P (replies.Welcome commit head) held h = each-left P held (head_held commit head) h
 before_reply P (replies.Relay seq commit head items) held h = each-left P held (head_held commit head) (before_items P items (held ++ head_held commit head) h)
 before_reply P (replies.Dropped seq chain far) held h = h
+before_reply P (replies.Seen last commit head items) held h = each-left P held (head_held commit head) (before_items P items (held ++ head_held commit head) h)
+before_reply P (replies.Denied seq object) held h = h
 before_reply P (replies.Settled seq pos) held h = h
 before_reply P (replies.Noted commit) held h = h
 before_reply P replies.Idle held h = h
@@ -103,7 +107,7 @@ module _ (opening : List (List ℤ)) (A : List Action) where
   -- ---- One snapshot
 
   taken_cut : (client : ClientId) (seq : ℕ) (held : List Held) (item : Item) → 0 < item.pos → ReadsWithin (length opening) item.action → AreSerial opening A held →
-      IsCoveredBy A held item → IsCut opening A (record { client = client; seq = seq; pos = item.pos; values = read_all_below held item.pos item.action.reads })
+      IsCoveredBy A held item → IsCut opening A (record { client = client; seq = Some seq; pos = item.pos; values = read_all_below held item.pos item.action.reads })
   taken_cut client seq held item l within serial covered = record {
     place = l;
     objects = All-map (λ (v : ObjectValue). v.object.0 < length opening) _ item.action.reads within;
@@ -118,10 +122,25 @@ module _ (opening : List (List ℤ)) (A : List Action) where
   look_cut client seq held (Some item) h serial =
       cond_both (is_look item.action) _ _ (λ (o : Option Snapshot). IfSome o (IsCut opening A)) (λ e. taken_cut client seq held item h.0 h.1.0 serial h.1.1) (λ e. tt)
 
-  relay_cut : (client : ClientId) (who : Identity) (t : List Event) (s : ℕ) (reply : Reply) → who.shape.objects ≡ length opening → MayGet who t s reply →
-      AreSerial opening A (held_of (events.Got s reply ∷ t)) → IsSufficient A (held_of t) reply →
-      IfSome (snapshot_by client (held_of (events.Got s reply ∷ t)) (events.Got s reply)) (IsCut opening A)
-  relay_cut client who t s (replies.Relay seq commit head items) count m serial enough =
+  -- What was seen: each object is read there as it is in the serial world.
+  seen_cut : (client : ClientId) (last : ℕ) (held : List Held) (xs : List ℕ) → All (λ x. x < length opening) xs → IsWhole opening A held last xs →
+      IsCut opening A (snapshot_seen client last held xs)
+  seen_cut client last held xs within whole = record {
+    place = omega arith;
+    objects = All-map (λ (v : ObjectValue). v.object.0 < length opening) _ (map object_numbered xs)
+        (All-map (λ (o : ObjectId). o.0 < length opening) object_numbered xs within);
+    values = All-map (λ (v : ObjectValue). v.value ≡ slice_index_or (serial_world opening A (suc last - 1)) v.object.0 []) _ (map object_numbered xs)
+        (All-map (λ (o : ObjectId). unwrap_or (read_below held o.0 (suc last)) [] ≡ slice_index_or (serial_world opening A (suc last - 1)) o.0 []) object_numbered xs
+        (λ i d l.
+        let x = slice_index_or xs i d in
+        let same : last ≡ suc last - 1 = omega arith in
+        ap (λ (o : Option (List ℤ)). unwrap_or o []) (whole i d l) ∙ ap (λ (n : ℕ). slice_index_or (serial_world opening A n) x []) same));
+  }
+
+  relay_cut : (client : ClientId) (who : Identity) (first : ℕ) (t : List Event) (s : ℕ) (reply : Reply) → who.shape.objects ≡ length opening → AreProper who first t →
+      MayGet who t s reply → AreSerial opening A (held_of (events.Got s reply ∷ t)) → IsSufficient A (held_of t) reply → IsSeenWhole opening A who t reply →
+      IfSome (snapshot_by client (held_of (events.Got s reply ∷ t)) (observed_now who t) (events.Got s reply)) (IsCut opening A)
+  relay_cut client who first t s (replies.Relay seq commit head items) count p m serial enough whole =
       let held = held_of (events.Got s (replies.Relay seq commit head items) ∷ t) in
       let reads = readable who t (events.Got s (replies.Relay seq commit head items)) m.taken in
       let bound = told (got_now t (replies.Relay seq commit head items) ∷ t) in
@@ -136,13 +155,17 @@ module _ (opening : List (List ℤ)) (A : List Action) where
           let l : bound < item.pos = last_has (λ (i : Item). bound < i.pos) items item high e in
           let r : ReadsWithin who.shape.objects item.action = last_has (λ (i : Item). ReadsWithin who.shape.objects i.action) items item within e in
           (omega (arith, l), (subst (λ (n : ℕ). ReadsWithin n item.action) count r, last_covered A items (held_of t ++ head_held commit head) item enough e))
-  relay_cut client who t s (replies.Welcome commit head) count m serial enough = tt
-  relay_cut client who t s (replies.Dropped seq chain far) count m serial enough = tt
-  relay_cut client who t s (replies.Settled seq pos) count m serial enough = tt
-  relay_cut client who t s (replies.Noted commit) count m serial enough = tt
-  relay_cut client who t s replies.Idle count m serial enough = tt
-  relay_cut client who t s (replies.Refused code detail) count m serial enough = tt
-  relay_cut client who t s replies.Bye count m serial enough = tt
+  relay_cut client who first t s (replies.Welcome commit head) count p m serial enough whole = tt
+  relay_cut client who first t s (replies.Dropped seq chain far) count p m serial enough whole = tt
+  relay_cut client who first t s (replies.Seen last commit head items) count p m serial enough whole =
+      seen_cut client last (held_of (events.Got s (replies.Seen last commit head items) ∷ t)) (observed_now who t)
+      (subst (λ (n : ℕ). All (λ x. x < n) (observed_now who t)) count (seen_now_within who first t p)) whole
+  relay_cut client who first t s (replies.Denied seq object) count p m serial enough whole = tt
+  relay_cut client who first t s (replies.Settled seq pos) count p m serial enough whole = tt
+  relay_cut client who first t s (replies.Noted commit) count p m serial enough whole = tt
+  relay_cut client who first t s replies.Idle count p m serial enough whole = tt
+  relay_cut client who first t s (replies.Refused code detail) count p m serial enough whole = tt
+  relay_cut client who first t s replies.Bye count p m serial enough whole = tt
 
   -- ---- Whole traces
 
@@ -150,36 +173,38 @@ module _ (opening : List (List ℤ)) (A : List Action) where
   one None h = tt
   one (Some s) h = (h, tt)
 
-  cuts_in : (client : ClientId) (who : Identity) (first : ℕ) (t : List Event) → who.shape.objects ≡ length opening → AreProper who first t →
-      AreSerial opening A (held_of t) → AreSufficient A t → AllByRecursion (IsCut opening A) (snapshots_in client t)
-  cuts_in client who first [] count p serial enough = tt
-  cuts_in client who first (events.Got s reply ∷ t) count p serial enough =
-      each-append (IsCut opening A) (snapshots_in client t) _
-      (cuts_in client who first t count p.1 (before_reply (IsSerial opening A) reply (held_of t) serial) enough.1)
-      (one _ (relay_cut client who t s reply count p.0 serial enough.0))
-  cuts_in client who first (events.Join s ∷ t) count p serial enough = each-append (IsCut opening A) (snapshots_in client t) [] (cuts_in client who first t count p.1 serial enough) tt
-  cuts_in client who first (events.Make action ∷ t) count p serial enough = each-append (IsCut opening A) (snapshots_in client t) [] (cuts_in client who first t count p.1 serial enough) tt
-  cuts_in client who first (events.Poll ∷ t) count p serial enough = each-append (IsCut opening A) (snapshots_in client t) [] (cuts_in client who first t count p.1 serial enough) tt
-  cuts_in client who first (events.Leave ∷ t) count p serial enough = each-append (IsCut opening A) (snapshots_in client t) [] (cuts_in client who first t count p.1 serial enough) tt
-  cuts_in client who first (events.Cut ∷ t) count p serial enough = each-append (IsCut opening A) (snapshots_in client t) [] (cuts_in client who first t count p.1 serial enough) tt
-  cuts_in client who first (events.Quit ∷ t) count p serial enough = each-append (IsCut opening A) (snapshots_in client t) [] (cuts_in client who first t count p.1 serial enough) tt
-  cuts_in client who first (events.Show os ∷ t) count p serial enough = each-append (IsCut opening A) (snapshots_in client t) [] (cuts_in client who first t count p.1 serial enough) tt
+  cuts_in : (who : Identity) (first : ℕ) (t : List Event) → who.shape.objects ≡ length opening → AreProper who first t →
+      AreSerial opening A (held_of t) → AreSufficient A t → AreCuts opening A who t → AllByRecursion (IsCut opening A) (snapshots_in who t)
+  cuts_in who first [] count p serial enough whole = tt
+  cuts_in who first (events.Got s reply ∷ t) count p serial enough whole =
+      each-append (IsCut opening A) (snapshots_in who t) _
+      (cuts_in who first t count p.1 (before_reply (IsSerial opening A) reply (held_of t) serial) enough.1 whole.1)
+      (one _ (relay_cut who.client who first t s reply count p.1 p.0 serial enough.0 whole.0))
+  cuts_in who first (events.Join s ∷ t) count p serial enough whole = each-append (IsCut opening A) (snapshots_in who t) [] (cuts_in who first t count p.1 serial enough whole) tt
+  cuts_in who first (events.Make action ∷ t) count p serial enough whole = each-append (IsCut opening A) (snapshots_in who t) [] (cuts_in who first t count p.1 serial enough whole) tt
+  cuts_in who first (events.Poll ∷ t) count p serial enough whole = each-append (IsCut opening A) (snapshots_in who t) [] (cuts_in who first t count p.1 serial enough whole) tt
+  cuts_in who first (events.Observe objects wait ∷ t) count p serial enough whole = each-append (IsCut opening A) (snapshots_in who t) [] (cuts_in who first t count p.1 serial enough whole) tt
+  cuts_in who first (events.Leave ∷ t) count p serial enough whole = each-append (IsCut opening A) (snapshots_in who t) [] (cuts_in who first t count p.1 serial enough whole) tt
+  cuts_in who first (events.Cut ∷ t) count p serial enough whole = each-append (IsCut opening A) (snapshots_in who t) [] (cuts_in who first t count p.1 serial enough whole) tt
+  cuts_in who first (events.Quit ∷ t) count p serial enough whole = each-append (IsCut opening A) (snapshots_in who t) [] (cuts_in who first t count p.1 serial enough whole) tt
+  cuts_in who first (events.Show os ∷ t) count p serial enough whole = each-append (IsCut opening A) (snapshots_in who t) [] (cuts_in who first t count p.1 serial enough whole) tt
 
   cuts_of : (shape : Shape) (Ls : List Trace) → shape.objects ≡ length opening → All (Proper shape) Ls →
       All (λ (L : Trace). AreSerial opening A (held_of (reverse L.events))) Ls → All (λ (L : Trace). AreSufficient A (reverse L.events)) Ls →
-      AllByRecursion (IsCut opening A) (snapshots_of Ls)
-  cuts_of shape [] count p serial enough = tt
-  cuts_of shape (L ∷ Ls) count p serial enough =
+      All (λ (L : Trace). AreCuts opening A (identity_of shape L) (reverse L.events)) Ls → AllByRecursion (IsCut opening A) (snapshots_of shape Ls)
+  cuts_of shape [] count p serial enough whole = tt
+  cuts_of shape (L ∷ Ls) count p serial enough whole =
       let proper : Proper shape L = p 0 L (omega arith) in
-      each-append (IsCut opening A) (snapshots_of_trace L) (snapshots_of Ls)
-      (cuts_in L.client (identity_of shape L) L.first (reverse L.events) count proper.events (serial 0 L (omega arith)) (enough 0 L (omega arith)))
-      (cuts_of shape Ls count (λ i d l. p (suc i) d (omega arith)) (λ i d l. serial (suc i) d (omega arith)) (λ i d l. enough (suc i) d (omega arith)))
+      each-append (IsCut opening A) (snapshots_of_trace shape L) (snapshots_of shape Ls)
+      (cuts_in (identity_of shape L) L.first (reverse L.events) count proper.events (serial 0 L (omega arith)) (enough 0 L (omega arith)) (whole 0 L (omega arith)))
+      (cuts_of shape Ls count (λ i d l. p (suc i) d (omega arith)) (λ i d l. serial (suc i) d (omega arith)) (λ i d l. enough (suc i) d (omega arith))
+      (λ i d l. whole (suc i) d (omega arith)))
 
 -- Each snapshot that the traces tell is one cut through the journal's serial execution.
 pub cuts_are : (shape : Shape) (opening : List (List ℤ)) (h : List Entry) (Ls : List Trace) → length opening ≡ shape.objects → All (Proper shape) Ls →
-    ValuesAreSerial opening h Ls → RelaysAreSufficient h Ls → All (IsCut opening (actions_of h)) (snapshots_of Ls)
-cuts_are shape opening h Ls count p serial enough =
-    All-from_recursion (IsCut opening (actions_of h)) (snapshots_of Ls) (cuts_of opening (actions_of h) shape Ls (sym count) p serial.held enough)
+    ValuesAreSerial opening h Ls → RelaysAreSufficient h Ls → SeenAreCuts shape opening h Ls → All (IsCut opening (actions_of h)) (snapshots_of shape Ls)
+cuts_are shape opening h Ls count p serial enough whole =
+    All-from_recursion (IsCut opening (actions_of h)) (snapshots_of shape Ls) (cuts_of opening (actions_of h) shape Ls (sym count) p serial.held enough whole)
 
 -- ---- The numbers of values
 

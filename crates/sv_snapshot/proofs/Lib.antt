@@ -1,5 +1,6 @@
 -- The lemmas of snapshots.
 pub mod Lasts
+pub mod Numbered
 pub mod Readable
 pub mod Telling
 pub mod Cutting

@@ -29,10 +29,10 @@ pub all_proper : (shape : Shape) (h : List Entry) (Ls : List Trace) → Fits sha
 all_proper shape h Ls fits = λ k d l. (fits.each k d l).proper
 
 module _ (scenario : Scenario) (h : List Entry) (Ls : List Trace) (good : IsGoodScenario scenario) (replay : IsReplay scenario h Ls) where
-  pub cuts_of_run : All (IsCut scenario.world.values (actions_of h)) (snapshots_of Ls)
+  pub cuts_of_run : All (IsCut scenario.world.values (actions_of h)) (snapshots_of scenario.world.shape Ls)
   cuts_of_run =
       cuts_are scenario.world.shape scenario.world.values h Ls good.world.objects (all_proper scenario.world.shape h Ls replay.full.traffic.fits)
-      replay.full.values replay.full.relays
+      replay.full.values replay.full.relays replay.full.seen
 
   reads_within : LegalActionsAreGood → All (λ (a : Action). All (λ x. x < length scenario.world.values) (read_set a)) (actions_of h)
   reads_within law =
@@ -43,16 +43,16 @@ module _ (scenario : Scenario) (h : List Entry) (Ls : List Trace) (good : IsGood
       subst (λ (n : ℕ). All (λ x. x < n) (read_set a.action)) (sym good.world.objects) checked.objects)
 
   -- Each value has as many numbers as objects have attributes.
-  pub shaped_of_run : LegalActionsAreGood → All (IsShaped scenario.world.shape) (snapshots_of Ls)
+  pub shaped_of_run : LegalActionsAreGood → All (IsShaped scenario.world.shape) (snapshots_of scenario.world.shape Ls)
   shaped_of_run law =
       let A = actions_of h in
       let opening = scenario.world.values in
-      shaped_are scenario.world.shape opening A (snapshots_of Ls) (serial_length opening A)
+      shaped_are scenario.world.shape opening A (snapshots_of scenario.world.shape Ls) (serial_length opening A)
       (λ p. serial_shaped scenario.world.shape.attrs opening A p
       good.world.attrs (reads_within law))
       cuts_of_run
 
 pub printed_run : (held : Option (List ℕ)) (scenario : Scenario) (text : List ℕ) (h : List Entry) (Ls : List Trace) → IsRead held scenario → IsGoodScenario scenario →
-    IsReplay scenario h Ls → text ≡ looks_text Ls → IsText held text
+    IsReplay scenario h Ls → text ≡ looks_text scenario.world.shape Ls → IsText held text
 printed_run held scenario text h Ls read good replay is =
     record { scenario = scenario; h = h; Ls = Ls; scenario_is = read; replay = replay; cuts = cuts_of_run scenario h Ls good replay; text_is = is }

@@ -23,8 +23,8 @@ pub record IsText (held : Option (List ℕ)) (text : List ℕ) : Type 0 where
   pub Ls : List Trace
   pub scenario_is : IsRead held scenario
   pub replay : IsReplay scenario h Ls
-  pub cuts : All (IsCut scenario.world.values (actions_of h)) (snapshots_of Ls)
-  pub text_is : text ≡ looks_text Ls
+  pub cuts : All (IsCut scenario.world.values (actions_of h)) (snapshots_of scenario.world.shape Ls)
+  pub text_is : text ≡ looks_text scenario.world.shape Ls
 
 -- ---- Endings
 

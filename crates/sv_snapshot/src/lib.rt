@@ -1,4 +1,5 @@
-//! Looks, by which a client is told the values of several objects at one position, and the snapshots that a run tells of them.
+//! Looks, by which a client is told the values of several objects at one position, and the snapshots that a run tells of them and of what clients
+//! observe.
 #![tactic(auto)]
 
 mod line;

@@ -1,7 +1,9 @@
 //! The snapshots that a run tells, taken by clients that do their traces again.
-ghost use Rattle.std.specs.Prelude.{◌≡◌, ◌++◌, ◌<◌, ℕ, ℤ, List, [], All, reverse, length, unwrap_or, option_to_list, IfOk, OnOk};
+ghost use Rattle.std.specs.Prelude.{◌≡◌, ◌++◌, ◌<◌, ◌≤◌, ℕ, ℤ, List, [], All, reverse, length, unwrap_or, option_to_list, IfOk, OnOk};
 ghost use Rattle.std.specs.Option.{option_copied};
 ghost use Rattle.std.specs.List.{flat_map};
+ghost use Rattle.sv_world.specs.Limits.{most_positions};
+ghost use Rattle.sv_world.specs.Sets.{numbers_of};
 ghost use Rattle.sv_versions.specs.Held.{read_below};
 ghost use Rattle.sv_journal.specs.History.{actions_of};
 ghost use Rattle.sv_journal.specs.Answer.{Rules, Legal};
@@ -10,7 +12,7 @@ ghost use Rattle.sv_client.specs.Taking.{told};
 ghost use Rattle.sv_client.specs.Proper.{AreProper, Proper};
 ghost use Rattle.sv_client.specs.Evaluating.{ItemsAreAbove, AreWithin, ItemsReadWithin};
 ghost use Rattle.sv_system.specs.Fits.{Fits};
-ghost use Rattle.sv_snapshot.specs.Snapshots.{last_item, read_all_below, snapshot_at, snapshot_by, snapshots_in, snapshots_of, snapshots_of_trace};
+ghost use Rattle.sv_snapshot.specs.Snapshots.{last_item, read_all_below, snapshot_at, snapshot_seen, snapshot_by, snapshots_in, snapshots_of, snapshots_of_trace};
 ghost use Rattle.sv_snapshot.specs.Cuts.{IsCut};
 ghost use Rattle.sv_snapshot.specs.Again.{IsReadable};
 
@@ -82,7 +84,7 @@ fn snapshot_at(
     match last_item(items) {
         Some(item) if is_look(&item.action) => Ok(Some(Snapshot {
             client: client.id(),
-            seq,
+            seq: Some(seq),
             pos: item.pos,
             values: values_below(alloc, client, item.action.reads.as_slice(), item.pos)?,
         })),
@@ -90,18 +92,44 @@ fn snapshot_at(
     }
 }
 
-/// The snapshot that the event tells that a client did last.
+/// The snapshot of these objects, which were seen at the position `last`.
+fn snapshot_seen(
+    alloc: Global,
+    client: &Client,
+    last: u32,
+    objects: &[ObjectId],
+) -> Result<Snapshot, AllocError>
+    requires objects { AreWithin client.now.who.shape.objects objects.now }
+    requires above { told client.now.events ≤ last }
+    requires placed { last ≤ most_positions }
+    ensures { IfOk result (λ snapshot. snapshot ≡ snapshot_seen client.now.who.client last (held_of client.now.events) (numbers_of objects.now)) }
+{
+    let pos = last + 1;
+    Ok(Snapshot {
+        client: client.id(),
+        seq: None,
+        pos,
+        values: values_below(alloc, client, objects, pos)?,
+    })
+}
+
+/// The snapshot that the event tells that a client did last, where its reply shows these objects.
 fn snapshot_by(
     alloc: Global,
     client: &Client,
+    observed: &[ObjectId],
     event: &Event,
 ) -> Result<Option<Snapshot>, AllocError>
-    requires { IsReadable client.now.who client.now.events event.now }
-    ensures { IfOk result (λ snapshot. snapshot ≡ snapshot_by client.now.who.client (held_of client.now.events) event.now) }
+    requires objects { AreWithin client.now.who.shape.objects observed.now }
+    requires readable { IsReadable client.now.who client.now.events event.now }
+    ensures { IfOk result (λ snapshot. snapshot ≡ snapshot_by client.now.who.client (held_of client.now.events) (numbers_of observed.now) event.now) }
 {
     match event {
         Event::Got(_, Reply::Relay { seq, items, .. }) if *seq != 0 => {
             snapshot_at(alloc, client, *seq, items.as_slice())
+        }
+        Event::Got(_, Reply::Seen { last, .. }) => {
+            Ok(Some(snapshot_seen(alloc, client, *last, observed)?))
         }
         _ => Ok(None),
     }
@@ -125,12 +153,13 @@ fn append_told(
 ) -> Result<(), AllocError>
     requires start { client.old.events ≡ [] }
     requires proper { AreProper client.old.who trace.now.first (reverse trace.now.events) }
-    ensures { OnOk result (snapshots.new.items ≡ snapshots.old.items ++ snapshots_in client.old.who.client (reverse trace.now.events)) }
+    ensures { OnOk result (snapshots.new.items ≡ snapshots.old.items ++ snapshots_in client.old.who (reverse trace.now.events)) }
 {
     let events = trace.events.as_slice();
     for event in events {
+        let observed = copy_objects(alloc, client.observed())?;
         do_again(alloc, client, event)?;
-        let more = snapshot_by(alloc, client, event)?;
+        let more = snapshot_by(alloc, client, observed.as_slice(), event)?;
         push_some(snapshots, more)?;
     }
     Ok(())
@@ -143,7 +172,7 @@ fn append_trace(
     snapshots: &mut Vec<Snapshot>,
 ) -> Result<(), AllocError>
     requires { Proper shape trace.now }
-    ensures { OnOk result (snapshots.new.items ≡ snapshots.old.items ++ snapshots_of_trace trace.now) }
+    ensures { OnOk result (snapshots.new.items ≡ snapshots.old.items ++ snapshots_of_trace shape trace.now) }
 {
     let interest = copy_objects(alloc, trace.interest.as_slice())?;
     let mut client = Client::new(alloc, trace.client, shape, interest)?;
@@ -152,7 +181,7 @@ fn append_trace(
 
 fn told_by(alloc: Global, played: &Played) -> Result<Vec<Snapshot>, AllocError>
     requires { All (Proper played.now.shape) played.now.traces }
-    ensures { IfOk result (λ snapshots. snapshots.items ≡ snapshots_of played.now.traces) }
+    ensures { IfOk result (λ snapshots. snapshots.items ≡ snapshots_of played.now.shape played.now.traces) }
 {
     let mut snapshots = Vec::new(alloc);
     for trace in played.traces.as_slice() {
@@ -161,7 +190,8 @@ fn told_by(alloc: Global, played: &Played) -> Result<Vec<Snapshot>, AllocError>
     Ok(snapshots)
 }
 
-/// The snapshots that the clients of a run were told by their looks: client by client, and each client's in the order in which it was told.
+/// The snapshots that the clients of a run were told by their looks, and of what they observed: client by client, and each client's in the order
+/// in which it was told.
 ///
 /// A look that was dropped, or settled without a relay, tells none; nor does another client's, though it is among the items of a relay.
 /// Where the journal is legal and the traces fit it, as they do after every run, each snapshot is one cut: its values are those of the
@@ -169,7 +199,7 @@ fn told_by(alloc: Global, played: &Played) -> Result<Vec<Snapshot>, AllocError>
 /// they are of one moment.
 pub fn snapshots(alloc: Global, played: &Played) -> Result<Vec<Snapshot>, AllocError>
     requires { All (Proper played.now.shape) played.now.traces }
-    ensures exact { IfOk result (λ snapshots. snapshots.items ≡ snapshots_of played.now.traces) }
+    ensures exact { IfOk result (λ snapshots. snapshots.items ≡ snapshots_of played.now.shape played.now.traces) }
     ensures cuts { (r : Rules) → length r.world.values ≡ r.world.shape.objects → played.now.shape ≡ r.world.shape
         → Legal r (reverse played.now.journal.entries) → Fits r.world.shape (reverse played.now.journal.entries) played.now.traces
         → IfOk result (λ snapshots. All (IsCut r.world.values (actions_of (reverse played.now.journal.entries))) snapshots.items) }

@@ -36,8 +36,8 @@ fn lines_of(alloc: Global, shape: Shape, snapshots: &[Snapshot]) -> Result<Vec<L
 /// The lines of the snapshots of what was played.
 fn played_text(alloc: Global, played: &Played) -> Result<String, AllocError>
     requires proper { All (Proper played.now.shape) played.now.traces }
-    requires shaped { All (IsShaped played.now.shape) (snapshots_of played.now.traces) }
-    ensures { IfOk result (λ text. string_bytes text ≡ looks_text played.now.traces) }
+    requires shaped { All (IsShaped played.now.shape) (snapshots_of played.now.shape played.now.traces) }
+    ensures { IfOk result (λ text. string_bytes text ≡ looks_text played.now.shape played.now.traces) }
 {
     let told = snapshots(alloc, played)?;
     let lines = lines_of(alloc, played.shape, &told)?;

@@ -37,12 +37,13 @@ fn decide<F: Files, K: Sink>(
     }
 }
 
-/// Runs the schedule of a file's scenario on one thread, prints a line for each look that a client was told of, and answers the status with
-/// which the program ends.
+/// Runs the schedule of a file's scenario on one thread, prints a line for each look that a client was told of and for each time that one saw what
+/// it observed, and answers the status with which the program ends.
 ///
 /// The words leave out the program's own name. They are `looks FILE`. The lines stand client by client, and each client's in the order in
 /// which it was told. A look is an action that writes nothing and has no statements; its line has the values that the objects it reads have
-/// just before its position, all at this one moment of the serial execution.
+/// just before its position, all at this one moment of the serial execution. The line of what was observed has the values that its objects have
+/// at the position that it tells.
 ///
 /// The status is the first of these that applies: 2 where the words are others, 4 where the file can't be read, 3 where it is no scenario, and
 /// 5 where the output failed; else it is 0, or 8 where memory ran out. All lines are made before any of them is printed.

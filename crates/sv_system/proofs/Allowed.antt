@@ -1,5 +1,5 @@
 -- The next reply to a client is of a kind that its request may have.
-use Rattle.std.proofs.Common.{◌≡◌, ℕ, zero, suc, ◌+◌, ◌<◌, ◌≤◌, Bool, true, false, not, ◌||◌, ◌==◌, nat_le, nat_lt, inl, inr, List, [], ◌∷◌, ◌++◌, map, reverse, length, ℤ, Option, Some, None, slice_get, refl, sym, ap, ◌∙◌, subst, arith, eq-eqb, true≢false}
+use Rattle.std.proofs.Common.{◌≡◌, ℕ, zero, suc, ◌<◌, ◌≤◌, Bool, true, false, not, ◌||◌, ◌==◌, nat_le, nat_lt, inl, inr, List, [], ◌∷◌, ◌++◌, map, reverse, length, ℤ, Option, Some, None, slice_get, refl, sym, ap, ◌∙◌, subst, arith, eq-eqb, true≢false}
 use Rattle.std.specs.Prelude.{if◌then◌else◌, All}
 use Rattle.std.specs.List.{AllByRecursion}
 use Rattle.std.proofs.lemmas.Bool.{cond_both, cond-true, cond-false, or_parts, ne_eqb}
@@ -19,7 +19,6 @@ use Rattle.sv_versions.specs.Held.{Held}
 use Rattle.sv_pending.specs.Pending.{PendingAction}
 use Rattle.sv_wire.specs.declared.message.Done1.{Done1}
 use Rattle.sv_wire.specs.declared.message.ObjectValue.{ObjectValue}
-use Rattle.sv_wire.specs.declared.message.Item.{Item}
 use Rattle.sv_wire.specs.declared.message.Request.{Request}
 use Rattle.sv_wire.specs.declared.message.Request.TheVariants as requests
 use Rattle.sv_wire.specs.declared.message.Reply.{Reply}
@@ -34,7 +33,7 @@ use Rattle.sv_journal.specs.Serving.{Keeping, with_last_rows, polled_after, Lega
 use Rattle.sv_journal.proofs.Kept.{client-kept, next-kept, kept_outcome-kept, accepted-kept, sent-kept}
 use Rattle.sv_client.specs.declared.trace.Event.{Event}
 use Rattle.sv_client.specs.declared.trace.Event.TheVariants as events
-use Rattle.sv_client.specs.Traces.{joins, makes, current_session, is_session, held_of, with_reply, head_held, results_of, done_for, pending_of, submit_of, asked_by_event, asked, got}
+use Rattle.sv_client.specs.Traces.{joins, makes, current_session, is_session, held_of, with_items, with_reply, head_held, results_of, done_for, pending_of, submit_of, asked_by_event, asked, got}
 use Rattle.sv_client.specs.Taking.{Identity, allows, items_of, is_bad_head, is_bad_relay, is_good_relay, has_bad_item}
 use Rattle.sv_client.specs.Proper.{AreProper, identity_of}
 use Rattle.sv_system.specs.Fits.{replies_in}
@@ -156,15 +155,16 @@ module _ (who : Identity) (first : ℕ) where
 -- ---- What a Done reports
 
 -- The results of the items of a reply, where its head is held.
-record IsBroughtBy (held : List Held) (reply : Reply) (results : List Done1) : Type 0 where
-  commit : ℕ
-  head : List ObjectValue
-  results_are : results ≡ results_of (held ++ head_held commit head) (items_of reply)
+pub record IsBroughtBy (held : List Held) (reply : Reply) (results : List Done1) : Type 0 where
+  pub commit : ℕ
+  pub head : List ObjectValue
+  pub results_are : results ≡ results_of (held ++ head_held commit head) (items_of reply)
+  pub held_after : with_reply held reply ≡ with_items (held ++ head_held commit head) (items_of reply)
 
-brought-by : (held : List Held) (reply : Reply) (results : List Done1) → done_for held reply ≡ requests.Done results ∷ [] → IsBroughtBy held reply results
-brought-by held (replies.Relay seq commit head items) results e = record { commit = commit; head = head; results_are = sym (ap first-results e) }
+pub brought-by : (held : List Held) (reply : Reply) (results : List Done1) → done_for held reply ≡ requests.Done results ∷ [] → IsBroughtBy held reply results
+brought-by held (replies.Relay seq commit head items) results e = record { commit = commit; head = head; results_are = sym (ap first-results e); held_after = refl }
 brought-by held (replies.Seen last commit head []) results e = cc
-brought-by held (replies.Seen last commit head (item ∷ items)) results e = record { commit = commit; head = head; results_are = sym (ap first-results e) }
+brought-by held (replies.Seen last commit head (item ∷ items)) results e = record { commit = commit; head = head; results_are = sym (ap first-results e); held_after = refl }
 brought-by held (replies.Welcome commit head) results e = cc
 brought-by held (replies.Dropped seq chain far) results e = cc
 brought-by held (replies.Denied seq object) results e = cc
@@ -175,7 +175,7 @@ brought-by held (replies.Refused code detail) results e = cc
 brought-by held replies.Bye results e = cc
 
 -- A reply that a client takes, and that asks for a Done, has items.
-some-items : (who : Identity) (ps : List PendingAction) (q : Request) (held : List Held) (reply : Reply) (results : List Done1) → done_for held reply ≡ requests.Done results ∷ [] →
+pub some-items : (who : Identity) (ps : List PendingAction) (q : Request) (held : List Held) (reply : Reply) (results : List Done1) → done_for held reply ≡ requests.Done results ∷ [] →
     has_bad_item who ps q reply ≡ false → (length (items_of reply) == 0) ≡ false
 some-items who ps q held (replies.Relay seq commit head items) results e good =
     (or_parts (length items == 0) _ (or_parts _ (not (is_good_relay who ps q seq items)) (or_parts (is_bad_head who.shape head) (is_bad_relay who ps q seq items) good).1).0).0

@@ -128,7 +128,8 @@ pub all-small : (K : Keeping) (keeps : IsKeeping K) (r : Rules) (h : List Entry)
 all-small K keeps r [] l = tt
 all-small K keeps r (e ∷ h) l = (one-small K keeps r e h l e.reply refl, all-small K keeps r h l.1)
 
-sent-of : (r : Rules) (reply : Logged) → r.bound ≤ 32 → most_sent r reply ≤ 33
+-- So many are at most those of a report.
+pub sent-of : (r : Rules) (reply : Logged) → r.bound ≤ 32 → most_sent r reply ≤ 33
 sent-of r (logged.Seen last commit head positions) l = omega arith
 sent-of r (logged.Relay seq commit head positions) l = omega arith
 sent-of r (logged.Welcome commit head) l = omega arith

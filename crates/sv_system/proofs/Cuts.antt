@@ -1,15 +1,14 @@
 -- What was seen is one cut: once it is taken, each of its objects is held, at its position, as the serial execution has it there.
-use Rattle.std.proofs.Common.{◌≡◌, ℕ, suc, ◌<◌, ◌≤◌, true, false, ◌&&◌, ◌==◌, nat_le, nat_lt, inl, inr, List, [], ◌∷◌, ◌++◌, map, length, ℤ, Option, Some, None, option_map, is_none, slice_index_or, refl, sym, ap, ◌∙◌, subst, arith}
-use Rattle.std.specs.List.{AllByRecursion, flat_map}
+use Rattle.std.proofs.Common.{◌≡◌, ℕ, suc, ◌<◌, ◌≤◌, true, ◌&&◌, ◌==◌, nat_le, nat_lt, inl, inr, List, [], ◌∷◌, ◌++◌, map, length, ℤ, Some, None, option_map, is_none, slice_index_or, refl, sym, ap, ◌∙◌, subst, arith}
+use Rattle.std.specs.List.{flat_map}
 use Rattle.std.proofs.lemmas.Bool.{cond-false}
 use Rattle.sv_world.specs.Control.{is_in, last_writer}
 use Rattle.sv_world.specs.Sets.{numbers_of}
 use Rattle.sv_world.proofs.Members.{is_in-head, is_in-tail}
-use Rattle.sv_world.proofs.Writers.{last_writer-below, last_writer-writes}
+use Rattle.sv_world.proofs.Writers.{last_writer-writes}
 use Rattle.sv_eval.specs.Serial.{serial_world}
 use Rattle.sv_versions.specs.Held.{Held, read_below}
 use Rattle.sv_wire.specs.declared.message.ObjectValue.{ObjectValue as Sent}
-use Rattle.sv_wire.specs.declared.message.Item.{Item}
 use Rattle.sv_journal.specs.declared.entry.Entry.{Entry}
 use Rattle.sv_journal.specs.declared.entry.Logged.TheVariants as logged
 use Rattle.sv_journal.specs.History.{Authored, accepted, actions_of, item_at, full_reply}
@@ -24,13 +23,13 @@ use Rattle.sv_system.specs.Serial.{IsSerial, AreSerial, is_covered}
 use Rattle.sv_system.specs.Delivery.{Delivery, tellings_to, telling_in, tellings_got}
 use Rattle.sv_system.specs.Journals.{deliveries_of, ResultsAreSerial}
 use Rattle.sv_system.proofs.Histories.{IsEarlier, same, earlier-rest, earlier-served}
-use Rattle.sv_system.proofs.Covers.{is_held, covered-held, covered-found}
+use Rattle.sv_system.proofs.Covers.{covered-held, covered-found}
 use Rattle.sv_system.proofs.Serials.{serial-since}
 use Rattle.sv_system.proofs.Items.{actions_in, items-keep, items-have}
 use Rattle.sv_system.proofs.Relays.{Knows, IsBrought, brought-covered, seen-brought}
 use Rattle.sv_system.proofs.Tellings.{AreTaken, knows-taken, delivery-taken}
 use Rattle.sv_system.proofs.Replied.{tellings-got, tellings-replied}
-use Rattle.sv_system.proofs.Lawful.{IsLegalSeen, legal-seen, delivery_at, seen-shown, seen-lawful}
+use Rattle.sv_system.proofs.Lawful.{IsLegalSeen, delivery_at, seen-shown, seen-lawful}
 use Rattle.sv_system.proofs.Induction.{plain-acts, well-after, results-part}
 
 -- Of an object that is covered behind a position, the value read there is the serial one.

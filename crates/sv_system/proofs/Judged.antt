@@ -1,8 +1,8 @@
 -- Each new action is dropped for its chain or its distance alone, and no action is accepted twice.
-use Rattle.std.proofs.Common.{◌⊎◌, inl, inr, ◌≡◌, ℕ, zero, suc, ◌+◌, ◌<◌, ◌≤◌, Bool, true, false, ◌&&◌, ◌||◌, ◌==◌, nat_le, nat_lt, List, [], ◌∷◌, ◌++◌, map, length, Option, Some, None, slice_get, refl, sym, ap, ◌∙◌, subst, arith, eqb-true, eq-eqb, ltb-true, lt-ltb, true≢false, if◌then◌else◌, append-nil}
+use Rattle.std.proofs.Common.{◌⊎◌, inl, inr, ◌≡◌, ℕ, suc, ◌+◌, ◌<◌, ◌≤◌, Bool, true, false, ◌&&◌, ◌||◌, ◌==◌, nat_le, nat_lt, List, [], ◌∷◌, ◌++◌, length, Option, Some, None, slice_get, refl, sym, ap, ◌∙◌, subst, arith, eqb-true, eq-eqb, ltb-true, lt-ltb, true≢false, if◌then◌else◌, append-nil}
 use Rattle.std.proofs.lemmas.Bool.{cond_both, cond-true, cond-false, and_from, or_parts, cases_Bool, cases_lt}
 use Rattle.std.proofs.lemmas.List.{length-append}
-use Rattle.std.proofs.lemmas.Option.{none-some, same_Some}
+use Rattle.std.proofs.lemmas.Option.{none-some}
 use Rattle.sv_world.specs.declared.action.Action.{Action}
 use Rattle.sv_world.specs.declared.check.BadAction.{BadAction}
 use Rattle.sv_world.specs.Control.{chain_length, influence_distance}
@@ -15,9 +15,9 @@ use Rattle.sv_journal.specs.declared.entry.Logged.{Logged}
 use Rattle.sv_journal.specs.declared.entry.Logged.TheVariants as logged
 use Rattle.sv_journal.specs.History.{Authored, Outcome, is_client, is_relay, is_submit_of, new_action, outcome_in, outcomes_of, client_of, accepted, actions_of, next_seq, commit_of}
 use Rattle.sv_journal.specs.Sessions.{is_over, asked_in, kept_outcome}
-use Rattle.sv_journal.specs.Answer.{Rules, is_over_reach, reply_to_good, reply_to_checked, reply_to_submit, reply_to_client, reply_to_member, reply_to_open, reply_to, Legal}
+use Rattle.sv_journal.specs.Answer.{Rules, is_over_reach, reply_to_good, reply_to_checked, reply_to_submit, reply_to_member, reply_to, Legal}
 use Rattle.sv_journal.proofs.Sizes.{kept_known}
-use Rattle.sv_system.specs.Outcomes.{AreAcceptedOnce, IsDropped, IsWithinLimits, IsOutcome, HasRightOutcome, HaveRightOutcomes}
+use Rattle.sv_system.specs.Outcomes.{AreAcceptedOnce, IsOutcome, HasRightOutcome, HaveRightOutcomes}
 use Rattle.sv_system.proofs.Fronts.{get-push_cases}
 
 not-below : (m n : ℕ) → nat_lt m n ≡ false → n ≤ m

@@ -1,5 +1,5 @@
 -- The rules of a good scenario keep the limits.
-use Rattle.std.proofs.Common.{ℕ, ◌≤◌, ◌^◌, arith}
+use Rattle.std.proofs.Common.{◌≤◌, ◌^◌, arith}
 use Rattle.sv_journal.specs.Laws.{AreWithinLimits}
 use Rattle.sv_scenario.specs.declared.scenario.Scenario.{Scenario}
 use Rattle.sv_scenario.specs.Limits.{IsGoodScenario}

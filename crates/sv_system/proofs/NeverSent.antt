@@ -15,7 +15,6 @@ use Rattle.sv_journal.specs.declared.entry.Logged.{Logged}
 use Rattle.sv_journal.specs.declared.entry.Logged.TheVariants as logged
 use Rattle.sv_journal.specs.History.{Authored, Outcome, Accepted, accepted, actions_of, client_of, is_client, is_relay, is_submit_of, outcome_in, new_action, outcomes_of, next_seq, full_reply, commit_of}
 use Rattle.sv_journal.specs.Sessions.{is_end, kept_outcome, outcome_at, positions_in, sent_to}
-use Rattle.sv_journal.specs.Serving.{LegalFor}
 use Rattle.sv_journal.proofs.Named.{client_is, submit_is}
 use Rattle.sv_client.specs.declared.trace.Event.{Event}
 use Rattle.sv_client.specs.Traces.{asked, got}

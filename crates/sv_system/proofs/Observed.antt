@@ -1,16 +1,14 @@
 -- What each Seen of a client's trace showed is one cut of the serial execution, of the objects that it was asked for.
-use Rattle.std.proofs.Common.{◌≡◌, ℕ, suc, ◌<◌, ◌≤◌, true, false, ◌==◌, List, [], ◌∷◌, ◌++◌, drop, map, reverse, length, ℤ, Option, Some, None, slice_get, slice_index_or, refl, sym, ap, ◌∙◌, subst, arith, eq-eqb, true≢false}
+use Rattle.std.proofs.Common.{◌≡◌, ℕ, suc, true, ◌==◌, List, [], ◌∷◌, ◌++◌, map, reverse, length, ℤ, Option, Some, slice_get, slice_index_or, refl, sym, ap, ◌∙◌, subst, eq-eqb, true≢false}
 use Rattle.std.specs.Prelude.{All}
-use Rattle.std.specs.List.{AllByRecursion}
 use Rattle.std.proofs.lemmas.Bool.{cond-true}
-use Rattle.std.proofs.lemmas.List.Elements.{All-from_recursion, recursion_from_All}
+use Rattle.std.proofs.lemmas.List.Elements.{All-from_recursion}
 use Rattle.sv_world.specs.Control.{is_in}
 use Rattle.sv_world.specs.Sets.{numbers_of}
 use Rattle.sv_world.specs.declared.action.Action.{Action}
 use Rattle.sv_world.specs.declared.world.ObjectId.{ObjectId}
-use Rattle.sv_world.specs.declared.world.Shape.{Shape}
 use Rattle.sv_eval.specs.Serial.{serial_world}
-use Rattle.sv_versions.specs.Held.{Held, read_below}
+use Rattle.sv_versions.specs.Held.{read_below}
 use Rattle.sv_wire.specs.declared.message.ObjectValue.{ObjectValue as Sent}
 use Rattle.sv_wire.specs.declared.message.Item.{Item}
 use Rattle.sv_wire.specs.declared.message.Request.{Request}
@@ -22,28 +20,27 @@ use Rattle.sv_journal.specs.declared.entry.Logged.{Logged}
 use Rattle.sv_journal.specs.declared.entry.Logged.TheVariants as logged
 use Rattle.sv_journal.specs.History.{Authored, accepted, actions_of, item_at, full_reply}
 use Rattle.sv_journal.specs.Answer.{Rules}
-use Rattle.sv_journal.specs.Serving.{Keeping, LegalFor, IsKeeping}
+use Rattle.sv_journal.specs.Serving.{Keeping}
 use Rattle.sv_client.specs.declared.trace.Event.{Event}
 use Rattle.sv_client.specs.declared.trace.Event.TheVariants as events
 use Rattle.sv_client.specs.declared.trace.Trace.{Trace}
 use Rattle.sv_client.specs.Traces.{held_of, with_reply, asked, got}
 use Rattle.sv_client.specs.Kinds.{kind_of}
 use Rattle.sv_client.specs.Taking.{Identity, allows, unanswered, observed_by, observed_first, observed_now}
-use Rattle.sv_client.specs.Proper.{AreProper, identity_of}
+use Rattle.sv_client.specs.Proper.{identity_of}
 use Rattle.sv_system.specs.Fronts.{IsFront}
-use Rattle.sv_system.specs.Fits.{requests_in, replies_in, has_session, FitsOne}
-use Rattle.sv_system.specs.Served.{FitsButValues}
+use Rattle.sv_system.specs.Fits.{requests_in, replies_in, has_session}
 use Rattle.sv_system.specs.Journals.{ResultsAreSerial}
 use Rattle.sv_system.specs.Cuts.{IsSeenWhole, AreCuts}
-use Rattle.sv_system.proofs.Fronts.{front-then, front-all, get-last, fronts-same}
+use Rattle.sv_system.proofs.Fronts.{front-then, get-last, fronts-same}
 use Rattle.sv_system.proofs.Every.{each-member}
-use Rattle.sv_system.proofs.Histories.{IsEarlier, earlier-rest, earlier-served}
+use Rattle.sv_system.proofs.Histories.{earlier-rest, earlier-served}
 use Rattle.sv_system.proofs.Entered.{of-parts, as-many, replies-earlier, request-there, IsEntered, entered}
 use Rattle.sv_system.proofs.Asked.{IsPart, all, part-rest, proper-part, asked-part, got-part, Answers, may-answer}
 use Rattle.sv_system.proofs.Asking.{IsServed, entered-as}
 use Rattle.sv_system.proofs.Aligned.{drop-one}
 use Rattle.sv_system.proofs.Order.{got-has, got-replied}
-use Rattle.sv_system.proofs.Lawful.{IsLegalSeen, legal-seen}
+use Rattle.sv_system.proofs.Lawful.{legal-seen}
 use Rattle.sv_system.proofs.Cuts.{seen-whole}
 
 -- Only an Observe is answered Seen.

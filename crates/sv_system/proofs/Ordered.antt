@@ -163,7 +163,7 @@ module _ (awaited : Awaited) where
       let within : last ≤ length (accepted (e ∷ g)) = t.accepted_to in
       let grows : length (accepted (e ∷ g)) ≤ length A = accepted-grows (e ∷ g) H b in
       let bounds = λ (k : ℕ) (m : is_in k positions ≡ true).
-          see-bounds acts (commit_of (K.kept g)) sent seen last k (subst (λ (ks : List ℕ). is_in k ks ≡ true) t.positions_are m) in
+      see-bounds acts (commit_of (K.kept g)) sent seen last k (subst (λ (ks : List ℕ). is_in k ks ≡ true) t.positions_are m) in
       five-false (not (is_ascending (head_objects head))) (not (is_ascending (map (λ (i : Item). i.pos) items))) (begins_by commit items) (goes_back (Some commit) (told whole))
       (nat_lt last commit || list_any (λ (i : Item). nat_lt last i.pos) items || nat_lt most_positions last)
       (not_from_true (is_ascending (head_objects head))

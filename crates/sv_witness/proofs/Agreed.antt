@@ -46,6 +46,7 @@ reports-with test p (requests.Done results) = reported-filter test p results
 reports-with test p (requests.Join client life interest) = none-either (test p)
 reports-with test p (requests.Submit seq a) = none-either (test p)
 reports-with test p requests.Poll = none-either (test p)
+reports-with test p (requests.Observe objects wait) = none-either (test p)
 reports-with test p requests.Leave = none-either (test p)
 reports-with test p requests.Bad = none-either (test p)
 reports-with test p requests.End = none-either (test p)

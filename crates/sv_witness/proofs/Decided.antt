@@ -7,8 +7,9 @@ use Rattle.sv_world.specs.declared.action.Action.{Action}
 use Rattle.sv_world.specs.declared.check.BadAction.{BadAction}
 use Rattle.sv_world.specs.declared.world.ObjectId.{ObjectId}
 use Rattle.sv_world.specs.Control.{chain_length, influence_distance}
-use Rattle.sv_world.specs.Faults.{first_fault_of_action}
+use Rattle.sv_world.specs.Faults.{first_fault_of_action, may_be_observed}
 use Rattle.sv_world.specs.Limits.{most_requests}
+use Rattle.sv_world.specs.Sets.{numbers_of}
 use Rattle.sv_wire.specs.declared.message.Done1.{Done1}
 use Rattle.sv_wire.specs.declared.message.Request.{Request}
 use Rattle.sv_wire.specs.declared.message.Request.TheVariants as requests
@@ -59,6 +60,7 @@ module _ (r : Rules) (g : List Entry) (s : ℕ) where
   client-busy k (requests.Submit seq a) unasked = submit-busy k seq a (kept_outcome g k seq)
   client-busy k (requests.Done results) unasked = cond_both (is_bad_done r g s results) _ _ IsBusy (λ _. refl) (λ _. refl)
   client-busy k requests.Poll unasked = absurd (true≢false unasked)
+  client-busy k (requests.Observe objects wait) unasked = cond_both (may_be_observed r.world.shape.objects (numbers_of objects)) _ _ IsBusy (λ _. refl) (λ _. refl)
   client-busy k (requests.Join client life interest) unasked = refl
   client-busy k requests.Leave unasked = refl
   client-busy k requests.Bad unasked = refl
@@ -83,6 +85,7 @@ module _ (r : Rules) (g : List Entry) (s : ℕ) where
   request-busy (requests.Submit seq a) unasked = open-busy _ (member-busy (client_of g s) (requests.Submit seq a) unasked)
   request-busy (requests.Done results) unasked = open-busy _ (member-busy (client_of g s) (requests.Done results) unasked)
   request-busy requests.Poll unasked = absurd (true≢false unasked)
+  request-busy (requests.Observe objects wait) unasked = open-busy _ (member-busy (client_of g s) (requests.Observe objects wait) unasked)
   request-busy requests.Leave unasked = open-busy _ (member-busy (client_of g s) requests.Leave unasked)
   request-busy requests.Bad unasked = open-busy _ refl
   request-busy requests.End unasked = open-busy _ (member-busy (client_of g s) requests.End unasked)
@@ -99,6 +102,7 @@ poll-is requests.Poll is = refl
 poll-is (requests.Join client life interest) is = absurd (true≢false (sym is))
 poll-is (requests.Submit seq a) is = absurd (true≢false (sym is))
 poll-is (requests.Done results) is = absurd (true≢false (sym is))
+poll-is (requests.Observe objects wait) is = absurd (true≢false (sym is))
 poll-is requests.Leave is = absurd (true≢false (sym is))
 poll-is requests.Bad is = absurd (true≢false (sym is))
 poll-is requests.End is = absurd (true≢false (sym is))
@@ -141,6 +145,7 @@ module _ (r : Rules) (h : List Entry) (s : ℕ) (q : Request) (d : Decision) (mo
       go (decisions.Accept client seq) is told = absurd (true≢false (sym is))
       go decisions.Note is told = absurd (true≢false (sym is))
       go decisions.Leave is told = absurd (true≢false (sym is))
+      go decisions.See is told = absurd (true≢false (sym is))
 
   pub poll-reply : answers_poll q d ≡ true → witnessed_reply r h s q ≡ polled_after agreed r h s
   poll-reply is = decided-reply ∙ go d is
@@ -156,6 +161,7 @@ module _ (r : Rules) (h : List Entry) (s : ℕ) (q : Request) (d : Decision) (mo
       go (decisions.Accept client seq) is = absurd (true≢false (sym is))
       go decisions.Note is = absurd (true≢false (sym is))
       go decisions.Leave is = absurd (true≢false (sym is))
+      go decisions.See is = absurd (true≢false (sym is))
 
 -- ---- Other decisions
 
@@ -170,6 +176,7 @@ is-plain r g s q (decisions.Drop client seq chain far) other unasked holds = tt
 is-plain r g s q (decisions.Repeat seq chain far) other unasked holds = tt
 is-plain r g s q (decisions.Settle seq pos) other unasked holds = tt
 is-plain r g s q decisions.Leave other unasked holds = tt
+is-plain r g s q decisions.See other unasked holds = tt
 
 -- A Done gives no client a new outcome.
 done-old : (g : List Entry) (s : ℕ) (results : List Done1) → IsOld g s (requests.Done results)
@@ -194,6 +201,7 @@ done-holds r g s results (decisions.Welcome client life) plain holds = record { 
 done-holds r g s results (decisions.Drop client seq chain far) plain holds = absurd (true≢false (sym (ap is_submit holds.submit)))
 done-holds r g s results (decisions.Repeat seq chain far) plain holds = done-old g s []
 done-holds r g s results (decisions.Settle seq pos) plain holds = tt
+done-holds r g s results decisions.See plain holds = (done-old g s [], holds.1)
 done-holds r g s results decisions.Leave plain holds = tt
 
 -- They hold as well of a Done without its results.
@@ -202,6 +210,7 @@ emptied-holds r g s (requests.Done results) d plain holds = done-holds r g s res
 emptied-holds r g s (requests.Join client life interest) d plain holds = holds
 emptied-holds r g s (requests.Submit seq a) d plain holds = holds
 emptied-holds r g s requests.Poll d plain holds = holds
+emptied-holds r g s (requests.Observe objects wait) d plain holds = holds
 emptied-holds r g s requests.Leave d plain holds = holds
 emptied-holds r g s requests.Bad d plain holds = holds
 emptied-holds r g s requests.End d plain holds = holds
@@ -218,12 +227,14 @@ done-reply r g s results (decisions.Drop client seq chain far) plain = refl
 done-reply r g s results (decisions.Repeat seq chain far) plain = refl
 done-reply r g s results (decisions.Settle seq pos) plain = refl
 done-reply r g s results decisions.Leave plain = refl
+done-reply r g s results decisions.See plain = refl
 
 emptied-reply : (r : Rules) (g : List Entry) (s : ℕ) (q : Request) (d : Decision) → IsPlain q d → reply_by r g s (emptied q) d ≡ reply_by r g s q d
 emptied-reply r g s (requests.Done results) d plain = done-reply r g s results d plain
 emptied-reply r g s (requests.Join client life interest) d plain = refl
 emptied-reply r g s (requests.Submit seq a) d plain = refl
 emptied-reply r g s requests.Poll d plain = refl
+emptied-reply r g s (requests.Observe objects wait) d plain = refl
 emptied-reply r g s requests.Leave d plain = refl
 emptied-reply r g s requests.Bad d plain = refl
 emptied-reply r g s requests.End d plain = refl
@@ -322,6 +333,7 @@ emptied-other (requests.Done results) other = absurd (other results refl)
 emptied-other (requests.Join client life interest) other = refl
 emptied-other (requests.Submit seq a) other = refl
 emptied-other requests.Poll other = refl
+emptied-other (requests.Observe objects wait) other = refl
 emptied-other requests.Leave other = refl
 emptied-other requests.Bad other = refl
 emptied-other requests.End other = refl

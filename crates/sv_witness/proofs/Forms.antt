@@ -45,6 +45,7 @@ done-noted r h s results (logged.Noted commit) e = refl
 done-noted r h s results (logged.Welcome commit head) e = e
 done-noted r h s results (logged.Relay seq commit head positions) e = e
 done-noted r h s results (logged.Dropped seq chain far) e = e
+done-noted r h s results (logged.Seen last commit head positions) e = e
 done-noted r h s results (logged.Settled seq pos) e = e
 done-noted r h s results logged.Idle e = absurd (true≢false (sym e ∙ polled-quiet r (agreed_history h) s (due_to h s)))
 done-noted r h s results (logged.Refused code detail) e = e
@@ -64,6 +65,7 @@ done-of p (requests.Done results) vs is = record { results = results; done = ref
 done-of p (requests.Join client life interest) vs is = absurd (none-some vs is)
 done-of p (requests.Submit seq a) vs is = absurd (none-some vs is)
 done-of p requests.Poll vs is = absurd (none-some vs is)
+done-of p (requests.Observe objects wait) vs is = absurd (none-some vs is)
 done-of p requests.Leave vs is = absurd (none-some vs is)
 done-of p requests.Bad vs is = absurd (none-some vs is)
 done-of p requests.End vs is = absurd (none-some vs is)

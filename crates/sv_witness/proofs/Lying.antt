@@ -31,6 +31,7 @@ lied-same (requests.Done results) = (map lied_result results, (refl, lied-form r
 lied-same (requests.Join client life interest) = refl
 lied-same (requests.Submit seq a) = refl
 lied-same requests.Poll = refl
+lied-same (requests.Observe objects wait) = refl
 lied-same requests.Leave = refl
 lied-same requests.Bad = refl
 lied-same requests.End = refl

@@ -40,6 +40,7 @@ noted-no-relay (logged.Noted commit) n = refl
 noted-no-relay (logged.Welcome commit head) n = cc
 noted-no-relay (logged.Relay seq commit head positions) n = cc
 noted-no-relay (logged.Dropped seq chain far) n = cc
+noted-no-relay (logged.Seen last commit head positions) n = cc
 noted-no-relay (logged.Settled seq pos) n = cc
 noted-no-relay logged.Idle n = cc
 noted-no-relay (logged.Refused code detail) n = cc
@@ -68,6 +69,7 @@ new-few (Some k) next (requests.Submit seq a) true = go (seq == next k) (record 
 new-few (Some k) next (requests.Join client life interest) true = omega arith
 new-few (Some k) next (requests.Done results) true = omega arith
 new-few (Some k) next requests.Poll true = omega arith
+new-few (Some k) next (requests.Observe objects wait) true = omega arith
 new-few (Some k) next requests.Leave true = omega arith
 new-few (Some k) next requests.Bad true = omega arith
 new-few (Some k) next requests.End true = omega arith

@@ -39,6 +39,7 @@ IsPlain q (decisions.Drop client seq chain far) = Unit {0}
 IsPlain q (decisions.Repeat seq chain far) = Unit {0}
 IsPlain q (decisions.Settle seq pos) = Unit {0}
 IsPlain q decisions.Leave = Unit {0}
+IsPlain q decisions.See = Unit {0}
 
 pub plain-reply : (r : Rules) (h : List Entry) (s : ℕ) (q : Request) (d : Decision) → IsPlain q d →
     with_last_rows agreed r h s q (reply_by r (agreed_history h) s q d) ≡ reply_by r (agreed_history h) s q d
@@ -52,6 +53,7 @@ plain-reply r h s q (decisions.Drop client seq chain far) plain = refl
 plain-reply r h s q (decisions.Repeat seq chain far) plain = refl
 plain-reply r h s q (decisions.Settle seq pos) plain = refl
 plain-reply r h s q decisions.Leave plain = refl
+plain-reply r h s q decisions.See plain = refl
 
 pub plain-quiet : (r : Rules) (h : List Entry) (s : ℕ) (q : Request) (d : Decision) → IsPlain q d → is_noted (reply_by r h s q d) ≡ false
 plain-quiet r h s q decisions.Note plain = absurd plain
@@ -64,6 +66,7 @@ plain-quiet r h s q (decisions.Drop client seq chain far) plain = refl
 plain-quiet r h s q (decisions.Repeat seq chain far) plain = refl
 plain-quiet r h s q (decisions.Settle seq pos) plain = refl
 plain-quiet r h s q decisions.Leave plain = refl
+plain-quiet r h s q decisions.See plain = refl
 
 -- Who may report, and that its Done as a whole is not bad.
 pub record MayReport (r : Rules) (h : List Entry) (s : ℕ) (results : List Done1) : Type 0 where
@@ -97,6 +100,7 @@ with-none test (requests.Done results) none = ap requests.Done (filter-none test
 with-none test (requests.Join client life interest) none = refl
 with-none test (requests.Submit seq a) none = refl
 with-none test requests.Poll none = refl
+with-none test (requests.Observe objects wait) none = refl
 with-none test requests.Leave none = refl
 with-none test requests.Bad none = refl
 with-none test requests.End none = refl

@@ -22,6 +22,7 @@ use Rattle.sv_client.specs.declared.trace.Trace.{Trace}
 use Rattle.sv_client.specs.Traces.{current_session, asked, got, held_of}
 use Rattle.sv_client.specs.Taking.{Identity, first_fault_of_reply}
 use Rattle.sv_scenario.specs.declared.scenario.Scenario.{Scenario}
+use Rattle.sv_world.specs.Limits.{most_positions}
 use Rattle.sv_scenario.specs.Limits.{IsGoodScenario}
 use Rattle.sv_scenario.specs.Sessions.{session_count}
 use Rattle.sv_system.specs.Fits.{is_join_of, requests_in, replies_in}
@@ -93,6 +94,7 @@ lied-fits (requests.Join client life interest) f = f
 lied-fits (requests.Submit seq a) f = f
 lied-fits (requests.Done results) f = results-fit results f
 lied-fits requests.Poll f = tt
+lied-fits (requests.Observe objects wait) f = f
 lied-fits requests.Leave f = tt
 lied-fits requests.Bad f = tt
 lied-fits requests.End f = tt
@@ -104,6 +106,7 @@ submit-lied (requests.Submit n a) h = h
 submit-lied (requests.Join client life interest) h = tt
 submit-lied (requests.Done results) h = tt
 submit-lied requests.Poll h = tt
+submit-lied (requests.Observe objects wait) h = tt
 submit-lied requests.Leave h = tt
 submit-lied requests.Bad h = tt
 submit-lied requests.End h = tt
@@ -169,6 +172,9 @@ module _ (scenario : Scenario) (liar : Option ℕ) (run : Run) (good : IsGoodSce
   trace-owns : (k : ℕ) (p : Player) → slice_get run.players k ≡ Some p → OwnsSessions H (trace_of_player p)
   trace-owns k p at s c = any-turned (is_join_of s) p.events (session-owned server (heard-joins r liar) scenario run good sound k p at s c)
 
+  room : length (accepted H) ≤ most_positions
+  room = (let most = served-few agreed r H (session_count scenario) agreed-keeping legal sound.sessions in omega (arith, most, good.sessions))
+
   pub taken : (k : ℕ) (p : Player) (s : ℕ) (reply : Reply) → slice_get run.players k ≡ Some p → current_session p.events ≡ Some s →
       slice_get (replies_in (accepted H) H s) (length (got p.events s)) ≡ Some reply → first_fault_of_reply p.who p.events reply ≡ None
   taken k p s reply at current waits =
@@ -180,7 +186,7 @@ module _ (scenario : Scenario) (liar : Option ℕ) (run : Run) (good : IsGoodSce
       subst (λ (t : List Event). first_fault_of_reply p.who t reply ≡ None) (same-events p)
       (subst (λ (w : Identity). first_fault_of_reply w (reverse L.events) reply ≡ None) (same-who shape p (ap (λ (w : Identity). w.shape) a.playing.who))
       (served-no_fault agreed r H L (record { keeps = agreed-keeping; legal = legal; fits = trace-fits k p at }) (trace-owns k p at) s reply good.world.objects
-      good.world.attrs good.bound serial
+      good.world.attrs good.bound room serial
       (subst (λ (t : List Event). current_session t ≡ Some s) back current)
       (subst (λ (t : List Event). length (asked p.who.client p.who.interest t s) ≤ 1024) back few)
       (subst (λ (t : List Event). slice_get (replies_in (accepted H) H s) (length (got t s)) ≡ Some reply) back waits)))

@@ -10,15 +10,18 @@ use Rattle.sv_journal.specs.declared.entry.Entry.{Entry}
 use Rattle.sv_journal.specs.History.{client_of, actions_of, reports}
 use Rattle.sv_journal.specs.Answer.{Rules}
 use Rattle.sv_client.specs.declared.trace.Trace.{Trace}
+use Rattle.sv_client.specs.Proper.{identity_of}
 use Rattle.sv_client.specs.Traces.{held_of}
 use Rattle.sv_system.specs.Fits.{has_session, FitsOne}
 use Rattle.sv_system.specs.Served.{is_session_of, FitsBut}
 use Rattle.sv_system.specs.Serial.{AreSerial, AreSufficient}
+use Rattle.sv_system.specs.Cuts.{AreCuts}
 use Rattle.sv_system.specs.Journals.{serial_result, ResultsAreSerial}
 use Rattle.sv_system.proofs.Trusted.{some-reported}
 use Rattle.sv_system.proofs.Histories.{IsEarlier, same, earlier-rest}
 use Rattle.sv_system.proofs.Entered.{client-stays}
 use Rattle.sv_system.proofs.Asking.{fits-but_values}
+use Rattle.sv_system.proofs.Observed.{are-cuts}
 use Rattle.sv_system.proofs.Induction.{done-serial, whole-well, heads-serial, committed-serial}
 use Rattle.sv_witness.specs.Reports.{agreed_history}
 use Rattle.sv_witness.specs.Witnessed.{agreed, IsWitnessed}
@@ -65,5 +68,7 @@ module _ (liar : ℕ) (r : Rules) (H : List Entry) (Ls : List Trace) (count : le
     heads = heads-serial agreed agreed-keeping r H count legal results-tolerated;
     relays = All-weaker (FitsOne r.world.shape H) (λ (L : Trace). AreSufficient acts (reverse L.events))
         (λ L f. (whole-well agreed agreed-keeping r H count legal results-tolerated L (fits-but_values r.world.shape H L f)).sufficient) Ls fits.each;
+    seen = All-weaker (FitsOne r.world.shape H) (λ (L : Trace). AreCuts r.world.values acts (identity_of r.world.shape L) (reverse L.events))
+        (λ L f. are-cuts agreed r H L (record { keeps = agreed-keeping; legal = legal; fits = fits-but_values r.world.shape H L f }) count results-tolerated) Ls fits.each;
     disputes = disputes-named liar r.world.values acts H honest-done (none-give-none r H legal);
   }

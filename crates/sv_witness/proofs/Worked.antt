@@ -4,7 +4,7 @@ use Rattle.sv_world.specs.Faults.{first_fault_of_action, has_no_reads, has_too_m
 use Rattle.sv_witness.specs.Witnessed.{IsWitnessed}
 use Rattle.sv_witness.specs.Reports.{agreed_commit, agreed_world}
 use Rattle.sv_witness.specs.Disputes.{disputes_of}
-use Rattle.sv_witness.specs.Examples.{rules, two_objects, report, dispute, history_of, liar_is_outvoted_rows, client_counts_once_rows, look_needs_one_rows, late_report_rows, waiting_result_rows, program_rows}
+use Rattle.sv_witness.specs.Examples.{rules, two_objects, report, dispute, history_of, liar_is_outvoted_rows, client_counts_once_rows, look_needs_one_rows, late_report_rows, waiting_result_rows, observer_reports_rows, program_rows}
 
 pub liar_is_outvoted : IsWitnessed rules (history_of liar_is_outvoted_rows)
 unfolding first_fault_of_action has_no_reads has_too_many_reads is_not_ascending reads_no_object has_bad_mask has_slots sets_in_mask has_attrs is_too_large is_too_deep has_origin
@@ -25,6 +25,13 @@ late_report = (refl, (refl, (refl, (refl, (refl, (refl, (refl, (refl, (refl, tt)
 pub waiting_result : IsWitnessed two_objects (history_of waiting_result_rows)
 unfolding first_fault_of_action has_no_reads has_too_many_reads is_not_ascending reads_no_object has_bad_mask has_slots sets_in_mask has_attrs is_too_large is_too_deep has_origin
 waiting_result = (refl, (refl, (refl, (refl, (refl, (refl, (refl, (refl, (refl, (refl, (refl, (refl, (refl, tt)))))))))))))
+
+pub observer_reports : IsWitnessed rules (history_of observer_reports_rows)
+unfolding first_fault_of_action has_no_reads has_too_many_reads is_not_ascending reads_no_object has_bad_mask has_slots sets_in_mask has_attrs is_too_large is_too_deep has_origin
+observer_reports = (refl, (refl, (refl, (refl, (refl, (refl, (refl, (refl, (refl, tt)))))))))
+
+pub observed_world : agreed_world rules.world.values (history_of observer_reports_rows) ≡ (pos 1 ∷ []) ∷ []
+observed_world = refl
 
 pub program : IsWitnessed rules (history_of program_rows)
 unfolding first_fault_of_action has_no_reads has_too_many_reads is_not_ascending reads_no_object has_bad_mask has_slots sets_in_mask has_attrs is_too_large is_too_deep has_origin

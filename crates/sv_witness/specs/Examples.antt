@@ -4,7 +4,7 @@ use Rattle.sv_wire.specs.declared.message.Request.TheVariants as requests
 use Rattle.sv_journal.specs.declared.entry.Entry.{Entry}
 use Rattle.sv_journal.specs.declared.entry.Logged.TheVariants as logged
 use Rattle.sv_journal.specs.Answer.{Rules}
-use Rattle.sv_journal.specs.Examples.{opened, act, join, done, held, Row}
+use Rattle.sv_journal.specs.Examples.{opened, act, join, done, observe, held, Row}
 use Rattle.sv_sequencer.specs.Step.{entry_of}
 use Rattle.sv_witness.specs.declared.report.Report.{Report}
 use Rattle.sv_witness.specs.declared.report.Dispute.{Dispute}
@@ -104,6 +104,20 @@ waiting_result_rows =
     ∷ (1, done ((1, 1 ∷ []) ∷ []), logged.Noted 2)
     ∷ []
 
+-- What was seen counts as sent: client 1 may report it, and no Poll of its session is sent it again. Its commit is that of what was agreed.
+abbrev pub observer_reports_rows : List Row
+observer_reports_rows =
+    (0, join 0 1 [], logged.Welcome 0 [])
+    ∷ (1, join 1 1 [], logged.Welcome 0 [])
+    ∷ (0, requests.Submit 1 (act (0 ∷ []) 1), logged.Relay 1 0 (held 0 0 ∷ []) (1 ∷ []))
+    ∷ (1, observe (0 ∷ []), logged.Seen 1 0 (held 0 0 ∷ []) (1 ∷ []))
+    ∷ (1, requests.Poll, logged.Idle)
+    ∷ (1, done ((1, 1 ∷ []) ∷ []), logged.Noted 0)
+    ∷ (1, observe (0 ∷ []), logged.Seen 1 0 [] [])
+    ∷ (0, done ((1, 1 ∷ []) ∷ []), logged.Noted 1)
+    ∷ (1, observe (0 ∷ []), logged.Seen 1 1 [] [])
+    ∷ []
+
 abbrev pub rules : Rules
 rules = opened (0 ∷ []) 8 None
 
@@ -122,6 +136,8 @@ pub record ExamplesAreWitnessed : Type 0 where
   pub waiting_result : IsWitnessed two_objects (history_of waiting_result_rows)
   pub waiting_dispute : disputes_of (history_of waiting_result_rows) ≡ dispute 2 (report 0 (5 ∷ [])) (report 2 (7 ∷ [])) ∷ []
   pub waiting_world : agreed_world two_objects.world.values (history_of waiting_result_rows) ≡ (pos 1 ∷ []) ∷ (pos 5 ∷ []) ∷ []
+  pub observer_reports : IsWitnessed rules (history_of observer_reports_rows)
+  pub observed_world : agreed_world rules.world.values (history_of observer_reports_rows) ≡ (pos 1 ∷ []) ∷ []
   pub program : IsWitnessed rules (history_of program_rows)
   pub program_commit : agreed_commit (history_of program_rows) ≡ 1
   pub program_dispute : disputes_of (history_of program_rows) ≡ dispute 1 (report 0 (2 ∷ [])) (report 1 (1 ∷ [])) ∷ []

@@ -12,6 +12,7 @@ use Rattle.sv_client.specs.Proper.{Proper}
 use Rattle.sv_system.specs.Fronts.{IsFront}
 use Rattle.sv_system.specs.Fits.{requests_in, replies_in, IsEndLast, has_session, AreApart}
 use Rattle.sv_system.specs.Serial.{AreSerial, reply_held, RelaysAreSufficient}
+use Rattle.sv_system.specs.Cuts.{SeenAreCuts}
 use Rattle.sv_witness.specs.Reports.{agreed_commit, agreed_world}
 use Rattle.sv_witness.specs.Disputes.{disputes_of, NamesClient}
 use Rattle.sv_witness.specs.Lies.{lied}
@@ -19,12 +20,14 @@ use Rattle.sv_witness.specs.Lies.{lied}
 -- ---- What is so for the honest
 
 -- The committed world is the serial one; each value that an honest client holds, and each that the server sends, is the serial one at its
--- position; each relay brought an honest client what its items read; and each dispute names the liar.
+-- position; each relay brought an honest client what its items read; what it saw is one cut of the serial execution; and each dispute names the
+-- liar.
 pub record IsTolerated (liar : ℕ) (r : Rules) (h : List Entry) (Ls : List Trace) : Type 0 where
   pub world : agreed_world r.world.values h ≡ serial_world r.world.values (actions_of h) (agreed_commit h)
   pub held : All (λ (L : Trace). AreSerial r.world.values (actions_of h) (held_of (reverse L.events))) Ls
   pub heads : All (λ (e : Entry). AreSerial r.world.values (actions_of h) (reply_held e.reply)) h
   pub relays : RelaysAreSufficient h Ls
+  pub seen : SeenAreCuts r.world.shape r.world.values h Ls
   pub disputes : All (NamesClient liar) (disputes_of h)
 
 -- ---- A liar that differs from an honest client in the values that it reports alone

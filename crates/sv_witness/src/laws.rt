@@ -1,7 +1,7 @@
 //! The laws of witnessed journals.
 ghost use Rattle.std.specs.Prelude.{◌≡◌, ◌≤◌, ℕ, ℤ, List, All, length, reverse, slice_get, None, Some, []};
 ghost use Rattle.sv_world.specs.Control.{action_at};
-ghost use Rattle.sv_world.specs.Limits.{most_bound, most_requests};
+ghost use Rattle.sv_world.specs.Limits.{most_bound, most_positions, most_requests};
 ghost use Rattle.sv_world.specs.Sets.{write_set};
 ghost use Rattle.sv_wire.specs.declared.message.Reply.{Reply};
 ghost use Rattle.sv_journal.specs.declared.entry.Entry.{Entry};
@@ -66,7 +66,7 @@ pub fn agreed_histories_are_alike()
 {}
 
 /// One lying client is tolerated: whatever one client reports, the committed world is the serial one, honest clients hold serial values alone,
-/// each of their relays brings what its items read, and each dispute names the liar.
+/// each of their relays brings what its items read, what they see is one cut of the serial execution, and each dispute names the liar.
 ///
 /// `r` are the rules that the server was opened with, `h` are the journal's entries with the latest first, and `Ls` the traces of the honest
 /// clients. Nothing is promised of progress: where fewer than two clients report a position, its result is not installed.
@@ -82,24 +82,24 @@ pub fn honest_clients_have_no_disputes()
 {}
 
 /// Honest clients are never refused by a witnessing server, and no more is a client that differs from an honest one in the values of its Dones
-/// alone: the next reply of the session that it began last has none of the faults for which a client refuses a reply. One that tells the lie of
-/// the program is such a client.
+/// alone: the next reply of the session that it began last has none of the faults for which a client refuses a reply, where all accepted actions
+/// have their positions. One that tells the lie of the program is such a client.
 pub fn clients_of_a_witness_are_never_refused()
     ensures honest { (liar : ℕ) (r : Rules) (h : List Entry) (Ls : List Trace) (i : ℕ) (L : Trace) (s : ℕ) (reply : Reply) →
         length r.world.values ≡ r.world.shape.objects → All (λ (v : List ℤ). length v ≡ r.world.shape.attrs) r.world.values → r.bound ≤ most_bound →
-        IsWitnessed r h → FitsBut liar r.world.shape h Ls → slice_get Ls i ≡ Some L →
+        length (accepted h) ≤ most_positions → IsWitnessed r h → FitsBut liar r.world.shape h Ls → slice_get Ls i ≡ Some L →
         current_session (reverse L.events) ≡ Some s → length (requests_of L s) ≤ most_requests →
         slice_get (replies_in (accepted h) h s) (length (got (reverse L.events) s)) ≡ Some reply →
         first_fault_of_reply (identity_of r.world.shape L) (reverse L.events) reply ≡ None }
     ensures values { (r : Rules) (h : List Entry) (Ls : List Trace) (L : Trace) (s : ℕ) (reply : Reply) →
         length r.world.values ≡ r.world.shape.objects → All (λ (v : List ℤ). length v ≡ r.world.shape.attrs) r.world.values → r.bound ≤ most_bound →
-        IsWitnessed r h → FitsBut L.client.0 r.world.shape h Ls → FitsButValues r.world.shape h L → OwnsSessions h L →
+        length (accepted h) ≤ most_positions → IsWitnessed r h → FitsBut L.client.0 r.world.shape h Ls → FitsButValues r.world.shape h L → OwnsSessions h L →
         current_session (reverse L.events) ≡ Some s → length (requests_of L s) ≤ most_requests →
         slice_get (replies_in (accepted h) h s) (length (got (reverse L.events) s)) ≡ Some reply →
         first_fault_of_reply (identity_of r.world.shape L) (reverse L.events) reply ≡ None }
     ensures lying { (r : Rules) (h : List Entry) (Ls : List Trace) (L : Trace) (s : ℕ) (reply : Reply) →
         length r.world.values ≡ r.world.shape.objects → All (λ (v : List ℤ). length v ≡ r.world.shape.attrs) r.world.values → r.bound ≤ most_bound →
-        IsWitnessed r h → FitsBut L.client.0 r.world.shape h Ls → IsLiar r.world.shape h Ls L →
+        length (accepted h) ≤ most_positions → IsWitnessed r h → FitsBut L.client.0 r.world.shape h Ls → IsLiar r.world.shape h Ls L →
         current_session (reverse L.events) ≡ Some s → length (requests_of L s) ≤ most_requests →
         slice_get (replies_in (accepted h) h s) (length (got (reverse L.events) s)) ≡ Some reply →
         first_fault_of_reply (identity_of r.world.shape L) (reverse L.events) reply ≡ None }

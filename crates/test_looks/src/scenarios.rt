@@ -1,7 +1,7 @@
 //! What is printed of whole scenarios. The expected lines are typed from the rules of the server and its clients.
 use crate::calls::called;
 use std::test::Fail;
-use test_calls::examples::{CONFLICT, LOOKS, TRADE};
+use test_calls::examples::{CONFLICT, LOOKS, OBSERVE, TRADE};
 
 /// A look of sixteen objects, after a write of object 3.
 const SIXTEEN: &str =
@@ -31,6 +31,18 @@ const TWO_LOOKERS: &str =
 const NO_LOOKS: &str =
     r#"{"attrs":1,"objects":[[1]],"bound":4,"clients":[{"interest":[],"steps":[{"act":"reads 0 writes { if [@0.0 == 1] { } }"},{"act":"reads 0 writes 0 { }"}]}]}"#;
 
+/// What was observed stands between looks, in the order in which it was told; and an action of the client's own is seen too.
+const LOOKS_AND_OBSERVES: &str =
+    r#"{"attrs":1,"objects":[[1],[2]],"bound":4,"clients":[{"interest":[0],"steps":[{"observe":[0]},{"act":"reads 0 1 writes { }"},"sync",{"act":"reads 1 writes 1 { set @1.0 (@1.0 + 5); }"},{"observe":[0,1]}]}]}"#;
+
+/// The same object, observed in two sessions.
+const OBSERVED_AGAIN: &str =
+    r#"{"attrs":2,"objects":[[1,-1]],"bound":4,"clients":[{"interest":[],"steps":[{"observe":[0]},"sync","cut",{"observe":[0]}]}]}"#;
+
+/// Two clients observe what a third one writes. The first one asks before the action is accepted, the second one behind it.
+const TWO_OBSERVERS: &str =
+    r#"{"attrs":1,"objects":[[1]],"bound":4,"clients":[{"interest":[],"steps":[{"observe":[0]}]},{"interest":[],"steps":[{"observe":[0]}]},{"interest":[],"steps":[{"act":"reads 0 writes 0 { set @0.0 (@0.0 + 1); }"}]}],"schedule":["c0","c1","c2","s0","s1","s2","t0","t1","t2","c0","c1","c2","s0","s2","s1"]}"#;
+
 /// A scenario, and what is printed of it.
 const ROWS: &[(&str, &str)] = &[
     // A client that writes, looks at two objects, and writes the other one.
@@ -52,6 +64,23 @@ const ROWS: &[(&str, &str)] = &[
         "look c0 2 at 3 [0=(2)]\nlook c1 1 at 1 [0=(1)]\nlook c1 3 at 5 [0=(18)]\n",
     ),
     (NO_LOOKS, ""),
+    // A client observes two objects while an action on one of them has no result, and again when it has one.
+    (
+        OBSERVE,
+        "seen c1 at 1 [0=(11) 1=(20)]\nseen c1 at 1 [0=(11) 1=(20)]\n",
+    ),
+    (
+        LOOKS_AND_OBSERVES,
+        "seen c0 at 0 [0=(1)]\nlook c0 1 at 1 [0=(1) 1=(2)]\nseen c0 at 2 [0=(1) 1=(7)]\n",
+    ),
+    (
+        OBSERVED_AGAIN,
+        "seen c0 at 0 [0=(1,-1)]\nseen c0 at 0 [0=(1,-1)]\n",
+    ),
+    (
+        TWO_OBSERVERS,
+        "seen c0 at 0 [0=(1)]\nseen c1 at 1 [0=(2)]\n",
+    ),
 ];
 
 #[test]

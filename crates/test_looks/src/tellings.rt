@@ -5,8 +5,8 @@ use sv_snapshot::{Snapshot, look_line};
 use sv_wire::ObjectValue;
 use sv_world::{ClientId, List, ObjectId, Value};
 
-/// A look of two objects with two numbers each.
-fn snapshot(alloc: Global) -> Result<Snapshot, AllocError> {
+/// A snapshot of two objects with two numbers each.
+fn snapshot(alloc: Global, seq: Option<u32>, pos: u32) -> Result<Snapshot, AllocError> {
     let mut values = List::new(alloc);
     for (object, numbers) in [(9, [-3, 4]), (4095, [0, i64::MIN])] {
         values.push(ObjectValue {
@@ -16,19 +16,45 @@ fn snapshot(alloc: Global) -> Result<Snapshot, AllocError> {
     }
     Ok(Snapshot {
         client: ClientId(31),
-        seq: 12,
-        pos: 70,
+        seq,
+        pos,
         values,
     })
 }
 
-fn is_line(alloc: Global) -> Result<bool, AllocError> {
-    let line = look_line(alloc, &snapshot(alloc)?)?;
-    Ok(line.as_str() == "look c31 12 at 70 [9=(-3,4) 4095=(0,-9223372036854775808)]")
+/// The number for a look, or none; the position; and the line.
+const LINES: &[(Option<u32>, u32, &str)] = &[
+    (
+        Some(12),
+        70,
+        "look c31 12 at 70 [9=(-3,4) 4095=(0,-9223372036854775808)]",
+    ),
+    (
+        None,
+        70,
+        "seen c31 at 69 [9=(-3,4) 4095=(0,-9223372036854775808)]",
+    ),
+    (
+        None,
+        1,
+        "seen c31 at 0 [9=(-3,4) 4095=(0,-9223372036854775808)]",
+    ),
+    (
+        None,
+        u32::MAX,
+        "seen c31 at 4294967294 [9=(-3,4) 4095=(0,-9223372036854775808)]",
+    ),
+];
+
+fn is_line(alloc: Global, seq: Option<u32>, pos: u32, text: &str) -> Result<bool, AllocError> {
+    let line = look_line(alloc, &snapshot(alloc, seq, pos)?)?;
+    Ok(line.as_str() == text)
 }
 
 #[test]
-fn a_snapshot_has_its_line(rt: HostRuntime) -> Result<(), Fail> {
-    assert!(&rt; is_line(rt.alloc())?);
+fn snapshots_have_their_lines(rt: HostRuntime) -> Result<(), Fail> {
+    for (seq, pos, text) in LINES {
+        assert!(&rt; is_line(rt.alloc(), *seq, *pos, text)?, "{text}");
+    }
     Ok(())
 }

@@ -2,6 +2,7 @@
 ghost use Rattle.std.specs.Prelude.{◌≡◌, ◌<◌, ◌≤◌};
 
 use crate::actions::{action, single, spread, value, world};
+use crate::shown::shown;
 use std::alloc::{AllocError, Global};
 use std::marker::Brand;
 use std::sync::ledger::{Blank, Ledger};
@@ -16,6 +17,8 @@ pub enum Change {
     Push(u16),
     /// One such for each object from the first to below the second.
     PushEach(u16, u16),
+    /// So many on one object.
+    PushTimes(u16, u16),
     /// An action that reads and writes the objects of two sets of bits, made at a point.
     PushAt((u64, u64), (i32, i32)),
     /// An action that reads so many objects at equal steps, by their first, the step and their count.
@@ -24,6 +27,8 @@ pub enum Change {
     SpreadEach(u16, u16),
     Pop,
     Mark(u32, u16),
+    /// The positions from the first to below the second, for a session.
+    MarkEach(u32, u32, u16),
     Give(u16, u16),
     /// The result of a position, where it reads one object and writes it.
     Finish(u32, i64),
@@ -44,6 +49,8 @@ pub enum Ask {
     IsGiven(u16, u16),
     /// Whether a session lacks just these positions and objects of a position's action.
     Lacks(u16, u32, &'static [u32], &'static [ObjectId]),
+    /// The position of a session's cut of objects, where it has just these positions and objects; else the greatest number.
+    Shows(u16, &'static [ObjectId], &'static [u32], &'static [ObjectId]),
     /// How many actions influence a new one on these objects, made at a point; and how far the farthest is.
     Chain(u64, (i32, i32)),
     Far(u64, (i32, i32)),
@@ -97,6 +104,18 @@ fn push_each(alloc: Global, queue: &mut Queue, first: u16, end: u16) -> Result<u
     Ok(queue.last())
 }
 
+fn push_times(
+    alloc: Global,
+    queue: &mut Queue,
+    object: u16,
+    count: u16,
+) -> Result<u32, AllocError> {
+    for _ in 0..count {
+        push_single(alloc, queue, object)?;
+    }
+    Ok(queue.last())
+}
+
 fn spread_each(alloc: Global, queue: &mut Queue, first: u16, end: u16) -> Result<u32, AllocError> {
     for object in first..end {
         push_spread(alloc, queue, object, 1, 1)?;
@@ -110,13 +129,19 @@ pub fn mark(queue: &mut Queue, pos: u32, session: u16) {
     }
 }
 
+fn mark_each(queue: &mut Queue, first: u32, end: u32, session: u16) {
+    for pos in first..end {
+        mark(queue, pos, session);
+    }
+}
+
 pub fn give(queue: &mut Queue, object: u16, session: u16) {
     if object < queue.shape().objects && session < 64 {
         queue.set_given(ObjectId(object), session);
     }
 }
 
-fn pop(queue: &mut Queue) {
+pub fn pop(queue: &mut Queue) {
     if queue.commit() < queue.last() {
         queue.pop();
     }
@@ -246,6 +271,7 @@ fn does<L: Ledger>(
     match change {
         Change::Push(object) => return push_single(alloc, queue, object),
         Change::PushEach(first, end) => return push_each(alloc, queue, first, end),
+        Change::PushTimes(object, count) => return push_times(alloc, queue, object, count),
         Change::PushAt(sets, at) => return push_at(alloc, queue, sets, at),
         Change::PushSpread(first, step, count) => {
             return push_spread(alloc, queue, first, step, count);
@@ -254,6 +280,7 @@ fn does<L: Ledger>(
         Change::Install => return Ok(queue.install()),
         Change::Pop => pop(queue),
         Change::Mark(pos, session) => mark(queue, pos, session),
+        Change::MarkEach(first, end, session) => mark_each(queue, first, end, session),
         Change::Give(object, session) => give(queue, object, session),
         Change::Finish(pos, number) => finish(alloc, queue, pos, number, steps)?,
     }
@@ -275,6 +302,9 @@ fn answers<L: Ledger>(
         Ask::IsGiven(object, session) => u32::from(is_given(queue, object, session)),
         Ask::Lacks(session, pos, items, head) => {
             u32::from(has_just(lacking(alloc, queue, session, pos, steps)?, items, head))
+        }
+        Ask::Shows(session, objects, items, head) => {
+            shown(alloc, queue, session, objects, (items, head), steps)?
         }
         Ask::Chain(objects, at) => chain_at(alloc, queue, objects, at)?.count,
         Ask::Far(objects, at) => chain_at(alloc, queue, objects, at)?.far,

@@ -6,8 +6,14 @@ mod actions;
 #[cfg(test)]
 mod calls;
 #[cfg(test)]
+mod cuts;
+#[cfg(test)]
 mod drawn;
+#[cfg(test)]
+mod drawn_cuts;
 #[cfg(test)]
 mod influence;
 #[cfg(test)]
 mod queue;
+#[cfg(test)]
+mod shown;

@@ -1,5 +1,5 @@
 -- What the check leaves to prove of `older_cuts_have_items`.
-use Rattle.law_journal.proofs.Cuts.{served_older_cuts, legal_older_cuts}
+use Rattle.law_journal.proofs.Observed.{served_older_cuts, legal_older_cuts}
 use Rattle.law_journal.proofs.cuts.older_cuts_have_items.Goals as goal
 
 pub returns : goal.returns

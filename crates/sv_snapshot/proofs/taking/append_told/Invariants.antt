@@ -9,6 +9,6 @@ abbrev pub invariant-loop-event : goal.invariant-loop-event
 invariant-loop-event l = record {
   who : l.client.who ≡ l.fn.client.who;
   after : MayComeAfter l.client.who l.trace.first (all_raised l.trace.first l.client.events) (drop l.event-index l.events);
-  told : l.snapshots.items ++ snapshots_after l.fn.client.who.client (all_raised l.trace.first l.client.events) (drop l.event-index l.events)
-      ≡ l.fn.snapshots.items ++ snapshots_after l.fn.client.who.client [] l.events;
+  told : l.snapshots.items ++ snapshots_after l.fn.client.who (all_raised l.trace.first l.client.events) (drop l.event-index l.events)
+      ≡ l.fn.snapshots.items ++ snapshots_after l.fn.client.who [] l.events;
 }

@@ -14,4 +14,5 @@ returns-clause-cuts c = λ r count same legal fits.
     let Ls = c.args.played.now.traces in
     let law = c.replicas_equal_serial_execution.ensures in
     subst (All (IsCut r.world.values (actions_of h))) (sym c.in_ok-told.ensures)
-    (cuts_are r.world.shape r.world.values h Ls count (subst (λ (s : Shape). All (Proper s) Ls) same c.requires) (law.values r h Ls count legal fits) (law.relays r h Ls count legal fits))
+    (cuts_are r.world.shape r.world.values h Ls count (subst (λ (s : Shape). All (Proper s) Ls) same c.requires) (law.values r h Ls count legal fits) (law.relays r h Ls count legal fits)
+    (law.seen r h Ls count legal fits))

@@ -36,5 +36,5 @@ played_text-requires-clause-proper g c =
 
 pub played_text-requires-clause-shaped : goal.played_text-requires-clause-shaped
 played_text-requires-clause-shaped g c =
-    subst (λ (s : Shape). All (IsShaped s) (snapshots_of c.in_ok-played.played.traces)) (sym c.in_ok-played.ensures.played.shape)
+    subst (λ (s : Shape). All (IsShaped s) (snapshots_of s c.in_ok-played.played.traces)) (sym c.in_ok-played.ensures.played.shape)
     (shaped_of_run _ _ c.in_ok-played.played.traces c.in_ok-scenario.ensures.read.1 c.in_ok-played.ensures.replay c.legal_actions_are_good.ensures)

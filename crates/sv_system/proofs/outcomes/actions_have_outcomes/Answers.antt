@@ -1,5 +1,5 @@
 -- Actions have outcomes, each for its reason.
-use Rattle.std.proofs.Common.{inl, inr, ◌≡◌, ℕ, true, false, ◌<◌, List, Option, None, sym, ap, ◌∙◌, true≢false}
+use Rattle.std.proofs.Common.{inl, inr, ◌≡◌, ℕ, ◌<◌, List, Option, None, sym, ap, ◌∙◌, true≢false}
 use Rattle.sv_world.specs.declared.action.Action.{Action}
 use Rattle.sv_journal.specs.declared.entry.Entry.{Entry}
 use Rattle.sv_journal.specs.Answer.{Rules, is_over_reach}

@@ -1,12 +1,14 @@
 -- What the check leaves to prove of `Core::accept`.
 use Rattle.std.proofs.Common.{◌≡◌, ◌<◌, suc, List, [], ◌∷◌, ◌++◌, map, length, All, refl, sym, ◌∙◌, ap, subst, arith}
 use Rattle.sv_world.specs.declared.world.ClientId.{ClientId}
+use Rattle.sv_world.specs.Control.{is_in, IsClosed}
+use Rattle.sv_world.proofs.Needs.{needed-closed_writer}
 use Rattle.sv_wire.specs.declared.message.ObjectValue.{ObjectValue}
 use Rattle.sv_wire.specs.declared.message.Reply.TheVariants as replies
 use Rattle.sv_journal.specs.declared.entry.Logged.{Logged}
 use Rattle.sv_journal.specs.declared.entry.Logged.TheVariants as logged
-use Rattle.sv_journal.specs.History.{Authored, accepted, actions_of, result_at, full_reply}
-use Rattle.sv_journal.specs.Sessions.{sent_to, named_to}
+use Rattle.sv_journal.specs.History.{Authored, accepted, actions_of, result_at, commit_of, full_reply}
+use Rattle.sv_journal.specs.Sessions.{positions_in, sent_to, named_to}
 use Rattle.sv_journal.specs.Answer.{relay_of}
 use Rattle.sv_queue.specs.Queue.{QueueView, IsUncommitted, last_position, with_action}
 use Rattle.sv_influence.specs.Lacking.{lacking, base_objects}
@@ -71,6 +73,9 @@ returns-clause-ok g c =
     ∙ ap (logged.Relay seq n (held_in Q (base_objects Q s (last_position Q)))) c.in_ok-relayed.ensures.positions
     ∙ ap (λ (u : QueueView). logged.Relay seq u.commit (held_in u (base_objects u s (last_position u))) (lacking u s (last_position u))) pushed
     ∙ relay-new (core_rules a) h v w (authored_by m seq q) s seq small k.commit refl refl refl k.sound.sent f fitted in
+    let closed : IsClosed (actions_of h ++ action_in q ∷ []) (commit_of h) (sent_to h s) (λ p. is_in p x.positions) =
+    subst (λ ps. IsClosed (actions_of h ++ action_in q ∷ []) (commit_of h) (sent_to h s) (λ p. is_in p ps)) (sym (ap positions_in said))
+    (λ p o. needed-closed_writer (actions_of h ++ action_in q ∷ []) (commit_of h) (sent_to h s) (suc (length (actions_of h))) p o) in
     let rows = subst (λ (o : Logged). AreAfter (entry_of s q o) a.sessions.items next) sent.logged c.note.ensures.rows in
     let items : x.items ≡ map (item_in w) x.positions =
     subst (λ (u : QueueView). x.items ≡ map (item_in u) x.positions) pushed
@@ -83,5 +88,5 @@ returns-clause-ok g c =
     (subst (λ (u : QueueView). Agrees (core_rules a) (entry_of s q l ∷ h) u next c.take_in.new.clients a.owed)
     (sym (sent.queue ∙ ap (λ (u : QueueView). given_all (marked_all u x.positions s) x.head s) pushed))
     (agree-accept (core_rules a) h v a.sessions.items next a.clients c.take_in.new.clients a.owed s q m seq n (suc (last_position v)) x.head x.positions
-    (ap (λ (u : QueueView). u.commit) pushed) refl k refl c.requires.1.0 c.requires.1.1.1.0 c.requires.1.1.0 rows c.in_ok-relayed.ensures.clients within))
+    (ap (λ (u : QueueView). u.commit) pushed) refl k refl c.requires.1.0 c.requires.1.1.1.0 c.requires.1.1.0 rows c.in_ok-relayed.ensures.clients within closed))
     (sent.reply ∙ whole)

@@ -13,6 +13,9 @@ ghost-relay g a = g.h
 abbrev pub ghost-accept_new : goal.ghost-accept_new
 ghost-accept_new g a = g.h
 
+abbrev pub ghost-see : goal.ghost-see
+ghost-see g a = g.h
+
 abbrev pub ghost-note_results : goal.ghost-note_results
 ghost-note_results g a = g.h
 

@@ -12,3 +12,6 @@ ghost-decide_done g a = g.h
 
 abbrev pub ghost-decide_poll : goal.ghost-decide_poll
 ghost-decide_poll g a = g.h
+
+abbrev pub ghost-decide_observe : goal.ghost-decide_observe
+ghost-decide_observe g a = g.h

@@ -1,11 +1,13 @@
 -- What the check leaves to prove of `Core::relay`.
 use Rattle.std.proofs.Common.{◌≡◌, ◌≤◌, ◌<◌, List, ◌∷◌, map, All, refl, sym, ◌∙◌, ap, subst, arith}
+use Rattle.sv_world.specs.Control.{is_in, IsClosed}
+use Rattle.sv_world.proofs.Needs.{needed-closed_writer}
 use Rattle.sv_wire.specs.declared.message.ObjectValue.{ObjectValue}
 use Rattle.sv_wire.specs.declared.message.Reply.TheVariants as replies
 use Rattle.sv_journal.specs.declared.entry.Logged.{Logged}
 use Rattle.sv_journal.specs.declared.entry.Logged.TheVariants as logged
-use Rattle.sv_journal.specs.History.{Authored, accepted, actions_of, result_at, full_reply}
-use Rattle.sv_journal.specs.Sessions.{sent_to, named_to}
+use Rattle.sv_journal.specs.History.{Authored, accepted, actions_of, result_at, commit_of, full_reply}
+use Rattle.sv_journal.specs.Sessions.{positions_in, sent_to, named_to}
 use Rattle.sv_journal.specs.Answer.{relay_of}
 use Rattle.sv_queue.specs.Queue.{QueueView, IsUncommitted, last_position}
 use Rattle.sv_influence.specs.Lacking.{base_objects}
@@ -14,7 +16,7 @@ use Rattle.sv_sequencer.specs.Agreement.{Agrees}
 use Rattle.sv_sequencer.specs.Cores.{core_rules}
 use Rattle.sv_sequencer.specs.Relays.{held_in, item_in}
 use Rattle.sv_sequencer.specs.Step.{entry_of}
-use Rattle.sv_sequencer.proofs.AgreeSends.{agree-relay}
+use Rattle.sv_sequencer.proofs.AgreeSends.{relay-sends, agree-sent}
 use Rattle.sv_sequencer.proofs.AgreeSteps.{AreAfter}
 use Rattle.sv_sequencer.proofs.Entered.{rules_with, carried}
 use Rattle.sv_sequencer.proofs.HistorySteps.{accepted-old}
@@ -58,6 +60,9 @@ returns-clause-ok g c =
     ap (λ xs. logged.Relay c.args.seq v.commit xs x.positions) c.in_ok-relayed.ensures.head
     ∙ ap (logged.Relay c.args.seq v.commit (held_in v (base_objects v s c.args.pos))) c.in_ok-relayed.ensures.positions
     ∙ relay-is (core_rules a) h v s c.args.seq c.args.pos small k.commit above c.requires.1.1.1.1.1 k.sound.sent f in
+    let closed : IsClosed (actions_of h) (commit_of h) (sent_to h s) (λ p. is_in p x.positions) =
+    subst (λ ps. IsClosed (actions_of h) (commit_of h) (sent_to h s) (λ p. is_in p ps)) (sym (ap positions_in said))
+    (λ p o. needed-closed_writer (actions_of h) (commit_of h) (sent_to h s) c.args.pos p o) in
     let rows = subst (λ (m : Logged). AreAfter (entry_of s q m) a.sessions.items next) sent.logged c.note.ensures.rows in
     let whole : replies.Relay c.args.seq v.commit x.sent_head x.items ≡ full_reply (accepted (entry_of s q l ∷ h)) l =
     subst (λ (A : List Authored). replies.Relay c.args.seq v.commit x.sent_head x.items ≡ full_reply A l) (sym (accepted-old (entry_of s q l) h c.requires.1.1.1.0))
@@ -66,6 +71,6 @@ returns-clause-ok g c =
     (c.in_ok-relayed.ensures.items ∙ ap (map (item_in v)) (sym c.in_ok-relayed.ensures.positions)) within) in
     carried a _ h s q (decisions.Relay c.args.seq c.args.pos) _ l (ap (rules_with a.opening a.bound a.reach) c.note.ensures.count) refl sent.logged said
     (subst (λ (w : QueueView). Agrees (core_rules a) (entry_of s q l ∷ h) w next a.clients a.owed) (sym sent.queue)
-    (agree-relay (core_rules a) h v a.sessions.items next a.clients a.owed s q c.args.seq v.commit x.head x.positions refl k refl c.requires.1.0
-    c.requires.1.1.1.0 c.requires.1.1.0 rows within))
+    (agree-sent (core_rules a) h v a.sessions.items next a.clients a.owed s q l x.head x.positions (relay-sends c.args.seq v.commit x.head x.positions) k refl c.requires.1.0
+    c.requires.1.1.1.0 c.requires.1.1.0 rows within closed))
     (sent.reply ∙ whole)

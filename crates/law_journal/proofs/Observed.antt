@@ -1,6 +1,6 @@
 -- A session never sees the same objects at a lower position than before, and what it sees before the last position has an item.
-use Rattle.std.proofs.Common.{◌≡◌, ◌≢◌, ℕ, suc, ◌+◌, ◌<◌, ◌≤◌, true, false, List, [], ◌∷◌, ◌++◌, length, Option, Some, None, refl, sym, ap, ap₂, subst, ◌∙◌, arith, true≢false}
-use Rattle.std.specs.Prelude.{◌==◌, All}
+use Rattle.std.proofs.Common.{◌≡◌, ◌≢◌, ℕ, suc, ◌+◌, ◌≤◌, true, false, List, [], ◌∷◌, ◌++◌, length, Option, Some, None, refl, sym, ap, ap₂, subst, arith, true≢false}
+use Rattle.std.specs.Prelude.{◌==◌}
 use Rattle.std.specs.List.{AllByRecursion}
 use Rattle.std.proofs.lemmas.Bool.{cond_both}
 use Rattle.std.proofs.lemmas.List.{length-map}
@@ -26,7 +26,7 @@ use Rattle.sv_journal.proofs.Replies.{cut_for, is_seen, each_reply}
 use Rattle.sv_journal.proofs.Sizes.{SizeWithin, sized, served_bounded}
 use Rattle.law_journal.specs.Entries.{EachEntry}
 use Rattle.law_journal.specs.Cuts.{observed_in, seen_in, IsNoLater, NeverGoesBack, ServedCutsNeverGoBack, SendsWhereMore, SendsWhereMoreAreAccepted, LegalOlderCutsHaveItems, ServedOlderCutsHaveItems}
-use Rattle.law_journal.proofs.EveryEntry.{entry_of, each-entry}
+use Rattle.law_journal.proofs.EveryEntry.{each-entry}
 
 none-seen : (w : Logged) → is_seen w ≡ false → seen_in w ≡ None
 none-seen (logged.Seen last commit head positions) e = absurd (true≢false e)
@@ -105,7 +105,7 @@ module _ (k : Keeping) (law : IsKeeping k) where
   all-up_to (e ∷ h) all s xs =
       let more = cut-grows k law e h s xs in (
         (λ own same. up-more (cut_of k h s xs) (cut_of k (e ∷ h) s xs) (seen_in e.reply) more
-        (at-up_to k h e.session s e.request xs (seen_in e.reply) own same all.0)),
+            (at-up_to k h e.session s e.request xs (seen_in e.reply) own same all.0)),
         all-more s xs (cut_of k h s xs) (cut_of k (e ∷ h) s xs) more h (all-up_to h all.1 s xs),
       )
 

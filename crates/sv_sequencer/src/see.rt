@@ -1,0 +1,97 @@
+//! What is decided is done, where objects are seen.
+ghost use Rattle.std.specs.Prelude.{◌≡◌, List, ◌<◌, true, false, All, IfOk, OnErr};
+ghost use Rattle.sv_world.specs.Faults.{may_be_observed};
+ghost use Rattle.sv_world.specs.Limits.{most_sessions};
+ghost use Rattle.sv_world.specs.Sets.{numbers_of};
+ghost use Rattle.sv_queue.specs.Queue.{IsUncommitted};
+ghost use Rattle.sv_wire.specs.declared.message.ObjectValue.{ObjectValue};
+ghost use Rattle.sv_wire.specs.declared.message.Reply.TheVariants as replies;
+ghost use Rattle.sv_journal.specs.declared.entry.Logged.TheVariants as logged;
+ghost use Rattle.sv_journal.specs.declared.entry.Entry.{Entry};
+ghost use Rattle.sv_journal.specs.Sessions.{is_end};
+ghost use Rattle.sv_sequencer.specs.declared.decision.Decision.TheVariants as decisions;
+ghost use Rattle.sv_sequencer.specs.Cores.{core_rules, Keeps, CarriedOut, Remained};
+ghost use Rattle.sv_sequencer.specs.Decisions.{IsOld, observed_in};
+ghost use Rattle.sv_sequencer.specs.Relays.{marked_all, given_all};
+
+use crate::answer::Answer;
+use crate::deliver::deliver;
+use crate::relays::{Relayed, Seen, seen_in};
+use crate::server_core::Core;
+use crate::sessions::note;
+use std::alloc::AllocError;
+use sv_journal::Logged;
+use sv_queue::Queue;
+use sv_wire::{Reply, Request};
+use sv_world::ObjectId;
+
+/// The objects that an Observe names.
+fn observed_by(request: &Request) -> &[ObjectId]
+    ensures { numbers_of result.now ≡ observed_in request.now }
+{
+    match request {
+        Request::Observe { objects, .. } => objects.as_slice(),
+        _ => &[],
+    }
+}
+
+/// The answer that is seen: nothing in it is copied.
+fn answer_of(commit: u32, seen: Seen) -> Answer
+    ensures logged { result.logged ≡ logged.Seen seen.last commit seen.relayed.head seen.relayed.positions }
+    ensures reply { result.reply ≡ replies.Seen seen.last commit seen.relayed.sent_head seen.relayed.items }
+{
+    let Seen { last, relayed } = seen;
+    let Relayed {
+        head,
+        positions,
+        sent_head,
+        items,
+    } = relayed;
+    Answer {
+        logged: Logged::Seen {
+            last,
+            commit,
+            head,
+            positions,
+        },
+        reply: Reply::Seen {
+            last,
+            commit,
+            head: sent_head,
+            items,
+        },
+    }
+}
+
+/// Sends a session what it sees: the answer to its request.
+fn send(queue: &mut Queue, session: u16, seen: Seen) -> Answer
+    requires positions { All (IsUncommitted queue.old) seen.relayed.positions }
+    requires objects { All (λ (x : ObjectValue). x.object.0 < queue.old.shape.objects) seen.relayed.head }
+    requires session { session < most_sessions }
+    ensures queue { queue.new ≡ given_all (marked_all queue.old seen.relayed.positions session) seen.relayed.head session }
+    ensures logged { result.logged ≡ logged.Seen seen.last queue.old.commit seen.relayed.head seen.relayed.positions }
+    ensures reply { result.reply ≡ replies.Seen seen.last queue.old.commit seen.relayed.sent_head seen.relayed.items }
+{
+    let commit = queue.commit();
+    deliver(queue, &seen.relayed, session);
+    answer_of(commit, seen)
+}
+
+impl Core {
+    /// Shows a session what objects are, at the greatest cut.
+    pub(crate) fn see(&mut self, session: u16, request: &Request) -> Result<Answer, AllocError>
+        ghost h: { List Entry }
+        requires keeps { Keeps self.old h }
+        requires session { session < (core_rules self.old).sessions }
+        requires more { is_end request.now ≡ false }
+        requires old { IsOld h session request.now }
+        requires good { may_be_observed (core_rules self.old).world.shape.objects (observed_in request.now) ≡ true }
+        ensures ok { IfOk result (CarriedOut self.old self.new h session request.now decisions.See) }
+        ensures err { OnErr result (Remained self.old self.new h) }
+    {
+        let seen = seen_in(self.alloc, &self.queue, session, observed_by(request))?;
+        let answer = send(&mut self.queue, session, seen);
+        note(&mut self.sessions, session, request, &answer.logged);
+        Ok(answer)
+    }
+}
