@@ -21,7 +21,9 @@ use Rattle.sv_scenario.specs.Sessions.{session_count}
 use Rattle.sv_script.specs.Following.{Follows}
 use Rattle.sv_system.specs.Fits.{replies_in}
 use Rattle.sv_system.specs.Records.{rules_of, EachTrace}
+use Rattle.sv_world.specs.Limits.{most_positions}
 use Rattle.sv_asked.specs.Asked.{RepliesAreMessages}
+use Rattle.sv_asked.proofs.Facts.{accepted-short}
 use Rattle.sv_system.proofs.Every.{each-append, each-reverse}
 use Rattle.sv_system.proofs.Limits.{limits_of, objects_few}
 use Rattle.law_schedule.proofs.Asking.{few-asked}
@@ -112,6 +114,14 @@ module _ (stay : FullRepliesStay) (name : LegalRelaysNameAccepted) (messages : R
       let sum = length-append (reverse j) (e ∷ []) in
       let before = reversed_short j in
       omega (arith, split, sum, before)
+
+  -- all accepted actions have their positions
+  pub few_accepted : length (accepted (reverse journal)) ≤ most_positions
+  few_accepted =
+      let few = few_entries (session_count scenario) journal under few_in in
+      let same = reversed_short journal in
+      let most = good.good.sessions in
+      omega (arith, accepted-short (reverse journal), few, same, most)
 
   -- each reply of the run can be sent
   pub all_sendable : AllByRecursion (λ (e : Entry). IsReply (full_reply (accepted (reverse journal)) e.reply)) (reverse journal)

@@ -33,7 +33,7 @@ use Rattle.law_traffic.specs.Runs.{EachSession, IsRun, IsGoodRun, IsOpenIn, Traf
 use Rattle.law_traffic.proofs.Bytes.{all, all_are, traffic_of}
 use Rattle.law_traffic.proofs.Owners.{in_range}
 use Rattle.law_traffic.proofs.Recorded.{fits}
-use Rattle.law_traffic.proofs.Sendable.{IsWellDone, well, sendable}
+use Rattle.law_traffic.proofs.Sendable.{IsWellDone, well, few_accepted, sendable}
 use Rattle.law_traffic.proofs.Stuck.{takeable, none_is_awaited}
 use Rattle.law_traffic.proofs.Takeable.{not_bad}
 
@@ -116,7 +116,8 @@ module _ (stay : FullRepliesStay) (name : LegalRelaysNameAccepted) (messages : R
         let w = mine_well.1 in
         let few = few-asked (identity_of scenario.world.shape L) L.first mine_well.0.steps (reverse L.events) w.follows.left s w.good.few_steps w.proper.events w.follows.follows in
         takeable stay name journal L s x open_done can_be_sent rest begins scenario.world.shape
-        (λ reply there. law (rules_of scenario) (reverse journal) Ls o.place L s reply limits.objects limits.attrs limits.bound run.legal
+        (λ reply there. law (rules_of scenario) (reverse journal) Ls o.place L s reply limits.objects limits.attrs limits.bound
+        (few_accepted stay name messages scenario journal Ls sessions good run) run.legal
         (fits stay name messages scenario journal Ls sessions good run) o.member o.session.current (omega (arith, few))
         (ap (λ (ws : List Reply). slice_get ws (length (got (reverse L.events) s))) (all_are stay name journal L s x open_done) ∙ there))
 

@@ -18,6 +18,7 @@ both (events.Got s reply ∷ xs) ys p q = both xs ys p q
 both (events.Join s ∷ xs) ys p q = absurd p
 both (events.Make a ∷ xs) ys p q = absurd p
 both (events.Poll ∷ xs) ys p q = absurd p
+both (events.Observe objects wait ∷ xs) ys p q = absurd p
 both (events.Leave ∷ xs) ys p q = absurd p
 both (events.Cut ∷ xs) ys p q = absurd p
 both (events.Quit ∷ xs) ys p q = absurd p

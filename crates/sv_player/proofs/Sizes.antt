@@ -1,5 +1,5 @@
 -- Each value that a client of a proper trace holds, keeps or sees has the numbers of its world.
-use Rattle.std.proofs.Common.{◌≡◌, ℕ, Bool, true, false, ◌||◌, not, eqb, List, [], ◌∷◌, ◌++◌, length, map, ℤ, Option, Some, None, refl, ◌∙◌, eqb-true}
+use Rattle.std.proofs.Common.{◌≡◌, ℕ, Bool, true, false, ◌||◌, not, eqb, List, [], ◌∷◌, ◌++◌, length, map, ℤ, Option, Some, None, refl, ap, ◌∙◌, eqb-true}
 use Rattle.std.specs.Prelude.{All, nat_le, is_none, unwrap_or, if◌then◌else◌}
 use Rattle.std.specs.Option.{IfSome}
 use Rattle.std.proofs.lemmas.List.Elements.{All-nil, All-cons, All-append, All-head, All-tail}
@@ -20,10 +20,9 @@ use Rattle.sv_wire.specs.declared.message.Reply.TheVariants as replies
 use Rattle.sv_client.specs.declared.trace.Event.{Event}
 use Rattle.sv_client.specs.declared.trace.Event.TheVariants as events
 use Rattle.sv_client.specs.Traces.{head_held, held_at, item_result, item_held, with_items, with_reply, held_of, without_front, are_same, settled_by, pending_with, has_news, pending_of, view_of}
-use Rattle.sv_client.specs.Taking.{Identity, is_bad_head, is_bad_relay, has_bad_action, has_bad_item, observed_by, first_unheld, missing_at, first_missing_of, missing_in}
+use Rattle.sv_client.specs.Taking.{Identity, is_bad_head, is_bad_relay, has_bad_action, has_bad_item, observed_by, first_unheld, missing_at, first_missing_of, first_missing_seen, missing_in}
 use Rattle.sv_client.specs.Kinds.{kind_of}
 use Rattle.sv_client.specs.Proper.{AreProper}
-use Rattle.sv_client.proofs.Applies.{items_found}
 use Rattle.sv_player.proofs.Well.{is_well}
 
 -- ---- Tests
@@ -78,6 +77,13 @@ module _ (attrs : ℕ) where
   items_long held (item ∷ items) a e =
       let f = both_found item.pos (first_unheld held item.pos (read_set item.action)) (first_missing_of (held ++ item_held held item) items) e in
       items_long (held ++ item_held held item) items (item_more held item a f.0) f.1
+
+  -- Where nothing is missing of what is seen, no item lacks a value.
+  pub items_found : (held : List Held) (items : List Item) (last : ℕ) (xs : List ℕ) → first_missing_seen held items last xs ≡ None → first_missing_of held items ≡ None
+  items_found held [] last xs e = refl
+  items_found held (item ∷ items) last xs e =
+      let f = both_found item.pos (first_unheld held item.pos (read_set item.action)) (first_missing_seen (held ++ item_held held item) items last xs) e in
+      ap (λ (o : Option ℕ). missing_at item.pos o (first_missing_of (held ++ item_held held item) items)) f.0 ∙ items_found (held ++ item_held held item) items last xs f.1
 
   -- ---- Replies
 

@@ -31,13 +31,12 @@ use Rattle.sv_client.specs.Kinds.{kind_of}
 use Rattle.sv_client.specs.Seen.{newly_asked}
 use Rattle.sv_client.specs.Answers.{got_now}
 use Rattle.sv_client.proofs.Takes.{newly_got}
-use Rattle.sv_client.proofs.Applies.{items_found}
 use Rattle.sv_world.specs.Worlds.{IsGoodShape}
 use Rattle.sv_client.proofs.Sendable.{wire_action, masked_fewer}
 use Rattle.sv_client.proofs.Items.{results_count}
 use Rattle.sv_client.proofs.Looking.{none_is}
 use Rattle.sv_player.proofs.Well.{is_well}
-use Rattle.sv_player.proofs.Sizes.{AreLong, with_head, result_long, item_more, both_found, held_long}
+use Rattle.sv_player.proofs.Sizes.{AreLong, with_head, result_long, item_more, both_found, items_found, held_long}
 
 -- ---- Pending actions
 
@@ -202,7 +201,7 @@ dones_are who t request (replies.Seen last commit head (item ∷ items)) shape p
     let f = or_parts (is_bad_head who.shape head) (list_any (has_fault who.shape) (item ∷ items)) bad in
     let held = held_of t ++ head_held commit head in
     let long = with_head who.shape.attrs who.shape (held_of t) commit head refl (held_long who 0 t p) f.0 in
-    done_is who.shape shape held (item ∷ items) (omega arith) wire.few long f.1 (items_found held (item ∷ items) last (observed_by (kind_of request)) found)
+    done_is who.shape shape held (item ∷ items) (omega arith) wire.few long f.1 (items_found who.shape.attrs held (item ∷ items) last (observed_by (kind_of request)) found)
 dones_are who t request (replies.Welcome commit head) shape p wire bad found = All-nil IsWireRequest
 dones_are who t request (replies.Dropped seq chain far) shape p wire bad found = All-nil IsWireRequest
 dones_are who t request (replies.Denied seq object) shape p wire bad found = All-nil IsWireRequest

@@ -1,5 +1,5 @@
 -- The actions that clients of a run made have numbers of their types, where those of their scripts have.
-use Rattle.std.proofs.Common.{◌≡◌, ℕ, suc, ◌+◌, List, [], ◌∷◌, map, reverse, Some, sym, subst}
+use Rattle.std.proofs.Common.{◌≡◌, ℕ, suc, ◌+◌, ◌<◌, List, [], ◌∷◌, map, reverse, Some, sym, subst, arith}
 use Rattle.std.specs.Prelude.{All}
 use Rattle.std.specs.List.{AllByRecursion}
 use Rattle.std.proofs.lemmas.List.Elements.{recursion_from_All, All-from_recursion}
@@ -26,7 +26,7 @@ use Rattle.sv_replay.specs.Playable.{MadeActionsFit}
 pub event_fits : (step : Step) (e : Event) → event_of step ≡ Some e → StepFits step → EventFits e
 event_fits (steps.Act action) e h f = subst EventFits (same_Some (events.Make action) e h) f
 event_fits steps.Poll e h f = subst EventFits (same_Some events.Poll e h) tt
-event_fits (steps.Observe objects) e h f = subst EventFits (same_Some (events.Observe objects 0) e h) tt
+event_fits (steps.Observe objects) e h f = let none : 0 < 65536 = omega arith in subst EventFits (same_Some (events.Observe objects 0) e h) none
 event_fits steps.Sync e h f = absurd (none-some e h)
 event_fits (steps.Show objects) e h f = subst EventFits (same_Some (events.Show objects) e h) tt
 event_fits steps.Cut e h f = subst EventFits (same_Some events.Cut e h) tt

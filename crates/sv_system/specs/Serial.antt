@@ -1,4 +1,5 @@
--- What is true of values and relays: each value at a position is that of the serial execution, and each relay brings what its items read.
+-- What is true of values and relays: each value at a position is that of the serial execution, and each relay, and what is seen, brings what its
+-- items read.
 -- A history is the list of a journal's entries with the latest first; events stand with the latest first too.
 use Rattle.std.specs.Prelude.{◌≡◌, ℕ, ℤ, Bool, true, ◌==◌, ◌&&◌, nat_le, nat_lt, List, [], ◌∷◌, ◌++◌, reverse, slice_index_or, All}
 use Rattle.std.specs.List.{list_any, AllByRecursion}
@@ -75,7 +76,7 @@ IsSufficient A held (replies.Relay seq commit head items) = AreSupplied A (held 
 IsSufficient A held (replies.Seen last commit head items) = AreSupplied A (held ++ head_held commit head) items
 IsSufficient A held _ = Unit {0}
 
--- Each relay that was got is sufficient, with what was held before it.
+-- Each relay that was got, and all that was seen, is sufficient, with what was held before it.
 abbrev pub AreSufficient : List Action → List Event → Type 0
 AreSufficient A [] = Unit {0}
 AreSufficient A (events.Got s reply ∷ t) = IsSufficient A (held_of t) reply × AreSufficient A t

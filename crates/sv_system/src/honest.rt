@@ -16,9 +16,9 @@ ghost use Rattle.sv_system.specs.Laws.{NeverRefused};
 /// refuses a reply, and a relay has items.
 ///
 /// So it answers a request of the session, is no refusal and of a kind that the request may have, comes in order, has good items, is for
-/// the action that it answers, and brings each value that its items read. `r` are the rules that the server was opened with, `h` are the
-/// journal's entries with the latest first, `L` is one of the traces `Ls` of its clients, at most 1,024 requests are asked in the
-/// session `s`, and all accepted actions have their positions.
+/// the action that it answers, and brings each value that its items read, or that it shows. `r` are the rules that the server was opened
+/// with, `h` are the journal's entries with the latest first, `L` is one of the traces `Ls` of its clients, at most 1,024 requests are asked
+/// in the session `s`, and all accepted actions have their positions.
 pub fn honest_clients_are_never_refused()
     ensures faults { NeverRefused }
     ensures items { (r : Rules) (h : List Entry) (Ls : List Trace) (i : ℕ) (L : Trace) (s seq commit : ℕ) (head : List ObjectValue) (items : List Item) →

@@ -7,8 +7,8 @@ ghost use Rattle.sv_journal.specs.Answer.{Rules, Legal};
 ghost use Rattle.sv_system.specs.Delivery.{AreLawful};
 ghost use Rattle.sv_system.specs.Journals.{deliveries_of, ResultsAreSerial};
 
-/// The welcomes and relays of a legal journal, and what is seen, are lawful deliveries of good actions, where the results that it notes are those of the
-/// serial execution.
+/// The welcomes and relays of a legal journal, and what is seen, are lawful deliveries of good actions, where the results that it notes are
+/// those of the serial execution.
 ///
 /// `r` are the rules that the server was opened with, and `h` are the journal's entries with the latest first. A server that keeps a
 /// legal journal so sends each session just what it lacks, whatever its clients ask; only a client that reports a wrong result can make

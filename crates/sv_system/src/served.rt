@@ -25,8 +25,8 @@ ghost use Rattle.sv_system.specs.Cuts.{AreCuts};
 ghost use Rattle.sv_system.specs.Delivery.{AreLawful};
 ghost use Rattle.sv_system.specs.Journals.{deliveries_of, IsSerialResult, ResultsAreSerial};
 
-/// The welcomes and relays of a journal are lawful deliveries of good actions, where the results that its server goes by are those of the
-/// serial execution.
+/// The welcomes and relays of a journal, and what is seen, are lawful deliveries of good actions, where the results that its server goes by are
+/// those of the serial execution.
 ///
 /// `k` says which results the server goes by, `r` are the rules that it was opened with, and `h` are the journal's entries with the latest
 /// first. Nothing is asked of its clients.

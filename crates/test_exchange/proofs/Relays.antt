@@ -1,4 +1,4 @@
--- The great relay is within the grammar, and its numbers are those of their types.
+-- The great replies are within the grammar, and their numbers are those of their types.
 use Rattle.std.proofs.Common.{◌≡◌, ℕ, zero, suc, ◌+◌, ◌*◌, ◌<◌, ◌≤◌, Bool, true, List, [], ◌∷◌, ◌++◌, length, map, max, pos, refl, ap, ◌∙◌, arith, add-one, ◌^◌, length-append, FitsSigned}
 use Rattle.std.specs.List.{AllByRecursion}
 use Rattle.std.specs.Int.{w32, w64}
@@ -18,7 +18,7 @@ use Rattle.sv_wire.specs.declared.message.Item.{Item}
 use Rattle.sv_wire.specs.declared.message.Reply.TheVariants as replies
 use Rattle.sv_wire.proofs.Append.{nodes_more}
 use Rattle.sv_world.proofs.Layers.{lit_fold, set_fold}
-use Rattle.sv_wire.specs.Grammar.{IsWireValue, IsWireAction, IsWireHead}
+use Rattle.sv_wire.specs.Grammar.{IsWireValue, IsWireAction, IsWireHeadUpTo, IsWireWork}
 use Rattle.sv_world.specs.Ranges.{expr_fits_step, stmt_fits_step, stmt_fits, ObjectFits}
 use Rattle.sv_world.proofs.TreeMeasures.{lit_nodes, lit_depth, set_nodes, set_depth}
 use Rattle.sv_wire.specs.Ranges.{HeldFits, ActionFits, ItemFits}
@@ -49,14 +49,14 @@ unfolding great_heads
 heads_valued zero = tt
 heads_valued (suc n) = all_push (λ (h : ObjectValue). IsWireValue h.value) (great_heads n) (great_held n) (heads_valued n) (omega arith, omega arith)
 
-heads_fit : (n : ℕ) → n ≤ 528 → AllByRecursion HeldFits (great_heads n)
+heads_fit : (n : ℕ) → n ≤ 544 → AllByRecursion HeldFits (great_heads n)
 unfolding great_heads
 heads_fit zero few = tt
 heads_fit (suc n) few =
     all_push HeldFits (great_heads n) (great_held n) (heads_fit n (omega arith)) (omega arith, (greatest_fits, (greatest_fits, (greatest_fits, (greatest_fits, tt)))))
 
-heads_are : (n : ℕ) → n ≤ 528 → IsWireHead (great_heads n)
-heads_are n few =
+heads_are : (n : ℕ) → IsWireHeadUpTo n (great_heads n)
+heads_are n =
     record {
       few = omega (arith, heads_count n);
       ascending = ap is_ascending (heads_below n) ∙ below-ascending n;
@@ -135,7 +135,7 @@ action_is =
 action_fits : ActionFits great_action
 action_fits = record { reads = reads_fit 16 (omega arith); mask = omega arith; x = fits_signed_from_abs w32 (pos 0) (omega arith); y = fits_signed_from_abs w32 (pos 0) (omega arith); body = body_fit 32 }
 
--- ---- The relay
+-- ---- The replies
 
 items_count : (n : ℕ) → length (great_items n) ≡ n
 unfolding great_items
@@ -152,17 +152,19 @@ unfolding great_items
 items_fit zero = tt
 items_fit (suc n) = all_push ItemFits (great_items n) great_item (items_fit n) (record { pos = omega arith; client = omega arith; seq = omega arith; action = action_fits })
 
-pub great_is : IsReply (replies.Relay 1 0 (great_heads 528) (great_items 33))
-great_is =
+work_is : (n : ℕ) → IsWireWork n (great_heads n) (great_items 33)
+work_is n =
     record {
-      within =
-          record {
-            base = heads_are 528 (omega arith);
-            few = omega (arith, items_count 33);
-            each = All-from_recursion (λ (i : Item). IsWireAction i.action) (great_items 33) (items_are 33);
-          };
-      fits = (omega arith, omega arith, heads_fit 528 (omega arith), items_fit 33);
+      base = heads_are n;
+      few = omega (arith, items_count 33);
+      each = All-from_recursion (λ (i : Item). IsWireAction i.action) (great_items 33) (items_are 33);
     }
+
+pub relay_is : IsReply (replies.Relay 1 0 (great_heads 528) (great_items 33))
+relay_is = record { within = work_is 528; fits = (omega arith, omega arith, heads_fit 528 (omega arith), items_fit 33) }
+
+pub seen_is : IsReply (replies.Seen 1 0 (great_heads 544) (great_items 33))
+seen_is = record { within = work_is 544; fits = (omega arith, omega arith, heads_fit 544 (omega arith), items_fit 33) }
 
 -- ---- One more of each
 

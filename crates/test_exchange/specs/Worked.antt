@@ -1,4 +1,4 @@
--- A great relay: as many values, items, reads and statements as a relay may have.
+-- Great replies: as many values, items, reads and statements as a relay may have, and as what was seen.
 use Rattle.std.specs.Prelude.{ℕ, zero, suc, ℤ, pos, List, [], ◌∷◌, ◌++◌}
 use Rattle.sv_world.specs.declared.world.ObjectId.{ObjectId}
 use Rattle.sv_world.specs.declared.action.Action.{Action}

@@ -1,4 +1,4 @@
-//! A great relay: as many values, items, reads and statements as a relay may have.
+//! Great replies: as many values, items, reads and statements as a relay may have, and as what was seen.
 ghost use Rattle.std.specs.Prelude.{◌≡◌, [], ◌∷◌, IfOk};
 ghost use Rattle.sv_wire.specs.Laws.{IsReply};
 ghost use Rattle.test_exchange.specs.Worked.{greatest_number, great_heads, great_reads, great_body, great_action, great_items};
@@ -21,11 +21,11 @@ fn great_value(alloc: Global) -> Result<Value, AllocError>
 }
 
 #[tactic(auto, using(crate::proofs::Relays::heads_more))]
-fn great_head(alloc: Global) -> Result<List<ObjectValue>, AllocError>
-    ensures { IfOk result (λ head. head ≡ great_heads 528) }
+fn great_head(alloc: Global, count: u16) -> Result<List<ObjectValue>, AllocError>
+    ensures { IfOk result (λ head. head ≡ great_heads count) }
 {
     let mut head = List::new(alloc);
-    for object in 0..528u16 {
+    for object in 0..count {
         head.push(ObjectValue {
             object: ObjectId(object),
             value: great_value(alloc)?,
@@ -97,14 +97,26 @@ fn great_list(alloc: Global) -> Result<List<Item>, AllocError>
     Ok(items)
 }
 
-#[tactic(auto, using(crate::proofs::Relays::great_is))]
+#[tactic(auto, using(crate::proofs::Relays::relay_is))]
 pub(crate) fn great_relay(alloc: Global) -> Result<Reply, AllocError>
     ensures { IfOk result IsReply }
 {
     Ok(Reply::Relay {
         seq: 1,
         commit: 0,
-        head: great_head(alloc)?,
+        head: great_head(alloc, 528)?,
+        items: great_list(alloc)?,
+    })
+}
+
+#[tactic(auto, using(crate::proofs::Relays::seen_is))]
+pub(crate) fn great_seen(alloc: Global) -> Result<Reply, AllocError>
+    ensures { IfOk result IsReply }
+{
+    Ok(Reply::Seen {
+        last: 1,
+        commit: 0,
+        head: great_head(alloc, 544)?,
         items: great_list(alloc)?,
     })
 }

@@ -2,7 +2,7 @@
 ghost use Rattle.std.specs.Prelude.{◌≡◌, false};
 ghost use Rattle.sv_wire.specs.Laws.{IsRequest, IsReply};
 
-use crate::great::great_relay;
+use crate::great::{great_relay, great_seen};
 use std::alloc::{AllocError, Global};
 use std::process::Abort;
 use std::test::Fail;
@@ -132,45 +132,74 @@ fn messages_wait_in_order(rt: HostRuntime) -> Result<(), Fail> {
     Ok(())
 }
 
-/// How a great relay's payload begins.
-const GREAT: [u8; 16] = [0x89, 0, 0, 0, 1, 0, 0, 0, 0, 2, 16, 0, 0, 4, 0x7f, 0xff];
+/// A great reply's payload: how long it is, and how it begins.
+struct Great {
+    length: usize,
+    front: [u8; 16],
+}
 
-/// Whether the next reply is a great relay.
-fn takes_great(alloc: Global, exchange: &mut Exchange) -> Result<bool, AllocError> {
+const GREAT_RELAY: Great = Great {
+    length: 32_946,
+    front: [0x89, 0, 0, 0, 1, 0, 0, 0, 0, 2, 16, 0, 0, 4, 0x7f, 0xff],
+};
+
+/// It has the values of sixteen objects more.
+const GREAT_SEEN: Great = Great {
+    length: 33_506,
+    front: [0x8b, 0, 0, 0, 1, 0, 0, 0, 0, 2, 32, 0, 0, 4, 0x7f, 0xff],
+};
+
+/// Whether the next reply is this great one.
+fn takes_great(alloc: Global, exchange: &mut Exchange, great: &Great) -> Result<bool, AllocError> {
     let Some(taken) = exchange.next_reply()? else {
         return Ok(false);
     };
     let written = encode_reply(alloc, &taken);
     drop(taken);
     let written = written?;
-    Ok(written.len() == 32_946 && written.starts_with(&GREAT))
+    Ok(written.len() == great.length && written.starts_with(&great.front))
 }
 
-fn send_three(rt: &impl Abort, exchange: &mut Exchange, relay: &Reply) -> Result<(), AllocError>
-    requires { IsReply relay.now }
+fn send_three(rt: &impl Abort, exchange: &mut Exchange, reply: &Reply) -> Result<(), AllocError>
+    requires { IsReply reply.now }
 {
-    answer(rt, exchange, relay)?;
-    answer(rt, exchange, relay)?;
-    answer(rt, exchange, relay)
+    answer(rt, exchange, reply)?;
+    answer(rt, exchange, reply)?;
+    answer(rt, exchange, reply)
 }
 
-/// Three great relays are sent, then taken, and no reply is left.
-fn carry_three(rt: &impl Abort, alloc: Global, exchange: &mut Exchange) -> Result<(), Fail> {
+fn take_three(
+    rt: &impl Abort,
+    alloc: Global,
+    exchange: &mut Exchange,
+    great: &Great,
+) -> Result<(), AllocError> {
+    for _ in 0..3u8 {
+        assert!(rt; takes_great(alloc, exchange, great)?);
+    }
+    play(rt, exchange, Step::TakesReply(0))
+}
+
+/// Three great relays are sent, then taken, and no reply is left; then three great ones of what was seen.
+fn carry_three(rt: &impl Abort, alloc: Global, exchange: &mut Exchange) -> Result<(), AllocError> {
     let relay = great_relay(alloc)?;
     let sent = send_three(rt, exchange, &relay);
     drop(relay);
     sent?;
-    for _ in 0..3u8 {
-        assert!(rt; takes_great(alloc, exchange)?);
-    }
-    Ok(play(rt, exchange, Step::TakesReply(0))?)
+    take_three(rt, alloc, exchange, &GREAT_RELAY)?;
+    let seen = great_seen(alloc)?;
+    let sent = send_three(rt, exchange, &seen);
+    drop(seen);
+    sent?;
+    take_three(rt, alloc, exchange, &GREAT_SEEN)
 }
 
 /// Three of them are more bytes than a reader has room for.
 #[test]
-fn great_relays_wait(rt: HostRuntime) -> Result<(), Fail> {
+fn great_replies_wait(rt: HostRuntime) -> Result<(), Fail> {
     let mut exchange = Exchange::new(rt.alloc())?;
     let carried = carry_three(&rt, rt.alloc(), &mut exchange);
     drop(exchange);
-    carried
+    carried?;
+    Ok(())
 }

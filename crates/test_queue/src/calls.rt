@@ -141,7 +141,7 @@ pub fn give(queue: &mut Queue, object: u16, session: u16) {
     }
 }
 
-fn pop(queue: &mut Queue) {
+pub fn pop(queue: &mut Queue) {
     if queue.commit() < queue.last() {
         queue.pop();
     }

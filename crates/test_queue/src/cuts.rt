@@ -75,7 +75,7 @@ const MOST: &[u32] = &[
     27, 28, 29, 30, 31, 32, 33,
 ];
 
-/// Of 33 actions on one object all fit. Of 34 the last does not, so the cut is one position older, unless the first was sent.
+/// Of 33 actions on one object all fit. Of 34 the last does not, so the cut is one position older, unless those before it were sent.
 const FULL: &[Row] = &[
     Do(PushTimes(0, 33), 33),
     Asks(Shows(0, FIRST, MOST, FIRST), 33),
@@ -112,7 +112,7 @@ const MANY: &[Row] = &[
     ),
 ];
 
-/// Of 1,000 actions on 1,000 objects the writers of 16 alone are needed.
+/// Of 1,000 actions on 1,000 objects the writers of what is observed alone are needed.
 const APART: &[Row] = &[
     Do(PushEach(0, 1000), 1000),
     Asks(

@@ -11,7 +11,7 @@ use sv_influence::{closure, plain_closure};
 use sv_queue::{Queue, Steps};
 
 /// The next number of a fixed sequence.
-fn draw(seed: &mut u64) -> u64 {
+pub fn draw(seed: &mut u64) -> u64 {
     *seed = seed
         .wrapping_mul(6364136223846793005)
         .wrapping_add(1442695040888963407);
@@ -19,7 +19,7 @@ fn draw(seed: &mut u64) -> u64 {
 }
 
 /// What an action of a queue reads and writes, as sets of bits: of a chain, a star, diamonds or at random, by the queue's number.
-fn shape_of(queue: u32, number: u32, seed: &mut u64) -> (u64, u64) {
+pub fn shape_of(queue: u32, number: u32, seed: &mut u64) -> (u64, u64) {
     let bit = 1u64 << (number % 7);
     match queue % 4 {
         0 => (3 * bit, 2 * bit),

@@ -10,6 +10,8 @@ mod cuts;
 #[cfg(test)]
 mod drawn;
 #[cfg(test)]
+mod drawn_cuts;
+#[cfg(test)]
 mod influence;
 #[cfg(test)]
 mod queue;

@@ -216,6 +216,42 @@ fn repeated_and_strange_relays_accept_nothing(rt: HostRuntime) -> Result<(), Fai
     Ok(())
 }
 
+/// What was seen, with no base values.
+fn seen(alloc: Global, positions: &[u32]) -> Result<Logged, AllocError> {
+    Ok(Logged::Seen {
+        last: 1,
+        commit: 0,
+        head: List::new(alloc),
+        positions: List::from_vec(Vec::from_slice(alloc, positions)?),
+    })
+}
+
+/// Whether a journal is told to name what was accepted alone, once these positions were seen too.
+fn names_accepted(alloc: Global, journal: &mut Journal, positions: &[u32]) -> Result<bool, Fail> {
+    let request = Request::Observe {
+        objects: List::new(alloc),
+        wait: 0,
+    };
+    add_made(journal, 0, request, seen(alloc, positions))?;
+    Ok(relays_name_accepted(journal))
+}
+
+/// Position 1 is one that nothing was accepted at.
+fn is_told_of_both(alloc: Global, journal: &mut Journal) -> Result<bool, Fail> {
+    let of_none = names_accepted(alloc, journal, &[])?;
+    let of_one = names_accepted(alloc, journal, &[1])?;
+    Ok(of_none && !of_one)
+}
+
+#[test]
+fn nothing_is_seen_that_was_not_accepted(rt: HostRuntime) -> Result<(), Fail> {
+    let mut journal = Journal::new(rt.alloc());
+    let is_told = is_told_of_both(rt.alloc(), &mut journal);
+    drop(journal);
+    assert!(rt; is_told?);
+    Ok(())
+}
+
 /// Two actions of one client, on different objects.
 fn add_two(alloc: Global, journal: &mut Journal) -> Result<(), Fail> {
     add_joined(alloc, journal, 3, 4)?;

@@ -4,6 +4,7 @@ ghost use Rattle.sv_journal.specs.Sessions.{is_end, is_ended};
 ghost use Rattle.sv_sequencer.specs.Step.{history};
 
 mod arbitrary;
+mod observed;
 mod plainly;
 mod refusals;
 mod rows;

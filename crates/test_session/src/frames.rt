@@ -18,6 +18,12 @@ pub const SUBMIT_INC_1: &[u8] = &[
 
 pub const POLL: &[u8] = &[0, 0, 0, 1, 0x04];
 
+/// Asks what object 0 is.
+pub const OBSERVE_0: &[u8] = &[0, 0, 0, 6, 0x07, 1, 0, 0, 0, 0];
+
+/// Asks what object 2 is, which there is not.
+pub const OBSERVE_2: &[u8] = &[0, 0, 0, 6, 0x07, 1, 0, 2, 0, 0];
+
 pub const LEAVE: &[u8] = &[0, 0, 0, 1, 0x05];
 
 /// The relay of the first action, which adds 1 to object 0 and was made by client 0, with the base value 5 of that object.
@@ -26,6 +32,14 @@ pub const RELAY_INC_0: &[u8] = &[
     1, 0, 0, 0, 0, 0, 1, 1, 0, 0, 0, 1, 0, 0, 0, 0, 0, 0, 0, 0, 1, 0x10, 0, 0, 0x22, 0x21, 0, 0,
     0x20, 0, 0, 0, 0, 0, 0, 0, 1,
 ];
+
+/// At position 0 object 0 has the base value 5.
+pub const SEEN_0: &[u8] = &[
+    0, 0, 0, 0x17, 0x8b, 0, 0, 0, 0, 0, 0, 0, 0, 0, 1, 0, 0, 1, 0, 0, 0, 0, 0, 0, 0, 5, 0,
+];
+
+/// At position 1, over commit 0, nothing is new.
+pub const SEEN_NOTHING_AT_1: &[u8] = &[0, 0, 0, 0x0c, 0x8b, 0, 0, 0, 1, 0, 0, 0, 0, 0, 0, 0];
 
 pub const IDLE: &[u8] = &[0, 0, 0, 1, 0x86];
 
@@ -37,6 +51,9 @@ pub const REFUSED_2: &[u8] = &[0, 0, 0, 6, 0x87, 2, 0, 0, 0, 0];
 
 /// Code 4, ended.
 pub const REFUSED_4: &[u8] = &[0, 0, 0, 6, 0x87, 4, 0, 0, 0, 0];
+
+/// Code 8, bad objects.
+pub const REFUSED_8: &[u8] = &[0, 0, 0, 6, 0x87, 8, 0, 0, 0, 0];
 
 /// Code 9, spent.
 pub const REFUSED_9: &[u8] = &[0, 0, 0, 6, 0x87, 9, 0, 0, 0, 0];

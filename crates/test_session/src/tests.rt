@@ -102,6 +102,18 @@ const ROWS: &[Row] = &[
         SessionOut::Left,
         &[BARE_WELCOME, RELAY_INC_0, BYE],
     ),
+    // What is seen stops no session.
+    (&[OBSERVE_0], SessionOut::Closed, &[REFUSED_2]),
+    (
+        &[JOIN_0, OBSERVE_0, OBSERVE_2, POLL],
+        SessionOut::Closed,
+        &[BARE_WELCOME, SEEN_0, REFUSED_8, IDLE],
+    ),
+    (
+        &[JOIN_0, SUBMIT_INC_0, OBSERVE_0, LEAVE],
+        SessionOut::Left,
+        &[BARE_WELCOME, RELAY_INC_0, SEEN_NOTHING_AT_1, BYE],
+    ),
     // A frame that the end cuts off.
     (&[JOIN_0, &[0]], SessionOut::Closed, &[BARE_WELCOME]),
     (
@@ -135,7 +147,12 @@ const MALFORMED: &[&[u8]] = &[
     &[],
     &[0x06],
     &[0x02],
-    &[0x07, 1, 2],
+    &[0x09, 1, 2],
+    &[0x07],
+    &[0x07, 0, 0, 0],
+    &[0x07, 1, 0, 0, 0],
+    &[0x07, 1, 0, 0, 0, 0, 0],
+    &[0x07, 2, 0, 1, 0, 1, 0, 0],
     &[0x81, 0, 0, 0, 0, 0, 0],
     &[0x04, 0x00],
     &[0x06, 0, 0, 0, 1, 0],

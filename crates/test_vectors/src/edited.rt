@@ -13,11 +13,14 @@ fn vector(alloc: Global, message: &str) -> Result<Vec<u8>, Fail> {
         "submit" => &SUBMIT,
         "done" => &DONE,
         "leave" => &LEAVE,
+        "observe" => &OBSERVE,
         "welcome" => &WELCOME,
         "relay" => &RELAY,
         "first_relay" => &FIRST_RELAY,
         "noted" => &NOTED,
         "bye" => &BYE,
+        "seen" => &SEEN,
+        "denied" => &DENIED,
         _ => &[],
     };
     Ok(Vec::from_slice(alloc, payload)?)
@@ -142,10 +145,10 @@ fn all_hold(alloc: Global, rows: &str, count: usize, is_reply: bool) -> Result<(
 
 #[test]
 fn edited_requests(rt: HostRuntime) -> Result<(), Fail> {
-    all_hold(rt.alloc(), requests::EDITED, 190, false)
+    all_hold(rt.alloc(), requests::EDITED, 215, false)
 }
 
 #[test]
 fn edited_replies(rt: HostRuntime) -> Result<(), Fail> {
-    all_hold(rt.alloc(), replies::EDITED, 422, true)
+    all_hold(rt.alloc(), replies::EDITED, 634, true)
 }

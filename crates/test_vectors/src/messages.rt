@@ -84,9 +84,9 @@ fn reply_is_refused(rt: &impl Abort, alloc: Global, payload: &[u8], at: u32, cau
     assert!(rt; fault == Some(WireFault::Malformed(Malformed { at, cause })));
 }
 
-const REQUESTS: [&[u8]; 5] = [&JOIN, &SUBMIT, &DONE, &[4], &LEAVE];
+const REQUESTS: [&[u8]; 6] = [&JOIN, &SUBMIT, &DONE, &[4], &LEAVE, &OBSERVE];
 
-const REPLIES: [&[u8]; 8] = [
+const REPLIES: [&[u8]; 12] = [
     &WELCOME,
     &RELAY,
     &FIRST_RELAY,
@@ -94,7 +94,11 @@ const REPLIES: [&[u8]; 8] = [
     &NOTED,
     &[0x86],
     &[0x87, 11, 0, 0, 0, 3],
+    &[0x87, 12, 0, 0, 0, 0],
     &BYE,
+    &SEEN,
+    &NO_NEWS,
+    &DENIED,
 ];
 
 #[test]
@@ -137,8 +141,44 @@ fn dropped_is_written(alloc: Global) -> Result<bool, Fail> {
     told
 }
 
+fn denied_is_written(alloc: Global) -> Result<bool, Fail> {
+    let denied = Reply::Denied {
+        seq: 3,
+        object: ObjectId(2),
+    };
+    let told = reply_is_written(alloc, &denied, &DENIED);
+    drop(denied);
+    told
+}
+
+fn observe_is_written(alloc: Global) -> Result<bool, Fail> {
+    let mut objects = List::new(alloc);
+    objects.push(ObjectId(0))?;
+    objects.push(ObjectId(2))?;
+    let observe = Request::Observe { objects, wait: 0 };
+    let told = request_is_written(alloc, &observe, &OBSERVE);
+    drop(observe);
+    told
+}
+
+/// Where a session lacks nothing, it sees the position and the commit alone.
+fn no_news_is_written(alloc: Global) -> Result<bool, Fail> {
+    let seen = Reply::Seen {
+        last: 1,
+        commit: 1,
+        head: List::new(alloc),
+        items: List::new(alloc),
+    };
+    let told = reply_is_written(alloc, &seen, &NO_NEWS);
+    drop(seen);
+    told
+}
+
 #[test]
 fn messages_are_written(rt: HostRuntime) -> Result<(), Fail> {
+    assert!(rt; denied_is_written(rt.alloc())?);
+    assert!(rt; observe_is_written(rt.alloc())?);
+    assert!(rt; no_news_is_written(rt.alloc())?);
     assert!(rt; dropped_is_written(rt.alloc())?);
     assert!(rt; join_is_written(rt.alloc())?);
     Ok(())
@@ -149,14 +189,23 @@ const REFUSED_REQUESTS: &[(&[u8], u32, WireCause)] = &[
     (&[], 0, WireCause::Short),
     (&[6], 1, WireCause::Short),
     (&[2, 0], 0, WireCause::Kind),
-    (&[7, 0], 0, WireCause::Kind),
+    (&[9, 0], 0, WireCause::Kind),
     (&[0x81, 0], 0, WireCause::Kind),
+    (&[0x8b, 0], 0, WireCause::Kind),
     (&[4, 0], 1, WireCause::Rest),
     (&[6, 0, 0, 0, 1, 0], 5, WireCause::Count),
     (&[6, 0, 0, 0, 1, 2, 0, 1, 0, 0, 9], 8, WireCause::Order),
     (&[6, 0, 0, 0, 1, 1, 0, 0, 0, 2, 9], 8, WireCause::Mask),
     (&[1, 0, 0, 0, 0], 3, WireCause::Short),
     (&[3, 0], 1, WireCause::Count),
+    (&[7], 1, WireCause::Short),
+    (&[7, 0, 0, 0], 1, WireCause::Count),
+    (&[7, 17, 0, 0], 1, WireCause::Count),
+    (&[7, 2, 0, 1, 0, 1, 0, 0], 4, WireCause::Order),
+    (&[7, 2, 0, 2, 0, 1, 0, 0], 4, WireCause::Order),
+    (&[7, 2, 0, 0, 0], 4, WireCause::Short),
+    (&[7, 1, 0, 0, 0], 4, WireCause::Short),
+    (&[7, 1, 0, 0, 0, 0, 0], 6, WireCause::Rest),
 ];
 
 #[test]
@@ -305,7 +354,25 @@ const REFUSED_REPLIES: &[(&[u8], u32, WireCause)] = &[
     (&[0x85, 0, 0, 0], 1, WireCause::Short),
     (&[0x85, 0, 0, 0, 1, 0], 5, WireCause::Rest),
     (&[0x87, 0, 0, 0, 0, 0], 1, WireCause::Code),
-    (&[0x87, 12, 0, 0, 0, 0], 1, WireCause::Code),
+    (&[0x87, 13, 0, 0, 0, 0], 1, WireCause::Code),
+    (&[7, 1, 0, 0, 0, 0], 0, WireCause::Kind),
+    (&[0x8d, 0], 0, WireCause::Kind),
+    (&[0x8c, 0, 0, 0, 3, 0], 5, WireCause::Short),
+    (&[0x8c, 0, 0, 0, 3, 0, 2, 0], 7, WireCause::Rest),
+    (&[0x8b, 0, 0, 0, 1, 0, 0, 0], 5, WireCause::Short),
+    (&[0x89, 0, 0, 0, 1, 0, 0, 0, 1, 2, 17], 9, WireCause::Count),
+    (&[0x8b, 0, 0, 0, 1, 0, 0, 0, 1, 2, 17], 11, WireCause::Short),
+    (&[0x8b, 0, 0, 0, 1, 0, 0, 0, 1, 2, 33], 9, WireCause::Count),
+    (
+        &[0x8b, 0, 0, 0, 1, 0, 0, 0, 1, 0, 0, 34],
+        11,
+        WireCause::Count,
+    ),
+    (
+        &[0x8b, 0, 0, 0, 1, 0, 0, 0, 1, 0, 0, 0, 0],
+        12,
+        WireCause::Rest,
+    ),
 ];
 
 #[test]
@@ -334,17 +401,19 @@ fn put_item(payload: &mut Vec<u8>) -> Result<(), Fail> {
     put_sets(payload, 32)
 }
 
-fn greatest_relay(alloc: Global) -> Result<Vec<u8>, Fail> {
-    let mut relay = Vec::from_slice(alloc, &[0x89, 0, 0, 0, 1, 0, 0, 0, 2, 2, 0x10])?;
-    for object in 0..528u16 {
-        relay.extend_from_slice(&object.to_be_bytes())?;
-        put_value(&mut relay)?;
+/// A reply of a kind with the values of so many objects, and with 33 items.
+fn great_reply(alloc: Global, kind: u8, objects: u16) -> Result<Vec<u8>, Fail> {
+    let mut payload = Vec::from_slice(alloc, &[kind, 0, 0, 0, 3, 0, 0, 0, 2])?;
+    payload.extend_from_slice(&objects.to_be_bytes())?;
+    for object in 0..objects {
+        payload.extend_from_slice(&object.to_be_bytes())?;
+        put_value(&mut payload)?;
     }
-    relay.push(33)?;
+    payload.push(33)?;
     for _ in 0..33u8 {
-        put_item(&mut relay)?;
+        put_item(&mut payload)?;
     }
-    Ok(relay)
+    Ok(payload)
 }
 
 /// Appends sixteen values for a position.
@@ -366,9 +435,12 @@ fn greatest_done(alloc: Global) -> Result<Vec<u8>, Fail> {
 
 #[test]
 fn greatest_messages(rt: HostRuntime) -> Result<(), Fail> {
-    let relay = greatest_relay(rt.alloc())?;
-    assert!(rt; relay.len() <= 65_536);
-    reply_comes_back(&rt, rt.alloc(), &relay)
+    for (kind, objects) in [(0x89, 528), (0x8b, 544)] {
+        let payload = great_reply(rt.alloc(), kind, objects)?;
+        assert!(rt; payload.len() <= 65_536);
+        reply_comes_back(&rt, rt.alloc(), &payload)?;
+    }
+    Ok(())
 }
 
 #[test]

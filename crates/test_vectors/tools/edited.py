@@ -15,6 +15,7 @@ VECTORS = {
         ("submit", "06 00000001 01 0000 0001 00000000 00000000 01 100000 22 210000 20 0000000000000001"),
         ("done", "03 01 00000001 01 01 0000000000000006"),
         ("leave", "05"),
+        ("observe", "07 02 0000 0002 0000"),
     ],
     "replies": [
         ("welcome", "81 00000000 0001 0000 01 0000000000000005"),
@@ -24,14 +25,17 @@ VECTORS = {
                         " 01 0000 0001 00000000 00000000 01 100000 22 210000 20 0000000000000001"),
         ("noted", "85 00000001"),
         ("bye", "88"),
+        ("seen", "8b 00000003 00000002 0001 0000 01 0000000000000005 01 00000003 0001 00000001"
+                 " 01 0000 0001 00000000 00000000 01 100000 22 210000 20 0000000000000001"),
+        ("denied", "8c 00000003 0002"),
     ],
 }
 
 # What stands after each kind byte.
 MESSAGES = {
-    "requests": {0x01: "join", 0x06: "submit", 0x03: "done", 0x04: "nothing", 0x05: "nothing"},
+    "requests": {0x01: "join", 0x06: "submit", 0x03: "done", 0x04: "nothing", 0x05: "nothing", 0x07: "observe"},
     "replies": {0x81: "welcome", 0x84: "two_numbers", 0x85: "number", 0x86: "nothing", 0x87: "refused", 0x88: "nothing",
-                0x89: "relay", 0x8A: "three_numbers"},
+                0x89: "relay", 0x8A: "three_numbers", 0x8B: "seen", 0x8C: "denied"},
 }
 
 # The node bytes that may stand at a place of each sort, and what the node has after its byte.
@@ -81,8 +85,15 @@ class Payload:
         for _ in range(self.count(1, 1, 4)):
             self.field(8)
 
-    def head(self):
-        self.ascending(self.count(2, 0, 528), self.value)
+    def head(self, most):
+        self.ascending(self.count(2, 0, most), self.value)
+
+    def items(self):
+        for _ in range(self.count(1, 0, 33)):
+            self.field(4)
+            self.field(2)
+            self.field(4)
+            self.action()
 
     def action(self):
         self.nodes = 0
@@ -153,19 +164,21 @@ class Payload:
                     self.value()
         elif form == "welcome":
             self.field(4)
-            self.head()
-        elif form == "relay":
+            self.head(528)
+        elif form in ("relay", "seen"):
             self.field(4)
             self.field(4)
-            self.head()
-            for _ in range(self.count(1, 0, 33)):
-                self.field(4)
-                self.field(2)
-                self.field(4)
-                self.action()
+            self.head(528 if form == "relay" else 544)
+            self.items()
+        elif form == "observe":
+            self.ascending(self.count(1, 1, 16))
+            self.field(2)
+        elif form == "denied":
+            self.field(4)
+            self.field(2)
         elif form == "refused":
             start, code = self.field(1)
-            if not 1 <= code <= 11:
+            if not 1 <= code <= 12:
                 raise Refused("Code", start)
             self.field(4)
         else:

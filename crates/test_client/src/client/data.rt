@@ -26,6 +26,8 @@ pub enum Answer<'a> {
     Relay(u32, u32, &'a [(u16, i64)], &'a [Sent]),
     /// The cut, the commit, the head and the items.
     Seen(u32, u32, &'a [(u16, i64)], &'a [Sent]),
+    /// What is seen at 0 of an object, with these numbers.
+    Wide(u16, &'a [i64]),
     /// The action's number, and the object that it may not write.
     Denied(u32, u16),
     Noted(u32),
@@ -86,6 +88,20 @@ fn head_of(alloc: Global, values: &[(u16, i64)]) -> Result<List<ObjectValue>, Fa
     Ok(head)
 }
 
+/// A head of one object, with a value of several numbers.
+fn wide_of(alloc: Global, object: u16, numbers: &[i64]) -> Result<List<ObjectValue>, Fail> {
+    let mut value = Value::new(alloc);
+    for number in numbers {
+        value.push(*number)?;
+    }
+    let mut head = List::new(alloc);
+    head.push(ObjectValue {
+        object: ObjectId(object),
+        value,
+    })?;
+    Ok(head)
+}
+
 fn items_of(alloc: Global, all: &[Sent]) -> Result<List<Item>, Fail> {
     let mut items = List::new(alloc);
     for (pos, client, seq, deed) in all {
@@ -126,6 +142,12 @@ pub fn reply_of(alloc: Global, answer: Answer) -> Result<Reply, Fail> {
                 items,
             }
         }
+        Answer::Wide(object, numbers) => Reply::Seen {
+            last: 0,
+            commit: 0,
+            head: wide_of(alloc, object, numbers)?,
+            items: List::new(alloc),
+        },
         Answer::Denied(seq, object) => Reply::Denied {
             seq,
             object: ObjectId(object),

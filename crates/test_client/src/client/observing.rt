@@ -1,7 +1,9 @@
 //! Tables of steps in which objects are observed, typed from the rules by hand.
-use super::data::Answer::{Bye, Denied, Idle, Noted, Relay, Seen, Welcome};
+use super::data::Answer::{Bye, Denied, Idle, Noted, Relay, Seen, Welcome, Wide};
 use super::data::Deed::{Plus, PlusOther, Times};
-use super::steps::Step::{Below, Counts, Cut, Join, Leave, Make, Observe, Poll, Refuse, Show, Take};
+use super::steps::Step::{
+    Below, Counts, Cut, Join, Leave, Make, Observe, Poll, Refuse, Show, Take,
+};
 use super::steps::Told::{Done, Fault, Nothing};
 use super::{Events, check, check_trace};
 use std::test::Fail;
@@ -86,20 +88,14 @@ fn own_pending(rt: HostRuntime) -> Result<(), Fail> {
             Observe(&[0, 1]),
             Show(0, None),
             Counts(2, 3, 0),
-            Take(
-                Relay(1, 0, &[], &[(1, 1, 1, Plus(0, 1))]),
-                Done(&[(1, 11)]),
-            ),
+            Take(Relay(1, 0, &[], &[(1, 1, 1, Plus(0, 1))]), Done(&[(1, 11)])),
             Take(
                 Relay(2, 0, &[(1, 5)], &[(3, 1, 2, PlusOther(0, 1))]),
                 Done(&[(3, 16)]),
             ),
             Make(Times(0, 3)),
             Show(0, Some(48)),
-            Take(
-                Seen(5, 0, &[], &[(5, 0, 1, Plus(0, 4))]),
-                Done(&[(5, 20)]),
-            ),
+            Take(Seen(5, 0, &[], &[(5, 0, 1, Plus(0, 4))]), Done(&[(5, 20)])),
             Show(0, Some(60)),
             Show(1, Some(5)),
             Counts(1, 4, 0),
@@ -241,7 +237,10 @@ fn bad_cuts(rt: HostRuntime) -> Result<(), Fail> {
             Observe(&[0]),
             Take(Seen(3, 4, &[], &[]), Fault(TakeFault::BadOrder)),
             Take(Seen(5, 4, &[], items), Fault(TakeFault::BadOrder)),
-            Take(Seen(4_294_967_295, 4, &[], items), Fault(TakeFault::BadOrder)),
+            Take(
+                Seen(4_294_967_295, 4, &[], items),
+                Fault(TakeFault::BadOrder),
+            ),
             Take(Seen(6, 2, &[], items), Fault(TakeFault::BadOrder)),
             Take(Seen(6, 5, &[], items), Fault(TakeFault::BadOrder)),
             Counts(0, 1, 3),
@@ -265,12 +264,15 @@ fn bad_items(rt: HostRuntime) -> Result<(), Fail> {
             Take(Welcome(0, &[(0, 1)]), Nothing),
             Observe(&[0]),
             Take(Seen(0, 0, &[(2, 0)], &[]), Fault(TakeFault::BadItem)),
+            Take(Wide(0, &[]), Fault(TakeFault::BadItem)),
+            Take(Wide(0, &[1, 2]), Fault(TakeFault::BadItem)),
             Take(
                 Seen(1, 0, &[], &[(1, 0, 1, Plus(2, 1))]),
                 Fault(TakeFault::BadItem),
             ),
             Counts(0, 1, 0),
-            Take(Seen(0, 0, &[], &[]), Nothing),
+            Take(Wide(0, &[2]), Nothing),
+            Show(0, Some(2)),
         ],
     )
 }

@@ -15,7 +15,7 @@ use sv_wire::{Done1, Request};
 use sv_world::{Action, Body, ClientId, List, ObjectId, Point, Reads, Shape, Value};
 use test_asked::{printed, values_of, world_of};
 
-const JOURNALS: u64 = 40;
+const JOURNALS: u64 = 120;
 
 const REQUESTS: u32 = 60;
 
@@ -26,11 +26,12 @@ const OBJECTS: u16 = 4;
 const OPENING: [i64; 4] = [7, 8, 9, 10];
 
 /// Each stands in some journal.
-const REPLIES: [&str; 18] = [
+const REPLIES: [&str; 19] = [
     " welcome ",
     " relay ",
     " relay 0 ",
     " dropped ",
+    " seen ",
     " settled ",
     " noted ",
     " idle",
@@ -203,19 +204,27 @@ fn count_of(alloc: Global, entries: &[Entry], pos: u32) -> Result<usize, AllocEr
     })
 }
 
+fn some_observe(alloc: Global, dice: &mut Dice) -> Result<Request, AllocError> {
+    Ok(Request::Observe {
+        objects: some_objects(alloc, dice)?,
+        wait: dice.below(3),
+    })
+}
+
 fn some_request(
     alloc: Global,
     entries: &[Entry],
     session: u16,
     dice: &mut Dice,
 ) -> Result<Request, AllocError> {
-    match dice.below(40) {
+    match dice.below(44) {
         0..=6 => some_join(alloc, dice),
         7..=19 => some_submit(alloc, entries, session, dice),
         20..=31 => some_done(alloc, entries, session, dice),
         32 => Ok(Request::Bad),
         33 => Ok(Request::Leave),
         34 => Ok(Request::End),
+        35..=38 => some_observe(alloc, dice),
         _ => Ok(Request::Poll),
     }
 }

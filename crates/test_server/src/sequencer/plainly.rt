@@ -8,7 +8,8 @@ use std::alloc::{AllocError, Global};
 use sv_journal::{Entry, Logged};
 use sv_wire::{Done1, ObjectValue, Request};
 use sv_world::{
-    Action, ClientId, List, ObjectId, Shape, Value, check_action, copy_value, is_ascending,
+    Action, Body, ClientId, List, ObjectId, Point, Reads, Shape, Value, check_action, copy_value,
+    is_ascending,
 };
 
 /// What a server was opened with.
@@ -118,6 +119,7 @@ impl<'a> Past<'a> {
             Request::Submit { seq, action } => self.reply_to_submit(client, *seq, action),
             Request::Done { results } => self.reply_to_done(results.as_slice()),
             Request::Poll => self.reply_to_poll(),
+            Request::Observe { objects, .. } => self.reply_to_observe(objects.as_slice()),
             _ => Ok(Logged::Bye),
         }
     }
@@ -184,7 +186,7 @@ impl<'a> Past<'a> {
         let pos = self.last.saturating_add(1);
         let mut actions = Vec::from_slice(self.alloc, self.actions)?;
         actions.push(action)?;
-        let influence = self.lacking(actions.as_slice(), pos, false)?;
+        let influence = self.lacking(actions.as_slice(), pos, 0)?;
         let chain = number(influence.len()).saturating_sub(1);
         let far = farthest(actions.as_slice(), influence.as_slice(), action);
         if chain > u32::from(self.rules.bound)
@@ -234,20 +236,66 @@ impl<'a> Past<'a> {
         Ok(Logged::Idle)
     }
 
+    /// The objects at the greatest position of which the session lacks few enough.
+    fn reply_to_observe(&self, objects: &[ObjectId]) -> Result<Logged, AllocError> {
+        let greatest = self.rules.shape.objects;
+        if objects.is_empty()
+            || objects.len() > 16
+            || !is_ascending(objects)
+            || objects.iter().any(|object| object.0 >= greatest)
+        {
+            return refused(8, 0);
+        }
+        for last in (self.commit..=self.last).rev() {
+            if let Some(seen) = self.seen_at(objects, last)? {
+                return Ok(seen);
+            }
+        }
+        Ok(Logged::Idle)
+    }
+
+    /// What the session is shown at a position, where that is few enough: what an action would be sent that reads the objects behind it.
+    fn seen_at(&self, objects: &[ObjectId], last: u32) -> Result<Option<Logged>, AllocError> {
+        let reading = Action {
+            reads: Reads::from_slice(self.alloc, objects)?,
+            mask: 0,
+            origin: Point { x: 0, y: 0 },
+            body: Body::from_stmts(self.alloc, &[])?,
+        };
+        let seen = self.seen_by(&reading, last);
+        drop(reading);
+        seen
+    }
+
+    fn seen_by(&self, reading: &Action, last: u32) -> Result<Option<Logged>, AllocError> {
+        let mut actions = Vec::new(self.alloc);
+        for action in self.actions.iter().take(last as usize) {
+            actions.push(*action)?;
+        }
+        actions.push(reading)?;
+        let mut positions = self.lacking(actions.as_slice(), last.saturating_add(1), last)?;
+        let bases = self.base_objects(actions.as_slice(), positions.as_slice())?;
+        positions.pop();
+        if positions.len() > 33 {
+            return Ok(None);
+        }
+        Ok(Some(Logged::Seen {
+            last,
+            commit: self.commit,
+            head: self.held(bases.as_slice())?,
+            positions: List::from_vec(positions),
+        }))
+    }
+
     fn is_abandoned(&self, pos: u32) -> bool {
         self.entries.iter().all(|entry| !names(&entry.reply, pos)
             || is_over(self.entries, entry.session))
     }
 
-    /// A position, and what it needs for want of marks of the session, or whatever the marks: ascending.
-    fn lacking(
-        &self,
-        actions: &[&Action],
-        pos: u32,
-        is_for_session: bool,
-    ) -> Result<Vec<u32>, AllocError> {
+    /// A position, and what it needs for want of marks of the session, of which those up to `marks` count: ascending.
+    fn lacking(&self, actions: &[&Action], pos: u32, marks: u32) -> Result<Vec<u32>, AllocError> {
         let mut wanted = Vec::new(self.alloc);
-        let is_marked = |at: u32| is_for_session && is_sent(self.entries, self.session, at);
+        let is_marked = |at: u32| at <= marks && is_sent(self.entries, self.session, at);
         if is_marked(pos) {
             return Ok(wanted);
         }
@@ -273,7 +321,7 @@ impl<'a> Past<'a> {
 
     /// The relay of a position to the session.
     fn relay(&self, actions: &[&Action], seq: u32, pos: u32) -> Result<Logged, AllocError> {
-        let positions = self.lacking(actions, pos, true)?;
+        let positions = self.lacking(actions, pos, pos)?;
         let objects = self.base_objects(actions, positions.as_slice())?;
         Ok(Logged::Relay {
             seq,

@@ -114,6 +114,21 @@ fn malformed_request_of_a_spent_session(rt: HostRuntime) -> Result<(), Fail> {
     check_after_polls(&rt, polls, MALFORMED_REQUEST)
 }
 
+const OBSERVE: &str = "\
+1025 s0 observe 0 [0] -> refused 9 0
+1026 s0 observe 0 [0] -> refused 4 0
+";
+
+#[test]
+fn observe_of_a_spent_session(rt: HostRuntime) -> Result<(), Fail> {
+    let polls = Polls {
+        first: JOINED,
+        session: 0,
+        entries: 1024,
+    };
+    check_after_polls(&rt, polls, OBSERVE)
+}
+
 /// A session that never joined is spent too.
 const SPENT_BEFORE_A_JOIN: &str = "\
 1025 s1 join c0 1 [] -> refused 9 0

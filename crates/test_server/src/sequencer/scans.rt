@@ -201,6 +201,7 @@ pub fn last_writer(actions: &[&Action], object: u16, below: u32) -> u32 {
 fn positions_in(reply: &Logged) -> &[u32] {
     match reply {
         Logged::Relay { positions, .. } => positions.as_slice(),
+        Logged::Seen { positions, .. } => positions.as_slice(),
         _ => &[],
     }
 }
@@ -218,6 +219,7 @@ fn named_at(reply: &Logged, object: u16) -> Option<u32> {
     let (commit, head): (u32, &List<ObjectValue>) = match reply {
         Logged::Welcome { commit, head } => (*commit, head),
         Logged::Relay { commit, head, .. } => (*commit, head),
+        Logged::Seen { commit, head, .. } => (*commit, head),
         _ => return None,
     };
     if head.as_slice().iter().any(|held| held.object.0 == object) {

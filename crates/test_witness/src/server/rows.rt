@@ -66,6 +66,28 @@ const CASES: &[Case] = &[
         commit: 1,
         first: 1,
     },
+    // What was seen counts as sent: client 1 may report it, and no Poll of its session is sent it again. Its commit is that of what was agreed.
+    Case {
+        name: "an observer reports",
+        numbers: &[0],
+        lines: "\
+1 s0 join c0 1 [] -> welcome 0 []
+2 s1 join c1 1 [] -> welcome 0 []
+3 s0 submit 1 reads 0 writes 0 { set @0.0 (@0.0 + 1); } -> relay 1 at 0 [0=(0)] [1:c0.1]
+4 s1 observe 0 [0] -> seen 1 at 0 [0=(0)] [1:c0.1]
+5 s1 poll -> idle
+6 s1 done [1:(1)] -> noted 0
+7 s1 observe 0 [0] -> seen 1 at 0 [] []
+8 s2 join c2 1 [] -> welcome 0 []
+9 s2 observe 0 [1] -> refused 8 0
+10 s0 done [1:(1)] -> noted 1
+11 s2 observe 0 [0] -> seen 1 at 1 [0=(1)] []
+12 s1 observe 0 [0] -> seen 1 at 1 [] []
+",
+        disputes: &[],
+        commit: 1,
+        first: 1,
+    },
     // A client's first report stands: a second one, that says what others say, does not count, and takes nothing back.
     Case {
         name: "a second report",
