@@ -7,8 +7,11 @@
     client.leave()
 """
 
+import random
+import re
 import select
 import struct
+import time
 from collections import deque, namedtuple
 from operator import add, and_, eq, le, lt, mul, not_, or_, sub
 from types import SimpleNamespace
@@ -37,13 +40,21 @@ REPLIES = {
     0x8a: ("dropped", ("number", "chain", "far")), 0x8b: ("seen", ("last", "commit", "head", "items")),
     0x8c: ("denied", ("number", "target")), 0x84: ("settled", ("number", "position")),
     0x85: ("noted", ("commit",)), 0x86: ("idle", ()), 0x87: ("refused", ("code", "detail")), 0x88: ("bye", ())}
+REFUSALS = ("malformed", "not joined", "already joined", "over", "wrong sequence", "bad action", "bad results", "bad interest",
+            "too many requests", "no such client", "old life", "full")
 FITS = {"join": "welcome", "submit": "relay dropped denied settled", "done": "noted", "poll": "relay idle",
         "observe": "seen", "leave": "bye"}
 
 
 class Fault(Exception):
-    """Nothing was done (`outside` a session, `action N`, `objects`, `full`, `busy`, `spent`), or a reply is refused:
-    `malformed PLACE CAUSE`, `toolong N`, `unasked`, `wrongkind`, `badorder`, `baditem`, `missing POSITION OBJECT`."""
+    """Nothing was done (`outside` a session, `text PLACE CAUSE`, `action N`, `objects`, `full`, `busy`, `spent`), or a reply
+    is refused: `malformed PLACE CAUSE`, `toolong N`, `unasked`, `wrongkind`, `badorder`, `baditem`, `missing POSITION
+    OBJECT`. Where the reply was a refusal it has its `code`, `detail` and `name`; that of a text its `place` and `cause`."""
+    code = detail = name = place = cause = None
+
+    def __init__(self, text, **more):
+        super().__init__(text)
+        self.__dict__.update(more)
 
 
 class Term:
@@ -159,6 +170,128 @@ class Action(namedtuple("Action", "reads mask origin body")):
         return tuple(tuple(after[slot]) for slot in range(len(after)) if self.mask >> slot & 1)
 
 
+PIECE = re.compile(r"[ \t\r\n]*(?:(?P<number>-?[0-9]+)|(?P<ref>@[0-9]+\.[0-9]+)|(?P<word>[a-z]+)|(?P<sign>==|<=|[][(){};+*/%<-])"
+                   r"|(?P<none>.)|(?P<end>\Z))", re.S)
+
+
+class Text:
+    """Reads the text of an action. A fault names the byte of the first piece that may not stand there, and why."""
+    def __init__(self, text):
+        self.text, self.start, self.end, self.kind, self.piece, self.is_bad = text, 0, 0, "", "", False
+        self.nodes, self.reads = 0, ()
+        self.take()
+
+    def take(self, *tests):
+        """Takes the present piece and looks at the next one. Raises the least cause for which it may not stand here: of
+        pairs of a cause and what is fine."""
+        wrong = [cause for cause, is_fine in ((1, self.kind != "none"), (2, not self.is_bad), *tests) if not is_fine]
+        if wrong:
+            place = len(self.text[:self.start].encode("utf-8", "surrogatepass"))
+            raise Fault(f"text {place} {min(wrong)}", place=place, cause=min(wrong))
+        found, before, taken = PIECE.match(self.text, self.end), self.kind, self.piece
+        self.kind, self.piece = found.lastgroup, found[found.lastgroup]
+        self.is_glued = {self.kind, before} <= {"word", "number"} and found.start(self.kind) == self.end
+        self.start, self.end = found.span(self.kind)
+        self.numbers = [int(one[:30]) for one in re.findall("-?[0-9]+", self.piece)]
+        self.is_bad = self.kind == "number" and self.piece[:30] != str(self.numbers[0]) or self.kind == "ref" and (
+            self.piece != "@{}.{}".format(*self.numbers) or self.numbers[0] > 65535 or self.numbers[1] > 255)
+        return taken
+
+    def word(self, *wanted):
+        """Takes one of these words and signs."""
+        return self.take((3, self.piece in wanted and not self.is_glued))
+
+    def number(self, least, greatest, *tests):
+        """Takes a number of this range."""
+        number = max(self.numbers, default=least)
+        self.take((2, least <= number <= greatest), (3, self.kind == "number" and not self.is_glued), *tests)
+        return number
+
+    def objects(self):
+        """Takes the reads, or the writes where there are reads."""
+        found, is_first = [], not self.reads
+        while self.kind == "number" or (is_first and not found):
+            one = max(self.numbers, default=0)
+            found.append(self.number(0, 65535, (4, is_first or one in self.reads), (5, one > max(found, default=-1)),
+                                     (6, len(found) < 16)))
+        return tuple(found)
+
+    def ref(self, *tests):
+        """Takes an attribute of an object that is read, as its slot and its number."""
+        target, attribute = self.numbers if self.kind == "ref" else (0, 0)
+        self.take((3, self.kind == "ref"), (4, target in self.reads), *tests)
+        return self.reads.index(target), attribute
+
+    def node(self, above):
+        """Counts a node that begins here, with so many above it; answers what it must pass."""
+        self.nodes += 1
+        return (3, not self.is_glued), (7, self.nodes <= 64), (8, above < 8)
+
+    def action(self):
+        """The whole text as an action."""
+        self.word("reads")
+        self.reads = self.objects()
+        self.word("writes")
+        writes, far = self.objects(), (-FARTHEST, FARTHEST)
+        origin = (self.number(*far), self.number(*far)) if self.piece == "at" and self.word("at") else (0, 0)
+        body = self.block(0)
+        self.take((3, self.kind == "end"))
+        return Action(self.reads, sum(1 << self.reads.index(one) for one in writes), origin, body)
+
+    def block(self, above):
+        """Statements in braces."""
+        self.word("{")
+        statements = []
+        while self.piece != "}":
+            if self.take((3, self.piece in ("set", "if")), *self.node(above)) == "set":
+                statements.append(("set", *self.ref(), self.part("expression", above + 1)))
+                self.word(";")
+            else:
+                condition, then = self.part("condition", above + 1), self.block(above + 1)
+                other = self.block(above + 1) if self.piece == "else" and self.word("else") else ()
+                statements.append(("if", condition, then, other))
+        self.word("}")
+        return tuple(statements)
+
+    def part(self, kind, above):
+        """An expression or a condition."""
+        node = self.node(above)
+        if kind == "expression" and self.kind in ("number", "ref"):
+            return ("number", self.number(LEAST, GREATEST, *node)) if self.kind == "number" else ("get", *self.ref(*node))
+        start = self.take((3, self.piece in (("(",) if kind == "expression" else ("(", "[", "not"))), *node)
+        if start == "not":
+            return ("not", self.part(kind, above + 1))
+        inner = "expression" if start == "[" else kind
+        joints = KINDS["condition"][:3] if start == "[" else KINDS[kind][2:] if kind == "expression" else ("and", "or")
+        left, joint, right = self.part(inner, above + 1), self.word(*joints), self.part(inner, above + 1)
+        self.word(")" if start == "(" else "]")
+        return (joint, left, right)
+
+
+def action_of(text):
+    """The action of a text in the language of docs/ACTIONS.md. Raises `text PLACE CAUSE`."""
+    return Text(text).action()
+
+
+def text_of(act):
+    """The canonical text of an action."""
+    def said(kind, *fields):
+        parts = [block(part) if form == "list" else said(*part) if form in KINDS else part
+                 for form, part in zip(NODES[kind][1], fields)]
+        if kind in ("set", "get"):
+            parts[0] = act.reads[parts[0]]
+        if kind == "if":
+            return f"if {parts[0]} {parts[1]}" + (f" else {parts[2]}" if fields[2] else "")
+        forms = {"number": "{}", "get": "@{}.{}", "set": "set @{}.{} {};", "not": "not {}"}
+        return forms.get(kind, f"[{{}} {kind} {{}}]" if kind in KINDS["condition"][:3] else f"({{}} {kind} {{}})").format(*parts)
+
+    def block(nodes):
+        return " ".join(["{", *(said(*node) for node in nodes), "}"])
+
+    where = f"at {act.origin[0]} {act.origin[1]} " if any(act.origin) else ""
+    return " ".join(map(str, ("reads", *act.reads, "writes", *act.writes, where + block(act.body))))
+
+
 def field_bytes(field, part):
     """The bytes of a list, of a node, or of a field of a node."""
     if field == "list":
@@ -254,12 +387,28 @@ def first_payload(came):
 
 
 class Client:
-    """A client of a world of this shape. `on_change` gets each changed view of its interest: object, old, new."""
-    def __init__(self, number, objects, attributes, interest=(), on_change=lambda target, old, new: None):
-        self.number, self.shape, self.on_change = number, (objects, attributes), on_change
+    """A client of a world of this shape. `on_change` gets each changed view of its interest: object, old, new. `connect`
+    gives `watch` a connected socket for each further session, or None where there is none."""
+    def __init__(self, number, objects, attributes, interest=(), on_change=lambda target, old, new: None, connect=None):
+        self.number, self.shape, self.on_change, self.connect = number, (objects, attributes), on_change, connect
         self.life = self.made = self.told = self.asked = 0
         self.versions, self.pending, self.outstanding = {}, [], deque()
         self.link, self.came, self.seen = None, bytearray(), dict.fromkeys(sorted(interest))
+
+    def saved(self):
+        """What another process needs to go on in this one's place, as plain data, for JSON. Keep it anew after each call."""
+        return {"number": self.number, "shape": [*self.shape], "interest": [*self.seen], "life": self.life, "made": self.made,
+                "told": self.told, "versions": [[target, [*held.items()]] for target, held in self.versions.items()],
+                "pending": [[number, text_of(act), kept] for number, act, kept in self.pending]}
+
+    @classmethod
+    def from_saved(cls, data, **more):
+        """The client that was saved, with `on_change` and `connect`. It is in no session; its join asks again for what is pending."""
+        client = cls(data["number"], *data["shape"], data["interest"], **more)
+        client.life, client.made, client.told = data["life"], data["made"], data["told"]
+        client.versions = {target: {place: tuple(value) for place, value in held} for target, held in data["versions"]}
+        client.pending = [(number, action_of(text), kept and tuple(map(tuple, kept))) for number, text, kept in data["pending"]]
+        return client
 
     def view(self, target):
         """What the last pending action that writes it keeps, else the version at the greatest position; or None."""
@@ -290,10 +439,11 @@ class Client:
             self.ask("submit", number, act)
 
     def make(self, act):
-        """Makes an action; its number is `made` then."""
+        """Makes an action, given as one or as a text; its number is `made` then."""
+        act = action_of(act) if isinstance(act, str) else act
         cause = act.fault(*self.shape)
         if cause or len(self.pending) == MOST_PENDING:
-            raise Fault(f"action {cause}" if cause else "full")
+            raise Fault(f"action {cause}" if cause else "full", cause=cause)
         self.need_room()
         self.made += 1
         self.add(self.made, act)
@@ -313,6 +463,48 @@ class Client:
             raise Fault("objects")
         self.need_room()
         self.ask("observe", tuple(objects), wait)
+
+    def watch(self, objects, callback, pause=0.1, wait=25_000):
+        """Observes objects, again and again, and calls back with their values and a position: at first, and whenever one is
+        another; until the callback answers what is true. (More than 16 are asked for in parts, each of one moment.) Where
+        the connection breaks, or the requests of a session are spent, it joins again over `connect()`."""
+        objects, told = sorted(set(objects)), None
+        parts = [objects[place:place + MOST_OBSERVED] for place in range(0, len(objects), MOST_OBSERVED)] or [()]
+        while True:
+            try:
+                values, places = {}, []
+                for part in parts:
+                    self.finish()
+                    self.observe(part, wait if len(parts) == 1 else 0)
+                    reply = self.take()
+                    values.update(reply.seen)
+                    places.append(reply.last)
+                if values != told:
+                    told = dict(values)
+                    if callback(values, min(places)):
+                        return
+                self.finish()
+            except (Fault, OSError) as fault:
+                self.join_again(fault)
+            time.sleep(pause)
+
+    def join_again(self, fault):
+        """Joins with the next life where the connection broke, or a session is spent; raises any other fault, and this one
+        where no connection is given. The pauses before it grow from try to try."""
+        pause = 0 if str(fault) == "spent" else 0.2
+        if not self.connect or (pause and (self.link or not isinstance(fault, OSError))):
+            raise fault
+        while True:
+            time.sleep(pause * random.uniform(0.5, 1))
+            pause = min(2 * pause or 0.2, 10)
+            try:
+                if not (link := self.connect()):
+                    break
+                self.join(link)
+                return self.finish()
+            except OSError as again:
+                fault = again
+        raise fault
 
     def need_room(self):
         """Room for one more request, for the Dones that may be due then, and for a Leave."""
@@ -340,13 +532,17 @@ class Client:
         self.link, self.came = None, bytearray()
 
     def ask(self, *request):
-        """Sends a request. After an OSError, here or in `take`, the client may join anew."""
+        """Sends a request. After an OSError, here or in `take`, the session is over, and the client may join anew."""
         if not self.link:
             raise Fault("outside")
         payload = request_bytes(*request)
         self.outstanding.append(request)
         self.asked += 1
-        self.link.sendall(struct.pack(">I", len(payload)) + payload)
+        try:
+            self.link.sendall(struct.pack(">I", len(payload)) + payload)
+        except OSError:
+            self.give_up()
+            raise
 
     def take(self, seconds=None):
         """Takes the next reply and answers it, or None where none came in time. Any exception ends the session."""
@@ -368,7 +564,8 @@ class Client:
         """Raises the first fault of a reply, but for missing values."""
         kind = self.outstanding[0][0] if self.outstanding else None
         if not kind or reply.kind not in FITS[kind].split():
-            raise Fault("wrongkind" if kind else "unasked")
+            more = {"code": reply.code, "detail": reply.detail, "name": REFUSALS[reply.code - 1]} if reply.kind == "refused" else {}
+            raise Fault("wrongkind" if kind else "unasked", **more)
         places = [item.position for item in reply.items]
         if any(sorted(set(each)) != each for each in (places, [target for target, _ in reply.head])) or (
                 reply.commit is not None and not self.told <= reply.commit < min(places[:1] + [2 ** 32])) or (

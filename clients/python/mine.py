@@ -9,7 +9,6 @@ and whose turn it is. Objects 1 and 2 are the purses of the players: their nugge
 
 import random
 import sys
-import time
 
 from dimboetu import Client, Fault, action, obj, when
 from example import connect
@@ -31,14 +30,14 @@ def play(me, port):
     client = Client(number=me, objects=3, attributes=2, interest=(0, 1, 2),
                     on_change=lambda target, old, new: print(f"player {me} sees object {target}: {new}", flush=True))
     client.join(connect(port))
-    client.finish()
-    while (left := client.view(0)[0]) > 0:
-        if client.view(0)[1] == me:
+
+    def look(values, position):
+        left, turn = values[0]
+        if left > 0 and turn == me:
             client.make(digging(me, (left % 4 or 1) if me == 0 else random.randint(1, min(3, left))))
-        else:
-            time.sleep(0.2)
-            client.observe((0, 1, 2))
-        client.finish()
+        return left == 0
+
+    client.watch((0, 1, 2), look, pause=0.2)
     client.leave()
 
 

@@ -33,7 +33,7 @@ import simulate
 import wire
 from actions import LEAST, GREATEST, action_text, evaluate, fault_of_action, read_action
 from counting import Count
-from dimboetu import Action, Client, Fault, Payload, action, first_payload, obj, request_bytes, when
+from dimboetu import Action, Client, Fault, Payload, action, action_of, first_payload, obj, request_bytes, text_of, when
 from journal import SerialWorld, check_journal, check_serial_values
 from players import Player
 from random_scenario import Maker, scenario_text
@@ -299,6 +299,38 @@ def test_builder(count):
             (None, Action((0,), 1, (0, 0), (("set", 0, 0, deep),))),
             (11, Action((0,), 1, (0, -1_000_001), (("set", 0, 0, get),)))):
         count.same(act.fault(9, 1), cause, f"cause {cause}")
+
+
+def test_texts(count):
+    """Texts that are no actions, each with its place and its cause; and canonical texts. The cases are those of js_cases.py."""
+    import js_cases
+    refused = 0
+    for case in js_cases.refused_texts():
+        try:
+            read, fault = action_of(case["text"]), None
+        except Fault as found:
+            fault = [found.place, found.cause]
+            count.same(str(found), "text {} {}".format(*fault), "the text of a fault")
+        refused += fault is not None
+        count.same(fault, case["fault"], f"fault of {case['text']!r}")
+        if fault is None:
+            count.same(read, act_of(case["text"]), f"action of {case['text']!r}")
+    count.expect(refused > 800, f"{refused} texts are refused")
+    for text, canonical in js_cases.canonical_texts():
+        count.same(text_of(action_of(text)), canonical, f"canonical text of {text!r}")
+    for seed in range(500):
+        act = read_action(text := Maker(seed).act())
+        count.same((action_of(text), text_of(clients_action(act))), (clients_action(act), action_text(act)), f"both ways: {text}")
+    for text, fault in (("reads " + "9" * 9999 + " writes { }", "text 6 2"), ("", "text 0 3"), ("reads 0 writes { } \udcff", "text 19 1"),
+                        ("reads 0 writes { } é", "text 19 1"), ("é", "text 0 1")):
+        count.refuses(lambda: action_of(text), fault, f"text {text[:20]!r}")
+    client = Client(0, 1, 1, (0,))
+    client.join(Sink())
+    client.make(ADD_ONE)
+    count.same(client.pending[0][1], act_of(ADD_ONE), "an action that is given as a text")
+    count.refuses(lambda: client.make("reads 1 writes { }"), "action 4", "a text that the world refuses")
+    count.refuses(lambda: client.make("reads 1"), "text 7 3", "a text that is none")
+    count.same(client.made, 1, "nothing was made then")
 
 
 # Beside the clients of the simulation.
@@ -872,6 +904,158 @@ def test_lies(count):
     count.refuses(lambda: client.look_at(unsorted), "badorder", "a head that does not ascend")
 
 
+def test_refusals(count):
+    """A fault has the refusal's code, detail and name, as docs/ERRORS.md has it, where the reply was a refusal."""
+    with open(os.path.join(ROOT, "docs", "ERRORS.md"), encoding="utf-8") as file:
+        rows = re.findall(r"^\| ([0-9]+) \| ([a-z ]+) \|[^|]*\|[^|]*\|$", file.read(), re.M)
+    count.same(len(rows), 12, "refusals")
+    for code, name in rows:
+        for asked in ("join", "poll"):
+            client = asked_so(asked)
+            try:
+                client.say(reply(f"refused {code} 77"))
+            except Fault as fault:
+                found = (str(fault), fault.code, fault.detail, fault.name, client.link)
+                count.same(found, ("wrongkind", int(code), 77, name, None), f"refusal {code} to {asked}")
+            else:
+                count.expect(False, f"refusal {code} to {asked} is no fault")
+    client = asked_so("poll")
+    try:
+        client.say(reply("bye"))
+    except Fault as fault:
+        count.same((str(fault), fault.code, fault.detail, fault.name), ("wrongkind", None, None, None), "no refusal")
+
+
+def again(client, **more):
+    """The client of another process, from what this one keeps as JSON."""
+    return Client.from_saved(json.loads(json.dumps(client.saved())), **more)
+
+
+def test_saved(count):
+    """A new process takes up a number: its life, its number of actions, what it knows and what is pending."""
+    for asked in ("join", "act", "done", "poll", "observe", "leave"):
+        client = asked_so(asked)
+        client.give_up()
+        client.outstanding.clear()
+        client.asked, new = 0, again(client)
+        count.same(kept_by(new)[:-1], kept_by(client)[:-1], f"saved while it waits for {asked}")
+        count.same(new.saved(), client.saved(), f"saved again, {asked}")
+    for at_once, forgets in ((False, False), (True, False), (True, True)):
+        plan = scenario([[5], [7]], 8, (1, 0), [0])
+        server, name = StandIn(plan, at_once=at_once).start(), f"taken up, at once {at_once}, versions forgotten {forgets}"
+        links = [link_to(server) for _ in range(3)] if not at_once else []
+        client, told = client_of(plan, 0)
+        client.join(links[0] if links else link_to(server))
+        client.finish()
+        for _ in range(3):
+            client.make(ADD_ONE)
+        client.take()
+        changes, data = [], json.loads(json.dumps(client.saved()))
+        if forgets:
+            data.update(versions=[], told=0, pending=[[number, text, None] for number, text, _ in data["pending"]])
+        new = Observer.from_saved(data, on_change=lambda *change: changes.append(change))
+        client.give_up()
+        kept = (new.life, new.made, [one[0] for one in new.pending], new.view(0))
+        count.same(kept, (1, 3, [2, 3], None if forgets else (8,)), f"{name}: what it keeps")
+        count.refuses(lambda: new.make(ADD_ONE), "outside", f"{name}: it is in no session")
+        new.join(links[1] if links else link_to(server))
+        new.make(ADD_ONE)
+        new.leave()
+        other = client_of(plan, 1)
+        other[0].join(links[2] if links else link_to(server))
+        for _ in range(3):
+            other[0].poll()
+            other[0].finish()
+        other[0].leave()
+        history, serial = judge(count, plan, server, [(new, changes), other], name)
+        count.expect(told and changes[0][1] is None, f"{name}: all that it sees is told anew")
+        if history:
+            count.same([one.number for one in history.accepted if one.author == 0], [1, 2, 3, 4], f"{name}: each action counts once")
+            count.same(serial.value(0, history.commit), (9,), f"{name}: the world")
+
+
+def watching(plan, server, number=0, **more):
+    """A client that joined, with connections of its own for further sessions."""
+    client = Observer(number, len(plan.opening), plan.attributes, plan.plans[number].interest, connect=lambda: link_to(server), **more)
+    client.join(link_to(server))
+    return client
+
+
+def test_watch(count):
+    """Calls at first and at each change; joining again; and what is no matter of a connection."""
+    plan = scenario([[0], [9]], 8, (2, 0))
+    server = StandIn(plan, at_once=True).start()
+    clients, calls = [watching(plan, server, number) for number in range(2)], ([], [])
+
+    def work(number):
+        def called(values, last):
+            calls[number].append((last, values))
+            if number == 0 and values[0][0] < 6:
+                clients[0].make(ADD_ONE)
+                if values[0][0] in (2, 4):
+                    clients[0].link.shutdown(socket.SHUT_RDWR)
+            return values[0][0] >= 6
+        clients[number].watch((1, 0, 0) if number == 0 else (0,), called, 0.01)
+
+    threads = [threading.Thread(target=work, args=(number,), daemon=True) for number in range(2)]
+    for thread in threads:
+        thread.start()
+    for thread in threads:
+        thread.join(LONGEST)
+    count.expect(not any(thread.is_alive() for thread in threads), "watch: both come to their end")
+    for client in clients:
+        client.leave()
+    history, serial = judge(count, plan, server, [(client, [(target, None, client.view(target)) for target in client.seen])
+                                                  for client in clients], "watch")
+    count.same([client.life for client in clients], [3, 1], "watch: it joined again where its connection broke")
+    if history:
+        count.same([one.number for one in history.accepted], [1, 2, 3, 4, 5, 6], "watch: each action counts once")
+        for number, told in enumerate(calls):
+            cuts = [(last, {target: serial.value(target, last) for target in values}) for last, values in told]
+            count.same(told, cuts, f"watch: what client {number} was told is of one moment")
+            count.expect(all(one != two for (_, one), (_, two) in zip(told, told[1:])), "watch: no call without a change")
+        count.same([last for last, _ in calls[0]], [0, 1, 2, 3, 4, 5, 6], "watch: a call for each change")
+    plan = scenario([[place] for place in range(40)], 8, (1,), [])
+    server = StandIn(plan, at_once=True).start()
+    client, found = watching(plan, server), []
+    client.finish()
+    client.watch(range(40), lambda *call: found.append(call) or client.made == 3 or client.make(ADD_ONE), 0)
+    count.same([(last, len(values), values[39]) for values, last in found], [(place, 40, (39,)) for place in range(4)], "watch: forty objects")
+    client.asked = 1022
+    client.watch((0,), lambda values, last: found.append((values, last)) or True, 0)
+    count.same((client.life, found[-1]), (2, ({0: (3,)}, 3)), "watch: another session where one is spent")
+    count.refuses(lambda: client.watch((), None), "objects", "watch: nothing")
+    count.refuses(lambda: client.watch((40,), None), "objects", "watch: an object that is not there")
+
+    def failing(values, last):
+        raise FileNotFoundError("mine")
+
+    for fault, kept in ((failing, True), (lambda values, last: client.link.shutdown(socket.SHUT_RDWR), False)):
+        client.connect = (lambda: None) if not kept else client.connect
+        try:
+            client.watch((0,), fault, 0)
+        except OSError as found:
+            count.same((isinstance(found, FileNotFoundError), client.link is not None), (kept, kept), "watch: what it does not mend")
+        else:
+            count.expect(False, "watch: no fault")
+    count.refuses(lambda: client.watch((0,), None), "outside", "watch: no session")
+    lied = asked_so("poll")
+    lied.connect = lambda: None
+    lied.server.sendall(wire.frame(reply("refused 4 0")))
+    count.refuses(lambda: lied.watch((0,), None), "wrongkind", "watch: it is pushed out")
+    tries = []
+    client = Client(0, 1, 1, (), connect=lambda: tries.append(1) if len(tries) > 1 else tries.append(1) or refused())
+    try:
+        client.join_again(ConnectionError("closed"))
+    except ConnectionRefusedError:
+        count.same(len(tries), 3, "watch: it tries again where nobody listens, until there is no connection")
+
+
+def refused():
+    """A connection that nobody takes."""
+    raise ConnectionRefusedError("refused")
+
+
 def test_late_items(count):
     """An older item that comes late is evaluated on versions below it; what reconciles, and what does not."""
     client = Lied()
@@ -1005,7 +1189,7 @@ def test_programs(count):
             count.same((done.returncode, done.stdout), (1, ""), f"example {words}")
             count.expect(done.stderr.startswith(line) and done.stderr.count("\n") == 1, f"example {words}: {done.stderr}")
     size = sum(1 for _ in open(os.path.join(CLIENTS, "dimboetu.py"), encoding="utf-8"))
-    count.expect(size <= 425, f"the client has {size} lines")
+    count.expect(size <= 620, f"the client has {size} lines")
     count.expect(dimboetu.__doc__.count("\n") > 3, "the client says how it is used")
 
 
@@ -1036,9 +1220,9 @@ def main():
     """The status of all tests."""
     signal.alarm(4 * LONGEST)
     count = Compared()
-    for test in (test_vectors, test_refused_payloads, test_streams, test_actions, test_builder, test_beside_players,
+    for test in (test_vectors, test_refused_payloads, test_streams, test_actions, test_builder, test_texts, test_beside_players,
                  test_two_at_once, test_rejoin, test_dropped, test_interest, test_limits, test_random_runs, test_malformed, test_lies,
-                 test_late_items, test_observe, test_programs, test_mine):
+                 test_refusals, test_saved, test_watch, test_late_items, test_observe, test_programs, test_mine):
         test(count)
     return count.close()
 

@@ -4,7 +4,7 @@
     python3 tests/outside/test_documents.py [--program PROGRAM] [DOCUMENT ..]
 
 Takes the fenced blocks out of README.md and of docs/ACTIONS.md, CHECK.md, EMBEDDING.md, ERRORS.md, JAVASCRIPT.md,
-PICTURE.md, TUTORIAL.md and WITNESS.md, or out of the documents that are named, and checks each by the word behind
+PATTERNS.md, PICTURE.md, TUTORIAL.md and WITNESS.md, or out of the documents that are named, and checks each by the word behind
 its opening fence:
 
     action          an action text, which must be read
@@ -47,7 +47,7 @@ Where no document is named, it looks at more:
   heading that it has;
 - each command line `./dimboetu ..` of these documents is one that `--help` has, and names files that
   are there; with --program each of them that ends by itself is run, and must end with status 0, a
-  replay of an example with the text beside it;
+  replay of an example with the text beside it; and each scenario of a block is replayed by it, with the same report;
 - each line that the program can print on standard error, each cause of a refused file and each
   status stands in docs/ERRORS.md, and each refusal has its row there, under its name in the program;
 - `--help` has each command of README.md, each status, and names documents that are there;
@@ -63,6 +63,7 @@ import os
 import re
 import subprocess
 import sys
+import tempfile
 
 import simulate
 from actions import (GREATEST, LEAST, TextFault, action_text, evaluate, fault_of_action,
@@ -78,7 +79,7 @@ from witness import Witness, text_of as witness_text, witnessed
 HERE = os.path.dirname(os.path.abspath(__file__))
 TOP = os.path.join(HERE, "..", "..")
 DOCUMENTS = ("README.md", "docs/ACTIONS.md", "docs/CHECK.md", "docs/EMBEDDING.md", "docs/ERRORS.md",
-             "docs/JAVASCRIPT.md", "docs/PICTURE.md", "docs/TUTORIAL.md", "docs/WITNESS.md")
+             "docs/JAVASCRIPT.md", "docs/PATTERNS.md", "docs/PICTURE.md", "docs/TUTORIAL.md", "docs/WITNESS.md")
 # Crates that read the lines of reports, and write none on standard error.
 READERS = ("sv_lines", "sv_check")
 LARGEST = 4_194_304
@@ -310,7 +311,7 @@ def forms_of_help():
 
 def is_command(words, forms):
     """Whether words are those of a command that `--help` has."""
-    if words in (["build"], ["--help"], ["--version"]):
+    if words in (["build"], ["--help"], ["--version"]) or words[:-1] == ["explain"]:
         return True
     return any(len(words) == len(form) and all(each.isupper() or each == word
                                                for word, each in zip(words, form)) for form in forms)
@@ -536,6 +537,16 @@ class Checker(Count):
         if words == ["--help"]:
             self.expect(found.stdout == help_text(), "--help prints another text")
 
+    def check_replays(self, program):
+        """Each scenario of the documents, as the program replays it."""
+        with tempfile.TemporaryDirectory() as room:
+            path = os.path.join(room, "scenario.json")
+            for key, text in self.texts.items():
+                with open(path, "w", encoding="utf-8") as file:
+                    file.write(text)
+                found = subprocess.run([program, "replay", path], capture_output=True, text=True, check=False)
+                self.expect(found.stdout == simulate.replay(self.scenarios[key]), f"{key}: the program's report is another")
+
     def check_faults(self):
         """What ERRORS.md has of the lines, the causes, the statuses and the refusals."""
         errors = text_of("docs/ERRORS.md")
@@ -548,7 +559,7 @@ class Checker(Count):
         causes = re.findall(r'format!\(in alloc; "([a-z]+)', text_of("crates/sv_scenario/src/line.rt"))
         for cause in causes:
             if cause != "scenario":
-                self.expect(re.search(rf"\*\*`{cause}[ `]", errors), f"ERRORS.md has no cause {cause}")
+                self.expect(f"\n### `scenario: {cause}`\n" in errors, f"ERRORS.md has no cause {cause}")
         for status in re.findall(r"^\| ([0-9]+) \|", text_of("README.md"), re.M):
             self.expect(re.search(rf"^\| {status} \| ", errors, re.M), f"ERRORS.md has no status {status}")
             self.expect(re.search(rf"(^|\s){status} [a-z]", help_text()), f"--help has no status {status}")
@@ -618,6 +629,8 @@ def main(paths):
     if not paths:
         checker.check_links()
         checker.check_commands(program)
+        if program:
+            checker.check_replays(program)
         checker.check_faults()
         checker.check_help()
         checker.check_slips()

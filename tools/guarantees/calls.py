@@ -1,9 +1,9 @@
 #!/usr/bin/env python3
-"""Lists the public calls of the crates with the clauses of their contracts, for docs/GUARANTEES.md.
+"""Lists the public calls of the crates with the clauses of their contracts, for docs/CALLS.md.
 
     python3 tools/guarantees/calls.py          prints the table
-    python3 tools/guarantees/calls.py --write  puts it into docs/GUARANTEES.md
-    python3 tools/guarantees/calls.py --check  fails where docs/GUARANTEES.md has another one
+    python3 tools/guarantees/calls.py --write  puts it into docs/CALLS.md
+    python3 tools/guarantees/calls.py --check  fails where docs/CALLS.md has another one
 
 A call is public where its crate exports it: a function or a type that lib.rt names by `pub use` (or has itself as `pub fn`),
 with the type's `pub fn`s, and the methods of an exported trait. Laws, which are functions without code for proofs, are left out.
@@ -15,7 +15,7 @@ import sys
 
 HERE = os.path.dirname(os.path.abspath(__file__))
 TOP = os.path.normpath(os.path.join(HERE, "..", ".."))
-PAGE = os.path.join(TOP, "docs", "GUARANTEES.md")
+PAGE = os.path.join(TOP, "docs", "CALLS.md")
 BEGIN, END = "<!-- calls: begin -->", "<!-- calls: end -->"
 WAITS = re.compile(r"\bR: [^,>{]*\bWait\b|impl Wait")
 SYSTEM = {"End", "Net", "Crew", "Door"}
@@ -178,22 +178,21 @@ def columns(owner, function, front, result, clauses, waiting):
 
 
 def table():
-    """The tables of all crates."""
+    """The table of all crates: the calls of a crate with the same answers share a row."""
     with open(os.path.join(TOP, "crates.txt"), encoding="utf-8") as file:
         crates = sorted(line.split(":")[0] for line in file if line.startswith(("sv_", "law_")))
-    parts = []
+    parts = ["| Calls | Ends | Refusals, by which clause | State afterwards, by which clause |", "|---|---|---|---|"]
     for crate in crates:
-        rows = []
+        rows = {}
         for owner, function, front, result, clauses, waiting in calls_of(crate):
             if not re.search(r"[&A-Za-z]", re.sub(r".*?\(", "", front, count=1).split(")")[0]) and not result:
                 continue
-            ends, named, kept = columns(owner, function, front, result, clauses, waiting)
             call = f"{owner}::{function}" if owner else function
-            rows.append(f"| `{call}` | {ends} | {named} | {kept} |")
+            rows.setdefault(columns(owner, function, front, result, clauses, waiting), []).append(f"`{call}`")
         if rows:
-            parts.append(f"**`{crate}`**\n\n| Call | Ends | Refusals, by which clause | State afterwards, by which clause |\n|---|---|---|---|\n"
-                         + "\n".join(rows))
-    return "\n\n".join(parts) + "\n"
+            parts.append(f"| **`{crate}`** | | | |")
+            parts += [f"| {', '.join(calls)} | {' | '.join(answers)} |" for answers, calls in rows.items()]
+    return "\n" + "\n".join(parts) + "\n"
 
 
 def main(words):
@@ -209,7 +208,7 @@ def main(words):
         with open(PAGE, "w", encoding="utf-8") as file:
             file.write(fresh)
     elif page != fresh:
-        print("docs/GUARANTEES.md is not what tools/guarantees/calls.py writes", file=sys.stderr)
+        print("docs/CALLS.md is not what tools/guarantees/calls.py writes", file=sys.stderr)
         return 1
     return 0
 

@@ -57,7 +57,7 @@ text_for (Replay file) scenario h Ls = form_text forms.Report scenario h Ls
 text_for (Load size) scenario h Ls = codes "load " ++ decimal size ++ codes "\n" ++ form_text forms.Brief scenario h Ls
 
 -- The text tells the run that is asked for: its journal and its clients' traces are a record of the scenario's traffic, with serial values,
--- sufficient relays and each script carried out.
+-- sufficient relays, one cut in all that was seen, and each script carried out.
 pub record IsText (asked : Asked) (held : Option (List ℕ)) (m : Moved Transcript) (text : List ℕ) : Type 0 where
   pub scenario : Scenario
   pub h : List Entry

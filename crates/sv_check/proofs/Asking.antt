@@ -92,17 +92,17 @@ all_made_fit order shape (plan ∷ plans) (L ∷ Ls) w fits = (
 abbrev IsChecked : Shape → Action → Type 0
 IsChecked shape a = first_fault_of_action shape a ≡ None
 
-made_checked : (who : Identity) (first : ℕ) (t : List Event) → AreProper who first t → AllByRecursion (Makes (IsChecked who.shape)) t
-made_checked who first [] p = tt
-made_checked who first (events.Make a ∷ t) p = (p.0.good, made_checked who first t p.1)
-made_checked who first (events.Join s ∷ t) p = (tt, made_checked who first t p.1)
-made_checked who first (events.Poll ∷ t) p = (tt, made_checked who first t p.1)
-made_checked who first (events.Observe objects wait ∷ t) p = (tt, made_checked who first t p.1)
-made_checked who first (events.Leave ∷ t) p = (tt, made_checked who first t p.1)
-made_checked who first (events.Got s reply ∷ t) p = (tt, made_checked who first t p.1)
-made_checked who first (events.Cut ∷ t) p = (tt, made_checked who first t p.1)
-made_checked who first (events.Quit ∷ t) p = (tt, made_checked who first t p.1)
-made_checked who first (events.Show objects ∷ t) p = (tt, made_checked who first t p.1)
+made_checked : (who : Identity) (first : ℕ) (t : List Event) → AreProper who first t → AllByRecursion EventFits t → AllByRecursion (Makes (IsChecked who.shape)) t
+made_checked who first [] p f = tt
+made_checked who first (events.Make a ∷ t) p f = (p.0.good, made_checked who first t p.1 f.1)
+made_checked who first (events.Join s ∷ t) p f = (tt, made_checked who first t p.1 f.1)
+made_checked who first (events.Poll ∷ t) p f = (tt, made_checked who first t p.1 f.1)
+made_checked who first (events.Observe objects wait ∷ t) p f = (f.0, made_checked who first t p.1 f.1)
+made_checked who first (events.Leave ∷ t) p f = (tt, made_checked who first t p.1 f.1)
+made_checked who first (events.Got s reply ∷ t) p f = (tt, made_checked who first t p.1 f.1)
+made_checked who first (events.Cut ∷ t) p f = (tt, made_checked who first t p.1 f.1)
+made_checked who first (events.Quit ∷ t) p f = (tt, made_checked who first t p.1 f.1)
+made_checked who first (events.Show objects ∷ t) p f = (tt, made_checked who first t p.1 f.1)
 
 asked_told : (shape : Shape) (q : Request) → Asks (IsChecked shape) q → IsRequest q → IsTold shape q
 asked_told shape (requests.Join client life interest) a m = m.fits
@@ -180,7 +180,10 @@ module _ (scenario : Scenario) (H : List Entry) (Ls : List Trace) (good : IsGood
 
   request_told : (i : ℕ) (L : Trace) → slice_get Ls i ≡ Some L → (s n : ℕ) (q : Request) → slice_get (requests_of L s) n ≡ Some q → IsTold shape q
   request_told i L there s n q at =
-      let made = made_checked (identity_of shape L) L.first (reverse L.events) (one_of i L there).proper.events in
+      let fits = each-at (λ (M : Trace). All EventFits M.events) Ls i L
+      (all_made_fit order shape scenario.clients Ls w (recursion_from_All PlanFits scenario.clients numbers.plans)) there in
+      let made = made_checked (identity_of shape L) L.first (reverse L.events) (one_of i L there).proper.events
+      (each-reverse EventFits L.events (recursion_from_All EventFits L.events fits)) in
       let checked = each-at (Asks (IsChecked shape)) (requests_of L s) n q (asked-have (IsChecked shape) L.client L.interest (reverse L.events) s made) at in
       let all = messages r H Ls i L s (limits_of scenario good) has_numbers g.legal g.fits there in
       asked_told shape q checked (each-at IsRequest (requests_of L s) n q (recursion_from_All IsRequest (requests_of L s) all) at)

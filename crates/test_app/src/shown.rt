@@ -66,9 +66,7 @@ fn examples_print_what_stands_beside_them(rt: HostRuntime) -> Result<(), Fail> {
 }
 
 /// Scenarios whose clients come in any order: a run of them ends well.
-const MIXED: [&str; 8] = [
-    CONFLICT, BOUND, REACH, RETRY, ORPHAN, LOOKS, EDGES, OBSERVE,
-];
+const MIXED: [&str; 8] = [CONFLICT, BOUND, REACH, RETRY, ORPHAN, LOOKS, EDGES, OBSERVE];
 
 fn ends_well<R: Threads + Wait + Sync>(
     rt: &R,

@@ -2,17 +2,21 @@
 use std::alloc::{AllocError, Global};
 use sv_audit::run_check;
 use sv_bytes::{MemFiles, MemSink};
-use test_calls::examples::{CONFLICT, CONFLICT_REPORT, FIRST, FIRST_REPORT, LOOKS, LOOKS_REPORT};
+use test_calls::examples::{
+    CONFLICT, CONFLICT_REPORT, FIRST, FIRST_REPORT, LOOKS, LOOKS_REPORT, OBSERVE, OBSERVE_REPORT,
+};
 use test_calls::{Printed, call, files};
 
-/// Three scenarios and their reports, and one that is no scenario.
-pub const FILES: [(&str, &str); 7] = [
+/// Four scenarios and their reports, and one that is no scenario.
+pub const FILES: [(&str, &str); 9] = [
     ("first.json", FIRST),
     ("first.out", FIRST_REPORT),
     ("conflict.json", CONFLICT),
     ("conflict.out", CONFLICT_REPORT),
     ("looks.json", LOOKS),
     ("looks.out", LOOKS_REPORT),
+    ("observe.json", OBSERVE),
+    ("observe.out", OBSERVE_REPORT),
     ("none.json", "{}"),
 ];
 

@@ -17,15 +17,20 @@ const CONFLICT_WHY: &str =
 /// Why object 1 of the third scenario has its value at position 3.
 const LOOKS_WHY: &str = "3 c0.3 reads 1 writes 1 { set @1.0 (@1.0 + 1); }\nvalue 1=(21)\n";
 
+/// Why object 0 of the fourth scenario has its value at position 1, which another client observed.
+const OBSERVE_WHY: &str = "1 c0.1 reads 0 writes 0 { set @0.0 (@0.0 + 1); }\nvalue 0=(11)\n";
+
 /// A line of words, and the status with both outputs.
-const ROWS: [(&str, u8, &str, &str); 38] = [
+const ROWS: [(&str, u8, &str, &str); 40] = [
     ("check first.json first.out", 0, "yes\n", ""),
     ("check conflict.json conflict.out", 0, "yes\n", ""),
     ("check looks.json looks.out", 0, "yes\n", ""),
+    ("check observe.json observe.out", 0, "yes\n", ""),
     ("why conflict.json conflict.out 0 2", 0, CONFLICT_WHY, ""),
     ("why looks.json looks.out 1 3", 0, LOOKS_WHY, ""),
     ("why looks.json looks.out 1 2", 0, "value 1=(20)\n", ""),
     ("why looks.json looks.out 0 0", 0, "value 0=(10)\n", ""),
+    ("why observe.json observe.out 0 1", 0, OBSERVE_WHY, ""),
     // The words.
     ("", 2, "", CHECK_WORDS),
     ("check", 2, "", CHECK_WORDS),

@@ -8,7 +8,7 @@ use std::sync::Wait;
 use std::test::Fail;
 use std::thread::Threads;
 use sv_door::{PipeDoor, TcpDoor};
-use test_calls::examples::{CONFLICT, FIRST, RETRY};
+use test_calls::examples::{CONFLICT, FIRST, OBSERVE, RETRY};
 use test_calls::scenarios::FIRST_SERVED;
 
 /// A scenario, whose schedule is of no account here, and the programs that play it.
@@ -64,6 +64,24 @@ const MEETINGS: &[Meeting] = &[
             Call {
                 line: "join a 0",
                 prints: Prints::Last("\nmade 1\n"),
+            },
+        ],
+    },
+    // One client adds 1 to an object, which the other one observes.
+    Meeting {
+        scenario: OBSERVE,
+        server: Call {
+            line: "serve a",
+            prints: Prints::Last("\ncommit 1\n"),
+        },
+        clients: &[
+            Call {
+                line: "join a 0",
+                prints: Prints::Last("made 1\n"),
+            },
+            Call {
+                line: "join a 1",
+                prints: Prints::Last("made 0\n"),
             },
         ],
     },

@@ -23,6 +23,14 @@ pub const OTHER_RELAY: &[u8] = &[
     1, 0, 0, 0, 0, 0, 0, 0, 0, 1, 0x10, 0, 0, 0x22, 0x21, 0, 0, 0x20, 0, 0, 0, 0, 0, 0, 0, 1,
 ];
 
+/// What is seen of object 0 at position 0: its value 5, and no items.
+pub const SEEN: &[u8] = &[
+    0, 0, 0, 0x17, 0x8b, 0, 0, 0, 0, 0, 0, 0, 0, 0, 1, 0, 0, 1, 0, 0, 0, 0, 0, 0, 0, 5, 0,
+];
+
+/// The action with the sequence number 1 is denied, for object 0.
+pub const DENIED: &[u8] = &[0, 0, 0, 7, 0x8c, 0, 0, 0, 1, 0, 0];
+
 pub const NOTED_0: &[u8] = &[0, 0, 0, 5, 0x85, 0, 0, 0, 0];
 
 pub const NOTED_1: &[u8] = &[0, 0, 0, 5, 0x85, 0, 0, 0, 1];

@@ -90,6 +90,14 @@ const PEERS: &[(&[u8], u64, &str)] = &[
         0,
         "journal 2\n1 s0 join c7 1 [] -> welcome 0 []\n2 s0 end -> bye\ncommit 0\n",
     ),
+    // It joins and observes the one object, and closes.
+    (
+        &[
+            0, 0, 0, 8, 0x01, 0, 0, 0, 0, 0, 1, 0, 0, 0, 0, 6, 0x07, 1, 0, 0, 0, 0,
+        ],
+        0,
+        "journal 3\n1 s0 join c0 1 [] -> welcome 0 []\n2 s0 observe 0 [0] -> seen 0 at 0 [0=(5)] []\n3 s0 end -> bye\ncommit 0\n",
+    ),
 ];
 
 #[test]
