@@ -2,7 +2,7 @@
 
     python3 tests/outside/js_cases.py > FILE
 
-Everything is read from where test_client.py has it: the blocks of docs/WIRE.md and docs/ACTIONS.md, the tables of
+Everything is read from where test_client.py has it: the blocks of docs/wire-vectors.txt and docs/ACTIONS.md, the tables of
 crates/test_vectors and crates/test_texts; what test_client.py itself types is taken while its tests run, by clients
 and actions that note what is done to them. So a case stands in one place alone. Numbers of 64 bits are texts here.
 """
@@ -69,7 +69,7 @@ def reply_case(reply, acts):
 
 
 def messages():
-    """The vectors of WIRE.md."""
+    """The vectors of the wire."""
     for asks, text, acts, data in test_client.message_vectors():
         said = {"request": request_case(report.request_of(text, 0))} if asks else {
             "reply": reply_case(report.reply_of(text, 0), acts)}
@@ -98,7 +98,7 @@ def refused_payloads():
 
 
 def streams():
-    """The streams of WIRE.md."""
+    """The streams of wire-vectors.txt."""
     for line in filter(None, test_client.block("wire-streams")):
         pieces, wanted = line.split(" -> ")
         yield {"pieces": ["".join(piece.split()) for piece in pieces.split("|")], "found": wanted}

@@ -1,9 +1,9 @@
 #!/usr/bin/env python3
-"""Tests of the Python client and of docs/WIRE.md, with no program of the product.
+"""Tests of the Python client and of docs/wire-vectors.txt, with no program of the product.
 
     python3 tests/outside/test_client.py
 
-Both ways of each vector of WIRE.md, by the client and by the bytes of the stand-in (wire.py), which share no code;
+Both ways of each vector of the wire, by the client and by the bytes of the stand-in (wire.py), which share no code;
 the client's check and evaluation beside those of actions.py; sessions over TCP with the stand-in for a server, whose
 journals must be legal and whose clients must hold serial values alone; and a lying server, each of whose replies is
 refused and leaves the client as it was. Closes with `N passed, M failed`.
@@ -102,8 +102,8 @@ def printed(reply):
 # The vectors.
 
 def block(name):
-    """The lines of the fenced block of this name in WIRE.md."""
-    with open(os.path.join(ROOT, "docs", "WIRE.md"), encoding="utf-8") as file:
+    """The lines of the fenced block of this name in wire-vectors.txt."""
+    with open(os.path.join(ROOT, "docs", "wire-vectors.txt"), encoding="utf-8") as file:
         return re.search(rf"```{name}\n(.*?)```", file.read(), re.S)[1].split("\n")
 
 
@@ -158,7 +158,7 @@ def fault_of_payload(asks, payload):
 
 
 def test_refused_payloads(count):
-    """Payloads that are no message, of WIRE.md and of the product's tests; sizes at their limits."""
+    """Payloads that are no message, of wire-vectors.txt and of the product's tests; sizes at their limits."""
     for line in filter(None, block("wire-refused")):
         side, place, cause, *rest = line.split()
         count.same(fault_of_payload(side == ">", bytes.fromhex("".join(rest))), (int(place), cause), line)

@@ -4,8 +4,8 @@
     python3 tests/outside/test_documents.py [--program PROGRAM] [DOCUMENT ..]
 
 Takes the fenced blocks out of README.md and of docs/ACTIONS.md, CHECK.md, EMBEDDING.md, ERRORS.md, JAVASCRIPT.md,
-PATTERNS.md, PICTURE.md, TUTORIAL.md and WITNESS.md, or out of the documents that are named, and checks each by the word behind
-its opening fence:
+PATTERNS.md, PICTURE.md, TUTORIAL.md, WIRE.md and WITNESS.md, or out of the documents that are named, and checks each
+by the word behind its opening fence:
 
     action          an action text, which must be read
     canonical       pairs of lines: an action text, and its canonical text
@@ -79,7 +79,8 @@ from witness import Witness, text_of as witness_text, witnessed
 HERE = os.path.dirname(os.path.abspath(__file__))
 TOP = os.path.join(HERE, "..", "..")
 DOCUMENTS = ("README.md", "docs/ACTIONS.md", "docs/CHECK.md", "docs/EMBEDDING.md", "docs/ERRORS.md",
-             "docs/JAVASCRIPT.md", "docs/PATTERNS.md", "docs/PICTURE.md", "docs/TUTORIAL.md", "docs/WITNESS.md")
+             "docs/JAVASCRIPT.md", "docs/PATTERNS.md", "docs/PICTURE.md", "docs/TUTORIAL.md", "docs/WIRE.md",
+             "docs/WITNESS.md")
 # Crates that read the lines of reports, and write none on standard error.
 READERS = ("sv_lines", "sv_check")
 LARGEST = 4_194_304

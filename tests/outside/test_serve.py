@@ -545,8 +545,8 @@ CLOSINGS = ((), (WELCOME[:2],), (WELCOME[:-1],), (WELCOME,), (WELCOME, said(RELA
 
 
 def documented_payloads():
-    """Each payload of docs/WIRE.md that is no reply, and its fault."""
-    with open(os.path.join(ROOT, "docs", "WIRE.md"), encoding="utf-8") as file:
+    """Each payload of docs/wire-vectors.txt that is no reply, and its fault."""
+    with open(os.path.join(ROOT, "docs", "wire-vectors.txt"), encoding="utf-8") as file:
         lines = re.search(r"```wire-refused\n(.*?)```", file.read(), re.S)[1].split("\n")
     for place, cause, *rest in (line.split()[1:] for line in lines if line.startswith("<")):
         yield (said(bytes.fromhex("".join(rest))),), f"malformed {place} {wire.CAUSES.index(cause) + 1}"
