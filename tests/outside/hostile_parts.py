@@ -3,7 +3,7 @@
 
     python3 tests/outside/hostile_parts.py PARTS
 
-PARTS is the program bench/programs/sv_hostile, which bench/build.sh builds. In it the sequencer, each client, each session's
+PARTS is the program bench/programs/sv_hostile, which bench/unproved.sh builds. In it the sequencer, each client, each session's
 loop and each player of the examples `conflict` and `bound` are alone: what comes to them stands in a file. Every single
 allocation fails in turn (by failing_memory.c), and for the smaller example every pair of two. The sequencer's and the
 client's calls are made again where memory ran out, and every answer must then be that of the run in which nothing failed;

@@ -43,7 +43,7 @@ by the word behind its opening fence:
 
 Where no document is named, it looks at more:
 
-- each line of docs and README that names a file of the repository by a link names one that is there, and a
+- each line of docs and of the README files that names a file of the repository by a link names one that is there, and a
   heading that it has;
 - each command line `./dimboetu ..` of these documents is one that `--help` has, and names files that
   are there; with --program each of them that ends by itself is run, and must end with status 0, a
@@ -288,9 +288,9 @@ def text_of(path):
 
 
 def all_documents():
-    """README and each page of docs, by their paths in the repository."""
+    """README, each page of docs, and those of two folders, by their paths in the repository."""
     pages = sorted(name for name in os.listdir(os.path.join(TOP, "docs")) if name.endswith(".md"))
-    return ["README.md"] + [f"docs/{name}" for name in pages]
+    return ["README.md", "bench/README.md", "tests/outside/README.md"] + [f"docs/{name}" for name in pages]
 
 
 def marks_of(text):
