@@ -288,9 +288,9 @@ def text_of(path):
 
 
 def all_documents():
-    """README, each page of docs, and those of two folders, by their paths in the repository."""
+    """README, those of three folders, and each page of docs, by their paths in the repository."""
     pages = sorted(name for name in os.listdir(os.path.join(TOP, "docs")) if name.endswith(".md"))
-    return ["README.md", "bench/README.md", "tests/outside/README.md"] + [f"docs/{name}" for name in pages]
+    return ["README.md", "bench/README.md", "tests/outside/README.md", "tools/gate-times/README.md"] + [f"docs/{name}" for name in pages]
 
 
 def marks_of(text):
