@@ -9,16 +9,12 @@ use Rattle.sv_wire.specs.declared.refusal.Refusal.TheVariants as refusals
 use Rattle.sv_journal.specs.declared.entry.Entry.{Entry}
 use Rattle.sv_journal.specs.declared.entry.Logged.{Logged}
 use Rattle.sv_journal.specs.declared.entry.Logged.TheVariants as logged
-use Rattle.sv_journal.specs.Answer.{Rules, refused_as, reply_to}
+use Rattle.sv_journal.specs.Answer.{Rules, scenario_rules, refused_as, reply_to}
 
 -- Objects of one attribute with these values, under a bound and a reach.
 abbrev pub opened : List ℕ → ℕ → Option ℕ → Rules
-opened values bound reach = record {
-  world = record { shape = record { objects = length values; attrs = 1 }; values = map (λ n. pos n ∷ []) values };
-  bound = bound;
-  reach = reach;
-  sessions = 3;
-}
+opened values bound reach =
+    scenario_rules (record { shape = record { objects = length values; attrs = 1 }; values = map (λ n. pos n ∷ []) values }) bound reach 3
 
 abbrev pub objects : List ℕ → List ObjectId
 objects xs = map (λ x. record { 0 = x }) xs
