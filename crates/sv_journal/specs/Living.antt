@@ -1,12 +1,29 @@
 -- The rules of a living world: a server may have a steward, a client of its own that reports what nobody else does, or whose reports alone count.
 -- A history is the list of a journal's entries with the latest first: `e ∷ h` is h, and then e.
 use Rattle.std.specs.Prelude.{ℕ, suc, Bool, true, false, ◌&&◌, ◌||◌, not, nat_lt, List, [], ◌∷◌, filter, length, Option, Some, None, is_none, if◌then◌else◌}
+use Rattle.sv_world.specs.declared.rights.Right.{Right}
+use Rattle.sv_world.specs.declared.world.World.{World}
 use Rattle.sv_world.specs.Control.{is_in, below}
+use Rattle.sv_world.specs.Limits.{most_positions}
 use Rattle.sv_journal.specs.declared.entry.Entry.{Entry}
 use Rattle.sv_journal.specs.History.{client_of, is_client, accepted, result_at, commit_of}
 use Rattle.sv_journal.specs.Sessions.{sent_to}
-use Rattle.sv_journal.specs.Answer.{orphans}
+use Rattle.sv_journal.specs.Answer.{Rules, orphans}
 use Rattle.sv_journal.specs.Serving.{Keeping, with_results}
+
+-- The rules of a living world's server: no end of sessions and requests, and a client for each number that a message has.
+abbrev pub living_rules : World → ℕ → Option ℕ → Option (List Right) → Rules
+living_rules world bound reach rights = record {
+  world = world;
+  bound = bound;
+  reach = reach;
+  sessions = None;
+  clients = 65536;
+  requests = None;
+  leap = Some 1000;
+  positions = most_positions;
+  rights = rights;
+}
 
 -- Which client is the steward, where there is one, and whether its reports alone bring results.
 pub record Stewardship : Type 0 where
