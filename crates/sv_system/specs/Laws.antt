@@ -27,8 +27,8 @@ abbrev pub NeverRefused : Type 0
 NeverRefused = (r : Rules) (h : List Entry) (Ls : List Trace) (i : ℕ) (L : Trace) (s : ℕ) (reply : Reply) →
     length r.world.values ≡ r.world.shape.objects → All (λ (v : List ℤ). length v ≡ r.world.shape.attrs) r.world.values → r.bound ≤ most_bound →
     r.positions ≤ most_positions → length (accepted h) < r.positions → Legal r h → Fits r.world.shape h Ls → slice_get Ls i ≡ Some L →
-    current_session (reverse L.events) ≡ Some s → KeepsLimits r h L s →
-    slice_get (replies_in (accepted h) h s) (length (got (reverse L.events) s)) ≡ Some reply →
+    current_session (reverse L.events) ≡ Some s →
+    KeepsLimits r h L s → slice_get (replies_in (accepted h) h s) (length (got (reverse L.events) s)) ≡ Some reply →
     first_fault_of_reply (identity_of r.world.shape L) (reverse L.events) reply ≡ None
 
 -- So it is in scenarios, where at most so many requests are asked in the session.
