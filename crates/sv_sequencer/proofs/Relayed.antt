@@ -14,8 +14,7 @@ use Rattle.sv_wire.specs.declared.message.ObjectValue.{ObjectValue}
 use Rattle.sv_influence.specs.Lacking.{lacking, base_objects}
 use Rattle.sv_world.specs.declared.action.Action.{Action}
 use Rattle.sv_world.specs.declared.world.ClientId.{ClientId}
-use Rattle.sv_queue.specs.declared.queued.Queued.{Queued}
-use Rattle.sv_queue.specs.Queue.{QueueView, IsUncommitted, last_position, with_action, queue_actions, sent_positions, given_objects}
+use Rattle.sv_queue.specs.Queue.{Queued, QueueView, IsUncommitted, last_position, with_action, queue_actions, sent_positions, given_objects}
 use Rattle.sv_journal.specs.History.{Outcome, accepted, result_at, commit_of}
 use Rattle.sv_journal.specs.declared.entry.Entry.{Entry}
 use Rattle.sv_journal.specs.Sessions.{outcome_at}

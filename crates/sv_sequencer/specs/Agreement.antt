@@ -36,8 +36,8 @@ sent_at h None = []
 sent_at h (Some s) = sent_to h s
 
 abbrev pub named_at : List Entry → Option ℕ → ℕ → List ℕ
-named_at h None x = []
-named_at h (Some s) x = named_to h s x
+named_at h None = λ x. []
+named_at h (Some s) = named_to h s
 
 -- The queue is that of a history, with the sessions at the slots where they sit.
 abbrev pub FitsSeats : Rules → List Entry → List SessionRow → QueueView → Type 0
