@@ -1,0 +1,2 @@
+-- Rows keep the last outcomes.
+use Rattle.std.proofs.Common.{◌≡◌, ℕ}
