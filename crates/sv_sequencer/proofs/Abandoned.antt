@@ -12,7 +12,7 @@ use Rattle.sv_journal.specs.History.{accepted, result_at, commit_of}
 use Rattle.sv_journal.specs.Sessions.{is_over, positions_in, sent_to}
 use Rattle.sv_journal.specs.Answer.{Rules, is_abandoned, orphans}
 use Rattle.sv_queue.specs.Queue.{QueueView, entry_at, sent_positions}
-use Rattle.sv_sequencer.specs.declared.clients.Clients.{Clients}
+use Rattle.sv_clients.specs.declared.clients.Clients.{Clients}
 use Rattle.sv_sequencer.specs.declared.sessions.SessionRow.{SessionRow}
 use Rattle.sv_sequencer.specs.Agreement.{sent_at, Agrees}
 use Rattle.sv_sequencer.specs.Orphans.{is_live_row, is_abandoned_in, is_orphan_in, orphans_in}

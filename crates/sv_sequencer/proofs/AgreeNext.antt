@@ -1,7 +1,6 @@
 -- A core's fields once a new action has an outcome.
-use Rattle.std.proofs.Common.{◌≡◌, ℕ, zero, suc, ◌+◌, ◌<◌, ◌≤◌, Bool, true, false, cond, nat_eq, ◌⊎◌, inl, inr, List, [], ◌∷◌, ◌++◌, map, length, Some, slice_get, refl, sym, ◌∙◌, ap, subst, arith, length-append}
+use Rattle.std.proofs.Common.{◌≡◌, ℕ, zero, suc, ◌+◌, ◌<◌, ◌≤◌, Bool, true, false, cond, nat_eq, ◌⊎◌, inl, inr, List, [], ◌∷◌, ◌++◌, length, Some, slice_get, refl, sym, ◌∙◌, ap, subst, arith, length-append}
 use Rattle.std.proofs.lemmas.Bool.{both_ways, eqb-true}
-use Rattle.std.proofs.lemmas.List.{map_push}
 use Rattle.sv_world.specs.declared.world.ObjectId.{ObjectId}
 use Rattle.sv_world.specs.Control.{is_in}
 use Rattle.sv_world.specs.Limits.{most_positions}
@@ -9,17 +8,15 @@ use Rattle.sv_wire.specs.declared.message.Request.{Request}
 use Rattle.sv_journal.specs.declared.entry.Entry.{Entry}
 use Rattle.sv_journal.specs.declared.entry.Logged.{Logged}
 use Rattle.sv_journal.specs.declared.entry.Logged.TheVariants as logged
-use Rattle.sv_journal.specs.History.{Outcome, Accepted, is_relay, is_noted, is_welcome, outcome_in, outcomes_of, accepted, result_at, commit_of}
+use Rattle.sv_journal.specs.History.{Outcome, Accepted, Dropped, Denied, is_relay, is_noted, is_welcome, outcome_in, outcomes_of, accepted, result_at, commit_of}
 use Rattle.sv_journal.specs.Sessions.{is_end, life_of, positions_in, named_in}
 use Rattle.sv_journal.specs.Answer.{Rules}
 use Rattle.sv_queue.specs.Queue.{QueueView}
-use Rattle.sv_sequencer.specs.declared.clients.ClientRow.{ClientRow}
-use Rattle.sv_sequencer.specs.declared.clients.Clients.{Clients}
-use Rattle.sv_sequencer.specs.declared.clients.Outcome.{Outcome as OutcomeRow}
-use Rattle.sv_sequencer.specs.declared.clients.Outcome.TheVariants as kinds
+use Rattle.sv_clients.specs.declared.clients.Clients.{Clients}
 use Rattle.sv_sequencer.specs.declared.sessions.SessionRow.{SessionRow}
 use Rattle.sv_sequencer.specs.Agreement.{IsClientRow, Agrees}
-use Rattle.sv_sequencer.specs.Clients.{client_row, outcome_value}
+use Rattle.sv_clients.specs.Clients.{ClientView, client_row, KeepsOutcomes, settled}
+use Rattle.sv_clients.proofs.Rows.{keeps_settled}
 use Rattle.sv_sequencer.specs.Decisions.{IsNextSubmit}
 use Rattle.sv_sequencer.specs.Rows.{seat_in}
 use Rattle.sv_sequencer.specs.Step.{entry_of}
@@ -35,27 +32,25 @@ get-push (x ∷ xs) y z zero h = inl h
 get-push (x ∷ xs) y z (suc n) h = get-push xs y z n h
 
 -- The row of a client once its next action has an outcome.
-abbrev pub settled_row : (ℕ → ClientRow) → ℕ → OutcomeRow → ℕ → ClientRow
-settled_row rows k o j = cond (nat_eq k j) (record (rows k) { outcomes = (rows k).outcomes ++ o ∷ [] }) (rows j)
+abbrev pub settled_row : (ℕ → ClientView) → ℕ → Outcome → ℕ → ClientView
+settled_row rows k out j = cond (nat_eq k j) (settled out (rows k)) (rows j)
 
-pub client-next : (h : List Entry) (e : Entry) (k seq : ℕ) (o : OutcomeRow) (rows : ℕ → ClientRow) → IsNextSubmit h e.session e.request k seq →
-    outcome_in (suc (length (accepted h))) e.reply ≡ outcome_value o ∷ [] → is_welcome e.reply ≡ false →
-    ((j : ℕ) → IsClientRow h j (rows j)) → (j : ℕ) → IsClientRow (e ∷ h) j (settled_row rows k o j)
-client-next h e k seq o rows is out quiet old j = record {
+pub client-next : (h : List Entry) (e : Entry) (k seq : ℕ) (out : Outcome) (rows : ℕ → ClientView) → IsNextSubmit h e.session e.request k seq →
+    outcome_in (suc (length (accepted h))) e.reply ≡ out ∷ [] → is_welcome e.reply ≡ false →
+    ((j : ℕ) → IsClientRow h j (rows j)) → (j : ℕ) → IsClientRow (e ∷ h) j (settled_row rows k out j)
+client-next h e k seq out rows is told quiet old j = record {
   life = go (nat_eq k j) refl ∙ sym (life-quiet e h j quiet);
-  outcomes = at (nat_eq k j) refl
-      ∙ ap (λ os. cond (nat_eq k j) (outcomes_of h k ++ os) (outcomes_of h j)) (sym out)
-      ∙ sym (outcomes-next e h k seq j is);
+  outcomes = subst (λ os. KeepsOutcomes os (settled_row rows k out j))
+      (sym (outcomes-next e h k seq j is ∙ ap (λ os. cond (nat_eq k j) (outcomes_of h k ++ os) (outcomes_of h j)) told)) (at (nat_eq k j));
 }
   where
-    go : (b : Bool) → nat_eq k j ≡ b → (cond b (record (rows k) { outcomes = (rows k).outcomes ++ o ∷ [] }) (rows j)).life ≡ life_of h j
+    go : (b : Bool) → nat_eq k j ≡ b → (cond b (settled out (rows k)) (rows j)).life ≡ life_of h j
     go true q = (old k).life ∙ ap (life_of h) (eqb-true k j q)
     go false q = (old j).life
 
-    at : (b : Bool) → nat_eq k j ≡ b → map outcome_value (cond b (record (rows k) { outcomes = (rows k).outcomes ++ o ∷ [] }) (rows j)).outcomes
-        ≡ cond b (outcomes_of h k ++ outcome_value o ∷ []) (outcomes_of h j)
-    at true q = map_push outcome_value (rows k).outcomes o ∙ ap (λ os. os ++ outcome_value o ∷ []) (old k).outcomes
-    at false q = (old j).outcomes
+    at : (b : Bool) → KeepsOutcomes (cond b (outcomes_of h k ++ out ∷ []) (outcomes_of h j)) (cond b (settled out (rows k)) (rows j))
+    at true = keeps_settled (outcomes_of h k) (rows k) out (old k).outcomes
+    at false = (old j).outcomes
 
 pub numbers-next : (h : List Entry) (e : Entry) (k seq : ℕ) (out : Outcome) → IsNextSubmit h e.session e.request k seq →
     outcome_in (suc (length (accepted h))) e.reply ≡ out ∷ [] → ((j : ℕ) → length (outcomes_of h j) ≤ most_positions) →
@@ -81,47 +76,47 @@ placed-next h e k seq out m is q new' old j n p g =
     go false t = old j n p t
 
 -- The reply tells a new action's outcome, which is not that it was accepted, and does nothing else.
-pub record Settles (reply : Logged) (o : OutcomeRow) : Type 0 where
+pub record Settles (reply : Logged) (out : Outcome) : Type 0 where
   pub relay : is_relay reply ≡ false
   pub noted : is_noted reply ≡ false
   pub welcome : is_welcome reply ≡ false
   pub positions : positions_in reply ≡ []
   pub named : (x : ℕ) → named_in reply x ≡ []
-  pub outcome : (p : ℕ) → outcome_in p reply ≡ outcome_value o ∷ []
-  pub unaccepted : (p : ℕ) → outcome_value o ≡ Accepted p → ⊥
+  pub outcome : (p : ℕ) → outcome_in p reply ≡ out ∷ []
+  pub unaccepted : (p : ℕ) → out ≡ Accepted p → ⊥
 
-pub dropped-settles : (seq chain far : ℕ) → Settles (logged.Dropped seq chain far) (kinds.Dropped chain far)
+pub dropped-settles : (seq chain far : ℕ) → Settles (logged.Dropped seq chain far) (Dropped chain far)
 dropped-settles seq chain far =
     record { relay = refl; noted = refl; welcome = refl; positions = refl; named = λ x. refl; outcome = λ p. refl; unaccepted = λ p q. cc }
 
-pub denied-settles : (seq : ℕ) (object : ObjectId) → Settles (logged.Denied seq object) (kinds.Denied object)
+pub denied-settles : (seq : ℕ) (object : ObjectId) → Settles (logged.Denied seq object) (Denied object.0)
 denied-settles seq object =
     record { relay = refl; noted = refl; welcome = refl; positions = refl; named = λ x. refl; outcome = λ p. refl; unaccepted = λ p q. cc }
 
 -- A new action is not accepted.
 pub agree-settled : (r : Rules) (h : List Entry) (v : QueueView) (rows next : List SessionRow) (clients after : Clients) (owed slot s : ℕ) (request : Request) (reply : Logged)
-    (k seq : ℕ) (o : OutcomeRow) → Settles reply o →
+    (k seq : ℕ) (out : Outcome) → Settles reply out →
     Agrees r h v rows clients owed → seat_in rows slot ≡ Some s → IsNextSubmit h s request k seq → is_end request ≡ false →
-    AreAfter slot (entry_of s request reply) rows next → ((j : ℕ) → client_row after j ≡ settled_row (client_row clients) k o j) →
+    AreAfter slot (entry_of s request reply) rows next → ((j : ℕ) → client_row after j ≡ settled_row (client_row clients) k out j) →
     Agrees r (entry_of s request reply ∷ h) v next after owed
-agree-settled r h v rows next clients after owed slot s request reply k seq o settles a at is more rows' clients' =
+agree-settled r h v rows next clients after owed slot s request reply k seq out settles a at is more rows' clients' =
     agree-next r h e v v rows next clients after owed owed slot a at rows'
     (record {
       grows = omega (arith, ap length same);
       positions = omega (arith, ap length same, a.sound.positions);
-      numbers = numbers-next h e k seq (outcome_value o) is (settles.outcome (suc (length (accepted h)))) a.sound.numbers;
+      numbers = numbers-next h e k seq out is (settles.outcome (suc (length (accepted h)))) a.sound.numbers;
       commit = omega (arith, commit);
       reported = λ q. absurd (both_ways (is_noted reply) settles.noted q);
       sent = λ p m. absurd (none p settles.positions m);
       closed = λ p x m. absurd (none p settles.positions m);
       named = λ x q m. absurd (none q (settles.named x) m);
-      outcomes = placed-next h e k seq (outcome_value o) (length (accepted (e ∷ h))) is (settles.outcome (suc (length (accepted h)))) (λ p q. absurd (settles.unaccepted p q))
+      outcomes = placed-next h e k seq out (length (accepted (e ∷ h))) is (settles.outcome (suc (length (accepted h)))) (λ p q. absurd (settles.unaccepted p q))
           (λ j n p g. omega (arith, a.sound.outcomes j n p g, ap length same));
       ended = λ q. absurd (both_ways (is_end request) more q);
     })
     refl (fits-quiet r h e v (sent_seats h rows) (named_seats h rows) slot same settles.noted settles.positions settles.named a.fits)
     (a.commit ∙ sym commit)
-    (λ j. subst (IsClientRow (e ∷ h) j) (sym (clients' j)) (client-next h e k seq o (client_row clients) is (settles.outcome (suc (length (accepted h)))) settles.welcome a.client_rows j))
+    (λ j. subst (IsClientRow (e ∷ h) j) (sym (clients' j)) (client-next h e k seq out (client_row clients) is (settles.outcome (suc (length (accepted h)))) settles.welcome a.client_rows j))
     (a.owed ∙ sym (owed-same slot e rows next rows' more))
   where
     e : Entry

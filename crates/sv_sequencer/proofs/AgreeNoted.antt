@@ -12,7 +12,8 @@ use Rattle.sv_journal.specs.Sessions.{is_end, positions_in, named_in}
 use Rattle.sv_journal.specs.Answer.{Rules}
 use Rattle.sv_journal.proofs.Commits.{committed_has}
 use Rattle.sv_queue.specs.Queue.{QueueView, last_position, with_result, ready_installed}
-use Rattle.sv_sequencer.specs.declared.clients.Clients.{Clients}
+use Rattle.sv_clients.specs.Clients.{client_row, KeepsOutcomes}
+use Rattle.sv_clients.specs.declared.clients.Clients.{Clients}
 use Rattle.sv_sequencer.specs.declared.sessions.SessionRow.{SessionRow}
 use Rattle.sv_sequencer.specs.Agreement.{IsSoundHistory, Agrees}
 use Rattle.sv_sequencer.specs.Fits.{QueueFits}
@@ -116,7 +117,7 @@ agree-noted r h v old next clients owed slot s request c ds asks within a at row
       ended = λ q. absurd (both_ways (is_end request) (ap is_end asks) q);
     })
     (room-reports v ds) all.0 all.1.0
-    (λ j. record { life = (a.client_rows j).life ∙ sym (life-quiet e h j refl); outcomes = (a.client_rows j).outcomes ∙ sym (outcomes-quiet e h j refl) })
+    (λ j. record { life = (a.client_rows j).life ∙ sym (life-quiet e h j refl); outcomes = subst (λ os. KeepsOutcomes os (client_row clients j)) (sym (outcomes-quiet e h j refl)) (a.client_rows j).outcomes })
     (a.owed ∙ sym (owed-same slot e old next rows' (ap is_end asks)))
   where
     e : Entry

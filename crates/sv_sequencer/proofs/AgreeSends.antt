@@ -14,12 +14,10 @@ use Rattle.sv_journal.specs.History.{Authored, Accepted, is_client, is_noted, ou
 use Rattle.sv_journal.specs.Sessions.{is_end, life_in, life_of, names, positions_in, named_in, sent_to}
 use Rattle.sv_journal.specs.Answer.{Rules}
 use Rattle.sv_queue.specs.Queue.{QueueView, IsUncommitted, last_position, with_action, with_given}
-use Rattle.sv_sequencer.specs.declared.clients.ClientRow.{ClientRow}
-use Rattle.sv_sequencer.specs.declared.clients.Clients.{Clients}
-use Rattle.sv_sequencer.specs.declared.clients.Outcome.TheVariants as kinds
+use Rattle.sv_clients.specs.declared.clients.Clients.{Clients}
 use Rattle.sv_sequencer.specs.declared.sessions.SessionRow.{SessionRow}
 use Rattle.sv_sequencer.specs.Agreement.{IsClientRow, Agrees}
-use Rattle.sv_sequencer.specs.Clients.{client_row, outcome_value}
+use Rattle.sv_clients.specs.Clients.{ClientView, client_row, KeepsOutcomes}
 use Rattle.sv_sequencer.specs.Decisions.{IsOld, IsNextSubmit, IsJoin, IsSending, action_in}
 use Rattle.sv_sequencer.specs.Fits.{actions_in, QueueFits}
 use Rattle.sv_sequencer.specs.Relays.{marked_all, given_all}
@@ -92,7 +90,7 @@ agree-sent r h v old next clients owed slot s request reply head ps sends a at i
     (fits-sent r h e v (sent_seats h old) (named_seats h old) slot head ps sends within
     (subst (λ A. QueueFits r.world A (result_at h) (sent_seats h old) (named_seats h old) v) (sym same) a.fits))
     (commit-given (marked_all v ps slot) head slot ∙ commit-marked v ps slot ∙ a.commit ∙ sym commit)
-    (λ k. record { life = (a.client_rows k).life ∙ sym (life-quiet e h k sends.welcome); outcomes = (a.client_rows k).outcomes ∙ sym (outcomes-old e h k is) })
+    (λ k. record { life = (a.client_rows k).life ∙ sym (life-quiet e h k sends.welcome); outcomes = subst (λ os. KeepsOutcomes os (client_row clients k)) (sym (outcomes-old e h k is)) (a.client_rows k).outcomes })
     (a.owed ∙ sym (owed-same slot e old next rows' more))
   where
     e : Entry
@@ -109,7 +107,7 @@ pub agree-accept : (r : Rules) (h : List Entry) (v : QueueView) (old next : List
     (k seq c m : ℕ) (head : List ObjectValue) (ps : List ℕ) → c ≡ v.commit → m ≡ suc (last_position v) →
     Agrees r h v old clients owed → seat_in old slot ≡ Some s → IsNextSubmit h s request k seq → length (accepted h) < r.positions → is_end request ≡ false →
     AreAfter slot (entry_of s request (logged.Relay seq c head ps)) old next →
-    ((j : ℕ) → client_row after j ≡ settled_row (client_row clients) k (kinds.Accepted m) j) →
+    ((j : ℕ) → client_row after j ≡ settled_row (client_row clients) k (Accepted m) j) →
     All (IsUncommitted (with_action v (record { 0 = k }) seq (action_in request))) ps →
     IsClosed (actions_of h ++ action_in request ∷ []) (commit_of h) (sent_to h s) (λ p. is_in p ps) →
     Agrees r (entry_of s request (logged.Relay seq c head ps) ∷ h) (given_all (marked_all (with_action v (record { 0 = k }) seq (action_in request)) ps slot) head slot) next after owed
@@ -135,7 +133,7 @@ agree-accept r h v old next clients after owed slot s request k seq c m head ps 
     (subst (λ n. IsSending (logged.Relay seq n head ps) w.commit head ps) (sym at) (relay-sends seq v.commit head ps)) within fitted)
     (commit-given (marked_all w ps slot) head slot ∙ commit-marked w ps slot ∙ a.commit ∙ sym commit)
     (λ j. subst (IsClientRow (e ∷ h) j) (sym (clients' j))
-    (client-next h e k seq (kinds.Accepted m) (client_row clients) is (ap (λ n. Accepted n ∷ []) (let p : suc (length (accepted h)) ≡ m = omega (arith, last, a.fits.last) in p)) refl a.client_rows j))
+    (client-next h e k seq (Accepted m) (client_row clients) is (ap (λ n. Accepted n ∷ []) (let p : suc (length (accepted h)) ≡ m = omega (arith, last, a.fits.last) in p)) refl a.client_rows j))
     (a.owed ∙ sym (owed-same slot e old next rows' more))
   where
     e : Entry
@@ -168,7 +166,7 @@ agree-accept r h v old next clients after owed slot s request k seq c m head ps 
         (ap is_some (a.sound.results (suc (length (accepted h))) (omega arith))))
 
 -- The row of a client that joins.
-abbrev pub joined_row : (ℕ → ClientRow) → ℕ → ℕ → ℕ → ClientRow
+abbrev pub joined_row : (ℕ → ClientView) → ℕ → ℕ → ℕ → ClientView
 joined_row rows k life j = cond (nat_eq k j) (record (rows k) { life = life }) (rows j)
 
 -- A session begins.
@@ -218,7 +216,7 @@ agree-welcome r h v old next clients after owed slot s request k life c head at 
     joined j = record {
       life = go (nat_eq k j) refl
           ∙ ap (λ b. cond b (max (life_in request) (life_of h j)) (life_of h j)) (sym (ap (λ o. is_client o j) is.client));
-      outcomes = outs (nat_eq k j) refl ∙ sym (outcomes-quiet e h j refl);
+      outcomes = subst (λ os. KeepsOutcomes os (joined_row (client_row clients) k life j)) (sym (outcomes-quiet e h j refl)) (outs (nat_eq k j) refl);
     }
       where
         go : (b : Bool) → nat_eq k j ≡ b → (cond b (record (client_row clients k) { life = life }) (client_row clients j)).life ≡ cond b (max (life_in request) (life_of h j)) (life_of h j)
@@ -226,6 +224,7 @@ agree-welcome r h v old next clients after owed slot s request k life c head at 
             sym is.number ∙ sym (max-above (life_in request) (life_of h j) above))
         go false q = (a.client_rows j).life
 
-        outs : (b : Bool) → nat_eq k j ≡ b → map outcome_value (cond b (record (client_row clients k) { life = life }) (client_row clients j)).outcomes ≡ outcomes_of h j
-        outs true q = (a.client_rows k).outcomes ∙ ap (outcomes_of h) (eqb-true k j q)
+        outs : (b : Bool) → nat_eq k j ≡ b → KeepsOutcomes (outcomes_of h j) (cond b (record (client_row clients k) { life = life }) (client_row clients j))
+        outs true q = subst (λ i. KeepsOutcomes (outcomes_of h i) (record (client_row clients k) { life = life })) (eqb-true k j q)
+            (record { count = (a.client_rows k).outcomes.count; kept = (a.client_rows k).outcomes.kept })
         outs false q = (a.client_rows j).outcomes

@@ -9,10 +9,10 @@ use Rattle.sv_journal.specs.History.{is_welcome, is_noted, is_client, joining, a
 use Rattle.sv_journal.specs.Sessions.{is_end, is_last, life_in, life_of, positions_in, named_in}
 use Rattle.sv_journal.specs.Answer.{Rules}
 use Rattle.sv_queue.specs.Queue.{QueueView}
-use Rattle.sv_sequencer.specs.declared.clients.Clients.{Clients}
+use Rattle.sv_clients.specs.declared.clients.Clients.{Clients}
 use Rattle.sv_sequencer.specs.declared.sessions.SessionRow.{SessionRow}
 use Rattle.sv_sequencer.specs.Agreement.{sent_at, named_at, IsClientRow, IsSoundHistory, Agrees}
-use Rattle.sv_sequencer.specs.Clients.{client_row}
+use Rattle.sv_clients.specs.Clients.{client_row, KeepsOutcomes}
 use Rattle.sv_sequencer.specs.Decisions.{IsQuiet}
 use Rattle.sv_sequencer.specs.Fits.{QueueFits}
 use Rattle.sv_sequencer.specs.Rows.{seat_in, owes_end, count_rows}
@@ -116,7 +116,7 @@ agree-quiet r h v rows next clients owed left slot s request reply a at quiet la
     })
     refl (fits-quiet r h e v (sent_seats h rows) (named_seats h rows) slot same quiet.noted quiet.positions quiet.named a.fits)
     (a.commit ∙ sym commit)
-    (λ k. record { life = (a.client_rows k).life ∙ sym (life-quiet e h k quiet.welcome); outcomes = (a.client_rows k).outcomes ∙ sym (quiet.outcomes k) }) owes
+    (λ k. record { life = (a.client_rows k).life ∙ sym (life-quiet e h k quiet.welcome); outcomes = subst (λ os. KeepsOutcomes os (client_row clients k)) (sym (quiet.outcomes k)) (a.client_rows k).outcomes }) owes
   where
     e : Entry
     e = entry_of s request reply

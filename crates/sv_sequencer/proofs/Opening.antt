@@ -5,10 +5,10 @@ use Rattle.std.proofs.lemmas.List.{get_or_past, get_or_push, get_or_append_left,
 use Rattle.sv_world.specs.Control.{below}
 use Rattle.sv_queue.specs.Queue.{opening_queue}
 use Rattle.sv_journal.specs.Answer.{Rules}
-use Rattle.sv_sequencer.specs.declared.clients.Clients.{Clients}
+use Rattle.sv_clients.specs.declared.clients.Clients.{Clients}
 use Rattle.sv_sequencer.specs.declared.sessions.SessionRow.{SessionRow}
 use Rattle.sv_sequencer.specs.Agreement.{Agrees, IsClientRow, sent_at, named_at}
-use Rattle.sv_sequencer.specs.Clients.{client_row, no_client_row}
+use Rattle.sv_clients.specs.Clients.{client_row, no_client}
 use Rattle.sv_sequencer.specs.Cores.{first_seat}
 use Rattle.sv_sequencer.specs.Fits.{was_given}
 use Rattle.sv_sequencer.specs.Rows.{no_session, new_session, row_at, seat_in, owes_end, count_rows, IsSessionRow}
@@ -78,11 +78,11 @@ new-is r s = record { client = refl; over = refl; left = go r.requests; ended = 
     go None = refl
     go (Some m) = refl
 
-no_client_row-is : (k : ℕ) → IsClientRow [] k no_client_row
-no_client_row-is k = record { life = refl; outcomes = refl }
+no_client-is : (k : ℕ) → IsClientRow [] k no_client
+no_client-is k = record { life = refl; outcomes = record { count = refl; kept = refl } }
 
 pub agree-opening : (r : Rules) (n : ℕ) (rows : List SessionRow) (clients : Clients) (owed : ℕ) → r.positions ≤ 4294967294 → n ≤ 64 → rows ≡ first_rows r.requests n →
-    ((k : ℕ) → client_row clients k ≡ no_client_row) → owed ≡ n → Agrees r [] (opening_queue r.world) rows clients owed
+    ((k : ℕ) → client_row clients k ≡ no_client) → owed ≡ n → Agrees r [] (opening_queue r.world) rows clients owed
 agree-opening r n rows clients owed most few are none owes = subst (λ rs. Agrees r [] (opening_queue r.world) rs clients owed) (sym are) (record {
   sound = record {
     results = λ p high. refl;
@@ -112,7 +112,7 @@ agree-opening r n rows clients owed most few are none owes = subst (λ rs. Agree
   };
   session_rows = λ slot s at. (let both = seat-below r.requests n slot s at in
       subst (λ row. IsSessionRow r [] s row) (sym (rows-at r.requests n slot both.0)) (subst (λ m. IsSessionRow r [] s (new_session r.requests m)) (sym both.1) (new-is r s)));
-  client_rows = λ k. subst (IsClientRow [] k) (sym (none k)) (no_client_row-is k);
+  client_rows = λ k. subst (IsClientRow [] k) (sym (none k)) (no_client-is k);
   owed = owes ∙ sym (rows-count owes_end r.requests n (λ i. refl));
 })
 

@@ -52,6 +52,11 @@ send-answer-requires-clause-slot g c =
 pub take_in-requires-clause-room : goal.take_in-requires-clause-room
 take_in-requires-clause-room g c = (let k = c.requires.0 in omega (arith, k.fits.last, c.requires.1.1.1.1.1.1, k.positions))
 
+pub take_in-requires-clause-number : goal.take_in-requires-clause-number
+take_in-requires-clause-number g c =
+    let next = c.requires.1.1.1.0 in
+    omega (arith, next.next, next.few, (c.requires.0.client_rows c.args.id.client).outcomes.count)
+
 pub returns-clause-ok : goal.returns-clause-ok
 returns-clause-ok g c =
     let a = c.args.self.now in
