@@ -1,23 +1,22 @@
 -- What a core's fields say of a history.
-use Rattle.std.specs.Prelude.{◌≡◌, ℕ, ◌<◌, ◌≤◌, true, false, List, [], map, length, Option, Some, None, slice_get}
+use Rattle.std.specs.Prelude.{◌≡◌, ℕ, ◌<◌, ◌≤◌, true, false, List, [], length, Option, Some, None, slice_get}
 use Rattle.sv_world.specs.Control.{is_in, SentIsClosed}
 use Rattle.sv_world.specs.Limits.{most_open, most_positions}
 use Rattle.sv_queue.specs.Queue.{QueueView}
+use Rattle.sv_clients.specs.declared.clients.Clients.{Clients}
+use Rattle.sv_clients.specs.Clients.{ClientView, client_row, KeepsOutcomes}
 use Rattle.sv_journal.specs.declared.entry.Entry.{Entry}
 use Rattle.sv_journal.specs.History.{Accepted, outcomes_of, accepted, actions_of, result_at, commit_of}
 use Rattle.sv_journal.specs.Sessions.{life_of, sent_to, named_to, is_over, is_ended}
 use Rattle.sv_journal.specs.Answer.{Rules}
-use Rattle.sv_sequencer.specs.declared.clients.ClientRow.{ClientRow}
-use Rattle.sv_sequencer.specs.declared.clients.Clients.{Clients}
 use Rattle.sv_sequencer.specs.declared.sessions.SessionRow.{SessionRow}
-use Rattle.sv_sequencer.specs.Clients.{client_row, outcome_value}
 use Rattle.sv_sequencer.specs.Fits.{QueueFits}
 use Rattle.sv_sequencer.specs.Rows.{row_at, seat_in, has_entry, owes_end, count_rows, IsSessionRow}
 
 -- The row says of a client what the history says.
-pub record IsClientRow (h : List Entry) (k : ℕ) (r : ClientRow) : Type 0 where
-  pub life : r.life ≡ life_of h k
-  pub outcomes : map outcome_value r.outcomes ≡ outcomes_of h k
+pub record IsClientRow (h : List Entry) (k : ℕ) (row : ClientView) : Type 0 where
+  pub life : row.life ≡ life_of h k
+  pub outcomes : KeepsOutcomes (outcomes_of h k) row
 
 -- What holds of each history that a core keeps. Among it: with a position a session was sent all that influences it and is above the commit.
 pub record IsSoundHistory (r : Rules) (h : List Entry) : Type 0 where
@@ -36,8 +35,8 @@ sent_at h None = []
 sent_at h (Some s) = sent_to h s
 
 abbrev pub named_at : List Entry → Option ℕ → ℕ → List ℕ
-named_at h None x = []
-named_at h (Some s) x = named_to h s x
+named_at h None = λ x. []
+named_at h (Some s) = named_to h s
 
 -- The queue is that of a history, with the sessions at the slots where they sit.
 abbrev pub FitsSeats : Rules → List Entry → List SessionRow → QueueView → Type 0

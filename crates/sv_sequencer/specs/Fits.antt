@@ -9,9 +9,8 @@ use Rattle.sv_world.specs.Control.{is_in, action_at, last_writer}
 use Rattle.sv_world.specs.Limits.{most_open}
 use Rattle.sv_world.specs.Sets.{write_set}
 use Rattle.sv_eval.specs.Serial.{put_all}
-use Rattle.sv_queue.specs.declared.queued.Queued.{Queued}
 use Rattle.sv_queue.specs.Pairs.{is_pair}
-use Rattle.sv_queue.specs.Queue.{QueueView, last_position, entry_at}
+use Rattle.sv_queue.specs.Queue.{Queued, QueueView, last_position, entry_at}
 use Rattle.sv_journal.specs.History.{Authored, authored_at}
 
 abbrev pub actions_in : List Authored → List Action

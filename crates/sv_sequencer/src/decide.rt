@@ -11,10 +11,10 @@ ghost use Rattle.sv_journal.specs.Answer.{reply_to_request, reply_to_open, reply
 ghost use Rattle.sv_sequencer.specs.Decisions.{reply_by, Holds};
 ghost use Rattle.sv_sequencer.specs.Cores.{core_rules, SitsAt, Keeps};
 
-use crate::clients::Outcome;
 use crate::decision::{ActionId, Decision};
 use crate::seats::Seat;
 use crate::server_core::Core;
+use sv_clients::Outcome;
 use sv_wire::{Done1, Refusal, Request};
 use sv_world::{
     Action, ClientId, List, MOST_INTEREST, ObjectId, are_below, check_action, is_ascending,

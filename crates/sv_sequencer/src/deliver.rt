@@ -3,6 +3,7 @@ ghost use Rattle.std.specs.Prelude.{◌≡◌, ℕ, List, suc, ◌<◌, ◌≤�
 ghost use Rattle.std.specs.List.{list_any};
 ghost use Rattle.sv_world.specs.declared.world.ObjectId.{ObjectId};
 ghost use Rattle.sv_world.specs.Faults.{first_fault_of_action, IsGoodAction};
+ghost use Rattle.sv_world.specs.Limits.{most_positions};
 ghost use Rattle.sv_queue.specs.Queue.{IsUncommitted, last_position, with_action};
 ghost use Rattle.sv_influence.specs.Lacking.{lacking, base_objects};
 ghost use Rattle.sv_wire.specs.declared.message.ObjectValue.{ObjectValue};
@@ -10,18 +11,16 @@ ghost use Rattle.sv_wire.specs.declared.message.Reply.TheVariants as replies;
 ghost use Rattle.sv_wire.specs.declared.message.Request.TheVariants as requests;
 ghost use Rattle.sv_journal.specs.declared.entry.Logged.TheVariants as logged;
 ghost use Rattle.sv_journal.specs.declared.entry.Entry.{Entry};
-ghost use Rattle.sv_journal.specs.History.{accepted, commit_of};
+ghost use Rattle.sv_journal.specs.History.{Accepted, accepted, commit_of};
 ghost use Rattle.sv_journal.specs.Sessions.{is_end};
 ghost use Rattle.sv_journal.specs.Answer.{is_bad_result};
 ghost use Rattle.sv_sequencer.specs.declared.decision.Decision.TheVariants as decisions;
-ghost use Rattle.sv_sequencer.specs.declared.clients.Outcome.TheVariants as rows;
-ghost use Rattle.sv_sequencer.specs.Clients.{client_row};
+ghost use Rattle.sv_clients.specs.Clients.{client_row, settled};
 ghost use Rattle.sv_sequencer.specs.Cores.{core_rules, SitsAt, Keeps, CarriedOut, Remained};
 ghost use Rattle.sv_sequencer.specs.Decisions.{IsJoin, IsNextSubmit, IsOld, interest_in, action_in, results_in};
 ghost use Rattle.sv_sequencer.specs.Relays.{held_in, item_in, marked_all, given_all};
 
 use crate::answer::Answer;
-use crate::clients::{Clients, Outcome};
 use crate::decision::ActionId;
 use crate::relays::{Relayed, base_values, give_all, mark_all, relay_in};
 use crate::reports::{copy_missing, set_reports};
@@ -29,6 +28,7 @@ use crate::seats::Seat;
 use crate::server_core::Core;
 use crate::sessions::note;
 use std::alloc::AllocError;
+use sv_clients::{Clients, Outcome};
 use sv_influence::Chain;
 use sv_journal::Logged;
 use sv_queue::Queue;
@@ -65,8 +65,9 @@ fn take_in(
 ) -> Result<Relayed, AllocError>
     requires good { IsGoodAction queue.old.shape action }
     requires room { last_position queue.old < 4294967295 }
+    requires number { (client_row clients.old id.client).count < most_positions }
     ensures queue { OnOk result (queue.new ≡ with_action queue.old (record { 0 = id.client }) id.seq action) }
-    ensures clients { OnOk result ((k : ℕ) → client_row clients.new k ≡ (if nat_eq id.client k then record (client_row clients.old id.client) { outcomes = (client_row clients.old id.client).outcomes ++ rows.Accepted (suc (last_position queue.old)) ∷ [] } else client_row clients.old k)) }
+    ensures clients { OnOk result ((k : ℕ) → client_row clients.new k ≡ (if nat_eq id.client k then settled (Accepted (suc (last_position queue.old))) (client_row clients.old id.client) else client_row clients.old k)) }
     ensures head { IfOk result (λ r. r.head ≡ held_in queue.new (base_objects queue.new slot (last_position queue.new))) }
     ensures positions { IfOk result (λ r. r.positions ≡ lacking queue.new slot (last_position queue.new)) }
     ensures sent_head { IfOk result (λ r. r.sent_head ≡ held_in queue.new (base_objects queue.new slot (last_position queue.new))) }
@@ -91,15 +92,16 @@ fn relay_and_settle(
     client: u16,
     pos: u32,
 ) -> Result<Relayed, AllocError>
-    requires { IsUncommitted queue.now pos }
-    ensures clients { OnOk result ((k : ℕ) → client_row clients.new k ≡ (if nat_eq client k then record (client_row clients.old client) { outcomes = (client_row clients.old client).outcomes ++ rows.Accepted pos ∷ [] } else client_row clients.old k)) }
+    requires pos { IsUncommitted queue.now pos }
+    requires number { (client_row clients.old client).count < most_positions }
+    ensures clients { OnOk result ((k : ℕ) → client_row clients.new k ≡ (if nat_eq client k then settled (Accepted pos) (client_row clients.old client) else client_row clients.old k)) }
     ensures head { IfOk result (λ r. r.head ≡ held_in queue.now (base_objects queue.now slot pos)) }
     ensures positions { IfOk result (λ r. r.positions ≡ lacking queue.now slot pos) }
     ensures sent_head { IfOk result (λ r. r.sent_head ≡ held_in queue.now (base_objects queue.now slot pos)) }
     ensures items { IfOk result (λ r. r.items ≡ map (item_in queue.now) (lacking queue.now slot pos)) }
     ensures kept { OnErr result ((k : ℕ) → client_row clients.new k ≡ client_row clients.old k) }
 {
-    let relayed = relay_in(clients.alloc, queue, slot, pos)?;
+    let relayed = relay_in(clients.alloc(), queue, slot, pos)?;
     clients.settle(client, Outcome::Accepted { pos })?;
     Ok(relayed)
 }

@@ -54,7 +54,11 @@ pub fn enter_end(core: &mut Core, journal: &mut Journal, session: u16)
     requires room { HasRoomForEnds core.old journal.old }
     ensures { TookEntry core.old core.new journal.old journal.new h (end_entry session) (end_entry session) }
 {
-    core.end(Seat::numbered(session));
+    let seat = Seat {
+        slot: session,
+        session: session as u64,
+    };
+    core.end(seat);
     journal.push(Entry {
         session,
         request: Request::End,
@@ -84,7 +88,11 @@ pub fn enter_reply(
     let Decided { session, decision } = decided;
     journal.reserve(core.owed() as usize + 1)?;
     let copy = copy_request(core.alloc, asked)?;
-    match core.carry_out(Seat::numbered(session), taken, decision) {
+    let seat = Seat {
+        slot: session,
+        session: session as u64,
+    };
+    match core.carry_out(seat, taken, decision) {
         Ok(answer) => Ok(enter(journal, session, copy, answer)),
         Err(error) => {
             // A tree that is let go at the end of its scope makes a long proof; a call that takes it, none.

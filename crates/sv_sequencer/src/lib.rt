@@ -3,7 +3,6 @@
 
 mod answer;
 mod carry;
-mod clients;
 mod decide;
 mod decision;
 mod deliver;

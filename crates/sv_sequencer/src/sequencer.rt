@@ -107,6 +107,9 @@ impl Sequencer {
         requires { MayBeSession self.now.rules.sessions session }
         ensures { result ≡ is_ended (history self.now) session }
     {
-        self.core.is_ended(Seat::numbered(session))
+        self.core.is_ended(Seat {
+            slot: session,
+            session: session as u64,
+        })
     }
 }

@@ -12,16 +12,16 @@ ghost use Rattle.sv_journal.specs.declared.entry.Entry.{Entry};
 ghost use Rattle.sv_journal.specs.History.{Accepted, client_of, accepted, actions_of, next_seq, commit_of, committed_of};
 ghost use Rattle.sv_journal.specs.Sessions.{is_over, asked_in, life_of, kept_outcome, is_ended};
 ghost use Rattle.sv_journal.specs.Answer.{is_bad_result, is_bad_done, is_full, is_spent, orphans};
-ghost use Rattle.sv_sequencer.specs.Clients.{outcome_value};
+ghost use Rattle.sv_clients.specs.Clients.{outcome_value};
 ghost use Rattle.sv_sequencer.specs.Cores.{core_rules, owed_by, open_by, queue_of, session_at, first_seat, SitsAt, Keeps, IsKept};
 
-use crate::clients::{Clients, Outcome};
 use crate::opened::Opened;
 use crate::orphans::first_orphan;
 use crate::reports::are_bad;
 use crate::seats::Seat;
 use crate::sessions::{SessionRow, new_sessions};
 use std::alloc::{AllocError, Global};
+use sv_clients::{Clients, Outcome};
 use sv_influence::{Chain, chain};
 use sv_queue::Queue;
 use sv_wire::Done1;
@@ -158,7 +158,7 @@ impl Core {
         requires { Keeps self.now h }
         ensures { result ≡ next_seq h client }
     {
-        self.clients.count(client) as u32 + 1
+        self.clients.count(client) + 1
     }
 
     /// What came of a client's action, where it is kept.

@@ -61,7 +61,11 @@ impl Sequencer {
         ensures ok { IfOk result (Answered self.old self.new session request.now) }
         ensures err { OnErr result (Stayed self.old self.new) }
     {
-        let decision = self.core.decide(Seat::numbered(session), request);
+        let seat = Seat {
+            slot: session,
+            session: session as u64,
+        };
+        let decision = self.core.decide(seat, request);
         enter_reply(
             &mut self.core,
             &mut self.journal,
