@@ -13,11 +13,13 @@ use Rattle.sv_wire.specs.declared.message.Request.TheVariants as requests
 use Rattle.sv_journal.specs.declared.entry.Entry.{Entry}
 use Rattle.sv_journal.specs.declared.entry.Logged.{Logged}
 use Rattle.sv_journal.specs.declared.entry.Logged.TheVariants as logged
-use Rattle.sv_journal.specs.History.{Authored, Outcome, is_client, is_relay, is_submit_of, new_action, outcome_in, outcomes_of, client_of, accepted, actions_of, next_seq, commit_of}
+use Rattle.sv_journal.specs.History.{Authored, Outcome, Accepted, Dropped, Denied, is_client, is_relay, is_submit_of, new_action, outcome_in, outcomes_of, client_of, accepted, actions_of, next_seq, commit_of}
 use Rattle.sv_journal.specs.Sessions.{is_over, asked_in, kept_outcome}
 use Rattle.sv_journal.specs.Answer.{Rules, is_above, reply_to_allowed, reply_by_rights, is_full, reply_to_good, reply_to_checked, reply_to_submit, reply_to_member, is_spent, reply_to, Legal}
+use Rattle.sv_journal.specs.Serving.{Keeping, with_last_rows, reply_for, LegalFor, IsKeeping}
+use Rattle.sv_journal.proofs.Kept.{client-kept, next-kept}
 use Rattle.sv_journal.proofs.Sizes.{kept_known}
-use Rattle.sv_system.specs.Outcomes.{AreAcceptedOnce, IsOutcome, HasRightOutcome, HaveRightOutcomes}
+use Rattle.sv_system.specs.Outcomes.{AreAcceptedOnce, IsOutcome, HasRightOutcome, HaveRightOutcomes, HasRightOutcomeFor, HaveRightOutcomesFor}
 use Rattle.sv_system.proofs.Fronts.{get-push_cases}
 use Rattle.sv_system.proofs.Rights.{may-all, denied-for}
 
@@ -72,6 +74,63 @@ are-judged r (e ∷ h) l = (judged, are-judged r h l.1)
     judged : HasRightOutcome r h e
     judged k seq a c q n =
         subst (IsOutcome r h k a) (sym (l.0 ∙ ap (reply_to r h e.session) q)) (reply-judged r h e.session k seq a c n)
+
+-- ---- Any keeping
+
+abbrev is_idle : Logged → Bool
+is_idle logged.Idle = true
+is_idle _ = false
+
+abbrev IsBusy : Logged → Type 0
+IsBusy w = is_idle w ≡ false
+
+-- A Submit is never answered Idle.
+module _ (r : Rules) (h : List Entry) (s k seq : ℕ) (a : Action) where
+  rights-busy : (o : Option ℕ) → IsBusy (reply_by_rights r h s seq a o)
+  rights-busy (Some object) = refl
+  rights-busy None =
+      cond_both (nat_lt r.bound (chain_length (actions_of h) (commit_of h) a) || is_above r.reach (influence_distance (actions_of h) (commit_of h) a)) _ _ IsBusy (λ e. refl) (λ e. refl)
+
+  checked-busy : (fault : Option BadAction) → IsBusy (reply_to_checked r h s k seq a fault)
+  checked-busy (Some cause) = refl
+  checked-busy None = cond_both (is_full r h seq) _ _ IsBusy (λ e. refl) (λ e. rights-busy (first_forbidden r.rights k a))
+
+  submit-busy : (kept : Option Outcome) → IsBusy (reply_to_submit r h s k seq a kept)
+  submit-busy (Some (Dropped chain far)) = refl
+  submit-busy (Some (Denied object)) = refl
+  submit-busy (Some (Accepted p)) = cond_both (nat_le p (commit_of h)) _ _ IsBusy (λ e. refl) (λ e. refl)
+  submit-busy None = cond_both (seq == next_seq h k) _ _ IsBusy (λ e. checked-busy (first_fault_of_action r.world.shape a)) (λ e. refl)
+
+  reply-busy : client_of h s ≡ Some k → IsBusy (reply_to r h s (requests.Submit seq a))
+  reply-busy c =
+      cond_both (is_over h s) _ _ IsBusy (λ e. refl) (λ f.
+      cond_both (is_spent r.requests (asked_in h s)) _ _ IsBusy (λ e. refl) (λ g.
+      subst (λ (o : Option ℕ). IsBusy (reply_to_member r h s o (requests.Submit seq a))) (sym c) (submit-busy (kept_outcome h k seq))))
+
+-- So the last rows, where servers differ, are no Submit's.
+rows-judged : (K : Keeping) (r : Rules) (h g : List Entry) (s k seq : ℕ) (a : Action) (w : Logged) → IsBusy w → IsOutcome r g k a w → IsOutcome r g k a (with_last_rows K r h s (requests.Submit seq a) w)
+rows-judged K r h g s k seq a (logged.Relay n commit head positions) b o = o
+rows-judged K r h g s k seq a (logged.Dropped n chain far) b o = o
+rows-judged K r h g s k seq a (logged.Denied n object) b o = o
+rows-judged K r h g s k seq a (logged.Welcome commit head) b o = o
+rows-judged K r h g s k seq a (logged.Seen last commit head positions) b o = o
+rows-judged K r h g s k seq a (logged.Settled n pos) b o = o
+rows-judged K r h g s k seq a (logged.Noted commit) b o = tt
+rows-judged K r h g s k seq a logged.Idle b o = absurd (true≢false b)
+rows-judged K r h g s k seq a (logged.Refused code detail) b o = o
+rows-judged K r h g s k seq a logged.Bye b o = o
+
+pub are-judged_for : (K : Keeping) → IsKeeping K → (r : Rules) (h : List Entry) → LegalFor K r h → HaveRightOutcomesFor K r h
+are-judged_for K keeps r [] l = tt
+are-judged_for K keeps r (e ∷ h) l = (judged, are-judged_for K keeps r h l.1)
+  where
+    judged : HasRightOutcomeFor K r h e
+    judged k seq a c q n =
+        let joined : client_of (K.kept h) e.session ≡ Some k = client-kept K keeps h e.session ∙ c in
+        let next : seq ≡ next_seq (K.kept h) k = n ∙ sym (next-kept K keeps h k) in
+        subst (IsOutcome r (K.kept h) k a) (sym (l.0 ∙ ap (reply_for K r h e.session) q))
+        (rows-judged K r h (K.kept h) e.session k seq a (reply_to r (K.kept h) e.session (requests.Submit seq a)) (reply-busy r (K.kept h) e.session k seq a joined)
+        (reply-judged r (K.kept h) e.session k seq a joined next))
 
 -- ---- No action is accepted twice
 

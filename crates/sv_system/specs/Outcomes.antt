@@ -13,6 +13,7 @@ use Rattle.sv_journal.specs.declared.entry.Logged.TheVariants as logged
 use Rattle.sv_journal.specs.History.{Authored, client_of, accepted, actions_of, commit_of, outcomes_of, next_seq}
 use Rattle.sv_journal.specs.Answer.{Rules, is_above}
 use Rattle.sv_journal.specs.Laws.{IsRightful}
+use Rattle.sv_journal.specs.Serving.{Keeping}
 use Rattle.sv_client.specs.declared.trace.Event.{Event}
 use Rattle.sv_client.specs.declared.trace.Event.TheVariants as events
 use Rattle.sv_client.specs.declared.trace.Trace.{Trace}
@@ -54,6 +55,15 @@ HasRightOutcome r h e = (k seq : ℕ) (a : Action) → client_of h e.session ≡
 abbrev pub HaveRightOutcomes : Rules → List Entry → Type 0
 HaveRightOutcomes r [] = Unit {0}
 HaveRightOutcomes r (e ∷ h) = HasRightOutcome r h e × HaveRightOutcomes r h
+
+-- The same of a server with a keeping: its commit is that of what is kept.
+abbrev pub HasRightOutcomeFor : Keeping → Rules → List Entry → Entry → Type 0
+HasRightOutcomeFor K r h e = (k seq : ℕ) (a : Action) → client_of h e.session ≡ Some k → e.request ≡ requests.Submit seq a → seq ≡ next_seq h k →
+    IsOutcome r (K.kept h) k a e.reply
+
+abbrev pub HaveRightOutcomesFor : Keeping → Rules → List Entry → Type 0
+HaveRightOutcomesFor K r [] = Unit {0}
+HaveRightOutcomesFor K r (e ∷ h) = HasRightOutcomeFor K r h e × HaveRightOutcomesFor K r h
 
 abbrev pub is_quit : Event → Bool
 is_quit events.Quit = true

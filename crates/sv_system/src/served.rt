@@ -18,8 +18,10 @@ ghost use Rattle.sv_client.specs.declared.trace.Trace.{Trace};
 ghost use Rattle.sv_client.specs.Traces.{current_session, held_of, got};
 ghost use Rattle.sv_client.specs.Taking.{first_fault_of_reply};
 ghost use Rattle.sv_client.specs.Proper.{identity_of};
+ghost use Rattle.sv_script.specs.Following.{is_finished};
 ghost use Rattle.sv_system.specs.Fits.{replies_in, has_session, FitsOne, Fits};
 ghost use Rattle.sv_system.specs.Served.{FitsBut, no_client, OwnsSessions, FitsButValues};
+ghost use Rattle.sv_system.specs.Outcomes.{HaveRightOutcomesFor, HasOutcomes};
 ghost use Rattle.sv_system.specs.Within.{KeepsLimits};
 ghost use Rattle.sv_system.specs.Serial.{AreSerial, AreSufficient, reply_held};
 ghost use Rattle.sv_system.specs.Cuts.{AreCuts};
@@ -92,4 +94,15 @@ pub fn served_clients_are_never_refused()
     ensures sessions { (liar : ℕ) (r : Rules) (h : List Entry) (Ls : List Trace) (i : ℕ) (L : Trace) → FitsBut liar r.world.shape h Ls →
         slice_get Ls i ≡ Some L → OwnsSessions h L }
     ensures all { (r : Rules) (h : List Entry) (Ls : List Trace) → Fits r.world.shape h Ls → FitsBut no_client r.world.shape h Ls }
+{}
+
+/// What comes of actions, whatever results a server goes by: each new action is denied, dropped or accepted for its reason, as for a server that
+/// goes by all of them, where the commit is that of the results that it goes by; and a client that did all and left has one outcome for each of
+/// its actions.
+///
+/// `k`, `r` and `h` are as above, and `L` is the client's trace. No action is accepted twice in any journal.
+pub fn served_actions_have_outcomes()
+    ensures judged { (k : Keeping) (r : Rules) (h : List Entry) → IsKeeping k → LegalFor k r h → HaveRightOutcomesFor k r h }
+    ensures each { (k : Keeping) (r : Rules) (h : List Entry) (L : Trace) → IsKeeping k → LegalFor k r h → FitsButValues r.world.shape h L → OwnsSessions h L →
+        is_finished (reverse L.events) ≡ true → HasOutcomes h L }
 {}
