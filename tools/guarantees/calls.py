@@ -1,7 +1,7 @@
 #!/usr/bin/env python3
 """Lists the public calls of the crates with the clauses of their contracts, for docs/CALLS.md.
 
-    python3 tools/guarantees/calls.py          prints the table
+    python3 tools/guarantees/calls.py          prints the list
     python3 tools/guarantees/calls.py --write  puts it into docs/CALLS.md
     python3 tools/guarantees/calls.py --check  fails where docs/CALLS.md has another one
 
@@ -12,10 +12,12 @@ with the type's `pub fn`s, and the methods of an exported trait. Laws, which are
 import os
 import re
 import sys
+import textwrap
 
 HERE = os.path.dirname(os.path.abspath(__file__))
 TOP = os.path.normpath(os.path.join(HERE, "..", ".."))
 PAGE = os.path.join(TOP, "docs", "CALLS.md")
+WIDTH = 120
 BEGIN, END = "<!-- calls: begin -->", "<!-- calls: end -->"
 WAITS = re.compile(r"\bR: [^,>{]*\bWait\b|impl Wait")
 SYSTEM = {"End", "Net", "Crew", "Door"}
@@ -177,11 +179,22 @@ def columns(owner, function, front, result, clauses, waiting):
     return "may wait" if waits else "yes", refusals, state
 
 
+def line_of(answers, calls):
+    """The line of the calls with these answers: what is as a rule so is left out. It is wrapped, but never inside a name."""
+    ends, refusals, state = answers
+    said = ["may wait"] if ends == "may wait" else []
+    unsaid, _, more = refusals.partition("no refusal; ")
+    said += [more or f"refuses: {unsaid}"] if refusals != "no refusal" else []
+    said += [f"leaves: {state}"] if state != "nothing is changed" else []
+    line = f"- {', '.join(calls)}" + (f": {'; '.join(said)}" if said else "")
+    return "\n".join(textwrap.wrap(line, WIDTH, subsequent_indent="  ", break_long_words=False, break_on_hyphens=False))
+
+
 def table():
-    """The table of all crates: the calls of a crate with the same answers share a row."""
+    """The list of all crates: the calls of a crate with the same answers share a line."""
     with open(os.path.join(TOP, "crates.txt"), encoding="utf-8") as file:
         crates = sorted(line.split(":")[0] for line in file if line.startswith(("sv_", "law_")))
-    parts = ["| Calls | Ends | Refusals, by which clause | State afterwards, by which clause |", "|---|---|---|---|"]
+    parts = []
     for crate in crates:
         rows = {}
         for owner, function, front, result, clauses, waiting in calls_of(crate):
@@ -190,9 +203,8 @@ def table():
             call = f"{owner}::{function}" if owner else function
             rows.setdefault(columns(owner, function, front, result, clauses, waiting), []).append(f"`{call}`")
         if rows:
-            parts.append(f"| **`{crate}`** | | | |")
-            parts += [f"| {', '.join(calls)} | {' | '.join(answers)} |" for answers, calls in rows.items()]
-    return "\n" + "\n".join(parts) + "\n"
+            parts.append(f"**`{crate}`**\n\n" + "\n".join(line_of(answers, calls) for answers, calls in rows.items()))
+    return "\n" + "\n\n".join(parts) + "\n"
 
 
 def main(words):
