@@ -50,16 +50,17 @@ counts-stewards w h s alone own = sym (ap (λ (b : Bool). not b || is_stewards w
 one-of : (opening : List (List ℤ)) (A : List Action) (p : ℕ) (ds : List Done1) (vs : List (List ℤ)) → 0 < p → AllByRecursion (IsSerialResult opening A) ds →
     reported p ds ≡ Some vs → vs ≡ serial_result opening A p
 one-of opening A p [] vs low all is = absurd (none-some vs is)
-one-of opening A p (d ∷ ds) vs low all is = go (d.pos == p) refl is
+one-of opening A p (d ∷ ds) vs low all is = go (d.pos == p) refl is (one-of opening A p ds vs low all.1)
   where
     some_is : (x y : List (List ℤ)) → Some x ≡ Some y → x ≡ y
     some_is x y e = cc
 
-    go : (b : Bool) → (d.pos == p) ≡ b → (if b then Some d.values else reported p ds) ≡ Some vs → vs ≡ serial_result opening A p
-    go true here f =
+    go : (b : Bool) → (d.pos == p) ≡ b → (if b then Some d.values else reported p ds) ≡ Some vs → (reported p ds ≡ Some vs → vs ≡ serial_result opening A p) →
+        vs ≡ serial_result opening A p
+    go true here f rest =
         let same : d.pos ≡ p = eqb-true d.pos p here in
         sym (some_is d.values vs f) ∙ subst (λ (n : ℕ). 0 < n → d.values ≡ serial_result opening A n) same all.0 low
-    go false here f = one-of opening A p ds vs low all.1 f
+    go false here f rest = rest f
 
 -- A request reports what the serial execution gives, whenever it is a Done.
 of-request : (opening : List (List ℤ)) (A : List Action) (p : ℕ) (q : Request) (vs : List (List ℤ)) → 0 < p →

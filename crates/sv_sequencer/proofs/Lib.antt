@@ -15,6 +15,7 @@ pub mod FitPush
 pub mod FitRelays
 pub mod FitReports
 pub mod HistorySteps
+pub mod Seating
 pub mod Sent
 pub mod Shared
 pub mod SoundSteps
@@ -23,5 +24,6 @@ pub mod Kept
 pub mod Quiet
 pub mod Opening
 pub mod Missing
+pub mod Taking
 pub mod Stepped
 pub mod Rows
