@@ -117,7 +117,7 @@ agree-settled r h v rows next clients after owed slot s request reply k seq out 
     refl (fits-quiet r h e v (sent_seats h rows) (named_seats h rows) slot same settles.noted settles.positions settles.named a.fits)
     (a.commit ∙ sym commit)
     (λ j. subst (IsClientRow (e ∷ h) j) (sym (clients' j)) (client-next h e k seq out (client_row clients) is (settles.outcome (suc (length (accepted h)))) settles.welcome a.client_rows j))
-    (a.owed ∙ sym (owed-same slot e rows next rows' more))
+    (a.ends ∙ sym (owed-same slot e rows next rows' more))
   where
     e : Entry
     e = entry_of s request reply

@@ -118,7 +118,7 @@ agree-noted r h v old next clients owed slot s request c ds asks within a at row
     })
     (room-reports v ds) all.0 all.1.0
     (λ j. record { life = (a.client_rows j).life ∙ sym (life-quiet e h j refl); outcomes = subst (λ os. KeepsOutcomes os (client_row clients j)) (sym (outcomes-quiet e h j refl)) (a.client_rows j).outcomes })
-    (a.owed ∙ sym (owed-same slot e old next rows' (ap is_end asks)))
+    (a.ends ∙ sym (owed-same slot e old next rows' (ap is_end asks)))
   where
     e : Entry
     e = entry_of s request (logged.Noted c)

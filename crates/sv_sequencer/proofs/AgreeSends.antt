@@ -91,7 +91,7 @@ agree-sent r h v old next clients owed slot s request reply head ps sends a at i
     (subst (λ A. QueueFits r.world A (result_at h) (sent_seats h old) (named_seats h old) v) (sym same) a.fits))
     (commit-given (marked_all v ps slot) head slot ∙ commit-marked v ps slot ∙ a.commit ∙ sym commit)
     (λ k. record { life = (a.client_rows k).life ∙ sym (life-quiet e h k sends.welcome); outcomes = subst (λ os. KeepsOutcomes os (client_row clients k)) (sym (outcomes-old e h k is)) (a.client_rows k).outcomes })
-    (a.owed ∙ sym (owed-same slot e old next rows' more))
+    (a.ends ∙ sym (owed-same slot e old next rows' more))
   where
     e : Entry
     e = entry_of s request reply
@@ -134,7 +134,7 @@ agree-accept r h v old next clients after owed slot s request k seq c m head ps 
     (commit-given (marked_all w ps slot) head slot ∙ commit-marked w ps slot ∙ a.commit ∙ sym commit)
     (λ j. subst (IsClientRow (e ∷ h) j) (sym (clients' j))
     (client-next h e k seq (Accepted m) (client_row clients) is (ap (λ n. Accepted n ∷ []) (let p : suc (length (accepted h)) ≡ m = omega (arith, last, a.fits.last) in p)) refl a.client_rows j))
-    (a.owed ∙ sym (owed-same slot e old next rows' more))
+    (a.ends ∙ sym (owed-same slot e old next rows' more))
   where
     e : Entry
     e = entry_of s request (logged.Relay seq c head ps)
@@ -198,7 +198,7 @@ agree-welcome r h v old next clients after owed slot s request k life c head at 
     (fits-given r.world (accepted h) (result_at h) (sent_seats h old) (named_seats h old) v head slot a.fits)))
     (commit-given v head slot ∙ a.commit ∙ sym commit)
     (λ j. subst (IsClientRow (e ∷ h) j) (sym (clients' j)) (joined j))
-    (a.owed ∙ sym (owed-same slot e old next rows' more))
+    (a.ends ∙ sym (owed-same slot e old next rows' more))
   where
     e : Entry
     e = entry_of s request (logged.Welcome c head)

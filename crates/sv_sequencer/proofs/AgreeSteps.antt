@@ -65,7 +65,7 @@ agree-next r h e v w rows next clients after owed left slot a at rows' step room
   seats = seated-next e h slot rows next a.seats at (seats-same slot e rows next rows');
   session_rows = rows-next r e h slot rows next a.seats at rows' a.session_rows;
   client_rows = clients';
-  owed = owes;
+  ends = owes;
 }
 
 -- ---- Entries that change nothing but their own session

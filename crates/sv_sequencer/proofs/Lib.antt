@@ -24,5 +24,6 @@ pub mod Kept
 pub mod Quiet
 pub mod Opening
 pub mod Missing
+pub mod Taking
 pub mod Stepped
 pub mod Rows

@@ -58,4 +58,4 @@ pub record Agrees (r : Rules) (h : List Entry) (v : QueueView) (rows : List Sess
   pub seats : AreSeated h rows
   pub session_rows : (slot s : ℕ) → seat_in rows slot ≡ Some s → IsSessionRow r h s (row_at rows slot)
   pub client_rows : (k : ℕ) → IsClientRow h k (client_row clients k)
-  pub owed : owed ≡ count_rows owes_end rows
+  pub ends : owed ≡ count_rows owes_end rows

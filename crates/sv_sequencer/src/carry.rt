@@ -75,7 +75,7 @@ impl Core {
         ensures seats { (i : ℕ) → session_at self.new i ≡ session_at self.old i }
         ensures count { open_by self.new ≡ open_by self.old }
         ensures owed { owed_by self.new + 1 ≡ owed_by self.old }
-        ensures keeps { Keeps self.new (end_entry s ∷ h) }
+        ensures keeps { Keeps self.new (end_entry seat.session ∷ h) }
     {
         note(&mut self.sessions, seat.slot, &Request::End, &Logged::Bye);
         self.owed -= 1;

@@ -1,5 +1,5 @@
 //! What is done on a request: the rows of the rules in order.
-ghost use Rattle.std.specs.Prelude.{◌≡◌, ℕ, List, ◌<◌, ◌≤◌, Some, None, [], ◌∷◌, map, length};
+ghost use Rattle.std.specs.Prelude.{◌≡◌, List, ◌<◌, ◌≤◌, false, Some, None, map, length};
 ghost use Rattle.sv_world.specs.declared.world.ObjectId.{ObjectId};
 ghost use Rattle.sv_world.specs.Faults.{first_fault_of_action, IsGoodAction};
 ghost use Rattle.sv_world.specs.Sets.{numbers_of};

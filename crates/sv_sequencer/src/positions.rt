@@ -1,5 +1,5 @@
 //! What a core tells of positions and sessions, by which a server may choose what to send.
-ghost use Rattle.std.specs.Prelude.{◌≡◌, ℕ, List, Some, ◌&&◌, nat_lt, is_none, length};
+ghost use Rattle.std.specs.Prelude.{◌≡◌, List, ◌<◌, ◌&&◌, nat_lt, is_none, length};
 ghost use Rattle.sv_world.specs.Control.{is_in};
 ghost use Rattle.sv_queue.specs.Queue.{IsUncommitted, sent_positions};
 ghost use Rattle.sv_journal.specs.declared.entry.Entry.{Entry};

@@ -3,7 +3,7 @@ ghost use Rattle.std.specs.Prelude.{◌≡◌, ℕ, List, ◌<◌, false, Some, 
 ghost use Rattle.sv_world.specs.Limits.{most_open};
 ghost use Rattle.sv_journal.specs.declared.entry.Entry.{Entry};
 ghost use Rattle.sv_journal.specs.Answer.{MayBeSession};
-ghost use Rattle.sv_sequencer.specs.Cores.{core_rules, open_by, SitsAt, Keeps, IsKept, IsUnseated, MayClose, Remained, WasSeated, WasClosed};
+ghost use Rattle.sv_sequencer.specs.Cores.{core_rules, open_by, session_at, SitsAt, Keeps, IsKept, IsUnseated, MayClose, Remained, WasSeated, WasClosed};
 ghost use Rattle.sv_sequencer.specs.Rows.{seat_in, has_entry, is_seated, count_rows};
 
 use crate::server_core::Core;
@@ -51,15 +51,43 @@ impl Core {
         ensures ok { IfOk result (λ seat. WasSeated self.old self.new h seat) }
         ensures err { OnErr result (Remained self.old self.new h) }
     {
-        let row = new_session(self.opened.requests(), session);
-        if let Some(slot) = free_slot(self.sessions.as_slice()) {
-            self.sessions[slot as usize] = row;
-            self.owed += 1;
-            return Ok(Seat { slot, session });
+        match free_slot(self.sessions.as_slice()) {
+            Some(slot) => Ok(self.take(Seat { slot, session })),
+            None => self.take_next(session),
         }
+    }
+
+    /// Seats a new session at a slot that there is, which is free.
+    fn take(&mut self, seat: Seat) -> Seat
+        ghost h: { List Entry }
+        requires keeps { Keeps self.old h }
+        requires first { has_entry h seat.session ≡ false }
+        requires unseated { IsUnseated self.old seat.session }
+        requires low { seat.slot < length self.old.sessions.items }
+        requires free { session_at self.old seat.slot ≡ None }
+        ensures seat { result ≡ seat }
+        ensures taken { WasSeated self.old self.new h seat }
+    {
+        self.sessions[seat.slot as usize] = new_session(self.opened.requests(), seat.session);
+        self.owed += 1;
+        seat
+    }
+
+    /// Seats a new session at a new slot, where no slot is free.
+    fn take_next(&mut self, session: u64) -> Result<Seat, AllocError>
+        ghost h: { List Entry }
+        requires keeps { Keeps self.old h }
+        requires first { has_entry h session ≡ false }
+        requires unseated { IsUnseated self.old session }
+        requires room { length self.old.sessions.items < most_open }
+        ensures number { IfOk result (λ seat. seat.session ≡ session) }
+        ensures ok { IfOk result (λ seat. WasSeated self.old self.new h seat) }
+        ensures err { OnErr result (Remained self.old self.new h) }
+    {
         let slot = self.sessions.len() as u16;
         self.queue.make_room(slot + 1)?;
-        self.sessions.push(row)?;
+        self.sessions
+            .push(new_session(self.opened.requests(), session))?;
         self.owed += 1;
         Ok(Seat { slot, session })
     }
@@ -87,7 +115,7 @@ fn free_slot(rows: &[SessionRow]) -> Option<u16>
     ensures { MatchOption result (count_rows is_seated rows.now ≡ length rows.now) (λ slot. (slot < length rows.now) × (seat_in rows.now slot ≡ None)) }
 {
     for slot in 0..rows.len() {
-        if rows[slot].session.is_none() {
+        if !is_seated(&rows[slot]) {
             return Some(slot as u16);
         }
     }
@@ -99,10 +127,16 @@ fn count_seated(rows: &[SessionRow]) -> u16
     ensures { result ≡ count_rows is_seated rows.now }
 {
     let mut count = 0;
-    for row in rows {
-        if row.session.is_some() {
+    for slot in 0..rows.len() {
+        if is_seated(&rows[slot]) {
             count += 1;
         }
     }
     count
+}
+
+fn is_seated(row: &SessionRow) -> bool
+    ensures { result ≡ is_seated row.now }
+{
+    row.session.is_some()
 }

@@ -28,5 +28,5 @@ returns g c =
     let rows = record { count = c.note.ensures.count; rows = c.note.ensures.rows } in
     carried a _ g.h slot s q d _ l refl refl rows refl told
     (agree-quiet (core_rules a) g.h a.queue a.sessions.items next a.clients a.owed a.owed slot s q l k c.requires.1.0 quiet
-    (λ ends. absurd (both_ways (is_end q) more ends)) rows (k.owed ∙ sym (owed-same slot (entry_of s q l) a.sessions.items next rows more)))
+    (λ ends. absurd (both_ways (is_end q) more ends)) rows (k.ends ∙ sym (owed-same slot (entry_of s q l) a.sessions.items next rows more)))
     (c.plain_answer-answer.ensures.reply (accepted (entry_of s q l ∷ g.h)))

@@ -17,7 +17,7 @@ overflow_sub-self g c =
     let first : (row_at a.sessions.items slot).ended ≡ false = (c.requires.0.session_rows slot c.args.seat.session c.requires.1.0).ended ∙ c.requires.1.1 in
     let owes : owes_end (row_at a.sessions.items slot) ≡ true = rw (c.requires.1.0, first) refl in
     let some : 1 ≤ count_rows owes_end a.sessions.items = count-some owes_end a.sessions.items slot (seat-low a.sessions.items slot c.args.seat.session c.requires.1.0) owes in
-    omega (arith, some, c.requires.0.owed)
+    omega (arith, some, c.requires.0.ends)
 
 pub returns-clause-seats : goal.returns-clause-seats
 returns-clause-seats g c = λ i.
@@ -37,7 +37,7 @@ returns-clause-owed g c =
     let rows = record { count = c.note.ensures.count; rows = c.note.ensures.rows } in
     let first : (row_at a.sessions.items c.args.seat.slot).ended ≡ false = (k.session_rows c.args.seat.slot s c.requires.1.0).ended ∙ c.requires.1.1 in
     let falls = owed-end c.args.seat.slot s (entry_of s requests.End logged.Bye) a.sessions.items c.note.new.rows.items rows refl c.requires.1.0 first in
-    omega (arith, falls, k.owed)
+    omega (arith, falls, k.ends)
 
 pub returns-clause-keeps : goal.returns-clause-keeps
 returns-clause-keeps g c =
@@ -50,4 +50,4 @@ returns-clause-keeps g c =
     let first : (row_at a.sessions.items slot).ended ≡ false = (k.session_rows slot s c.requires.1.0).ended ∙ c.requires.1.1 in
     let falls = owed-end slot s (entry_of s requests.End logged.Bye) a.sessions.items next rows refl c.requires.1.0 first in
     agree-quiet (core_rules a) g.h a.queue a.sessions.items next a.clients a.owed (a.owed - 1) slot s requests.End logged.Bye k c.requires.1.0 (quiet-bye g.h s requests.End)
-    (λ ends. refl) rows (omega (arith, falls, k.owed))
+    (λ ends. refl) rows (omega (arith, falls, k.ends))
