@@ -1,5 +1,5 @@
 -- Where the results that a server goes by are those of the serial execution, it serves serial values.
-use Rattle.std.proofs.Common.{◌≡◌, ℕ, ◌<◌, ◌≤◌, ℤ, List, length, reverse, All, Option, Some, None}
+use Rattle.std.proofs.Common.{◌≡◌, ℕ, ◌<◌, ◌≤◌, ℤ, List, length, reverse, All, Some, None}
 use Rattle.std.specs.Prelude.{slice_get}
 use Rattle.sv_world.specs.Limits.{most_bound, most_positions}
 use Rattle.sv_eval.specs.Serial.{serial_world}

@@ -1,6 +1,6 @@
 -- What is said of the values that a server has and sends, where those clients are honest by whose reports it goes.
 -- A history is the list of a journal's entries with the latest first.
-use Rattle.std.specs.Prelude.{◌≡◌, ℕ, ◌<◌, ◌≤◌, true, List, length, reverse, slice_get, All, Option, Some, None}
+use Rattle.std.specs.Prelude.{◌≡◌, ℕ, ◌<◌, ◌≤◌, true, List, length, reverse, slice_get, All, Some, None}
 use Rattle.sv_world.specs.declared.world.Shape.{Shape}
 use Rattle.sv_world.specs.Limits.{most_positions}
 use Rattle.sv_eval.specs.Serial.{serial_world}

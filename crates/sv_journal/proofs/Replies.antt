@@ -19,7 +19,7 @@ use Rattle.sv_wire.specs.declared.refusal.Refusal.TheVariants as refusals
 use Rattle.sv_journal.specs.declared.entry.Entry.{Entry}
 use Rattle.sv_journal.specs.declared.entry.Logged.{Logged}
 use Rattle.sv_journal.specs.declared.entry.Logged.TheVariants as logged
-use Rattle.sv_journal.specs.History.{is_relay, client_of, Outcome, Accepted, Dropped, Denied, Authored, accepted, actions_of, next_seq, commit_of}
+use Rattle.sv_journal.specs.History.{is_relay, client_of, Outcome, Accepted, Dropped, Denied, Authored, actions_of, next_seq, commit_of}
 use Rattle.sv_journal.specs.Sessions.{is_over, is_live, asked_in, life_of, kept_outcome, positions_in, sent_to, already_given}
 use Rattle.sv_journal.specs.Answer.{Rules, refused, refused_as, relay_of, is_above, committed_held, reply_to_allowed, reply_by_rights, is_full, reply_to_good, reply_to_checked, reply_to_submit, is_bad_done, orphans, reply_to_poll, is_good_interest, is_no_next_life, reply_to_join, reply_to_client, reply_to_member, is_spent}
 use Rattle.sv_journal.specs.Serving.{Keeping, noted_after, polled_after, with_last_rows, reply_for, IsKeeping}

@@ -1,5 +1,5 @@
 -- What a server accepts is its author's to write, and it accepts no more than it may, whatever results it keeps.
-use Rattle.std.proofs.Common.{◌≡◌, ℕ, suc, ◌<◌, ◌≤◌, Bool, true, false, not, ◌&&◌, ◌==◌, List, [], ◌∷◌, ◌++◌, filter, length, Option, Some, None, ◌⊎◌, inl, inr, ◌+◌, refl, sym, ap, subst, ◌∙◌, arith, nat_le, nat_lt, eqb-true, length-append, true≢false}
+use Rattle.std.proofs.Common.{◌≡◌, ℕ, suc, ◌<◌, ◌≤◌, Bool, true, false, not, ◌&&◌, List, [], ◌∷◌, ◌++◌, filter, length, Option, Some, None, inl, inr, ◌+◌, refl, sym, ap, subst, ◌∙◌, arith, nat_le, nat_lt, eqb-true, length-append, true≢false}
 use Rattle.std.specs.Prelude.{if◌then◌else◌}
 use Rattle.std.specs.List.{AllByRecursion}
 use Rattle.std.proofs.lemmas.Bool.{cond_both, cases_Bool, leb-false, ltb-false, or_parts, and_parts}
@@ -17,9 +17,9 @@ use Rattle.sv_journal.specs.declared.entry.Logged.TheVariants as logged
 use Rattle.sv_journal.specs.History.{client_of, outcome_in, outcomes_of, is_client, is_submit_of, Outcome, Accepted, Dropped, Denied, Authored, accepted, actions_of, next_seq}
 use Rattle.sv_journal.specs.Rows.{tells_outcome}
 use Rattle.sv_journal.specs.Sessions.{kept_outcome}
-use Rattle.sv_journal.specs.Answer.{Rules, refused, is_full, relay_of}
-use Rattle.sv_journal.specs.Serving.{Keeping, plain, noted_after, reply_for, LegalFor, IsKeeping}
-use Rattle.sv_journal.specs.Laws.{IsRightful, AreWithinCounts, LegalActionsAreRightful, LegalCountsEnd, ServedActionsAreRightful, ServedCountsEnd}
+use Rattle.sv_journal.specs.Answer.{Rules, is_full, relay_of}
+use Rattle.sv_journal.specs.Serving.{Keeping, plain, reply_for, LegalFor, IsKeeping}
+use Rattle.sv_journal.specs.Laws.{IsRightful, LegalActionsAreRightful, LegalCountsEnd, ServedActionsAreRightful, ServedCountsEnd}
 use Rattle.sv_journal.proofs.Commits.{new_by}
 use Rattle.sv_journal.proofs.Plain.{plain-keeping, plain-legal}
 use Rattle.sv_journal.proofs.Replies.{seen_now, each_row, each_reply}
