@@ -11,3 +11,4 @@ pub mod InOrder
 pub mod Answered
 pub mod Observed
 pub mod Stewarding
+pub mod Serves

@@ -13,4 +13,4 @@ pub use opening::scenarios_open_within_limits;
 pub use relays::{
     relays_bring_what_is_asked, relays_of_zero_answer_polls, sessions_in_order_get_items,
 };
-pub use stewards::an_honest_steward_is_enough;
+pub use stewards::{an_honest_steward_is_enough, honest_clients_are_enough};

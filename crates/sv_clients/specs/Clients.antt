@@ -1,5 +1,5 @@
 -- What a server keeps of each client that ever joined.
-use Rattle.std.specs.Prelude.{◌≡◌, ℕ, suc, ◌+◌, ◌-◌, nat_eq, nat_le, List, [], ◌∷◌, ◌++◌, map, length, drop, Option, None, option_map, unwrap_or, if◌then◌else◌}
+use Rattle.std.specs.Prelude.{◌≡◌, ℕ, suc, ◌+◌, ◌-◌, nat_eq, nat_le, nat_lt, Bool, ◌&&◌, List, [], ◌∷◌, ◌++◌, map, length, drop, slice_get, Option, None, option_map, unwrap_or, if◌then◌else◌}
 use Rattle.indexmap.specs.IndexMap.{get}
 use Rattle.sv_journal.specs.History.{Outcome, Accepted, Dropped, Denied}
 use Rattle.sv_journal.specs.Sessions.{outcome_at, kept_count}
@@ -42,6 +42,13 @@ pub record KeepsOutcomes (outcomes : List Outcome) (row : ClientView) : Type 0 w
 -- A row with one more outcome.
 abbrev pub settled : Outcome → ClientView → ClientView
 settled outcome row = record row { count = suc row.count; kept = last_of kept_count (row.kept ++ outcome ∷ []) }
+
+-- The outcome of a sequence number, as a row has it.
+abbrev pub is_told : ClientView → ℕ → Bool
+is_told row seq = nat_le seq row.count && nat_lt row.count (seq + length row.kept)
+
+abbrev pub told : ClientView → ℕ → Option Outcome
+told row seq = if is_told row seq then slice_get row.kept (seq + length row.kept - row.count - 1) else None
 
 -- Of outcomes in order, that of a sequence number, where it is one of the last that are kept.
 abbrev pub kept_among : List Outcome → ℕ → Option Outcome

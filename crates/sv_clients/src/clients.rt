@@ -51,12 +51,13 @@ impl Clients {
     }
 
     /// What came of a client's action, where it is one of the last that are kept: for all outcomes that the client's row keeps.
+    #[tactic(auto, using(crate::proofs::Rows::told_is, crate::proofs::Rows::told_none))]
     pub fn kept(&self, client: u16, seq: u32) -> Option<Outcome>
         ensures { (outcomes : List OutcomeValue) → KeepsOutcomes outcomes (client_row self.now client) →
             option_map outcome_value result ≡ kept_among outcomes seq }
     {
         match self.rows.get(&client) {
-            Some(row) => row.outcome(seq),
+            Some(row) => row.told(seq),
             None => None,
         }
     }

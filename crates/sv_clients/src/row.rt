@@ -1,8 +1,7 @@
 //! What is kept of one client.
-ghost use Rattle.std.specs.Prelude.{◌≡◌, ◌<◌, List, option_map};
-ghost use Rattle.sv_journal.specs.History.{Outcome as OutcomeValue};
+ghost use Rattle.std.specs.Prelude.{◌≡◌, ◌<◌, option_map};
 ghost use Rattle.sv_world.specs.Limits.{most_positions};
-ghost use Rattle.sv_clients.specs.Clients.{outcome_value, view_of, no_client, KeepsOutcomes, settled, kept_among};
+ghost use Rattle.sv_clients.specs.Clients.{outcome_value, view_of, no_client, settled, is_told, told};
 
 use crate::Outcome;
 use arrayvec::ArrayVec;
@@ -35,6 +34,7 @@ impl ClientRow {
     }
 
     /// Notes what came of the client's next action.
+    #[tactic(auto, using(crate::proofs::Rows::kept_room, crate::proofs::Rows::kept_full))]
     pub(crate) fn settle(&mut self, outcome: Outcome)
         requires room { (view_of self.old).count < most_positions }
         ensures { view_of self.new ≡ settled (outcome_value outcome) (view_of self.old) }
@@ -46,15 +46,20 @@ impl ClientRow {
         self.count += 1;
     }
 
-    /// What came of the client's action of this number, where it is one of the last that are kept.
-    pub(crate) fn outcome(&self, seq: u32) -> Option<Outcome>
-        ensures { (outcomes : List OutcomeValue) → KeepsOutcomes outcomes (view_of self.now) →
-            option_map outcome_value result ≡ kept_among outcomes seq }
+    /// Whether the outcome of the client's action of this number is one of the last.
+    fn is_told(&self, seq: u32) -> bool
+        ensures { result ≡ is_told (view_of self.now) seq }
     {
-        let after_kept = seq as usize + self.kept.len();
-        let count = self.count as usize;
-        if seq <= self.count && count < after_kept {
-            Some(self.kept.as_slice()[after_kept - count - 1])
+        seq <= self.count && (self.count as usize) < seq as usize + self.kept.len()
+    }
+
+    /// What came of the client's action of this number, where it is one of the last.
+    pub(crate) fn told(&self, seq: u32) -> Option<Outcome>
+        ensures { option_map outcome_value result ≡ told (view_of self.now) seq }
+    {
+        if self.is_told(seq) {
+            let slot = seq as usize + self.kept.len() - self.count as usize - 1;
+            Some(self.kept.as_slice()[slot])
         } else {
             None
         }

@@ -20,7 +20,7 @@ use Rattle.sv_journal.proofs.Kept.{accepted-kept, sent-kept, over-kept}
 use Rattle.sv_journal.proofs.Plain.{all-results, orphan-parts, not-sent, reply-same}
 
 module _ (w : Stewardship) where
-  heed-next : (e : Entry) (h : List Entry) →
+  pub heed-next : (e : Entry) (h : List Entry) →
       heeded w (e ∷ h) ≡ record e { request = with_results (λ d. counts w h e.session) e.request } ∷ heeded w h
   heed-next e h = go (counts w h e.session)
     where
