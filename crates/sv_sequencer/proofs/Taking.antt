@@ -212,6 +212,22 @@ module _ (r : Rules) (h : List Entry) (v : QueueView) (old : List SessionRow) (c
           (subst (λ m. IsSessionRow r h m (new_session r.requests s)) (some-same s t at) (new-row r h s none))
       row i t false q at = subst (IsSessionRow r h t) (sym (are i ∙ ap (λ b. cond b (new_session r.requests s) (row_at old i)) q)) (a.session_rows i t at)
 
+-- More room in the queue changes nothing.
+pub agree-room : (r : Rules) (h : List Entry) (v : QueueView) (rows : List SessionRow) (clients : Clients) (owed n : ℕ) → Agrees r h v rows clients owed → length rows ≤ n →
+    Agrees r h (record v { room = n }) rows clients owed
+agree-room r h v rows clients owed n a enough = record {
+  sound = a.sound;
+  positions = a.positions;
+  few = a.few;
+  room = enough;
+  fits = fits-room r.world (accepted h) (result_at h) (λ i. sent_at h (seat_in rows i)) (λ i. named_at h (seat_in rows i)) v n a.fits;
+  commit = a.commit;
+  seats = a.seats;
+  session_rows = a.session_rows;
+  client_rows = a.client_rows;
+  ends = a.ends;
+}
+
 -- ---- A session leaves its slot
 
 forgotten-pair : (x t slot : ℕ) (ps : List (ℕ × ℕ)) → is_pair x t (pairs_but slot ps) ≡ (is_pair x t ps && not (nat_eq t slot))
