@@ -9,7 +9,7 @@ use Rattle.sv_sequencer.proofs.server_core.Core.new.Goals as goal
 
 pub returns-clause-seats : goal.returns-clause-seats
 returns-clause-seats c = λ s.
-    ap (λ rows. seat_in rows s) (c.in_ok-rows.ensures ∙ ap (first_rows c.args.opened.requests) (c.unwrap_or.ensures))
+    ap (λ rows. seat_in rows s) (c.in_ok-rows.ensures)
     ∙ first-seats c.args.opened.requests c.args.opened.sessions s
 
 pub returns-clause-count : goal.returns-clause-count
