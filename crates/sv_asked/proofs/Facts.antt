@@ -19,7 +19,6 @@ use Rattle.sv_wire.specs.declared.message.Request.{Request}
 use Rattle.sv_wire.specs.declared.message.Request.TheVariants as requests
 use Rattle.sv_wire.specs.Ranges.{ResultFits, ActionFits, RequestFits}
 use Rattle.sv_journal.specs.declared.entry.Entry.{Entry}
-use Rattle.sv_journal.specs.declared.entry.Logged.{Logged}
 use Rattle.sv_journal.specs.declared.entry.Logged.TheVariants as logged
 use Rattle.sv_journal.specs.History.{either, is_welcome, is_relay, is_noted, joining, client_of, new_action, outcomes_of, Authored, accepted, actions_of, reported, reports, result_at, commit_of, installed, committed_of}
 use Rattle.sv_journal.specs.Sessions.{welcomes, life_in, life_of}

@@ -3,8 +3,8 @@ ghost use Rattle.sv_asked.specs.Asked.{AcceptedAreFew, RepliesAreMessages, Reque
 ghost use Rattle.sv_asked.specs.Asked.{ServedAcceptedAreFew, ServedRepliesFit, ServedRequestsFit};
 
 use sv_journal::{
-    counts_have_an_end, served_actions_are_good, served_relays_are_small, served_relays_name_accepted,
-    served_replies_are_messages,
+    counts_have_an_end, served_actions_are_good, served_relays_are_small,
+    served_relays_name_accepted, served_replies_are_messages,
 };
 use sv_system::replicas_equal_serial_execution;
 

@@ -30,7 +30,7 @@ use Rattle.sv_journal.specs.declared.entry.Logged.{Logged}
 use Rattle.sv_journal.specs.declared.entry.Logged.TheVariants as logged
 use Rattle.sv_journal.specs.History.{Authored, Outcome, Accepted, Dropped, Denied, accepted, actions_of, client_of, next_seq, item_at, full_reply, commit_of}
 use Rattle.sv_journal.specs.Sessions.{is_end, kept_outcome, positions_in, sent_to}
-use Rattle.sv_journal.specs.Answer.{Rules, refused, is_above, is_full, reply_to_allowed, reply_by_rights, reply_to_good, reply_to_checked, reply_to_submit, is_bad_done, commit_with, orphans, reply_to_poll, reply_to_client, reply_to_member, reply_to_open}
+use Rattle.sv_journal.specs.Answer.{Rules, refused, is_above, is_full, reply_by_rights, reply_to_checked, reply_to_submit, is_bad_done, commit_with, orphans, reply_to_poll, reply_to_client, reply_to_member, reply_to_open}
 use Rattle.sv_journal.specs.Serving.{Keeping, with_last_rows, polled_after, LegalFor, IsKeeping}
 use Rattle.sv_journal.proofs.Kept.{client-kept, next-kept, kept_outcome-kept, accepted-kept, sent-kept}
 use Rattle.sv_client.specs.declared.trace.Event.{Event}

@@ -22,7 +22,7 @@ use Rattle.sv_journal.specs.declared.entry.Logged.{Logged}
 use Rattle.sv_journal.specs.declared.entry.Logged.TheVariants as logged
 use Rattle.sv_journal.specs.History.{Authored, Outcome, Accepted, Dropped, Denied, accepted, actions_of, next_seq, item_at, full_reply, commit_of}
 use Rattle.sv_journal.specs.Sessions.{kept_outcome, sent_to, already_given}
-use Rattle.sv_journal.specs.Answer.{Rules, committed_held, is_above, is_full, reply_to_allowed, reply_by_rights, reply_to_good, reply_to_checked, reply_to_submit, orphans, reply_to_poll}
+use Rattle.sv_journal.specs.Answer.{Rules, committed_held, is_above, is_full, reply_by_rights, reply_to_checked, reply_to_submit, orphans, reply_to_poll}
 use Rattle.sv_journal.specs.Serving.{Keeping, with_last_rows, LegalFor, IsKeeping}
 use Rattle.sv_client.specs.declared.trace.Event.{Event}
 use Rattle.sv_client.specs.Traces.{pending_of}

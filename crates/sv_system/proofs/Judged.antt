@@ -15,7 +15,7 @@ use Rattle.sv_journal.specs.declared.entry.Logged.{Logged}
 use Rattle.sv_journal.specs.declared.entry.Logged.TheVariants as logged
 use Rattle.sv_journal.specs.History.{Authored, Outcome, Accepted, Dropped, Denied, is_client, is_relay, is_submit_of, new_action, outcome_in, outcomes_of, client_of, accepted, actions_of, next_seq, commit_of}
 use Rattle.sv_journal.specs.Sessions.{is_over, asked_in, kept_outcome}
-use Rattle.sv_journal.specs.Answer.{Rules, is_above, reply_to_allowed, reply_by_rights, is_full, reply_to_good, reply_to_checked, reply_to_submit, reply_to_member, is_spent, reply_to, Legal}
+use Rattle.sv_journal.specs.Answer.{Rules, is_above, reply_to_allowed, reply_by_rights, is_full, reply_to_checked, reply_to_submit, reply_to_member, is_spent, reply_to, Legal}
 use Rattle.sv_journal.specs.Serving.{Keeping, with_last_rows, reply_for, LegalFor, IsKeeping}
 use Rattle.sv_journal.proofs.Kept.{client-kept, next-kept}
 use Rattle.sv_journal.proofs.Sizes.{kept_known}

@@ -15,7 +15,7 @@ use Rattle.sv_journal.specs.Sessions.{is_over, kept_outcome, sent_to}
 use Rattle.sv_journal.specs.Answer.{Rules, Legal}
 use Rattle.sv_journal.specs.Serving.{Keeping, plain}
 use Rattle.sv_client.specs.declared.trace.Trace.{Trace}
-use Rattle.sv_client.specs.Traces.{current_session, requests_of, got}
+use Rattle.sv_client.specs.Traces.{current_session, got}
 use Rattle.sv_system.specs.Fits.{replies_in, Fits}
 use Rattle.sv_system.specs.Served.{OwnsSessions}
 use Rattle.sv_system.specs.Within.{KeepsLimits}

@@ -1,6 +1,6 @@
 -- What a client may write: where its action writes nothing else, and for which object it is denied.
-use Rattle.std.proofs.Common.{◌≡◌, ℕ, ◌<◌, Bool, true, false, not, inl, inr, List, [], ◌∷◌, filter, Option, Some, None, refl, sym, ap, ◌∙◌, subst, arith, true≢false}
-use Rattle.std.proofs.lemmas.Bool.{cases_Bool, not_from_true}
+use Rattle.std.proofs.Common.{◌≡◌, ℕ, ◌<◌, Bool, true, false, not, inl, inr, List, [], ◌∷◌, filter, Some, None, refl, sym, ap, ◌∙◌, subst, arith, true≢false}
+use Rattle.std.proofs.lemmas.Bool.{cases_Bool}
 use Rattle.std.proofs.lemmas.Option.{none-some, same_Some}
 use Rattle.sv_world.specs.declared.action.Action.{Action}
 use Rattle.sv_world.specs.Control.{is_in}

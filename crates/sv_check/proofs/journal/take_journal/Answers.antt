@@ -1,5 +1,5 @@
 -- What is proved by hand of `take_journal`.
-use Rattle.std.proofs.Common.{rules, Bor, List, ◌≡◌, ℕ, ◌<◌, true, false, length, Err, refl, sym, subst}
+use Rattle.std.proofs.Common.{rules, Bor, List, ◌≡◌, ℕ, true, false, length, Err, refl, sym, subst}
 use Rattle.std.proofs.lemmas.Result.{err_from_is_err_and}
 use Rattle.sv_journal.specs.Answer.{Rules, MayBeSession}
 use Rattle.sv_check.specs.declared.journal.Served.{Served}

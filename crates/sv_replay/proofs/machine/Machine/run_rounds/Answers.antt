@@ -1,5 +1,5 @@
 -- A further round of a run that is done changes nothing.
-use Rattle.std.proofs.Common.{◌<◌, ◌-◌, refl, sym, subst, arith}
+use Rattle.std.proofs.Common.{◌-◌, refl, sym, subst, arith}
 use Rattle.sv_journal.specs.Answer.{Rules, MayBeSession}
 use Rattle.sv_scenario.specs.Sessions.{session_count}
 use Rattle.law_schedule.specs.Players.{repeated}

@@ -1,5 +1,5 @@
 -- What the check leaves to prove of `Witness::answer`.
-use Rattle.std.proofs.Common.{◌≡◌, ◌<◌, List, sym, ◌∙◌, ap, subst}
+use Rattle.std.proofs.Common.{◌≡◌, List, sym, ◌∙◌, ap, subst}
 use Rattle.sv_journal.specs.declared.entry.Entry.{Entry}
 use Rattle.sv_journal.specs.Answer.{MayBeSession, reply_to_request}
 use Rattle.sv_sequencer.specs.Cores.{Keeps}

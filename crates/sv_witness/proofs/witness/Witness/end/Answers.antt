@@ -1,5 +1,5 @@
 -- What the check leaves to prove of `Witness::end`.
-use Rattle.std.proofs.Common.{◌<◌, List, ◌∷◌, reverse, sym, ◌∙◌, ap, subst}
+use Rattle.std.proofs.Common.{List, ◌∷◌, reverse, sym, ◌∙◌, ap, subst}
 use Rattle.sv_journal.specs.Answer.{MayBeSession}
 use Rattle.sv_journal.specs.declared.entry.Entry.{Entry}
 use Rattle.sv_sequencer.specs.Cores.{Keeps}

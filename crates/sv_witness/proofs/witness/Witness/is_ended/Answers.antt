@@ -1,5 +1,5 @@
 -- What the check leaves to prove of `Witness::is_ended`.
-use Rattle.std.proofs.Common.{◌≡◌, ◌<◌, reverse, sym, subst, ◌∙◌}
+use Rattle.std.proofs.Common.{◌≡◌, reverse, sym, subst, ◌∙◌}
 use Rattle.sv_journal.specs.Answer.{MayBeSession}
 use Rattle.sv_journal.specs.Sessions.{is_ended}
 use Rattle.sv_sequencer.specs.Step.{SequencerView, history}

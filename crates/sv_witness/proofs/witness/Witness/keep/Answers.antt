@@ -1,5 +1,5 @@
 -- What the check leaves to prove of `Witness::keep`.
-use Rattle.std.proofs.Common.{◌<◌, List, OnErr, refl, sym, ◌∙◌, ap, subst}
+use Rattle.std.proofs.Common.{List, OnErr, refl, sym, ◌∙◌, ap, subst}
 use Rattle.std.proofs.lemmas.Result.{IfOk-weaker, on_err_weaker}
 use Rattle.sv_journal.specs.Answer.{MayBeSession}
 use Rattle.sv_journal.specs.declared.entry.Entry.{Entry}

@@ -1,5 +1,5 @@
 -- What the check leaves to prove of `Witness::note_results`.
-use Rattle.std.proofs.Common.{◌≡◌, ◌<◌, ◌≤◌, false, All, List, Some, IfOk, OnErr, sym, ◌∙◌, ap, subst}
+use Rattle.std.proofs.Common.{◌≡◌, ◌≤◌, false, All, List, Some, IfOk, OnErr, sym, ◌∙◌, ap, subst}
 use Rattle.std.proofs.lemmas.Result.{IfOk-weaker, on_err_weaker}
 use Rattle.sv_wire.specs.declared.message.Done1.{Done1}
 use Rattle.sv_queue.specs.Queue.{QueueView, last_position}
