@@ -40,12 +40,7 @@ pub fn closure<L: Ledger>(
 }
 
 /// The position itself, where the session lacks it.
-fn first_wanted<L: Ledger>(
-    queue: &Queue,
-    slot: u16,
-    pos: u32,
-    steps: &mut Steps<L>,
-) -> Option<u32>
+fn first_wanted<L: Ledger>(queue: &Queue, slot: u16, pos: u32, steps: &mut Steps<L>) -> Option<u32>
     requires { IsUncommitted queue.now pos }
     ensures within { (j : ℕ) → is_in j (option_to_list result) ≡ true → (queue.now.commit < j) × (j ≤ pos) }
     ensures whole { wanted_up_to (queue_actions queue.now) queue.now.commit (sent_positions queue.now slot) pos (option_to_list result) ≡ lacking queue.now slot pos }

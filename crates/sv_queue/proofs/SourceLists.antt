@@ -184,7 +184,7 @@ pub sources_below : (c : ℕ) (es : List Queued) (ss : List (List ℕ)) (p : ℕ
 sources_below c es ss p h low high = omega (arith, h.count, length-map es (λ (e : Queued). e.action))
 
 -- The action at a position above the commit.
-action_above : (c : ℕ) (bs : List Action) (p : ℕ) → c < p → action_at (replicate c blank ++ bs) p ≡ get_or bs (p - c - 1) blank
+pub action_above : (c : ℕ) (bs : List Action) (p : ℕ) → c < p → action_at (replicate c blank ++ bs) p ≡ get_or bs (p - c - 1) blank
 action_above c bs p low =
     let q : p ≡ suc (c + (p - c - 1)) = omega arith in
     ap (action_at (replicate c blank ++ bs)) q ∙ action_past c bs (p - c - 1)

@@ -1,5 +1,5 @@
 -- The waiting actions of a queue, as its callers see them, and the room of its sets.
-use Rattle.std.proofs.Common.{◌≡◌, ℕ, zero, suc, ◌+◌, ◌<◌, ◌≤◌, Bool, true, false, not, ◌||◌, nat_eq, cond, List, [], ◌∷◌, ◌++◌, map, take, drop, length, set, All, get_or, replicate, ℤ, Option, None, ◌⊎◌, inl, inr, refl, sym, ◌∙◌, ap, ap₂, subst, arith, add-one}
+use Rattle.std.proofs.Common.{◌≡◌, ℕ, zero, suc, ◌+◌, ◌<◌, ◌≤◌, Bool, true, false, not, ◌||◌, nat_eq, cond, List, [], ◌∷◌, ◌++◌, map, take, drop, length, set, All, get_or, replicate, ℤ, Option, None, ◌⊎◌, inl, inr, refl, sym, ◌∙◌, ap, ap₂, subst, arith, add-one, Result, Ok, Err, OnErr}
 use Rattle.std.specs.List.{list_any}
 use Rattle.std.proofs.lemmas.Bool.{cases_lt, cases_eq, eqb-true, or_cases}
 use Rattle.std.proofs.lemmas.List.{get_or_read, get_or-map, length-map, map-set, map_push, length-set, length-replicate, get_or-replicate, get_or-set_same, get_or-set_other, set-get_or, same_lists}
@@ -265,3 +265,7 @@ row_room places rows now x slots h low = ap (λ (r : SlotSet). r.room) (h.elemen
 pub any-ext : (p q : ℕ → Bool) (xs : List ℕ) → ((s : ℕ) → p s ≡ q s) → list_any p xs ≡ list_any q xs
 any-ext p q [] h = refl
 any-ext p q (x ∷ xs) h = ap₂ (λ a b. a || b) (h x) (any-ext p q xs h)
+
+pub on_err : {X E : Type 0} {P : Type 0} (r : Result X E) → P → OnErr r P
+on_err (Ok x) p = tt
+on_err (Err e) p = p

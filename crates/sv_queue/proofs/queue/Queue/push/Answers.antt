@@ -25,7 +25,7 @@ invariant_of-self-2 c =
     let ws = a.entries.items in
     let es = all_queued ws in
     let p = a.commit + c.len.result + 1 in
-    let w : Waiting = record { author = c.args.author; seq = c.args.seq; action = c.args.action; result = None; marks = c.in_ok-marks.field-0 } in
+    let w : Waiting = record { author = c.args.author; seq = c.args.seq; action = c.args.action; result = None; marks = c.in_ok-marks.marks } in
     let added : c.push_back.new.self.items ≡ ws ++ w ∷ [] = c.in-Ok.ensures.items ∙ ap (λ ds. ds ++ w ∷ []) c.in_ok-reserve.ensures.items in
     let good : IsGoodAction a.shape c.args.action = rw (ap (λ (v : QueueView). v.shape) c.self.view_is) c.requires.good in
     let at : p ≡ suc (a.commit + length es) = omega (arith, c.len.ensures, a.entries.ok.0, queued_count ws) in
