@@ -143,10 +143,10 @@ owed-out old next slot s ended at is are count = go ended here
     all : count_rows owes_end next + cond (owes_end (row_at old slot)) 1 0 ≡ count_rows owes_end old + 0
     all = set-count owes_end old next slot no_session are count (seat-low old slot s at)
 
-    here : cond (owes_end (row_at old slot)) 1 0 ≡ cond (not ended) 1 0
+    here : ◌≡◌ {A = ℕ} (cond (owes_end (row_at old slot)) 1 0) (cond (not ended) 1 0)
     here = ap (λ o. cond (is_some o && not (row_at old slot).ended) 1 0) at ∙ ap (λ b. cond (not b) 1 0) is
 
-    go : (b : Bool) → cond (owes_end (row_at old slot)) 1 0 ≡ cond (not b) 1 0 → cond b (count_rows owes_end old) (count_rows owes_end old - 1) ≡ count_rows owes_end next
+    go : (b : Bool) → ◌≡◌ {A = ℕ} (cond (owes_end (row_at old slot)) 1 0) (cond (not b) 1 0) → cond b (count_rows owes_end old) (count_rows owes_end old - 1) ≡ count_rows owes_end next
     go true q = omega (arith, all, q)
     go false q = omega (arith, all, q)
 

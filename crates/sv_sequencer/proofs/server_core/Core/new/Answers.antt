@@ -1,6 +1,6 @@
 -- What the check leaves to prove of `Core::new`.
 use Rattle.std.proofs.Common.{◌≡◌, ◌≤◌, [], Option, None, Some, IfSome, unwrap_or, refl, sym, ◌∙◌, ap, subst, arith}
-use Rattle.sv_queue.specs.Queue.{QueueView}
+use Rattle.sv_queue.specs.Queue.{QueueView, opening_queue}
 use Rattle.sv_sequencer.specs.Agreement.{Agrees}
 use Rattle.sv_sequencer.specs.Rows.{seat_in, is_seated, count_rows}
 use Rattle.sv_sequencer.proofs.Opening.{first_rows, first-seats, rows-count, few-first, agree-opening}
@@ -27,5 +27,5 @@ returns-clause-keeps c =
     let n = unwrap_or r.sessions 0 in
     let are : rows ≡ first_rows r.requests n =
     c.in_ok-rows.ensures ∙ ap (λ o. first_rows o c.first_sessions-sessions.result) c.requests.ensures ∙ ap (first_rows r.requests) c.first_sessions-sessions.ensures in
-    subst (λ (v : QueueView). Agrees r [] v rows c.new.result c.first_sessions-sessions.result) (sym c.in_ok-queue.ensures)
+    subst (λ (v : QueueView). Agrees r [] v rows c.new.result c.first_sessions-sessions.result) (sym (c.in_ok-queue.ensures ∙ ap opening_queue c.world.ensures))
     (agree-opening r n rows c.new.result c.first_sessions-sessions.result c.requires.positions (few-first r.sessions c.requires.few) are c.new.ensures c.first_sessions-sessions.ensures)
