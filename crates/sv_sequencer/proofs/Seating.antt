@@ -152,7 +152,7 @@ count-set test (x ∷ xs) (y ∷ ys) zero n low same =
     omega (arith, rest)
 count-set test (x ∷ xs) (y ∷ ys) (suc k) n low same =
     let rest = count-set test xs ys k (let e : length ys ≡ length xs = omega (arith, n) in e) (omega arith) (λ i l ne. same (suc i) (omega arith) (λ q. ne (omega (arith, q)))) in
-    let first : cond (test y) 1 0 ≡ cond (test x) 1 0 = ap (λ b. cond b 1 0) (same 0 (omega arith) (λ q. omega (arith, q))) in
+    let first : ◌≡◌ {A = ℕ} (cond (test y) 1 0) (cond (test x) 1 0) = ap (λ b. cond b 1 0) (same 0 (omega arith) (λ q. omega (arith, q))) in
     omega (arith, rest, first)
 
 pub count-most : (test : SessionRow → Bool) (rows : List SessionRow) → count_rows test rows ≤ length rows

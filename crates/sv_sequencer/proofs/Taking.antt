@@ -83,7 +83,7 @@ new-row r h s none = record {
 abbrev pub AreSet : ℕ → SessionRow → List SessionRow → List SessionRow → Type 0
 AreSet slot row old next = (i : ℕ) → row_at next i ≡ cond (nat_eq slot i) row (row_at old i)
 
-seat-set : (slot : ℕ) (row : SessionRow) (old next : List SessionRow) → AreSet slot row old next → (i : ℕ) → seat_in next i ≡ cond (nat_eq slot i) row.session (seat_in old i)
+pub seat-set : (slot : ℕ) (row : SessionRow) (old next : List SessionRow) → AreSet slot row old next → (i : ℕ) → seat_in next i ≡ cond (nat_eq slot i) row.session (seat_in old i)
 seat-set slot row old next are i = ap (λ (r : SessionRow). r.session) (are i) ∙ go (nat_eq slot i)
   where
     go : (b : Bool) → (cond b row (row_at old i)).session ≡ cond b row.session (seat_in old i)
@@ -143,10 +143,10 @@ owed-out old next slot s ended at is are count = go ended here
     all : count_rows owes_end next + cond (owes_end (row_at old slot)) 1 0 ≡ count_rows owes_end old + 0
     all = set-count owes_end old next slot no_session are count (seat-low old slot s at)
 
-    here : cond (owes_end (row_at old slot)) 1 0 ≡ cond (not ended) 1 0
+    here : ◌≡◌ {A = ℕ} (cond (owes_end (row_at old slot)) 1 0) (cond (not ended) 1 0)
     here = ap (λ o. cond (is_some o && not (row_at old slot).ended) 1 0) at ∙ ap (λ b. cond (not b) 1 0) is
 
-    go : (b : Bool) → cond (owes_end (row_at old slot)) 1 0 ≡ cond (not b) 1 0 → cond b (count_rows owes_end old) (count_rows owes_end old - 1) ≡ count_rows owes_end next
+    go : (b : Bool) → ◌≡◌ {A = ℕ} (cond (owes_end (row_at old slot)) 1 0) (cond (not b) 1 0) → cond b (count_rows owes_end old) (count_rows owes_end old - 1) ≡ count_rows owes_end next
     go true q = omega (arith, all, q)
     go false q = omega (arith, all, q)
 
@@ -232,17 +232,17 @@ agree-room r h v rows clients owed n a enough = record {
 
 forgotten-pair : (x t slot : ℕ) (ps : List (ℕ × ℕ)) → is_pair x t (pairs_but slot ps) ≡ (is_pair x t ps && not (nat_eq t slot))
 forgotten-pair x t slot [] = refl
-forgotten-pair x t slot (p ∷ ps) = go (nat_eq p.1 slot) refl
+forgotten-pair x t slot (p ∷ ps) = go (nat_eq p.1 slot) refl (forgotten-pair x t slot ps)
   where
-    go : (b : Bool) → nat_eq p.1 slot ≡ b → is_pair x t (cond (not b) (p ∷ pairs_but slot ps) (pairs_but slot ps)) ≡ (((nat_eq x p.0 && nat_eq t p.1) || is_pair x t ps) && not (nat_eq t slot))
-    go true q = forgotten-pair x t slot ps ∙ gone (nat_eq t p.1) refl
+    go : (b : Bool) → nat_eq p.1 slot ≡ b → is_pair x t (pairs_but slot ps) ≡ (is_pair x t ps && not (nat_eq t slot)) → is_pair x t (cond (not b) (p ∷ pairs_but slot ps) (pairs_but slot ps)) ≡ (((nat_eq x p.0 && nat_eq t p.1) || is_pair x t ps) && not (nat_eq t slot))
+    go true q rest = rest ∙ gone (nat_eq t p.1) refl
       where
         gone : (c : Bool) → nat_eq t p.1 ≡ c → (is_pair x t ps && not (nat_eq t slot)) ≡ (((nat_eq x p.0 && c) || is_pair x t ps) && not (nat_eq t slot))
         gone true u = (let same : nat_eq t slot ≡ true = eq-eqb t slot (eqb-true t p.1 u ∙ eqb-true p.1 slot q) in
             ap (λ d. is_pair x t ps && not d) same ∙ and_right (is_pair x t ps) false refl
             ∙ sym (ap (λ d. ((nat_eq x p.0 && true) || is_pair x t ps) && not d) same ∙ and_right ((nat_eq x p.0 && true) || is_pair x t ps) false refl))
         gone false u = ap (λ d. (d || is_pair x t ps) && not (nat_eq t slot)) (sym (and_right (nat_eq x p.0) false refl))
-    go false q = ap (λ d. (nat_eq x p.0 && nat_eq t p.1) || d) (forgotten-pair x t slot ps) ∙ still (nat_eq t p.1) refl
+    go false q rest = ap (λ d. (nat_eq x p.0 && nat_eq t p.1) || d) rest ∙ still (nat_eq t p.1) refl
       where
         still : (c : Bool) → nat_eq t p.1 ≡ c → ((nat_eq x p.0 && c) || (is_pair x t ps && not (nat_eq t slot))) ≡ (((nat_eq x p.0 && c) || is_pair x t ps) && not (nat_eq t slot))
         still true u = (let same : nat_eq t slot ≡ false = ap (λ n. nat_eq n slot) (eqb-true t p.1 u) ∙ q in

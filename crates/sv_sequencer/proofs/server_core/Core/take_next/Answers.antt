@@ -1,5 +1,5 @@
 -- What the check leaves to prove of `Core::take_next`.
-use Rattle.std.proofs.Common.{◌≡◌, ℕ, ◌+◌, ◌≤◌, ◌<◌, [], ◌∷◌, ◌++◌, List, cond, length, None, Result, Ok, Err, OnErr, refl, sym, ◌∙◌, ap, subst, arith, length-append}
+use Rattle.std.proofs.Common.{rules, ◌≡◌, ℕ, ◌+◌, ◌≤◌, ◌<◌, [], ◌∷◌, ◌++◌, List, cond, length, None, Result, Ok, Err, OnErr, refl, sym, ◌∙◌, ap, subst, arith, length-append}
 use Rattle.std.proofs.lemmas.List.{get_or_past}
 use Rattle.sv_queue.specs.Queue.{QueueView}
 use Rattle.sv_sequencer.specs.declared.sessions.SessionRow.{SessionRow}
@@ -49,7 +49,7 @@ returns-clause-ok g c =
     let n = c.make_room.new.self.room in
     let made : c.new_session.result ≡ row = c.new_session.ensures ∙ ap (λ o. new_session o s) c.requests.ensures in
     let items : next ≡ rows ++ row ∷ [] = c.in_ok-push.ensures.items ∙ ap (λ r. rows ++ r ∷ []) made in
-    let last : slot ≡ length rows = c.len-slot.ensures in
+    let last : slot ≡ length rows = search rules in
     let are : AreSet slot row rows next = subst (λ rs. AreSet slot row rows rs) (sym items) (subst (λ i. AreSet i row rows (rows ++ row ∷ [])) (sym last) (push-rows rows row)) in
     let longer : length next ≡ length rows + 1 = ap length items ∙ length-append rows (row ∷ []) in
     let free : seat_in rows slot ≡ None = ap (λ (r : SessionRow). r.session) (get_or_past rows slot no_session (omega (arith, last))) in
