@@ -80,6 +80,7 @@ impl Served {
     }
 
     /// Whether a request is of a session that may make it: a second End is none.
+    #[tactic(auto, using(crate::proofs::Limited::below_may, crate::proofs::Limited::may_below))]
     fn may_answer(&self, asked: &Asked) -> bool
         ensures may { result ≡ true → (MayBeSession self.now.sequencer.rules.sessions asked.now.session) × (is_end asked.now.request ≡ true → is_ended (history self.now.sequencer) asked.now.session ≡ false) }
         ensures no { result ≡ false → MayBeSession self.now.sequencer.rules.sessions asked.now.session → (is_end asked.now.request ≡ true → is_ended (history self.now.sequencer) asked.now.session ≡ false) → ⊥ }

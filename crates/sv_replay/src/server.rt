@@ -39,6 +39,7 @@ pub trait Server: Drop {
 }
 
 /// Whether each session of a server had its End.
+#[tactic(auto, using(crate::proofs::Limited::below_may, crate::proofs::Limited::may_below))]
 pub fn are_ended<S: Server>(server: &S) -> bool
     ensures all { result ≡ true → (s : ℕ) → MayBeSession (S.view server.now).rules.sessions s → is_ended (S.view server.now).history s ≡ true }
     ensures not { result ≡ false → ((s : ℕ) → MayBeSession (S.view server.now).rules.sessions s → is_ended (S.view server.now).history s ≡ true) → ⊥ }
