@@ -10,3 +10,4 @@ pub mod Ascends
 pub mod InOrder
 pub mod Answered
 pub mod Observed
+pub mod Stewarding

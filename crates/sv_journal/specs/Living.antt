@@ -1,6 +1,6 @@
 -- The rules of a living world: a server may have a steward, a client of its own that reports what nobody else does, or whose reports alone count.
 -- A history is the list of a journal's entries with the latest first: `e ∷ h` is h, and then e.
-use Rattle.std.specs.Prelude.{ℕ, suc, Bool, true, false, ◌&&◌, ◌||◌, not, nat_lt, List, [], ◌∷◌, filter, length, Option, Some, None, is_none, if◌then◌else◌}
+use Rattle.std.specs.Prelude.{ℕ, suc, Bool, false, ◌&&◌, ◌||◌, not, nat_lt, List, [], ◌∷◌, filter, length, Option, Some, None, is_none, if◌then◌else◌}
 use Rattle.sv_world.specs.declared.rights.Right.{Right}
 use Rattle.sv_world.specs.declared.world.World.{World}
 use Rattle.sv_world.specs.Control.{is_in, below}
@@ -29,6 +29,10 @@ living_rules world bound reach rights = record {
 pub record Stewardship : Type 0 where
   pub steward : Option ℕ
   pub authority : Bool
+
+-- There is no steward, and every client's reports count.
+abbrev pub nobody : Stewardship
+nobody = record { steward = None; authority = false }
 
 -- The session was joined as the steward.
 abbrev pub is_stewards : Option ℕ → List Entry → ℕ → Bool

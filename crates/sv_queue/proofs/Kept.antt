@@ -10,7 +10,7 @@ use Rattle.sv_world.specs.Sets.{write_set}
 use Rattle.sv_eval.specs.Serial.{put_all}
 use Rattle.sv_eval.proofs.Lists.{all_set}
 use Rattle.sv_eval.proofs.Serials.{put_all_length}
-use Rattle.sv_queue.specs.declared.queued.Queued.{Queued}
+use Rattle.sv_queue.specs.Queue.{Queued}
 use Rattle.sv_queue.specs.Invariant.{AgreeOn, IsGoodEntry, writers_above}
 use Rattle.sv_queue.specs.Queue.{no_entry}
 use Rattle.sv_world.specs.Worlds.{HaveAttrs, IsGoodShape}

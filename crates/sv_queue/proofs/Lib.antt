@@ -5,6 +5,6 @@ pub mod Kept
 pub mod Members
 pub mod PairSets
 pub mod PositionLists
-pub mod SessionSets
+pub mod SlotSets
 pub mod SourceLists
 pub mod WrittenObjects

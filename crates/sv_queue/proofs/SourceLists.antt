@@ -8,7 +8,7 @@ use Rattle.sv_world.specs.declared.world.Shape.{Shape}
 use Rattle.sv_world.specs.Control.{is_in, blank, action_at, last_writer}
 use Rattle.sv_world.specs.Sets.{read_set, write_set}
 use Rattle.sv_world.proofs.Writers.{last_writer-writes, last_writer-agree, last_writer-same}
-use Rattle.sv_queue.specs.declared.queued.Queued.{Queued}
+use Rattle.sv_queue.specs.Queue.{Queued}
 use Rattle.sv_queue.specs.Invariant.{HaveSources, IsGoodEntry, uncommitted}
 use Rattle.sv_queue.specs.Queue.{entry_actions, no_entry}
 use Rattle.sv_queue.proofs.Entries.{action_past}

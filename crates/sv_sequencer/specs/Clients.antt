@@ -1,7 +1,7 @@
 -- What a core keeps of each client.
 use Rattle.std.specs.Prelude.{ℕ, suc, ◌+◌, nat_eq, nat_le, List, [], map, length, Option, None, unwrap_or, if◌then◌else◌}
 use Rattle.indexmap.specs.IndexMap.{get}
-use Rattle.sv_journal.specs.History.{Outcome, Accepted, Dropped}
+use Rattle.sv_journal.specs.History.{Outcome, Accepted, Dropped, Denied}
 use Rattle.sv_journal.specs.Sessions.{outcome_at, kept_count}
 use Rattle.sv_sequencer.specs.declared.clients.ClientRow.{ClientRow}
 use Rattle.sv_sequencer.specs.declared.clients.Clients.{Clients}
@@ -11,6 +11,7 @@ use Rattle.sv_sequencer.specs.declared.clients.Outcome.TheVariants as rows
 abbrev pub outcome_value : OutcomeRow → Outcome
 outcome_value (rows.Accepted p) = Accepted p
 outcome_value (rows.Dropped chain far) = Dropped chain far
+outcome_value (rows.Denied object) = Denied object.0
 
 abbrev pub no_client_row : ClientRow
 no_client_row = record { life = 0; outcomes = [] }

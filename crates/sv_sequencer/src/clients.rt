@@ -5,13 +5,15 @@ ghost use Rattle.sv_sequencer.specs.Clients.{client_row, no_client_row, kept_amo
 
 use indexmap::IndexMap;
 use std::alloc::{AllocError, Global};
-use sv_world::{List, MOST_PENDING};
+use sv_world::{List, MOST_PENDING, ObjectId};
 
-/// What came of an action: it was accepted at a position; or it was dropped, with so many actions that influence it, the farthest so far.
+/// What came of an action: it was accepted at a position; or it was dropped, with so many actions that influence it, the
+/// farthest so far; or it was denied, for an object that its client may not write.
 #[derive(Clone, Copy, Drop)]
 pub enum Outcome {
     Accepted { pos: u32 },
     Dropped { chain: u32, far: u32 },
+    Denied { object: ObjectId },
 }
 
 /// What the sequencer keeps of a client.

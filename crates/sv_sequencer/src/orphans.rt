@@ -1,10 +1,10 @@
 //! The lowest abandoned position of a queue.
-ghost use Rattle.std.specs.Prelude.{◌≡◌, ℕ, List, ◌<◌, ◌≤◌, ◌||◌, ◌&&◌, not, nat_lt, is_none, [], ◌∷◌, length, slice_index_or, MatchOption};
+ghost use Rattle.std.specs.Prelude.{◌≡◌, ℕ, List, ◌<◌, ◌≤◌, ◌||◌, ◌&&◌, not, nat_lt, is_none, [], ◌∷◌, length, MatchOption};
 ghost use Rattle.std.specs.List.{list_all};
 ghost use Rattle.sv_world.specs.Control.{is_in, below};
 ghost use Rattle.sv_queue.specs.Queue.{IsUncommitted, last_position, entry_at, sent_positions};
-ghost use Rattle.sv_sequencer.specs.Rows.{no_session};
-ghost use Rattle.sv_sequencer.specs.Orphans.{orphans_in, is_orphan_in, is_abandoned_in};
+ghost use Rattle.sv_sequencer.specs.Rows.{row_at};
+ghost use Rattle.sv_sequencer.specs.Orphans.{orphans_in, is_orphan_in, is_abandoned_in, is_live_row};
 
 use crate::sessions::SessionRow;
 use std::marker::Brand;
@@ -60,17 +60,19 @@ fn is_abandoned<L: Ledger>(
     requires few { length sessions.now < 65536 }
     ensures { result ≡ is_abandoned_in queue.now sessions.now pos }
 {
-    for session in 0..sessions.len() {
-        if !is_over_at(sessions, session) && queue.is_marked(pos, session as u16, steps) {
+    for slot in 0..sessions.len() {
+        if is_live_at(sessions, slot) && queue.is_marked(pos, slot as u16, steps) {
             return false;
         }
     }
     true
 }
 
-fn is_over_at(sessions: &[SessionRow], session: usize) -> bool
-    requires { session < length sessions.now }
-    ensures { result ≡ (slice_index_or sessions.now session no_session).over }
+/// Whether a session sits at a slot that is not over.
+fn is_live_at(sessions: &[SessionRow], slot: usize) -> bool
+    requires { slot < length sessions.now }
+    ensures { result ≡ is_live_row (row_at sessions.now slot) }
 {
-    sessions[session].over
+    let row = &sessions[slot];
+    row.session.is_some() && !row.over
 }

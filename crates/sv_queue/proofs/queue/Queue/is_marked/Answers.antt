@@ -2,7 +2,7 @@
 use Rattle.std.proofs.Common.{◌-◌, length, ◌∙◌, sym, ap, arith}
 use Rattle.std.proofs.lemmas.List.{get_or_read}
 use Rattle.sv_world.specs.Control.{is_in}
-use Rattle.sv_queue.specs.declared.queued.Queued.{Queued}
+use Rattle.sv_queue.specs.Queue.{Queued}
 use Rattle.sv_queue.specs.Queue.{QueueView, sent_positions, no_entry}
 use Rattle.sv_queue.proofs.Entries.{in_marked}
 use Rattle.sv_queue.proofs.queue.Queue.is_marked.Goals as goal

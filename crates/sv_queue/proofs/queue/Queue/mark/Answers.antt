@@ -2,7 +2,7 @@
 use Rattle.std.proofs.Common.{◌≡◌, ◌-◌, ◌<◌, List, length, get_or, sym, ap, subst, arith}
 use Rattle.std.proofs.lemmas.List.{get_or_read}
 use Rattle.sv_world.specs.declared.action.Action.{Action}
-use Rattle.sv_queue.specs.declared.queued.Queued.{Queued}
+use Rattle.sv_queue.specs.Queue.{Queued}
 use Rattle.sv_queue.specs.Invariant.{HaveSources, IsGoodEntry}
 use Rattle.sv_queue.specs.Queue.{QueueView, no_entry}
 use Rattle.sv_queue.proofs.Kept.{agree_with_entry}

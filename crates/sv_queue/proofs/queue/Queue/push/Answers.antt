@@ -4,7 +4,7 @@ use Rattle.std.proofs.lemmas.List.{length-map}
 use Rattle.sv_world.specs.Control.{blank, last_writer}
 use Rattle.sv_world.specs.Sets.{read_set}
 use Rattle.sv_world.specs.Faults.{IsGoodAction}
-use Rattle.sv_queue.specs.declared.queued.Queued.{Queued}
+use Rattle.sv_queue.specs.Queue.{Queued}
 use Rattle.sv_queue.specs.Queue.{QueueView, entry_actions, last_position, queue_actions}
 use Rattle.sv_queue.proofs.Kept.{agree_push, can_write}
 use Rattle.sv_queue.proofs.SourceLists.{actions-push, sources-push}

@@ -3,7 +3,7 @@ use Rattle.std.proofs.Common.{◌≡◌, ◌-◌, ◌<◌, ◌∙◌, List, leng
 use Rattle.std.proofs.lemmas.List.{get_or_read}
 use Rattle.sv_world.specs.Sets.{write_set}
 use Rattle.sv_world.specs.declared.action.Action.{Action}
-use Rattle.sv_queue.specs.declared.queued.Queued.{Queued}
+use Rattle.sv_queue.specs.Queue.{Queued}
 use Rattle.sv_queue.specs.Invariant.{HaveSources, IsGoodEntry}
 use Rattle.sv_queue.specs.Queue.{QueueView, entry_at, no_entry}
 use Rattle.sv_world.specs.Worlds.{HaveAttrs}

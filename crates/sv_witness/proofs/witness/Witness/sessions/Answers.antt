@@ -1,11 +1,8 @@
 -- What the check leaves to prove of `Witness::sessions`.
-use Rattle.std.proofs.Common.{◌≡◌, reverse, subst}
+use Rattle.std.proofs.Common.{◌≡◌, Some, sym, subst, ◌∙◌}
 use Rattle.sv_sequencer.specs.Step.{SequencerView}
-use Rattle.sv_witness.specs.Reports.{agreed_history}
 use Rattle.sv_witness.proofs.witness.Witness.sessions.Goals as goal
 
-pub sessions-requires : goal.sessions-requires
-sessions-requires c = (agreed_history (reverse c.self.inside.journal.entries), c.self.invariant.keeps)
-
+-- there is an end of its sessions
 pub returns : goal.returns
-returns c = subst (λ (v : SequencerView). c.sessions.result ≡ v.rules.sessions) c.self.view_is c.sessions.ensures
+returns c = subst (λ (v : SequencerView). Some c.unwrap.result ≡ v.rules.sessions) c.self.view_is (sym c.unwrap.ensures ∙ c.sessions.ensures)
