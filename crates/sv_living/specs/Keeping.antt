@@ -31,6 +31,11 @@ stewardship_of stewards = record { steward = stewards.steward; authority = stewa
 abbrev pub stewardship_at : LivingCore → Stewardship
 stewardship_at c = stewardship_of c.stewards
 
+-- A history of all entries, and by whose reports a server goes.
+pub record Course : Type 0 where
+  pub w : Stewardship
+  pub h : List Entry
+
 -- A session is open: it has an entry, and had no End.
 abbrev pub is_open : List Entry → ℕ → Bool
 is_open h s = has_entry h s && not (is_ended h s)
@@ -47,7 +52,7 @@ pub record AreOpen (core : Core) (h : List Entry) (seats : List Seat) (next : �
 pub record KeepsLiving (c : LivingCore) (h : List Entry) : Type 0 where
   pub keeps : Keeps c.core (heeded (stewardship_at c) h)
   pub endless : (rules_at c).sessions ≡ None
-  pub open : AreOpen c.core h c.open c.next
+  pub table : AreOpen c.core h c.table c.next
   pub legal : LegalFor (living (stewardship_at c)) (rules_at c) h
 
 -- The numbers of sessions are below this one.
@@ -56,7 +61,7 @@ most_session = 18446744073709551615
 
 -- A session may make a request: it is open, or it is the next one, and few enough are open.
 abbrev pub MayStep : LivingCore → List Entry → ℕ → Type 0
-MayStep c h s = (is_open h s ≡ true) ⊎ ((s ≡ c.next) × ((length c.open < most_open) × (s < most_session)))
+MayStep c h s = (is_open h s ≡ true) ⊎ ((s ≡ c.next) × ((length c.table < most_open) × (s < most_session)))
 
 -- A request with those of its results alone that count.
 abbrev pub heard : Stewardship → List Entry → ℕ → Request → Request
@@ -90,5 +95,5 @@ pub record StoodStill (old new : LivingCore) (h : List Entry) : Type 0 where
   pub rules : rules_at new ≡ rules_at old
   pub stewards : stewardship_at new ≡ stewardship_at old
   pub next : new.next ≡ old.next
-  pub open : new.open ≡ old.open
+  pub table : new.table ≡ old.table
   pub keeps : KeepsLiving new h

@@ -13,6 +13,7 @@ use sv_sequencer::{Core, Decision, Seat};
 use sv_wire::Request;
 
 /// Whether a session was joined as the steward. `h` is the history of all entries.
+#[tactic(auto, using(crate::proofs::Heeding::client_heeded))]
 pub(crate) fn is_stewards(core: &Core, stewards: Stewards, seat: Seat) -> bool
     ghost h: { List Entry }
     requires keeps { Keeps core.now (heeded (stewardship_of stewards) h) }

@@ -3,9 +3,11 @@
 
 mod due;
 mod heard;
+mod laws;
 mod living;
 mod step;
 mod table;
 
+pub use laws::decisions_are_by_what_counts;
 pub use living::{LivingCore, Stewards};
 pub use table::OpenSessions;

@@ -31,7 +31,7 @@ pub struct LivingCore {
     pub(crate) core: Core,
     pub(crate) stewards: Stewards,
     /// The sessions that have an entry and had no End.
-    pub(crate) open: OpenSessions,
+    pub(crate) table: OpenSessions,
     /// The least number that no session has had.
     pub(crate) next: u64,
 }
@@ -55,7 +55,7 @@ impl LivingCore {
             alloc,
             core: Core::new(alloc, opened)?,
             stewards,
-            open: OpenSessions::new(alloc),
+            table: OpenSessions::new(alloc),
             next: 0,
         })
     }
@@ -69,16 +69,16 @@ impl LivingCore {
 
     /// How many sessions are open.
     pub fn open_count(&self) -> usize
-        ensures { result ≡ length self.now.open }
+        ensures { result ≡ length self.now.table }
     {
-        self.open.len()
+        self.table.len()
     }
 
     /// Whether a session is open.
     pub fn is_open(&self, session: u64) -> bool
         ensures { (h : List Entry) → KeepsLiving self.now h → result ≡ is_open h session }
     {
-        self.open.seat_of(session).is_some()
+        self.table.seat_of(session).is_some()
     }
 
     /// Whether a session may make a request: it is open, or it is the next one and few enough are open.
@@ -88,7 +88,7 @@ impl LivingCore {
         if self.is_open(session) {
             return true;
         }
-        session == self.next && self.open.len() < MOST_OPEN as usize && session < u64::MAX
+        session == self.next && self.table.len() < MOST_OPEN as usize && session < u64::MAX
     }
 
     /// The greatest position up to which all results that count are installed.

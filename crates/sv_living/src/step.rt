@@ -1,12 +1,12 @@
 //! A step of a living world's core. Its core decides by the history of the results that count, but for what the steward polls.
-ghost use Rattle.std.specs.Prelude.{◌≡◌, List, ◌<◌, true, false, ◌∷◌, length, IfOk, IsOk, OnErr};
+ghost use Rattle.std.specs.Prelude.{◌≡◌, ◌&&◌, List, ◌<◌, true, false, ◌∷◌, length, IfOk, IsOk, OnErr};
 ghost use Rattle.sv_world.specs.Limits.{most_open};
 ghost use Rattle.sv_journal.specs.declared.entry.Entry.{Entry};
 ghost use Rattle.sv_journal.specs.Sessions.{is_end};
-ghost use Rattle.sv_journal.specs.Living.{heeded};
+ghost use Rattle.sv_journal.specs.Living.{is_stewards, heeded};
 ghost use Rattle.sv_sequencer.specs.Cores.{core_rules, SitsAt, Keeps, Remained};
-ghost use Rattle.sv_living.specs.Deciding.{IsDecided};
-ghost use Rattle.sv_living.specs.Keeping.{stewardship_of, stewardship_at, is_open, KeepsLiving, MayStep, Stepped, StoodStill, CarriedOn};
+ghost use Rattle.sv_living.specs.Deciding.{answers_poll, IsDecided};
+ghost use Rattle.sv_living.specs.Keeping.{Course, stewardship_of, is_open, KeepsLiving, MayStep, Stepped, StoodStill, CarriedOn};
 
 use crate::due::due_decision;
 use crate::heard::{answers_poll, counts, is_stewards};
@@ -17,23 +17,41 @@ use sv_sequencer::{Answer, Core, Decision, Seat};
 use sv_wire::{Reply, Request};
 use sv_world::List;
 
-/// What is done on a request that is no End. `h` is the history of all entries.
+/// What is done on a request that is no End. `g` is the history of all entries.
 fn decide(core: &Core, stewards: Stewards, seat: Seat, request: &Request) -> Decision
-    ghost h: { List Entry }
-    requires keeps { Keeps core.now (heeded (stewardship_of stewards) h) }
+    ghost g: { Course }
+    requires keeps { Keeps core.now (heeded g.w g.h) }
+    requires stewards { g.w ≡ stewardship_of stewards }
     requires seat { SitsAt core.now seat }
     requires more { is_end request.now ≡ false }
-    ensures { IsDecided (stewardship_of stewards) (core_rules core.now) h seat.session request.now result }
+    ensures { IsDecided g.w (core_rules core.now) g.h seat.session request.now result }
 {
     let decision = core.decide(seat, request);
-    if answers_poll(request, decision) && is_stewards(core, stewards, seat) {
+    if is_due(core, stewards, seat, request, decision) {
         due_decision(core, seat)
     } else {
         decision
     }
 }
 
-/// Answers a request that is no End. `h` is the history of all entries. A report that does not count brings no results.
+/// Whether the steward polls, and is not refused.
+fn is_due(
+    core: &Core,
+    stewards: Stewards,
+    seat: Seat,
+    request: &Request,
+    decision: Decision,
+) -> bool
+    ghost g: { Course }
+    requires keeps { Keeps core.now (heeded g.w g.h) }
+    requires stewards { g.w ≡ stewardship_of stewards }
+    requires seat { SitsAt core.now seat }
+    ensures { result ≡ (answers_poll request.now decision && is_stewards g.w.steward g.h seat.session) }
+{
+    answers_poll(request, decision) && is_stewards(core, stewards, seat)
+}
+
+/// Answers a request that is no End. `g` is the history of all entries. A report that does not count brings no results.
 fn answer(
     alloc: Global,
     core: &mut Core,
@@ -41,16 +59,16 @@ fn answer(
     seat: Seat,
     request: &Request,
 ) -> Result<Answer, AllocError>
-    ghost h: { List Entry }
-    requires keeps { Keeps core.old (heeded (stewardship_of stewards) h) }
+    ghost g: { Course }
+    requires keeps { Keeps core.old (heeded g.w g.h) }
+    requires stewards { g.w ≡ stewardship_of stewards }
     requires seat { SitsAt core.old seat }
     requires more { is_end request.now ≡ false }
-    ensures ok { IfOk result (CarriedOn core.old core.new (stewardship_of stewards) h seat.session request.now) }
-    ensures err { OnErr result (Remained core.old core.new (heeded (stewardship_of stewards) h)) }
+    ensures ok { IfOk result (CarriedOn core.old core.new g.w g.h seat.session request.now) }
+    ensures err { OnErr result (Remained core.old core.new (heeded g.w g.h)) }
 {
     let decision = decide(core, stewards, seat, request);
-    let is_report = matches!(request, Request::Done { .. });
-    if is_report && !counts(core, stewards, seat) {
+    if is_report(request) && !counts(core, stewards, seat) {
         let heard = Request::Done {
             results: List::new(alloc),
         };
@@ -60,6 +78,13 @@ fn answer(
         return answer;
     }
     core.carry_out(seat, request, decision)
+}
+
+fn is_report(request: &Request) -> bool {
+    match request {
+        Request::Done { .. } => true,
+        _ => false,
+    }
 }
 
 /// The answer to an End.
@@ -82,7 +107,7 @@ impl LivingCore {
         ensures err { OnErr result (StoodStill self.old self.new h) }
         ensures end { is_end request.now ≡ true → is_open h session ≡ true → IsOk result }
     {
-        match self.open.seat_of(session) {
+        match self.table.seat_of(session) {
             Some(seat) => self.step_open(seat, request),
             None => self.step_first(session, request),
         }
@@ -101,7 +126,7 @@ impl LivingCore {
         if let Request::End = request {
             self.core.end(seat);
             self.core.close(seat);
-            self.open.remove(seat.session);
+            self.table.remove(seat.session);
             return Ok(bye());
         }
         answer(self.alloc, &mut self.core, self.stewards, seat, request)
@@ -112,20 +137,20 @@ impl LivingCore {
         ghost h: { List Entry }
         requires keeps { KeepsLiving self.old h }
         requires next { session ≡ self.old.next }
-        requires room { length self.old.open < most_open }
+        requires room { length self.old.table < most_open }
         requires last { session < 18446744073709551615 }
         ensures ok { IfOk result (Stepped self.old self.new h session request.now) }
         ensures err { OnErr result (StoodStill self.old self.new h) }
     {
         let seat = self.core.open(session)?;
-        if let Err(error) = self.open.push(seat) {
+        if let Err(error) = self.table.push(seat) {
             self.core.close(seat);
             return Err(error);
         }
         self.next += 1;
         let answer = self.step_seated(seat, request);
         if answer.is_err() {
-            self.open.remove(session);
+            self.table.remove(session);
             self.core.close(seat);
             self.next -= 1;
         }
@@ -137,7 +162,7 @@ impl LivingCore {
         if let Request::End = request {
             self.core.end(seat);
             self.core.close(seat);
-            self.open.remove(seat.session);
+            self.table.remove(seat.session);
             return Ok(bye());
         }
         answer(self.alloc, &mut self.core, self.stewards, seat, request)

@@ -1,0 +1,3 @@
+-- The lemmas on living worlds.
+pub mod Deciding
+pub mod Heeding
