@@ -21,7 +21,10 @@ impl Witness {
         requires { MayBeSession self.now.rules.sessions session }
         ensures { result ≡ is_ended (history self.now) session }
     {
-        self.core.is_ended(Seat::numbered(session))
+        self.core.is_ended(Seat {
+            slot: session,
+            session: session as u64,
+        })
     }
 
     /// The client of a session, once it has joined.
@@ -29,7 +32,10 @@ impl Witness {
         requires { MayBeSession self.now.rules.sessions session }
         ensures { result ≡ client_of (history self.now) session }
     {
-        self.core.client(Seat::numbered(session))
+        self.core.client(Seat {
+            slot: session,
+            session: session as u64,
+        })
     }
 
     /// How many actions were accepted.

@@ -225,7 +225,11 @@ impl Witness {
         ensures ok { IfOk result (Witnesses self.old self.new session request.now) }
         ensures err { OnErr result (Stayed self.old self.new) }
     {
-        let decision = self.core.decide(Seat::numbered(session), request);
+        let seat = Seat {
+            slot: session,
+            session: session as u64,
+        };
+        let decision = self.core.decide(seat, request);
         if let Decision::Note = decision {
             return self.note_results(session, request);
         }
@@ -271,7 +275,11 @@ impl Witness {
         ensures ok { IfOk result (Witnesses self.old self.new session request.now) }
         ensures err { OnErr result (Stayed self.old self.new) }
     {
-        let Some(client) = self.core.client(Seat::numbered(session)) else {
+        let seat = Seat {
+            slot: session,
+            session: session as u64,
+        };
+        let Some(client) = self.core.client(seat) else {
             unreachable!();
         };
         let asker = Asker { client, session };
@@ -291,7 +299,11 @@ impl Witness {
         ensures ok { IfOk result (Witnesses self.old self.new session request.now) }
         ensures err { OnErr result (Stayed self.old self.new) }
     {
-        let Some(client) = self.core.client(Seat::numbered(session)) else {
+        let seat = Seat {
+            slot: session,
+            session: session as u64,
+        };
+        let Some(client) = self.core.client(seat) else {
             unreachable!();
         };
         let asker = Asker { client, session };
