@@ -98,8 +98,10 @@ told_no outcomes row (suc n) keeps none = go (nat_le (suc (length outcomes)) (su
   where
     size : length row.kept ≡ length outcomes - (length outcomes - 8)
     size = ap length keeps.kept ∙ length-drop (length outcomes - 8) outcomes
+
     past : suc (length outcomes) ≤ suc n + 8 → length outcomes ≤ n
     past close = grind (arith, close, size, keeps.count, none)
+
     go : (b : Bool) → nat_le (suc (length outcomes)) (suc n + 8) ≡ b → None ≡ (if b then slice_get outcomes n else None)
     go true e = sym (slice_get_past outcomes n (past (leb-true (suc (length outcomes)) (suc n + 8) e)))
     go false e = refl

@@ -17,7 +17,7 @@ use Rattle.sv_wire.specs.declared.refusal.Refusal.TheVariants as refusals
 use Rattle.sv_journal.specs.declared.entry.Entry.{Entry}
 use Rattle.sv_journal.specs.declared.entry.Logged.{Logged}
 use Rattle.sv_journal.specs.declared.entry.Logged.TheVariants as logged
-use Rattle.sv_journal.specs.History.{is_noted, client_of, Outcome, Accepted, Dropped, Denied, accepted, actions_of, next_seq, commit_of}
+use Rattle.sv_journal.specs.History.{is_noted, client_of, is_client, new_action, Outcome, Accepted, Dropped, Denied, accepted, actions_of, next_seq, commit_of}
 use Rattle.sv_journal.specs.Sessions.{is_end, is_over, is_live, asked_in, life_of, kept_outcome}
 use Rattle.sv_journal.specs.Answer.{Rules, refused_as, is_above, is_full, is_spent, is_no_next_life, is_bad_done, is_good_interest, reply_to_allowed, reply_by_rights, reply_to_checked, reply_to_submit, reply_to_join, reply_to_client, reply_to_member, reply_to_request, reply_to, reply_to_poll, orphans}
 use Rattle.sv_journal.specs.Serving.{plain, is_poll, with_last_rows, with_results, reply_for}
@@ -27,8 +27,6 @@ use Rattle.sv_journal.proofs.Stewards.{living-keeping}
 use Rattle.sv_sequencer.specs.declared.decision.Decision.{Decision}
 use Rattle.sv_sequencer.specs.declared.decision.Decision.TheVariants as decisions
 use Rattle.sv_sequencer.specs.Decisions.{reply_by, results_in, IsOld, Holds}
-use Rattle.sv_sequencer.proofs.Kept.{old-poll}
-use Rattle.sv_sequencer.proofs.Stepped.{reply-open}
 use Rattle.sv_living.specs.Deciding.{answers_poll, first_relay, IsDecided}
 use Rattle.sv_living.specs.Keeping.{heard}
 use Rattle.sv_living.proofs.Heeding.{accepted_heeded, heard_none}
@@ -113,6 +111,27 @@ poll-is requests.Leave is = absurd (true≢false (sym is))
 poll-is requests.Bad is = absurd (true≢false (sym is))
 poll-is requests.End is = absurd (true≢false (sym is))
 
+reply-open : (r : Rules) (h : List Entry) (s : ℕ) (q : Request) → is_end q ≡ false → reply_to r h s q ≡ reply_to_request r h s q
+reply-open r h s requests.Poll more = refl
+reply-open r h s (requests.Join client life interest) more = refl
+reply-open r h s (requests.Submit seq a) more = refl
+reply-open r h s (requests.Done results) more = refl
+reply-open r h s (requests.Observe objects wait) more = refl
+reply-open r h s requests.Leave more = refl
+reply-open r h s requests.Bad more = refl
+reply-open r h s requests.End more = absurd (true≢false more)
+
+old-poll : (h : List Entry) (s : ℕ) → IsOld h s requests.Poll
+old-poll h s = record { accepts = none (client_of h s); outcomes = λ k. never (is_client (client_of h s) k) }
+  where
+    none : (o : Option ℕ) → new_action o (next_seq h) requests.Poll ≡ []
+    none (Some k) = refl
+    none None = refl
+
+    never : (b : Bool) → (b && false) ≡ false
+    never true = refl
+    never false = refl
+
 -- ---- The last rows where all counts, and nothing is due to a steward
 
 -- the reply is one to a Poll that is not refused
@@ -123,7 +142,7 @@ is_polled q _ = false
 
 module _ (w : Stewardship) (r : Rules) (h : List Entry) (s : ℕ) (q : Request) where
   due-same : is_stewards w.steward h s ≡ false → reply_to_poll r (heeded w h) s (due_to w h s) ≡ reply_to_poll r (heeded w h) s (orphans (heeded w h))
-  due-same no = ap (λ (b : Bool). reply_to_poll r (heeded w h) s (if b then unreported (heeded w h) s else orphans (heeded w h))) no
+  due-same apart = ap (λ (b : Bool). reply_to_poll r (heeded w h) s (if b then unreported (heeded w h) s else orphans (heeded w h))) apart
 
   rows-same : (v : Logged) → (is_noted v ≡ true → counts w h s ≡ true) → (is_polled q v ≡ true → is_stewards w.steward h s ≡ false)
       → with_last_rows (living w) r h s q v ≡ with_last_rows plain r (heeded w h) s q v
@@ -199,7 +218,7 @@ is_done (requests.Done results) = true
 is_done _ = false
 
 -- what is heard is the whole request
-AllHeard : Stewardship → List Entry → ℕ → Request → Type 0
+abbrev AllHeard : Stewardship → List Entry → ℕ → Request → Type 0
 AllHeard w h s q = heard w h s q ≡ q
 
 all-heard : (w : Stewardship) (h : List Entry) (s : ℕ) (q : Request) → counts w h s ≡ true → AllHeard w h s q
@@ -218,10 +237,21 @@ module _ (w : Stewardship) (r : Rules) (h : List Entry) (s : ℕ) where
       last : answers_poll q d ≡ true → is_stewards w.steward h s ≡ false
       last asked = sym (ap (λ (b : Bool). b && is_stewards w.steward h s) asked) ∙ other
 
+  old-done : IsOld (heeded w h) s (requests.Done [])
+  old-done = record { accepts = none (client_of (heeded w h) s); outcomes = λ k. never (is_client (client_of (heeded w h) s) k) }
+    where
+      none : (o : Option ℕ) → new_action o (next_seq (heeded w h)) (requests.Done []) ≡ []
+      none (Some k) = refl
+      none None = refl
+
+      never : (b : Bool) → (b && false) ≡ false
+      never true = refl
+      never false = refl
+
   -- A report that does not count, and is not noted.
   unnoted : (rs : List Done1) (d : Decision) → Holds r (heeded w h) s (requests.Done rs) d → (d ≡ decisions.Note → ⊥)
       → (reply_by r (heeded w h) s (requests.Done []) d ≡ reply_by r (heeded w h) s (requests.Done rs) d)
-        × (Holds r (heeded w h) s (requests.Done []) d × (is_noted (reply_by r (heeded w h) s (requests.Done rs) d) ≡ false))
+      × (Holds r (heeded w h) s (requests.Done []) d × (is_noted (reply_by r (heeded w h) s (requests.Done rs) d) ≡ false))
   unnoted rs decisions.Note holds other = absurd (other refl)
   unnoted rs (decisions.Refuse refusal detail) holds other = (refl, (tt, refl))
   unnoted rs (decisions.Welcome client life) holds other =
@@ -229,11 +259,11 @@ module _ (w : Stewardship) (r : Rules) (h : List Entry) (s : ℕ) where
   unnoted rs (decisions.Drop client seq chain far) holds other = absurd (true≢false (ap is_done holds.submit))
   unnoted rs (decisions.Deny client seq object) holds other = absurd (true≢false (ap is_done holds.submit))
   unnoted rs (decisions.Accept client seq) holds other = absurd (true≢false (ap is_done holds.0.submit))
-  unnoted rs (decisions.Repeat seq chain far) holds other = (refl, (record { accepts = holds.accepts; outcomes = holds.outcomes }, refl))
-  unnoted rs (decisions.RepeatDenied seq object) holds other = (refl, (record { accepts = holds.accepts; outcomes = holds.outcomes }, refl))
+  unnoted rs (decisions.Repeat seq chain far) holds other = (refl, (old-done, refl))
+  unnoted rs (decisions.RepeatDenied seq object) holds other = (refl, (old-done, refl))
   unnoted rs (decisions.Settle seq pos) holds other = (refl, (tt, refl))
-  unnoted rs (decisions.Relay seq pos) holds other = (refl, ((record { accepts = holds.0.accepts; outcomes = holds.0.outcomes }, holds.1), refl))
-  unnoted rs decisions.See holds other = (refl, ((record { accepts = holds.0.accepts; outcomes = holds.0.outcomes }, holds.1), refl))
+  unnoted rs (decisions.Relay seq pos) holds other = (refl, ((old-done, holds.1), refl))
+  unnoted rs decisions.See holds other = (refl, ((old-done, holds.1), refl))
   unnoted rs decisions.Idle holds other = (refl, (tt, refl))
   unnoted rs decisions.Leave holds other = (refl, (tt, refl))
 
@@ -254,14 +284,17 @@ module _ (w : Stewardship) (r : Rules) (h : List Entry) (s : ℕ) where
     where
       back : (e : Decision) → reply_by r (heeded w h) s (heard w h s (requests.Done rs)) e ≡ reply_by r (heeded w h) s (requests.Done []) e
       back e = ap (λ (x : Request). reply_by r (heeded w h) s x e) (heard_none w h s rs uncounted)
+
       last : answers_poll (requests.Done rs) d ≡ true → is_stewards w.steward h s ≡ false
       last asked = sym (ap (λ (b : Bool). b && is_stewards w.steward h s) asked) ∙ other
+
       rest : (d ≡ decisions.Note → ⊥) → IsDecided w r h s (requests.Done rs) d
-      rest no =
-          let u = unnoted rs d holds no in record {
+      rest unlike =
+          let u = unnoted rs d holds unlike in record {
             reply = back d ∙ u.0 ∙ as-core w r h s (requests.Done rs) d refl told (λ n. absurd (true≢false (sym n ∙ u.1.1))) (λ polled. last (polled-is w r h s (requests.Done rs) d holds polled));
             holds = subst (λ (x : Request). Holds r (heeded w h) s x d) (sym (heard_none w h s rs uncounted)) u.1.0;
           }
+
       go : (e : Decision) → d ≡ e → IsDecided w r h s (requests.Done rs) d
       go decisions.Note is = subst (IsDecided w r h s (requests.Done rs)) (sym is) (record {
         reply = back decisions.Note ∙ noted-none rs uncounted (sym (ap (reply_by r (heeded w h) s (requests.Done rs)) is) ∙ told);
@@ -291,6 +324,10 @@ module _ (w : Stewardship) (r : Rules) (h : List Entry) (s : ℕ) where
           one : (b : Bool) → (if b then q else q) ≡ q
           one true = refl
           one false = refl
+
+      plainly : with_results (λ d. false) q ≡ q → is_done q ≡ false → IsDecided w r h s q d
+      plainly is undone = decided-whole q d (same is) more told holds (λ n. absurd (true≢false (sym (ap is_done (noted-is w r h s q d holds n)) ∙ undone))) other
+
       by : (x : Request) → q ≡ x → counts w h s ≡ false → IsDecided w r h s q d
       by (requests.Done rs) is uncounted = subst (λ (x : Request). IsDecided w r h s x d) (sym is)
           (decided-report rs d uncounted (subst (λ (x : Request). reply_by r (heeded w h) s x d ≡ reply_to_request r (heeded w h) s x) is told)
@@ -302,8 +339,7 @@ module _ (w : Stewardship) (r : Rules) (h : List Entry) (s : ℕ) where
       by requests.Leave is uncounted = plainly (ap (with_results (λ d. false)) is ∙ sym is) (ap is_done is)
       by requests.Bad is uncounted = plainly (ap (with_results (λ d. false)) is ∙ sym is) (ap is_done is)
       by requests.End is uncounted = plainly (ap (with_results (λ d. false)) is ∙ sym is) (ap is_done is)
-      plainly : with_results (λ d. false) q ≡ q → is_done q ≡ false → IsDecided w r h s q d
-      plainly is undone = decided-whole q d (same is) more told holds (λ n. absurd (true≢false (sym (ap is_done (noted-is w r h s q d holds n)) ∙ undone))) other
+
       go : (b : Bool) → counts w h s ≡ b → IsDecided w r h s q d
       go true counted = decided-whole q d (all-heard w h s q counted) more told holds (λ _. counted) other
       go false uncounted = by q refl uncounted
@@ -370,20 +406,23 @@ module _ (w : Stewardship) (r : Rules) (h : List Entry) (s : ℕ) where
       → (answers_poll q d && is_stewards w.steward h s) ≡ true → IsDecided w r h s q (first_relay (unreported (heeded w h) s))
   decided_steward q d more told both = record {
     reply =
-      ap (λ (x : Request). reply_by r (heeded w h) s x (first_relay (unreported (heeded w h) s))) whole
-      ∙ first-is (unreported (heeded w h) s) q
-      ∙ sym (ap (reply_to_poll r (heeded w h) s) due)
-      ∙ sym (polled-rows q d asked)
-      ∙ ap (with_last_rows (living w) r h s q) (told ∙ sym (reply-open r (heeded w h) s q more));
+        ap (λ (x : Request). reply_by r (heeded w h) s x (first_relay (unreported (heeded w h) s))) whole
+        ∙ first-is (unreported (heeded w h) s) q
+        ∙ sym (ap (reply_to_poll r (heeded w h) s) due)
+        ∙ sym (polled-rows q d asked)
+        ∙ ap (with_last_rows (living w) r h s q) (told ∙ sym (reply-open r (heeded w h) s q more));
     holds = subst (λ (x : Request). Holds r (heeded w h) s x (first_relay (unreported (heeded w h) s))) (sym whole)
-      (holds-first q (unreported (heeded w h) s) (poll-is q (poll-asked q d asked told)) due);
+        (holds-first q (unreported (heeded w h) s) (poll-is q (poll-asked q d asked told)) due);
   }
     where
       asked : answers_poll q d ≡ true
       asked = (and_parts (answers_poll q d) (is_stewards w.steward h s) both).0
+
       steward : is_stewards w.steward h s ≡ true
       steward = (and_parts (answers_poll q d) (is_stewards w.steward h s) both).1
+
       whole : heard w h s q ≡ q
       whole = all-heard w h s q (steward-counts steward)
+
       due : due_to w h s ≡ unreported (heeded w h) s
       due = ap (λ (b : Bool). if b then unreported (heeded w h) s else orphans (heeded w h)) steward

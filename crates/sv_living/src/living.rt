@@ -38,11 +38,7 @@ pub struct LivingCore {
 
 impl LivingCore {
     /// Opens a living world.
-    pub fn new(
-        alloc: Global,
-        opened: Opened,
-        stewards: Stewards,
-    ) -> Result<LivingCore, AllocError>
+    pub fn new(alloc: Global, opened: Opened, stewards: Stewards) -> Result<LivingCore, AllocError>
         requires world { IsGoodWorld opened.world }
         requires endless { opened.sessions ≡ None }
         requires positions { opened.positions ≤ most_positions }

@@ -18,6 +18,7 @@ use sv_wire::{Reply, Request};
 use sv_world::List;
 
 /// What is done on a request that is no End. `g` is the history of all entries.
+#[tactic(auto, using(crate::proofs::Deciding::decided_other, crate::proofs::Deciding::decided_steward))]
 fn decide(core: &Core, stewards: Stewards, seat: Seat, request: &Request) -> Decision
     ghost g: { Course }
     requires keeps { Keeps core.now (heeded g.w g.h) }
