@@ -23,7 +23,7 @@ any-same p q [] same = refl
 any-same p q (x ∷ xs) same =
     rw (same x (or_left (nat_eq x x) (is_in x xs) (eq-eqb x x refl)), any-same p q xs (λ k h. same k (or_right (nat_eq k x) (is_in k xs) h))) refl
 
-any-none : (p : ℕ → Bool) (xs : List ℕ) → ((k : ℕ) → is_in k xs ≡ true → p k ≡ false) → list_any p xs ≡ false
+pub any-none : (p : ℕ → Bool) (xs : List ℕ) → ((k : ℕ) → is_in k xs ≡ true → p k ≡ false) → list_any p xs ≡ false
 any-none p [] none = refl
 any-none p (x ∷ xs) none =
     rw (none x (or_left (nat_eq x x) (is_in x xs) (eq-eqb x x refl)), any-none p xs (λ k h. none k (or_right (nat_eq k x) (is_in k xs) h))) refl

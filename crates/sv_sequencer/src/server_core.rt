@@ -225,7 +225,7 @@ impl Core {
         requires { Keeps self.now h }
         ensures { MatchOption result (orphans h ≡ []) (λ p. (rest : List ℕ) × (orphans h ≡ p ∷ rest)) }
     {
-        first_orphan(&self.queue, &self.sessions)
+        first_orphan(self.alloc, &self.queue, &self.sessions)
     }
 }
 
