@@ -2,8 +2,7 @@
 use Rattle.std.specs.Prelude.{ℕ, List, map}
 use Rattle.sv_queue.specs.declared.waiting.Waiting.{Waiting}
 use Rattle.sv_queue.specs.Queue.{Queued}
-use Rattle.sv_queue.specs.Rooms.{set_but}
-use Rattle.sv_queue.specs.Slots.{SlotSet}
+use Rattle.sv_queue.specs.Slots.{SlotSet, set_but}
 
 -- What its callers see of a waiting action.
 abbrev pub queued_of : Waiting → Queued

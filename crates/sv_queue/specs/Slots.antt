@@ -25,6 +25,12 @@ with_slot slot slots = slots_where (λ s. nat_eq s slot || is_in s slots)
 abbrev pub all_but : ℕ → List ℕ → List ℕ
 all_but slot slots = filter (λ s. not (nat_eq s slot)) slots
 
+abbrev pub set_with : ℕ → SlotSet → SlotSet
+set_with slot r = record r { slots = with_slot slot r.slots }
+
+abbrev pub set_but : ℕ → SlotSet → SlotSet
+set_but slot r = record r { slots = all_but slot r.slots }
+
 -- Slot 64 n + k is bit k of word n.
 abbrev pub has_bit : List ℕ → ℕ → Bool
 has_bit words s = bit_at (slice_index words (s / 64)) (s % 64) == 1

@@ -115,6 +115,13 @@ impl Queue {
         self.commit + self.entries.len() as u32
     }
 
+    /// How many slots there is room for.
+    pub fn room(&self) -> u16
+        ensures { result ≡ self.now.room }
+    {
+        self.room
+    }
+
     /// The value of an object at the commit.
     pub fn committed(&self, object: ObjectId) -> &Value
         requires { object.0 < self.now.shape.objects }
@@ -153,19 +160,20 @@ impl Queue {
         self.writers.first(object)
     }
 
-    /// The last writer, below an uncommitted position, of what it reads in a slot, where that is above the commit, else 0. One look-up.
+    /// The last writer, below an uncommitted position, of what it reads at a place of its reads, where that is above the commit, else 0. One
+    /// look-up.
     ///
     /// It is the answer of `last_writer`, without a search.
-    pub fn source<L: Ledger>(&self, pos: u32, slot: usize, steps: &mut Steps<L>) -> u32
+    pub fn source<L: Ledger>(&self, pos: u32, place: usize, steps: &mut Steps<L>) -> u32
         requires pos { IsUncommitted self.now pos }
-        requires slot { slot < length (action_at (queue_actions self.now) pos).reads }
-        ensures writer { result ≡ last_writer (queue_actions self.now) (slice_index_or (read_set (action_at (queue_actions self.now) pos)) slot 0) pos }
+        requires place { place < length (action_at (queue_actions self.now) pos).reads }
+        ensures writer { result ≡ last_writer (queue_actions self.now) (slice_index_or (read_set (action_at (queue_actions self.now) pos)) place 0) pos }
         ensures ticks { steps.new ≡ steps.old + 1 }
     {
         steps.tick();
-        let place = (pos - self.commit - 1) as usize;
-        let sources = &self.sources[place];
-        let source = sources.get(slot);
+        let entry = (pos - self.commit - 1) as usize;
+        let sources = &self.sources[entry];
+        let source = sources.get(place);
         if self.commit < source { source } else { 0 }
     }
 

@@ -1,8 +1,8 @@
 //! Room for more slots, and slots that are forgotten, in all sets of a queue.
 ghost use Rattle.std.specs.Prelude.{◌≡◌, ◌≤◌, All, map, OnOk};
 ghost use Rattle.sv_world.specs.Limits.{most_open};
-ghost use Rattle.sv_queue.specs.Slots.{SlotSet};
-ghost use Rattle.sv_queue.specs.Rooms.{HaveGrown, set_but};
+ghost use Rattle.sv_queue.specs.Slots.{SlotSet, set_but};
+ghost use Rattle.sv_queue.specs.Rooms.{HaveGrown};
 ghost use Rattle.sv_queue.specs.Marks.{all_queued, marks_of, waiting_but};
 
 use crate::slots::Slots;

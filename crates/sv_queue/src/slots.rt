@@ -3,7 +3,7 @@ ghost use Rattle.std.specs.Prelude.{◌≡◌, ℕ, ◌*◌, ◌<◌, ◌≤◌,
 ghost use Rattle.std.specs.List.{list_any};
 ghost use Rattle.sv_world.specs.Control.{is_in};
 ghost use Rattle.sv_world.specs.Limits.{most_open};
-ghost use Rattle.sv_queue.specs.Slots.{with_slot, all_but, has_bit};
+ghost use Rattle.sv_queue.specs.Slots.{no_slots, set_with, set_but, has_bit};
 
 use smallvec::SmallVec;
 use std::alloc::{AllocError, Global};
@@ -35,8 +35,7 @@ impl Model for Slots {
 impl Slots {
     /// No slot, with room for 64.
     pub fn new(alloc: Global) -> Slots
-        ensures slots { result.slots ≡ [] }
-        ensures room { result.room ≡ 64 }
+        ensures { result ≡ no_slots }
     {
         let mut words = SmallVec::new(alloc);
         words.push_reserved(0);
@@ -62,15 +61,13 @@ impl Slots {
 
     pub fn add(&mut self, slot: u16)
         requires { slot < self.old.room }
-        ensures slots { self.new.slots ≡ with_slot slot self.old.slots }
-        ensures room { self.new.room ≡ self.old.room }
+        ensures { self.new ≡ set_with slot self.old }
     {
         set_bit(self.words.as_mut_slice(), slot);
     }
 
     pub fn remove(&mut self, slot: u16)
-        ensures slots { self.new.slots ≡ all_but slot self.old.slots }
-        ensures room { self.new.room ≡ self.old.room }
+        ensures { self.new ≡ set_but slot self.old }
     {
         clear_bit(self.words.as_mut_slice(), slot);
     }
@@ -99,8 +96,7 @@ impl Slots {
     /// Takes the slots of another set in place of its own.
     pub fn copy_from(&mut self, other: &Slots)
         requires { (s : ℕ) → is_in s other.now.slots ≡ true → s < self.old.room }
-        ensures slots { self.new.slots ≡ other.now.slots }
-        ensures room { self.new.room ≡ self.old.room }
+        ensures { self.new ≡ record self.old { slots = other.now.slots } }
     {
         copy_words(self.words.as_mut_slice(), other.words.as_slice());
     }
@@ -145,8 +141,8 @@ fn have_common_bit(words: &[u64], others: &[u64]) -> bool
     ensures has { IsTrue result → (s : ℕ) × (has_bit words.now s ≡ true) × (has_bit others.now s ≡ true) }
     ensures none { IsFalse result → (s : ℕ) → has_bit words.now s ≡ true → has_bit others.now s ≡ false }
 {
-    for (place, word) in words.iter().enumerate() {
-        if *word & word_at(others, place) != 0 {
+    for place in 0..words.len() {
+        if words[place] & word_at(others, place) != 0 {
             return true;
         }
     }

@@ -105,7 +105,7 @@ module _ (r : Rules) (h : List Entry) (v : QueueView) (rows : List SessionRow) (
       (omega (arith, seat-low rows slot s at, a.few)) low
       ∙ ap (λ o. is_in p (sent_at h o)) at
 
-  test : ℕ → ℕ → Bool
+  abbrev test : ℕ → ℕ → Bool
   test p slot = not (is_live_row (row_at rows slot)) || not (is_in p (sent_positions v slot))
 
   live-row : (slot s : ℕ) → seat_in rows slot ≡ Some s → is_live_row (row_at rows slot) ≡ not (is_over h s)

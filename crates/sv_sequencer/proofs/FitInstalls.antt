@@ -1,6 +1,6 @@
 -- A queue whose results are installed.
 use Rattle.std.proofs.Common.{◌≡◌, ℕ, zero, suc, ◌+◌, ◌-◌, ◌<◌, ◌≤◌, Bool, true, false, ◌&&◌, ◌||◌, cond, nat_eq, nat_le, ◌⊎◌, inl, inr, List, [], ◌∷◌, ◌++◌, filter, length, get_or, Option, ℤ, is_some, unwrap_or, refl, sym, ◌∙◌, ap, subst, arith, add-one}
-use Rattle.std.proofs.lemmas.Bool.{cases_eq, cases_Bool, eq-eqb, eqb-true, ne_eqb, cond-true, cond-false, and_right, and_left, le-leb, lt-leb, leb-true, leb-false, or_left, or_right, or_cases, and_parts, cond_both, cases_lt}
+use Rattle.std.proofs.lemmas.Bool.{cases_eq, cases_Bool, eq-eqb, eqb-true, ne_eqb, cond-false, and_right, and_left, le-leb, lt-leb, leb-true, leb-false, or_left, or_right, or_cases, and_parts, cond_both, cases_lt}
 use Rattle.std.proofs.lemmas.List.Folds.{list_any-append}
 use Rattle.std.specs.List.{list_any}
 use Rattle.sv_world.specs.declared.action.Action.{Action}
@@ -10,8 +10,8 @@ use Rattle.sv_world.specs.Control.{is_in, action_at, last_writer}
 use Rattle.sv_world.specs.Sets.{write_set}
 use Rattle.sv_eval.specs.Serial.{put_all}
 use Rattle.sv_queue.specs.Pairs.{is_pair}
-use Rattle.sv_queue.specs.Queue.{Queued, QueueView, entry_at, no_entry, given_by, ready, with_committed, ready_installed, first_installed}
-use Rattle.sv_queue.proofs.Installs.{installed-none}
+use Rattle.sv_queue.specs.Queue.{Queued, QueueView, entry_at, no_entry, given_by, ready, ready_installed, first_installed}
+use Rattle.sv_queue.proofs.Installs.{installed-first, installed-none}
 use Rattle.sv_queue.proofs.Members.{is_in-append, is_in-filtered}
 use Rattle.sv_queue.proofs.PairSets.{is_pair-where}
 use Rattle.sv_journal.specs.History.{Authored}
@@ -23,7 +23,7 @@ any-same p q [] same = refl
 any-same p q (x ∷ xs) same =
     rw (same x (or_left (nat_eq x x) (is_in x xs) (eq-eqb x x refl)), any-same p q xs (λ k h. same k (or_right (nat_eq k x) (is_in k xs) h))) refl
 
-any-none : (p : ℕ → Bool) (xs : List ℕ) → ((k : ℕ) → is_in k xs ≡ true → p k ≡ false) → list_any p xs ≡ false
+pub any-none : (p : ℕ → Bool) (xs : List ℕ) → ((k : ℕ) → is_in k xs ≡ true → p k ≡ false) → list_any p xs ≡ false
 any-none p [] none = refl
 any-none p (x ∷ xs) none =
     rw (none x (or_left (nat_eq x x) (is_in x xs) (eq-eqb x x refl)), any-none p xs (λ k h. none k (or_right (nat_eq k x) (is_in k xs) h))) refl
@@ -87,21 +87,6 @@ was_given-next acts sent named x c early = go (W (suc c)) refl
 abbrev pub view_by : Shape → ℕ → ℕ → List (List ℤ) → List Queued → List (ℕ × ℕ) → QueueView
 view_by shape commit room committed entries given =
     record { shape = shape; commit = commit; room = room; committed = committed; entries = entries; given = given }
-
--- Installing the first entry and then the others is installing all.
-installed-first : (shape : Shape) (c room : ℕ) (committed : List (List ℤ)) (e : Queued) (es : List Queued) (given : List (ℕ × ℕ)) → is_some e.result ≡ true →
-    ready_installed (first_installed (view_by shape c room committed (e ∷ es) given)) ≡ ready_installed (view_by shape c room committed (e ∷ es) given)
-installed-first shape c room committed e es given h =
-    ap with_count count ∙ ap (with_committed v) (sym (cond-true (is_some e.result) (e ∷ ready es) [] h))
-  where
-    v : QueueView
-    v = view_by shape c room committed (e ∷ es) given
-
-    with_count : ℕ → QueueView
-    with_count n = record (with_committed v (e ∷ ready es)) { commit = n }
-
-    count : c + 1 + length (ready es) ≡ c + suc (length (ready es))
-    count = omega arith
 
 fits-first : (w : World) (A : List Authored) (R : ℕ → Option (List (List ℤ))) (S : ℕ → List ℕ) (N : ℕ → ℕ → List ℕ)
     (shape : Shape) (c room : ℕ) (committed : List (List ℤ)) (e : Queued) (es : List Queued) (given : List (ℕ × ℕ)) →

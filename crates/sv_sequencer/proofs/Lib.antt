@@ -21,6 +21,7 @@ pub mod Shared
 pub mod SoundSteps
 pub mod Replies
 pub mod Kept
+pub mod Live
 pub mod Quiet
 pub mod Opening
 pub mod Missing

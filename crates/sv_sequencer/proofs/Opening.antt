@@ -1,6 +1,6 @@
 -- A core's fields as it is opened.
 use Rattle.std.proofs.Common.{◌≡◌, ℕ, zero, suc, ◌+◌, ◌<◌, ◌≤◌, Bool, true, false, not, ◌||◌, cond, nat_eq, nat_lt, inl, inr, List, [], ◌∷◌, ◌++◌, map, length, get_or, ◌-◌, Option, Some, None, IfSome, option_map, unwrap_or, refl, sym, ◌∙◌, ap, subst, arith, length-append}
-use Rattle.std.proofs.lemmas.Bool.{both_ways, cases_lt, cases_eq, lt-ltb}
+use Rattle.std.proofs.lemmas.Bool.{both_ways, cases_lt, cases_eq, lt-ltb, le-ltb}
 use Rattle.std.proofs.lemmas.List.{get_or_past, get_or_push, get_or_append_left, map_push, length-map}
 use Rattle.sv_world.specs.Control.{below}
 use Rattle.sv_queue.specs.Queue.{opening_queue}
@@ -31,7 +31,7 @@ pub rows-at : (requests : Option ℕ) (n i : ℕ) → i < n → row_at (first_ro
 rows-at requests zero i low = absurd (omega arith)
 rows-at requests (suc n) i low = elim (cases_eq i n) [
   | inl same ↦ ap (λ rs. row_at rs i) (rows-more requests n)
-      ∙ get_or_push (first_rows requests n) (new_session requests n) no_session i (let e : i ≡ length (first_rows requests n) = omega (arith, rows-length requests n) in e)
+      ∙ get_or_push (first_rows requests n) (new_session requests n) no_session i (let e : length (first_rows requests n) ≡ i = omega (arith, rows-length requests n, same) in e)
       ∙ ap (new_session requests) (sym same)
   | inr ne ↦ ap (λ rs. row_at rs i) (rows-more requests n)
       ∙ get_or_append_left (first_rows requests n) (new_session requests n ∷ []) no_session i (omega (arith, rows-length requests n))
@@ -45,7 +45,7 @@ pub rows-count : (test : SessionRow → Bool) (requests : Option ℕ) (n : ℕ) 
 rows-count test requests zero all = refl
 rows-count test requests (suc n) all =
     ap (count_rows test) (rows-more requests n) ∙ count-push test (first_rows requests n) (new_session requests n)
-    ∙ (let rest = rows-count test requests n all in let one : cond (test (new_session requests n)) 1 0 ≡ 1 = ap (λ b. cond b 1 0) (all n) in omega (arith, rest, one))
+    ∙ (let rest = rows-count test requests n all in let one : ◌≡◌ {A = ℕ} (cond (test (new_session requests n)) 1 0) 1 = ap (λ b. cond b 1 0) (all n) in omega (arith, rest, one))
 
 seat-below : (requests : Option ℕ) (n i s : ℕ) → seat_in (first_rows requests n) i ≡ Some s → (i < n) × (i ≡ s)
 seat-below requests n i s at =
@@ -76,7 +76,7 @@ new-is r s = record { client = refl; over = refl; left = go r.requests; ended = 
   where
     go : (o : Option ℕ) → o ≡ option_map (λ m. m - 0) o
     go None = refl
-    go (Some m) = refl
+    go (Some m) = ap Some (let e : m ≡ m - 0 = omega arith in e)
 
 no_client-is : (k : ℕ) → IsClientRow [] k no_client
 no_client-is k = record { life = refl; outcomes = record { count = refl; kept = refl } }

@@ -1,9 +1,9 @@
 -- Sessions at their slots, entry by entry.
-use Rattle.std.proofs.Common.{◌≡◌, ℕ, zero, suc, ◌+◌, ◌-◌, ◌<◌, ◌≤◌, Bool, true, false, ◌&&◌, ◌||◌, not, cond, nat_eq, nat_le, inl, inr, List, [], ◌∷◌, ◌++◌, length, get_or, Option, Some, None, is_some, option_map, refl, sym, ◌∙◌, ap, subst, arith}
-use Rattle.std.proofs.lemmas.Bool.{cases_lt, cases_eq, eq-eqb, eqb-true, ne_eqb, and_right, or_parts, or_cases}
-use Rattle.std.proofs.lemmas.List.{get_or_past}
+use Rattle.std.proofs.Common.{◌≡◌, ℕ, zero, suc, ◌+◌, ◌-◌, ◌<◌, ◌≤◌, Bool, true, false, ◌&&◌, ◌||◌, not, cond, nat_eq, nat_le, inl, inr, List, [], ◌∷◌, ◌++◌, length, get_or, drop, nat_lt, Option, Some, None, is_some, option_map, refl, sym, ◌∙◌, ap, subst, arith}
+use Rattle.std.proofs.lemmas.Bool.{cases_lt, cases_eq, eq-eqb, eqb-true, ne_eqb, and_right, or_parts, or_cases, lt-ltb, le-ltb, lt-leb, le-leb}
+use Rattle.std.proofs.lemmas.List.{get_or_past, get_or_default, drop_more}
 use Rattle.sv_journal.specs.declared.entry.Entry.{Entry}
-use Rattle.sv_journal.specs.Answer.{Rules}
+use Rattle.sv_journal.specs.Answer.{Rules, is_spent}
 use Rattle.sv_journal.specs.Sessions.{is_end, is_last, welcomes, is_over, asked_in, positions_in, named_in, sent_to, named_to}
 use Rattle.sv_journal.specs.History.{client_of}
 use Rattle.sv_sequencer.specs.declared.sessions.SessionRow.{SessionRow}
@@ -46,6 +46,28 @@ seats-same slot e old next after i = elim (cases_lt i (length old)) [
   | inr high ↦ ap (λ (r : SessionRow). r.session) (get_or_past next i no_session (omega (arith, after.count)))
       ∙ sym (ap (λ (r : SessionRow). r.session) (get_or_past old i no_session high))
 ]
+
+-- What is read at a slot where there is a row, whatever stands for others.
+pub row-at : (rows : List SessionRow) (i : ℕ) (x : SessionRow) → i < length rows → x ≡ get_or rows i x → x ≡ row_at rows i
+row-at rows i x low is = is ∙ get_or_default rows i x no_session low
+
+pub row-read : (rows : List SessionRow) (i s : ℕ) (x : SessionRow) → seat_in rows i ≡ Some s → x ≡ get_or rows i x → x ≡ row_at rows i
+row-read rows i s x at is = row-at rows i x (seat-low rows i s at) is
+
+-- A session may ask more where requests are left to it, or there is no end of them.
+pub more-some : (most : Option ℕ) (asked left : ℕ) → Some left ≡ option_map (λ m. m - asked) most → nat_lt 0 left ≡ not (is_spent most asked)
+more-some None asked left is = cc
+more-some (Some m) asked left is = elim (cases_lt asked m) [
+  | inl low ↦ lt-ltb 0 left (omega (arith, low, same)) ∙ sym (ap not (lt-leb m asked low))
+  | inr high ↦ le-ltb 0 left (omega (arith, high, same)) ∙ sym (ap not (le-leb m asked high))
+]
+  where
+    same : left ≡ m - asked
+    same = cc
+
+pub more-none : (most : Option ℕ) (asked : ℕ) → ◌≡◌ {A = Option ℕ} None (option_map (λ m. m - asked) most) → true ≡ not (is_spent most asked)
+more-none None asked is = refl
+more-none (Some m) asked is = cc
 
 some-same : (a b : ℕ) → ◌≡◌ {A = Option ℕ} (Some a) (Some b) → a ≡ b
 some-same a b q = cc
@@ -121,34 +143,49 @@ count-same test (x ∷ xs) (y ∷ ys) n same =
 
 -- One of them changes.
 pub count-set : (test : SessionRow → Bool) (old next : List SessionRow) (slot : ℕ) → length next ≡ length old → slot < length old →
-    ((i : ℕ) → i < length old → nat_eq slot i ≡ false → test (row_at next i) ≡ test (row_at old i)) →
+    ((i : ℕ) → i < length old → (slot ≡ i → ⊥) → test (row_at next i) ≡ test (row_at old i)) →
     count_rows test next + cond (test (row_at old slot)) 1 0 ≡ count_rows test old + cond (test (row_at next slot)) 1 0
 count-set test [] next slot n low same = absurd (omega arith)
 count-set test (x ∷ xs) [] slot n low same = absurd (omega (arith, n))
 count-set test (x ∷ xs) (y ∷ ys) zero n low same =
-    let rest = count-same test xs ys (let e : length ys ≡ length xs = omega (arith, n) in e) (λ i l. same (suc i) (omega arith) refl) in
+    let rest = count-same test xs ys (let e : length ys ≡ length xs = omega (arith, n) in e) (λ i l. same (suc i) (omega arith) (λ q. omega arith)) in
     omega (arith, rest)
 count-set test (x ∷ xs) (y ∷ ys) (suc k) n low same =
-    let rest = count-set test xs ys k (let e : length ys ≡ length xs = omega (arith, n) in e) (omega arith) (λ i l ne. same (suc i) (omega arith) ne) in
-    let first : cond (test y) 1 0 ≡ cond (test x) 1 0 = ap (λ b. cond b 1 0) (same 0 (omega arith) refl) in
+    let rest = count-set test xs ys k (let e : length ys ≡ length xs = omega (arith, n) in e) (omega arith) (λ i l ne. same (suc i) (omega arith) (λ q. ne (omega (arith, q)))) in
+    let first : ◌≡◌ {A = ℕ} (cond (test y) 1 0) (cond (test x) 1 0) = ap (λ b. cond b 1 0) (same 0 (omega arith) (λ q. omega (arith, q))) in
     omega (arith, rest, first)
 
 pub count-most : (test : SessionRow → Bool) (rows : List SessionRow) → count_rows test rows ≤ length rows
 count-most test [] = omega arith
-count-most test (x ∷ xs) = go (test x)
+count-most test (x ∷ xs) = go (test x) (count-most test xs)
   where
-    go : (b : Bool) → cond b 1 0 + count_rows test xs ≤ length (x ∷ xs)
-    go true = omega (arith, count-most test xs)
-    go false = omega (arith, count-most test xs)
+    go : (b : Bool) → count_rows test xs ≤ length xs → cond b 1 0 + count_rows test xs ≤ length (x ∷ xs)
+    go true rest = omega (arith, rest)
+    go false rest = omega (arith, rest)
 
 pub count-some : (test : SessionRow → Bool) (rows : List SessionRow) (slot : ℕ) → slot < length rows → test (row_at rows slot) ≡ true → 1 ≤ count_rows test rows
-count-some test [] slot low yes = absurd (omega arith)
-count-some test (x ∷ xs) zero low yes = rw yes (omega arith)
-count-some test (x ∷ xs) (suc k) low yes = omega (arith, count-some test xs k (omega arith) yes)
+count-some test [] slot low passes = absurd (omega arith)
+count-some test (x ∷ xs) zero low passes = rw passes (omega arith)
+count-some test (x ∷ xs) (suc k) low passes = omega (arith, count-some test xs k (omega arith) passes)
 
 pub count-push : (test : SessionRow → Bool) (rows : List SessionRow) (row : SessionRow) → count_rows test (rows ++ row ∷ []) ≡ count_rows test rows + cond (test row) 1 0
 count-push test [] row = omega arith
 count-push test (x ∷ xs) row = omega (arith, count-push test xs row)
+
+pub count-drop : (test : SessionRow → Bool) (rows : List SessionRow) (i : ℕ) → i < length rows →
+    count_rows test (drop i rows) ≡ cond (test (row_at rows i)) 1 0 + count_rows test (drop (i + 1) rows)
+count-drop test rows i low = ap (count_rows test) (drop_more rows i no_session low)
+
+pub count-all : (test : SessionRow → Bool) (rows : List SessionRow) → ((i : ℕ) → i < length rows → test (row_at rows i) ≡ true) → count_rows test rows ≡ length rows
+count-all test [] all = refl
+count-all test (x ∷ xs) all = rw (all 0 (omega arith), count-all test xs (λ i low. all (suc i) (omega arith))) (omega arith)
+
+pub none-seated : (row : SessionRow) → is_seated row ≡ false → row.session ≡ None
+none-seated row q = go row.session q
+  where
+    go : (o : Option ℕ) → is_some o ≡ false → ◌≡◌ {A = Option ℕ} o None
+    go None q = refl
+    go (Some s) q = cc
 
 owes-same : (own : Bool) (e : Entry) (row : SessionRow) → is_end e.request ≡ false → owes_end (session_after own e row) ≡ owes_end row
 owes-same own e row more = ap (λ b. is_some row.session && not ((own && b) || row.ended)) more ∙ ap (λ b. is_some row.session && not (b || row.ended)) (and_right own false refl)
@@ -167,5 +204,5 @@ owed-end slot s e old next after ends at first =
     let low : slot < length old = seat-low old slot s at in
     let before : owes_end (row_at old slot) ≡ true = rw (at, first) refl in
     let now : owes_end (row_at next slot) ≡ false = ap owes_end (after.rows slot low) ∙ rw (eq-eqb slot slot refl, ends, at) refl in
-    let all = count-set owes_end old next slot after.count low (λ i l ne. ap owes_end (after.rows i l) ∙ rw ne refl) in
+    let all = count-set owes_end old next slot after.count low (λ i l ne. ap owes_end (after.rows i l) ∙ rw (ne_eqb slot i ne) refl) in
     sym (ap (λ b. count_rows owes_end next + cond b 1 0) before) ∙ all ∙ ap (λ b. count_rows owes_end old + cond b 1 0) now ∙ (let z : count_rows owes_end old + 0 ≡ count_rows owes_end old = omega arith in z)

@@ -1,5 +1,5 @@
 -- What holds of each history that a core keeps, entry by entry.
-use Rattle.std.proofs.Common.{◌≡◌, ℕ, suc, ◌<◌, ◌≤◌, Bool, true, false, ◌&&◌, cond, nat_eq, inl, inr, List, [], ◌∷◌, ◌++◌, map, length, Some, None, slice_get, sym, ◌∙◌, ap, subst, arith}
+use Rattle.std.proofs.Common.{◌≡◌, ℕ, suc, ◌<◌, ◌≤◌, Bool, true, false, ◌&&◌, cond, nat_eq, inl, inr, List, [], ◌∷◌, ◌++◌, map, length, Some, None, slice_get, refl, sym, ◌∙◌, ap, subst, arith}
 use Rattle.std.proofs.lemmas.Bool.{cases_Bool, eqb-true, cond_both, and_parts, or_cases, or_left, or_right}
 use Rattle.std.proofs.lemmas.List.{length-map, map-append}
 use Rattle.sv_world.specs.declared.action.Action.{Action}

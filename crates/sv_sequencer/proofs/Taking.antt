@@ -1,7 +1,7 @@
 -- A core's fields once a session takes a slot, and once one leaves it.
-use Rattle.std.proofs.Common.{◌≡◌, ℕ, suc, ◌+◌, ◌-◌, ◌<◌, ◌≤◌, Bool, true, false, ◌&&◌, ◌||◌, not, cond, nat_eq, nat_le, inl, inr, List, [], ◌∷◌, ◌++◌, map, filter, length, get_or, Option, Some, None, option_map, ℤ, refl, sym, ◌∙◌, ap, subst, arith}
-use Rattle.std.proofs.lemmas.Bool.{both_ways, cases_Bool, cases_eq, eq-eqb, eqb-true, ne_eqb, and_right, or_parts, not_from_true, not_from_false}
-use Rattle.std.proofs.lemmas.List.{length-map}
+use Rattle.std.proofs.Common.{◌≡◌, ℕ, suc, ◌+◌, ◌-◌, ◌<◌, ◌≤◌, Bool, true, false, ◌&&◌, ◌||◌, not, cond, nat_eq, nat_le, inl, inr, List, [], ◌∷◌, ◌++◌, map, length, get_or, slice_set, Option, Some, None, is_some, option_map, ℤ, refl, sym, ◌∙◌, ap, subst, arith, length-append}
+use Rattle.std.proofs.lemmas.Bool.{both_ways, cases_lt, cases_eq, eq-eqb, eqb-true, ne_eqb, and_right, or_parts, not_from_true, not_from_false}
+use Rattle.std.proofs.lemmas.List.{length-map, get_or-set_same, get_or-set_other, get_or_push, get_or_append_left, get_or_past}
 use Rattle.std.proofs.Math.ListN.{get_or-map}
 use Rattle.std.specs.List.{list_any}
 use mathlib.Core.Bool.{and-true}
@@ -20,8 +20,9 @@ use Rattle.sv_sequencer.specs.declared.sessions.SessionRow.{SessionRow}
 use Rattle.sv_sequencer.specs.Agreement.{sent_at, named_at, FitsSeats, AreSeated, Agrees}
 use Rattle.sv_sequencer.specs.Cores.{MayClose}
 use Rattle.sv_sequencer.specs.Fits.{was_given, actions_in, IsEntry, QueueFits}
-use Rattle.sv_sequencer.specs.Rows.{row_at, seat_in, no_session, new_session, has_entry, owes_end, count_rows, IsSessionRow}
+use Rattle.sv_sequencer.specs.Rows.{row_at, seat_in, no_session, new_session, has_entry, is_seated, owes_end, count_rows, IsSessionRow}
 use Rattle.sv_sequencer.proofs.FitMarks.{fits-same}
+use Rattle.sv_sequencer.proofs.Seating.{seat-low, count-set}
 
 -- ---- A session without an entry
 
@@ -82,12 +83,72 @@ new-row r h s none = record {
 abbrev pub AreSet : ℕ → SessionRow → List SessionRow → List SessionRow → Type 0
 AreSet slot row old next = (i : ℕ) → row_at next i ≡ cond (nat_eq slot i) row (row_at old i)
 
-seat-set : (slot : ℕ) (row : SessionRow) (old next : List SessionRow) → AreSet slot row old next → (i : ℕ) → seat_in next i ≡ cond (nat_eq slot i) row.session (seat_in old i)
+pub seat-set : (slot : ℕ) (row : SessionRow) (old next : List SessionRow) → AreSet slot row old next → (i : ℕ) → seat_in next i ≡ cond (nat_eq slot i) row.session (seat_in old i)
 seat-set slot row old next are i = ap (λ (r : SessionRow). r.session) (are i) ∙ go (nat_eq slot i)
   where
     go : (b : Bool) → (cond b row (row_at old i)).session ≡ cond b row.session (seat_in old i)
     go true = refl
     go false = refl
+
+pub set-rows : (rows : List SessionRow) (slot : ℕ) (row : SessionRow) → slot < length rows → AreSet slot row rows (slice_set rows slot row)
+set-rows rows slot row low i = elim (cases_eq i slot) [
+  | inl same ↦ subst (λ j. row_at (slice_set rows slot row) j ≡ cond (nat_eq slot j) row (row_at rows j)) (sym same)
+      (get_or-set_same rows slot row no_session low ∙ sym (ap (λ b. cond b row (row_at rows slot)) (eq-eqb slot slot refl)))
+  | inr ne ↦ get_or-set_other rows slot i row no_session ne ∙ sym (ap (λ b. cond b row (row_at rows i)) (ne_eqb slot i (λ q. ne (sym q))))
+]
+
+pub push-rows : (rows : List SessionRow) (row : SessionRow) → AreSet (length rows) row rows (rows ++ row ∷ [])
+push-rows rows row i = elim (cases_eq i (length rows)) [
+  | inl same ↦ get_or_push rows row no_session i (sym same) ∙ sym (ap (λ b. cond b row (row_at rows i)) (eq-eqb (length rows) i (sym same)))
+  | inr ne ↦ elim (cases_lt i (length rows)) [
+    | inl low ↦ get_or_append_left rows (row ∷ []) no_session i low ∙ sym (ap (λ b. cond b row (row_at rows i)) (ne_eqb (length rows) i (λ q. ne (sym q))))
+    | inr high ↦ get_or_past (rows ++ row ∷ []) i no_session (let long = length-append rows (row ∷ []) in omega (arith, long, high, ne))
+        ∙ sym (get_or_past rows i no_session high)
+        ∙ sym (ap (λ b. cond b row (row_at rows i)) (ne_eqb (length rows) i (λ q. ne (sym q))))
+  ]
+]
+
+-- How many rows pass a test once one is set.
+set-count : (test : SessionRow → Bool) (old next : List SessionRow) (slot : ℕ) (row : SessionRow) → AreSet slot row old next → length next ≡ length old → slot < length old →
+    count_rows test next + cond (test (row_at old slot)) 1 0 ≡ count_rows test old + cond (test row) 1 0
+set-count test old next slot row are count low =
+    count-set test old next slot count low (λ i l ne. ap test (are i ∙ ap (λ b. cond b row (row_at old i)) (ne_eqb slot i ne)))
+    ∙ ap (λ r. count_rows test old + cond (test r) 1 0) (are slot ∙ ap (λ b. cond b row (row_at old slot)) (eq-eqb slot slot refl))
+
+pub seated-in : (requests : Option ℕ) (old next : List SessionRow) (slot s : ℕ) → seat_in old slot ≡ None → AreSet slot (new_session requests s) old next → length next ≡ length old →
+    slot < length old → count_rows is_seated next ≡ count_rows is_seated old + 1
+seated-in requests old next slot s free are count low =
+    let all = set-count is_seated old next slot (new_session requests s) are count low in
+    let none : ◌≡◌ {A = ℕ} (cond (is_seated (row_at old slot)) 1 0) 0 = ap (λ o. cond (is_some o) 1 0) free in
+    omega (arith, all, none)
+
+pub owed-in : (requests : Option ℕ) (old next : List SessionRow) (slot s : ℕ) → seat_in old slot ≡ None → AreSet slot (new_session requests s) old next → length next ≡ length old →
+    slot < length old → count_rows owes_end next ≡ count_rows owes_end old + 1
+owed-in requests old next slot s free are count low =
+    let all = set-count owes_end old next slot (new_session requests s) are count low in
+    let none : ◌≡◌ {A = ℕ} (cond (owes_end (row_at old slot)) 1 0) 0 = ap (λ o. cond (is_some o && not (row_at old slot).ended) 1 0) free in
+    omega (arith, all, none)
+
+pub seated-out : (old next : List SessionRow) (slot s : ℕ) → seat_in old slot ≡ Some s → AreSet slot no_session old next → length next ≡ length old →
+    count_rows is_seated next + 1 ≡ count_rows is_seated old
+seated-out old next slot s at are count =
+    let all = set-count is_seated old next slot no_session are count (seat-low old slot s at) in
+    let one : ◌≡◌ {A = ℕ} (cond (is_seated (row_at old slot)) 1 0) 1 = ap (λ o. cond (is_some o) 1 0) at in
+    omega (arith, all, one)
+
+pub owed-out : (old next : List SessionRow) (slot s : ℕ) (ended : Bool) → seat_in old slot ≡ Some s → (row_at old slot).ended ≡ ended → AreSet slot no_session old next →
+    length next ≡ length old → cond ended (count_rows owes_end old) (count_rows owes_end old - 1) ≡ count_rows owes_end next
+owed-out old next slot s ended at is are count = go ended here
+  where
+    all : count_rows owes_end next + cond (owes_end (row_at old slot)) 1 0 ≡ count_rows owes_end old + 0
+    all = set-count owes_end old next slot no_session are count (seat-low old slot s at)
+
+    here : ◌≡◌ {A = ℕ} (cond (owes_end (row_at old slot)) 1 0) (cond (not ended) 1 0)
+    here = ap (λ o. cond (is_some o && not (row_at old slot).ended) 1 0) at ∙ ap (λ b. cond (not b) 1 0) is
+
+    go : (b : Bool) → ◌≡◌ {A = ℕ} (cond (owes_end (row_at old slot)) 1 0) (cond (not b) 1 0) → cond b (count_rows owes_end old) (count_rows owes_end old - 1) ≡ count_rows owes_end next
+    go true q = omega (arith, all, q)
+    go false q = omega (arith, all, q)
 
 -- Room makes no difference.
 fits-room : (w : World) (A : List Authored) (R : ℕ → Option (List (List ℤ))) (S : ℕ → List ℕ) (N : ℕ → ℕ → List ℕ) (v : QueueView) (n : ℕ) →
@@ -151,21 +212,37 @@ module _ (r : Rules) (h : List Entry) (v : QueueView) (old : List SessionRow) (c
           (subst (λ m. IsSessionRow r h m (new_session r.requests s)) (some-same s t at) (new-row r h s none))
       row i t false q at = subst (IsSessionRow r h t) (sym (are i ∙ ap (λ b. cond b (new_session r.requests s) (row_at old i)) q)) (a.session_rows i t at)
 
+-- More room in the queue changes nothing.
+pub agree-room : (r : Rules) (h : List Entry) (v : QueueView) (rows : List SessionRow) (clients : Clients) (owed n : ℕ) → Agrees r h v rows clients owed → length rows ≤ n →
+    Agrees r h (record v { room = n }) rows clients owed
+agree-room r h v rows clients owed n a enough = record {
+  sound = a.sound;
+  positions = a.positions;
+  few = a.few;
+  room = enough;
+  fits = fits-room r.world (accepted h) (result_at h) (λ i. sent_at h (seat_in rows i)) (λ i. named_at h (seat_in rows i)) v n a.fits;
+  commit = a.commit;
+  seats = a.seats;
+  session_rows = a.session_rows;
+  client_rows = a.client_rows;
+  ends = a.ends;
+}
+
 -- ---- A session leaves its slot
 
 forgotten-pair : (x t slot : ℕ) (ps : List (ℕ × ℕ)) → is_pair x t (pairs_but slot ps) ≡ (is_pair x t ps && not (nat_eq t slot))
 forgotten-pair x t slot [] = refl
-forgotten-pair x t slot (p ∷ ps) = go (nat_eq p.1 slot) refl
+forgotten-pair x t slot (p ∷ ps) = go (nat_eq p.1 slot) refl (forgotten-pair x t slot ps)
   where
-    go : (b : Bool) → nat_eq p.1 slot ≡ b → is_pair x t (cond (not b) (p ∷ pairs_but slot ps) (pairs_but slot ps)) ≡ (((nat_eq x p.0 && nat_eq t p.1) || is_pair x t ps) && not (nat_eq t slot))
-    go true q = forgotten-pair x t slot ps ∙ gone (nat_eq t p.1) refl
+    go : (b : Bool) → nat_eq p.1 slot ≡ b → is_pair x t (pairs_but slot ps) ≡ (is_pair x t ps && not (nat_eq t slot)) → is_pair x t (cond (not b) (p ∷ pairs_but slot ps) (pairs_but slot ps)) ≡ (((nat_eq x p.0 && nat_eq t p.1) || is_pair x t ps) && not (nat_eq t slot))
+    go true q rest = rest ∙ gone (nat_eq t p.1) refl
       where
         gone : (c : Bool) → nat_eq t p.1 ≡ c → (is_pair x t ps && not (nat_eq t slot)) ≡ (((nat_eq x p.0 && c) || is_pair x t ps) && not (nat_eq t slot))
         gone true u = (let same : nat_eq t slot ≡ true = eq-eqb t slot (eqb-true t p.1 u ∙ eqb-true p.1 slot q) in
             ap (λ d. is_pair x t ps && not d) same ∙ and_right (is_pair x t ps) false refl
             ∙ sym (ap (λ d. ((nat_eq x p.0 && true) || is_pair x t ps) && not d) same ∙ and_right ((nat_eq x p.0 && true) || is_pair x t ps) false refl))
         gone false u = ap (λ d. (d || is_pair x t ps) && not (nat_eq t slot)) (sym (and_right (nat_eq x p.0) false refl))
-    go false q = ap (λ d. (nat_eq x p.0 && nat_eq t p.1) || d) (forgotten-pair x t slot ps) ∙ still (nat_eq t p.1) refl
+    go false q rest = ap (λ d. (nat_eq x p.0 && nat_eq t p.1) || d) rest ∙ still (nat_eq t p.1) refl
       where
         still : (c : Bool) → nat_eq t p.1 ≡ c → ((nat_eq x p.0 && c) || (is_pair x t ps && not (nat_eq t slot))) ≡ (((nat_eq x p.0 && c) || is_pair x t ps) && not (nat_eq t slot))
         still true u = (let same : nat_eq t slot ≡ false = ap (λ n. nat_eq n slot) (eqb-true t p.1 u) ∙ q in

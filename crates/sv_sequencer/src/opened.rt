@@ -1,5 +1,5 @@
 //! What a server is opened with.
-ghost use Rattle.std.specs.Prelude.{◌≡◌, ◌≤◌, ◌||◌, not, nat_lt, nat_le, length, option_map};
+ghost use Rattle.std.specs.Prelude.{◌≡◌, ◌≤◌, ◌||◌, not, nat_lt, nat_le, length, option_map, unwrap_or};
 ghost use Rattle.sv_world.specs.declared.world.ObjectId.{ObjectId};
 ghost use Rattle.sv_world.specs.Limits.{most_positions, most_reads};
 ghost use Rattle.sv_world.specs.Rights.{first_forbidden};
@@ -93,6 +93,16 @@ impl Opened {
         ensures { result ≡ self.now.sessions }
     {
         self.sessions
+    }
+
+    /// How many sessions sit at slots from the start.
+    pub(crate) fn first_sessions(&self) -> u16
+        ensures { result ≡ unwrap_or self.now.sessions 0 }
+    {
+        match self.sessions {
+            Some(sessions) => sessions,
+            None => 0,
+        }
     }
 
     /// How many requests a session may make.

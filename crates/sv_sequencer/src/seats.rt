@@ -1,5 +1,5 @@
 //! Sessions take slots, and leave them.
-ghost use Rattle.std.specs.Prelude.{◌≡◌, ℕ, List, ◌<◌, false, Some, None, length, IfOk, OnErr, MatchOption};
+ghost use Rattle.std.specs.Prelude.{◌≡◌, ℕ, List, ◌-◌, ◌<◌, ◌≤◌, false, if◌then◌else◌, Some, None, length, IfOk, OnErr, MatchOption};
 ghost use Rattle.sv_world.specs.Limits.{most_open};
 ghost use Rattle.sv_journal.specs.declared.entry.Entry.{Entry};
 ghost use Rattle.sv_journal.specs.Answer.{MayBeSession};
@@ -100,13 +100,19 @@ impl Core {
         requires last { MayClose h seat.session }
         ensures { WasClosed self.old self.new h seat }
     {
-        let row = &mut self.sessions[seat.slot as usize];
-        if !row.ended {
-            self.owed -= 1;
-        }
-        *row = no_session();
+        let row = self.sessions[seat.slot as usize];
+        self.owed = owed_without(self.owed, row.ended);
+        self.sessions[seat.slot as usize] = no_session();
         self.queue.forget(seat.slot);
     }
+}
+
+/// How many Ends are to come once a session has left its slot, whose own may have come.
+fn owed_without(owed: u16, ended: bool) -> u16
+    requires { ended ≡ false → 1 ≤ owed }
+    ensures { result ≡ (if ended then owed else owed - 1) }
+{
+    if ended { owed } else { owed - 1 }
 }
 
 /// The first slot where no session sits.

@@ -54,7 +54,7 @@ impl Core {
         ensures count { IfOk result (λ core. open_by core ≡ unwrap_or opened.sessions 0) }
         ensures keeps { IfOk result (λ core. Keeps core []) }
     {
-        let sessions = opened.sessions().unwrap_or(0);
+        let sessions = opened.first_sessions();
         let queue = opening_queue(alloc, opened.world())?;
         let rows = new_sessions(alloc, opened.requests(), sessions)?;
         Ok(Core {
@@ -225,7 +225,7 @@ impl Core {
         requires { Keeps self.now h }
         ensures { MatchOption result (orphans h ≡ []) (λ p. (rest : List ℕ) × (orphans h ≡ p ∷ rest)) }
     {
-        first_orphan(&self.queue, &self.sessions)
+        first_orphan(self.alloc, &self.queue, &self.sessions)
     }
 }
 

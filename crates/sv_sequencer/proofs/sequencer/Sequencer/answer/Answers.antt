@@ -12,13 +12,13 @@ use Rattle.sv_sequencer.proofs.sequencer.Sequencer.answer.Goals as goal
 pub decide-decision-requires : goal.decide-decision-requires
 decide-decision-requires g c = (
   subst (Keeps c.self.inside.core) (ap history c.self.view_is ∙ sym c.requires.0) c.self.invariant.keeps,
-  sits-by-view c.self.inside c.self.view c.args.session c.self.view_is c.self.invariant c.requires.1.0,
+  sits-by-view c.self.inside _ c.args.session c.self.view_is c.self.invariant c.requires.1.0,
 )
 
 pub enter_reply-requires : goal.enter_reply-requires
 enter_reply-requires g c = (
   subst (Keeps c.self.inside.core) (ap history c.self.view_is ∙ sym c.requires.0) c.self.invariant.keeps,
-  (sits-by-view c.self.inside c.self.view c.args.session c.self.view_is c.self.invariant c.requires.1.0, (c.requires.1.1, c.decide-decision.ensures.holds)),
+  (sits-by-view c.self.inside _ c.args.session c.self.view_is c.self.invariant c.requires.1.0, (c.requires.1.1, c.decide-decision.ensures.holds)),
 )
 
 pub invariant_of-self : goal.invariant_of-self

@@ -10,7 +10,7 @@ use Rattle.sv_sequencer.proofs.sequencer.Sequencer.end.Goals as goal
 pub enter_end-requires : goal.enter_end-requires
 enter_end-requires g c = (
   subst (Keeps c.self.inside.core) (ap history c.self.view_is ∙ sym c.requires.0) c.self.invariant.keeps,
-  (sits-by-view c.self.inside c.self.view c.args.session c.self.view_is c.self.invariant c.requires.1.0, (c.requires.1.1, c.self.invariant.room)),
+  (sits-by-view c.self.inside _ c.args.session c.self.view_is c.self.invariant c.requires.1.0, (c.requires.1.1, c.self.invariant.room)),
 )
 
 pub invariant_of-self : goal.invariant_of-self

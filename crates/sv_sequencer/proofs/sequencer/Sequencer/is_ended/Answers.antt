@@ -6,7 +6,7 @@ use Rattle.sv_sequencer.proofs.Stepped.{sits-by-view}
 use Rattle.sv_sequencer.proofs.sequencer.Sequencer.is_ended.Goals as goal
 
 pub is_ended-requires : goal.is_ended-requires
-is_ended-requires c = sits-by-view c.self.inside c.self.view c.args.session c.self.view_is c.self.invariant c.requires
+is_ended-requires c = sits-by-view c.self.inside _ c.args.session c.self.view_is c.self.invariant c.requires
 
 pub returns : goal.returns
 returns c =

@@ -9,7 +9,7 @@ use Rattle.sv_sequencer.specs.Step.{entry_of}
 use Rattle.sv_sequencer.proofs.AgreeSteps.{agree-quiet}
 use Rattle.sv_sequencer.proofs.Entered.{carried}
 use Rattle.sv_sequencer.proofs.Quiet.{quiet-decided}
-use Rattle.sv_sequencer.proofs.Seating.{owed-same}
+use Rattle.sv_sequencer.proofs.Seating.{AreAfter, owed-same}
 use Rattle.sv_sequencer.proofs.server_core.Core.answer_plainly.Goals as goal
 
 pub returns : goal.returns
@@ -25,7 +25,7 @@ returns g c =
     let more = c.requires.1.1.0 in
     let told = c.plain_answer-answer.ensures.logged (core_rules a) g.h s q in
     let quiet = subst (IsQuiet g.h s q) (sym told) (quiet-decided (core_rules a) g.h s q d c.requires.1.1.1.1 c.requires.1.1.1.0) in
-    let rows = record { count = c.note.ensures.count; rows = c.note.ensures.rows } in
+    let rows : AreAfter slot (entry_of s q l) a.sessions.items next = record { count = c.note.ensures.count; rows = c.note.ensures.rows } in
     carried a _ g.h slot s q d _ l refl refl rows refl told
     (agree-quiet (core_rules a) g.h a.queue a.sessions.items next a.clients a.owed a.owed slot s q l k c.requires.1.0 quiet
     (λ ends. absurd (both_ways (is_end q) more ends)) rows (k.ends ∙ sym (owed-same slot (entry_of s q l) a.sessions.items next rows more)))

@@ -6,6 +6,8 @@ use Rattle.sv_sequencer.specs.declared.decision.Decision.TheVariants as decision
 use Rattle.sv_sequencer.specs.Cores.{core_rules}
 use Rattle.sv_sequencer.proofs.AgreeNext.{dropped-settles, agree-settled}
 use Rattle.sv_sequencer.proofs.Entered.{carried}
+use Rattle.sv_sequencer.specs.Step.{entry_of}
+use Rattle.sv_sequencer.proofs.Seating.{AreAfter}
 use Rattle.sv_sequencer.proofs.server_core.Core.drop_new.Goals as goal
 
 pub settle-requires : goal.settle-requires
@@ -21,8 +23,8 @@ returns-clause-ok g c =
     let q = c.args.request.now in
     let k = c.args.id.client in
     let seq = c.args.id.seq in
-    let rows = record { count = c.note.ensures.count; rows = c.note.ensures.rows } in
     let l = logged.Dropped seq c.args.found.count c.args.found.far in
+    let rows : AreAfter slot (entry_of s q l) a.sessions.items c.note.new.rows.items = record { count = c.note.ensures.count; rows = c.note.ensures.rows } in
     carried a _ g.h slot s q (decisions.Drop k seq c.args.found.count c.args.found.far) _ l refl refl rows refl refl
     (agree-settled (core_rules a) g.h a.queue a.sessions.items c.note.new.rows.items a.clients c.settle.new.self a.owed slot s q l k seq (Dropped c.args.found.count c.args.found.far)
     (dropped-settles seq c.args.found.count c.args.found.far) c.requires.0 c.requires.1.0 c.requires.1.1.1 c.requires.1.1.0 rows c.in_ok-settle.ensures.ok)

@@ -7,7 +7,7 @@ use Rattle.sv_sequencer.specs.Rows.{row_at, owes_end, count_rows}
 use Rattle.sv_sequencer.specs.Step.{entry_of}
 use Rattle.sv_sequencer.proofs.AgreeSteps.{agree-quiet}
 use Rattle.sv_sequencer.proofs.Quiet.{quiet-bye}
-use Rattle.sv_sequencer.proofs.Seating.{seat-low, seats-same, seated-same, count-some, owed-end}
+use Rattle.sv_sequencer.proofs.Seating.{AreAfter, seat-low, seats-same, seated-same, count-some, owed-end}
 use Rattle.sv_sequencer.proofs.server_core.Core.end.Goals as goal
 
 pub overflow_sub-self : goal.overflow_sub-self
@@ -34,7 +34,7 @@ returns-clause-owed g c =
     let a = c.args.self.now in
     let s = c.args.seat.session in
     let k = c.requires.0 in
-    let rows = record { count = c.note.ensures.count; rows = c.note.ensures.rows } in
+    let rows : AreAfter c.args.seat.slot (entry_of c.args.seat.session requests.End logged.Bye) a.sessions.items c.note.new.rows.items = record { count = c.note.ensures.count; rows = c.note.ensures.rows } in
     let first : (row_at a.sessions.items c.args.seat.slot).ended ≡ false = (k.session_rows c.args.seat.slot s c.requires.1.0).ended ∙ c.requires.1.1 in
     let falls = owed-end c.args.seat.slot s (entry_of s requests.End logged.Bye) a.sessions.items c.note.new.rows.items rows refl c.requires.1.0 first in
     omega (arith, falls, k.ends)
@@ -46,7 +46,7 @@ returns-clause-keeps g c =
     let s = c.args.seat.session in
     let k = c.requires.0 in
     let next = c.note.new.rows.items in
-    let rows = record { count = c.note.ensures.count; rows = c.note.ensures.rows } in
+    let rows : AreAfter c.args.seat.slot (entry_of c.args.seat.session requests.End logged.Bye) a.sessions.items c.note.new.rows.items = record { count = c.note.ensures.count; rows = c.note.ensures.rows } in
     let first : (row_at a.sessions.items slot).ended ≡ false = (k.session_rows slot s c.requires.1.0).ended ∙ c.requires.1.1 in
     let falls = owed-end slot s (entry_of s requests.End logged.Bye) a.sessions.items next rows refl c.requires.1.0 first in
     agree-quiet (core_rules a) g.h a.queue a.sessions.items next a.clients a.owed (a.owed - 1) slot s requests.End logged.Bye k c.requires.1.0 (quiet-bye g.h s requests.End)

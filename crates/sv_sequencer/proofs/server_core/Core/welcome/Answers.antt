@@ -15,7 +15,7 @@ use Rattle.sv_sequencer.specs.Step.{entry_of}
 use Rattle.sv_sequencer.proofs.AgreeSends.{agree-welcome}
 use Rattle.sv_sequencer.proofs.Entered.{carried}
 use Rattle.sv_sequencer.proofs.AgreeSteps.{sent_seats, named_seats}
-use Rattle.sv_sequencer.proofs.Seating.{seat-low}
+use Rattle.sv_sequencer.proofs.Seating.{AreAfter, seat-low}
 use Rattle.sv_sequencer.proofs.Relayed.{held-low, objects-low}
 use Rattle.sv_sequencer.proofs.Replies.{committed-is, held-is}
 use Rattle.sv_sequencer.proofs.server_core.Core.welcome.Goals as goal
@@ -50,7 +50,7 @@ returns-clause-ok g c =
     let head = c.in_ok-head.head in
     let k = c.requires.0 in
     let next = c.note.new.rows.items in
-    let rows = record { count = c.note.ensures.count; rows = c.note.ensures.rows } in
+    let rows : AreAfter slot (entry_of s q (logged.Welcome n head)) a.sessions.items next = record { count = c.note.ensures.count; rows = c.note.ensures.rows } in
     let said : logged.Welcome n head ≡ logged.Welcome (commit_of h) (committed_held (core_rules a) h (interest_in q)) =
     ap (λ m. logged.Welcome m head) (c.commit-commit.ensures ∙ k.commit)
     ∙ ap (logged.Welcome (commit_of h)) (c.in_ok-head.ensures ∙ ap (held_in v) c.interest_of.ensures
