@@ -1,3 +1,4 @@
 -- The lemmas on living worlds.
 pub mod Deciding
 pub mod Heeding
+pub mod Seats

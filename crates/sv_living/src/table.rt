@@ -1,9 +1,8 @@
 //! The sessions that are open, by their numbers.
-ghost use Rattle.std.specs.Prelude.{◌≡◌, ◌<◌, ◌≤◌, ℕ, List, true, ◌∷◌, ◌++◌, [], filter, length, not, nat_eq, nat_lt, IfSome, IfNone, MatchOption, OnOk, OnErr, slice_get, Some};
+ghost use Rattle.std.specs.Prelude.{◌≡◌, List, ◌∷◌, ◌++◌, [], false, true, filter, length, not, nat_eq, MatchOption, OnOk, OnErr};
 ghost use Rattle.sv_world.specs.Control.{is_in};
-ghost use Rattle.sv_world.specs.Limits.{most_open};
 ghost use Rattle.sv_sequencer.specs.declared.seats.Seat.{Seat};
-ghost use Rattle.sv_living.specs.Table.{seat_of, numbers_in, ends_below};
+ghost use Rattle.sv_living.specs.Table.{seat_of, numbers_in, ends_below, IsByNumber, IsPlaceOf};
 
 use std::alloc::{AllocError, Global};
 use std::marker::Model;
@@ -46,20 +45,8 @@ impl OpenSessions {
     pub fn seat_of(&self, session: u64) -> Option<Seat>
         ensures { result ≡ seat_of session self.now }
     {
-        let place = self.seats.partition_point(|seat| seat.session < session);
-        if place < self.seats.len() && self.seats[place].session == session {
-            Some(self.seats[place])
-        } else {
-            None
-        }
-    }
-
-    /// Makes room for one more.
-    pub fn reserve(&mut self) -> Result<(), AllocError>
-        ensures { self.new ≡ self.old }
-    {
-        self.seats.reserve(1)?;
-        Ok(())
+        let place = place_of(&self.seats, session)?;
+        Some(self.seats[place])
     }
 
     /// Enters a session whose number is above all. After running out of memory everything is as it was.
@@ -76,9 +63,23 @@ impl OpenSessions {
     pub fn remove(&mut self, session: u64)
         ensures { self.new ≡ filter (λ (seat : Seat). not (nat_eq session seat.session)) self.old }
     {
-        let place = self.seats.partition_point(|seat| seat.session < session);
-        if place < self.seats.len() && self.seats[place].session == session {
+        if let Some(place) = place_of(&self.seats, session) {
             self.seats.remove(place);
         }
     }
+}
+
+/// The place of a session among seats that ascend by their numbers.
+fn place_of(seats: &[Seat], session: u64) -> Option<usize>
+    requires { IsByNumber seats.now }
+    ensures { MatchOption result (is_in session (numbers_in seats.now) ≡ false) (IsPlaceOf session seats.now) }
+{
+    let place = seats.partition_point(|seat| seat.session < session);
+    if place == seats.len() {
+        return None;
+    }
+    if seats[place].session == session {
+        return Some(place);
+    }
+    None
 }
