@@ -27,7 +27,7 @@ use Rattle.sv_journal.proofs.Stewards.{living-keeping}
 use Rattle.sv_sequencer.specs.declared.decision.Decision.{Decision}
 use Rattle.sv_sequencer.specs.declared.decision.Decision.TheVariants as decisions
 use Rattle.sv_sequencer.specs.Decisions.{reply_by, results_in, IsOld, Holds}
-use Rattle.sv_living.specs.Deciding.{answers_poll, first_relay, IsDecided}
+use Rattle.sv_living.specs.Deciding.{answers_poll, is_report, first_relay, IsDecided}
 use Rattle.sv_living.specs.Keeping.{heard}
 use Rattle.sv_living.proofs.Heeding.{accepted_heeded, heard_none}
 
@@ -213,10 +213,6 @@ abbrev is_note : Decision → Bool
 is_note decisions.Note = true
 is_note _ = false
 
-abbrev is_done : Request → Bool
-is_done (requests.Done results) = true
-is_done _ = false
-
 -- what is heard is the whole request
 abbrev AllHeard : Stewardship → List Entry → ℕ → Request → Type 0
 AllHeard w h s q = heard w h s q ≡ q
@@ -256,9 +252,9 @@ module _ (w : Stewardship) (r : Rules) (h : List Entry) (s : ℕ) where
   unnoted rs (decisions.Refuse refusal detail) holds other = (refl, (tt, refl))
   unnoted rs (decisions.Welcome client life) holds other =
       (refl, (record { client = holds.client; number = holds.number; above = holds.above; interest = holds.interest }, refl))
-  unnoted rs (decisions.Drop client seq chain far) holds other = absurd (true≢false (ap is_done holds.submit))
-  unnoted rs (decisions.Deny client seq object) holds other = absurd (true≢false (ap is_done holds.submit))
-  unnoted rs (decisions.Accept client seq) holds other = absurd (true≢false (ap is_done holds.0.submit))
+  unnoted rs (decisions.Drop client seq chain far) holds other = absurd (true≢false (ap is_report holds.submit))
+  unnoted rs (decisions.Deny client seq object) holds other = absurd (true≢false (ap is_report holds.submit))
+  unnoted rs (decisions.Accept client seq) holds other = absurd (true≢false (ap is_report holds.0.submit))
   unnoted rs (decisions.Repeat seq chain far) holds other = (refl, (old-done, refl))
   unnoted rs (decisions.RepeatDenied seq object) holds other = (refl, (old-done, refl))
   unnoted rs (decisions.Settle seq pos) holds other = (refl, (tt, refl))
@@ -325,20 +321,20 @@ module _ (w : Stewardship) (r : Rules) (h : List Entry) (s : ℕ) where
           one true = refl
           one false = refl
 
-      plainly : with_results (λ d. false) q ≡ q → is_done q ≡ false → IsDecided w r h s q d
-      plainly is undone = decided-whole q d (same is) more told holds (λ n. absurd (true≢false (sym (ap is_done (noted-is w r h s q d holds n)) ∙ undone))) other
+      plainly : with_results (λ d. false) q ≡ q → is_report q ≡ false → IsDecided w r h s q d
+      plainly is undone = decided-whole q d (same is) more told holds (λ n. absurd (true≢false (sym (ap is_report (noted-is w r h s q d holds n)) ∙ undone))) other
 
       by : (x : Request) → q ≡ x → counts w h s ≡ false → IsDecided w r h s q d
       by (requests.Done rs) is uncounted = subst (λ (x : Request). IsDecided w r h s x d) (sym is)
           (decided-report rs d uncounted (subst (λ (x : Request). reply_by r (heeded w h) s x d ≡ reply_to_request r (heeded w h) s x) is told)
           (subst (λ (x : Request). Holds r (heeded w h) s x d) is holds) (subst (λ (x : Request). (answers_poll x d && is_stewards w.steward h s) ≡ false) is other))
-      by (requests.Join client life interest) is uncounted = plainly (ap (with_results (λ d. false)) is ∙ sym is) (ap is_done is)
-      by (requests.Submit seq a) is uncounted = plainly (ap (with_results (λ d. false)) is ∙ sym is) (ap is_done is)
-      by requests.Poll is uncounted = plainly (ap (with_results (λ d. false)) is ∙ sym is) (ap is_done is)
-      by (requests.Observe objects wait) is uncounted = plainly (ap (with_results (λ d. false)) is ∙ sym is) (ap is_done is)
-      by requests.Leave is uncounted = plainly (ap (with_results (λ d. false)) is ∙ sym is) (ap is_done is)
-      by requests.Bad is uncounted = plainly (ap (with_results (λ d. false)) is ∙ sym is) (ap is_done is)
-      by requests.End is uncounted = plainly (ap (with_results (λ d. false)) is ∙ sym is) (ap is_done is)
+      by (requests.Join client life interest) is uncounted = plainly (ap (with_results (λ d. false)) is ∙ sym is) (ap is_report is)
+      by (requests.Submit seq a) is uncounted = plainly (ap (with_results (λ d. false)) is ∙ sym is) (ap is_report is)
+      by requests.Poll is uncounted = plainly (ap (with_results (λ d. false)) is ∙ sym is) (ap is_report is)
+      by (requests.Observe objects wait) is uncounted = plainly (ap (with_results (λ d. false)) is ∙ sym is) (ap is_report is)
+      by requests.Leave is uncounted = plainly (ap (with_results (λ d. false)) is ∙ sym is) (ap is_report is)
+      by requests.Bad is uncounted = plainly (ap (with_results (λ d. false)) is ∙ sym is) (ap is_report is)
+      by requests.End is uncounted = plainly (ap (with_results (λ d. false)) is ∙ sym is) (ap is_report is)
 
       go : (b : Bool) → counts w h s ≡ b → IsDecided w r h s q d
       go true counted = decided-whole q d (all-heard w h s q counted) more told holds (λ _. counted) other

@@ -2,3 +2,5 @@
 pub mod Deciding
 pub mod Heeding
 pub mod Seats
+pub mod Turns
+pub mod Standing

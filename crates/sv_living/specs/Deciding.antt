@@ -2,6 +2,7 @@
 use Rattle.std.specs.Prelude.{◌≡◌, ℕ, Bool, true, false, ◌&&◌, not, nat_lt, is_none, List, [], ◌∷◌}
 use Rattle.sv_world.specs.Control.{is_in}
 use Rattle.sv_wire.specs.declared.message.Request.{Request}
+use Rattle.sv_wire.specs.declared.message.Request.TheVariants as requests
 use Rattle.sv_journal.specs.declared.entry.Entry.{Entry}
 use Rattle.sv_journal.specs.History.{result_at, commit_of}
 use Rattle.sv_journal.specs.Sessions.{sent_to}
@@ -22,6 +23,10 @@ abbrev pub answers_poll : Request → Decision → Bool
 answers_poll request decisions.Idle = true
 answers_poll request (decisions.Relay seq pos) = is_poll request
 answers_poll request _ = false
+
+abbrev pub is_report : Request → Bool
+is_report (requests.Done results) = true
+is_report _ = false
 
 -- A Poll is sent the first of the positions that are due.
 abbrev pub first_relay : List ℕ → Decision

@@ -1,6 +1,6 @@
 -- What a living world's core keeps of a history, and what a step makes of both.
 -- A history is the list of entries with the latest first. The core has none of them: a caller names the history that it keeps.
-use Rattle.std.specs.Prelude.{◌≡◌, ℕ, ◌<◌, Bool, true, false, ◌&&◌, not, ◌⊎◌, nat_lt, List, [], ◌∷◌, length, Option, Some, None, All, if◌then◌else◌}
+use Rattle.std.specs.Prelude.{◌≡◌, ℕ, ◌+◌, ◌<◌, Bool, true, false, ◌&&◌, not, ◌⊎◌, ◌==◌, nat_lt, List, [], ◌∷◌, ◌++◌, length, Option, Some, None, All, if◌then◌else◌}
 use Rattle.sv_world.specs.Control.{is_in}
 use Rattle.sv_world.specs.Limits.{most_open}
 use Rattle.sv_wire.specs.declared.message.Request.{Request}
@@ -14,12 +14,12 @@ use Rattle.sv_journal.specs.Living.{Stewardship, counts, heeded, living}
 use Rattle.sv_sequencer.specs.declared.answer.Answer.{Answer}
 use Rattle.sv_sequencer.specs.declared.seats.Seat.{Seat}
 use Rattle.sv_sequencer.specs.declared.server_core.Core.{Core}
-use Rattle.sv_sequencer.specs.Cores.{core_rules, open_by, session_at, SitsAt, Keeps}
+use Rattle.sv_sequencer.specs.Cores.{core_rules, open_by, session_at, SitsAt, Keeps, WasSeated}
 use Rattle.sv_sequencer.specs.Rows.{has_entry}
-use Rattle.sv_sequencer.specs.Step.{entry_of}
+use Rattle.sv_sequencer.specs.Step.{entry_of, end_entry}
 use Rattle.sv_living.specs.declared.living.LivingCore.{LivingCore}
 use Rattle.sv_living.specs.declared.living.Stewards.{Stewards}
-use Rattle.sv_living.specs.Table.{seat_of, numbers_in}
+use Rattle.sv_living.specs.Table.{numbers_in, IsByNumber}
 
 -- What the core was opened with, and its stewardship.
 abbrev pub rules_at : LivingCore → Rules
@@ -42,6 +42,7 @@ is_open h s = has_entry h s && not (is_ended h s)
 
 -- The open sessions are those of the table, at the slots where they sit; and those below a number are the ones that have an entry.
 pub record AreOpen (core : Core) (h : List Entry) (seats : List Seat) (next : ℕ) : Type 0 where
+  pub order : IsByNumber seats
   pub numbers : (s : ℕ) → is_in s (numbers_in seats) ≡ is_open h s
   pub sit : All (SitsAt core) seats
   pub only : (slot s : ℕ) → session_at core slot ≡ Some s → is_open h s ≡ true
@@ -80,6 +81,20 @@ pub record CarriedOn (old new : Core) (w : Stewardship) (h : List Entry) (s : �
   pub keeps : Keeps new (heeded w (living_entry w (core_rules old) h s request ∷ h))
   pub logged : answer.logged ≡ reply_for (living w) (core_rules old) h s request
   pub whole : answer.reply ≡ full_reply (accepted (living_entry w (core_rules old) h s request ∷ h)) (reply_for (living w) (core_rules old) h s request)
+
+-- The next session was seated at a slot that was free, and its first request, which is no End, was answered so.
+pub record Began (old new : Core) (seats next : List Seat) (w : Stewardship) (h : List Entry) (s : ℕ) (request : Request) (answer : Answer) : Type 0 where
+  pub seat : Seat
+  pub number : seat.session ≡ s
+  pub table : next ≡ seats ++ seat ∷ []
+  pub seated : (mid : Core) × (WasSeated old mid (heeded w h) seat × CarriedOn mid new w h s request answer)
+
+-- A session had its End, and its slot is free.
+pub record Left (old new : Core) (w : Stewardship) (h : List Entry) (seat : Seat) : Type 0 where
+  pub rules : core_rules new ≡ core_rules old
+  pub seats : (slot : ℕ) → session_at new slot ≡ (if seat.slot == slot then None else session_at old slot)
+  pub count : open_by new + 1 ≡ open_by old
+  pub keeps : Keeps new (heeded w (end_entry seat.session ∷ h))
 
 -- A request was answered by the reply that the history gives, as it is kept and in full, and the core stands where its entry leads.
 pub record Stepped (old new : LivingCore) (h : List Entry) (s : ℕ) (request : Request) (answer : Answer) : Type 0 where

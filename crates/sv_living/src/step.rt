@@ -1,16 +1,22 @@
 //! A step of a living world's core. Its core decides by the history of the results that count, but for what the steward polls.
-ghost use Rattle.std.specs.Prelude.{◌≡◌, ◌&&◌, List, ◌<◌, true, false, ◌∷◌, length, IfOk, IsOk, OnErr};
+ghost use Rattle.std.specs.Prelude.{◌≡◌, ◌&&◌, List, ◌<◌, true, false, None, length, IfOk, IsOk, OnErr};
 ghost use Rattle.sv_world.specs.Limits.{most_open};
+ghost use Rattle.sv_wire.specs.declared.message.Request.TheVariants as requests;
+ghost use Rattle.sv_wire.specs.declared.message.Reply.TheVariants as replies;
 ghost use Rattle.sv_journal.specs.declared.entry.Entry.{Entry};
-ghost use Rattle.sv_journal.specs.Sessions.{is_end};
+ghost use Rattle.sv_journal.specs.declared.entry.Logged.TheVariants as logged;
+ghost use Rattle.sv_journal.specs.Sessions.{is_end, is_ended};
 ghost use Rattle.sv_journal.specs.Living.{is_stewards, heeded};
-ghost use Rattle.sv_sequencer.specs.Cores.{core_rules, SitsAt, Keeps, Remained};
+ghost use Rattle.sv_sequencer.specs.Cores.{core_rules, open_by, SitsAt, Keeps, IsUnseated, Remained};
+ghost use Rattle.sv_sequencer.specs.Rows.{has_entry};
 ghost use Rattle.sv_living.specs.Deciding.{answers_poll, IsDecided};
-ghost use Rattle.sv_living.specs.Keeping.{Course, stewardship_of, is_open, KeepsLiving, MayStep, Stepped, StoodStill, CarriedOn};
+ghost use Rattle.sv_living.specs.Keeping.{Course, stewardship_of, stewardship_at, is_open, most_session, KeepsLiving, MayStep, Stepped, StoodStill, CarriedOn, Began, Left};
+ghost use Rattle.sv_living.specs.Table.{ends_below};
 
 use crate::due::due_decision;
-use crate::heard::{answers_poll, counts, is_stewards};
+use crate::heard::{answers_poll, is_silent, is_stewards};
 use crate::living::{LivingCore, Stewards};
+use crate::table::OpenSessions;
 use std::alloc::{AllocError, Global};
 use sv_journal::Logged;
 use sv_sequencer::{Answer, Core, Decision, Seat};
@@ -69,7 +75,7 @@ fn answer(
     ensures err { OnErr result (Remained core.old core.new (heeded g.w g.h)) }
 {
     let decision = decide(core, stewards, seat, request);
-    if is_report(request) && !counts(core, stewards, seat) {
+    if is_silent(core, stewards, seat, request) {
         let heard = Request::Done {
             results: List::new(alloc),
         };
@@ -81,18 +87,63 @@ fn answer(
     core.carry_out(seat, request, decision)
 }
 
-fn is_report(request: &Request) -> bool {
-    match request {
-        Request::Done { .. } => true,
-        _ => false,
-    }
-}
-
 /// The answer to an End.
-fn bye() -> Answer {
+fn bye() -> Answer
+    ensures logged { result.logged ≡ logged.Bye }
+    ensures reply { result.reply ≡ replies.Bye }
+{
     Answer {
         logged: Logged::Bye,
         reply: Reply::Bye,
+    }
+}
+
+/// The End of a session, whose slot is free then. `g` is the history of all entries. It takes no memory.
+fn leave(core: &mut Core, seat: Seat)
+    ghost g: { Course }
+    requires keeps { Keeps core.old (heeded g.w g.h) }
+    requires seat { SitsAt core.old seat }
+    requires first { is_ended g.h seat.session ≡ false }
+    ensures { Left core.old core.new g.w g.h seat }
+{
+    core.end(seat);
+    core.close(seat);
+}
+
+/// Seats the next session, and answers its first request, which is no End. `g` is the history of all entries.
+fn begin(
+    alloc: Global,
+    core: &mut Core,
+    table: &mut OpenSessions,
+    stewards: Stewards,
+    session: u64,
+    request: &Request,
+) -> Result<Answer, AllocError>
+    ghost g: { Course }
+    requires keeps { Keeps core.old (heeded g.w g.h) }
+    requires stewards { g.w ≡ stewardship_of stewards }
+    requires endless { (core_rules core.old).sessions ≡ None }
+    requires first { has_entry g.h session ≡ false }
+    requires unseated { IsUnseated core.old session }
+    requires room { open_by core.old < most_open }
+    requires below { ends_below session table.old ≡ true }
+    requires more { is_end request.now ≡ false }
+    ensures ok { IfOk result (Began core.old core.new table.old table.new g.w g.h session request.now) }
+    ensures err { OnErr result (Remained core.old core.new (heeded g.w g.h)) }
+    ensures table { OnErr result (table.new ≡ table.old) }
+{
+    let seat = core.open(session)?;
+    if let Err(error) = table.push(seat) {
+        core.close(seat);
+        return Err(error);
+    }
+    match answer(alloc, core, stewards, seat, request) {
+        Ok(answer) => Ok(answer),
+        Err(error) => {
+            table.remove(session);
+            core.close(seat);
+            Err(error)
+        }
     }
 }
 
@@ -116,17 +167,17 @@ impl LivingCore {
 
     /// Answers a request of a session that is open.
     fn step_open(&mut self, seat: Seat, request: &Request) -> Result<Answer, AllocError>
-        ghost h: { List Entry }
-        requires keeps { KeepsLiving self.old h }
+        ghost g: { Course }
+        requires keeps { KeepsLiving self.old g.h }
+        requires stewards { g.w ≡ stewardship_at self.old }
         requires seat { SitsAt self.old.core seat }
-        requires open { is_open h seat.session ≡ true }
-        ensures ok { IfOk result (Stepped self.old self.new h seat.session request.now) }
-        ensures err { OnErr result (StoodStill self.old self.new h) }
+        requires open { is_open g.h seat.session ≡ true }
+        ensures ok { IfOk result (Stepped self.old self.new g.h seat.session request.now) }
+        ensures err { OnErr result (StoodStill self.old self.new g.h) }
         ensures end { is_end request.now ≡ true → IsOk result }
     {
         if let Request::End = request {
-            self.core.end(seat);
-            self.core.close(seat);
+            leave(&mut self.core, seat);
             self.table.remove(seat.session);
             return Ok(bye());
         }
@@ -135,37 +186,44 @@ impl LivingCore {
 
     /// Answers the first request of the next session. Its slot is free again where memory runs out.
     fn step_first(&mut self, session: u64, request: &Request) -> Result<Answer, AllocError>
-        ghost h: { List Entry }
-        requires keeps { KeepsLiving self.old h }
+        ghost g: { Course }
+        requires keeps { KeepsLiving self.old g.h }
+        requires stewards { g.w ≡ stewardship_at self.old }
         requires next { session ≡ self.old.next }
         requires room { length self.old.table < most_open }
-        requires last { session < 18446744073709551615 }
-        ensures ok { IfOk result (Stepped self.old self.new h session request.now) }
-        ensures err { OnErr result (StoodStill self.old self.new h) }
+        requires last { session < most_session }
+        ensures ok { IfOk result (Stepped self.old self.new g.h session request.now) }
+        ensures err { OnErr result (StoodStill self.old self.new g.h) }
     {
-        let seat = self.core.open(session)?;
-        if let Err(error) = self.table.push(seat) {
-            self.core.close(seat);
-            return Err(error);
+        if let Request::End = request {
+            return self.end_first(session);
         }
+        let answer = begin(
+            self.alloc,
+            &mut self.core,
+            &mut self.table,
+            self.stewards,
+            session,
+            request,
+        )?;
         self.next += 1;
-        let answer = self.step_seated(seat, request);
-        if answer.is_err() {
-            self.table.remove(session);
-            self.core.close(seat);
-            self.next -= 1;
-        }
-        answer
+        Ok(answer)
     }
 
-    /// Answers the first request of a session that has just taken a slot.
-    fn step_seated(&mut self, seat: Seat, request: &Request) -> Result<Answer, AllocError> {
-        if let Request::End = request {
-            self.core.end(seat);
-            self.core.close(seat);
-            self.table.remove(seat.session);
-            return Ok(bye());
-        }
-        answer(self.alloc, &mut self.core, self.stewards, seat, request)
+    /// The End of the next session, which makes no other request.
+    fn end_first(&mut self, session: u64) -> Result<Answer, AllocError>
+        ghost g: { Course }
+        requires keeps { KeepsLiving self.old g.h }
+        requires stewards { g.w ≡ stewardship_at self.old }
+        requires next { session ≡ self.old.next }
+        requires room { length self.old.table < most_open }
+        requires last { session < most_session }
+        ensures ok { IfOk result (Stepped self.old self.new g.h session requests.End) }
+        ensures err { OnErr result (StoodStill self.old self.new g.h) }
+    {
+        let seat = self.core.open(session)?;
+        leave(&mut self.core, seat);
+        self.next += 1;
+        Ok(bye())
     }
 }
