@@ -1,3 +1,0 @@
--- The lemmas on living worlds.
-pub mod Deciding
-pub mod Heeding
