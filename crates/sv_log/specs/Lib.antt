@@ -1,0 +1,4 @@
+-- The definitions of this crate, file by file.
+pub mod Pictures
+pub mod Crashes
+pub mod Reads
