@@ -2,3 +2,4 @@
 pub mod Pictures
 pub mod Crashes
 pub mod Reads
+pub mod Memory
