@@ -1,2 +1,6 @@
 -- The lemmas of this crate, file by file.
 pub mod Replays
+pub mod Moments
+pub mod Standing
+pub mod Texts
+pub mod Runs

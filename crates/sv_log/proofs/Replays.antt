@@ -1,8 +1,9 @@
 -- Calls kept with the first of them first, and with the latest first.
 use Rattle.std.proofs.Common.{◌≡◌, ◌≢◌, ℕ, ◌+◌, ◌-◌, ◌<◌, ◌≤◌, Bool, true, false, cond, List, [], ◌∷◌, ◌++◌, length, take, get_or, Result, Ok, Err, IfOk, refl, sym, ◌∙◌, ap, arith}
 use Rattle.std.proofs.lemmas.List.{take_more}
-use Rattle.sv_log.specs.Pictures.{Picture, Call, Made, after, seen_after}
-use Rattle.sv_log.specs.Memory.{latest_first, made_of}
+use Rattle.sv_log.specs.Pictures.{Picture, Call, Made, Disk, after, noted, seen_after}
+use Rattle.sv_log.specs.Memory.{latest_first, made_of, disk_of}
+use Rattle.sv_bytes.specs.Stored.{contents_of}
 use Rattle.sv_log.specs.declared.calls.Kept.{Kept}
 
 -- one call more comes first
@@ -30,3 +31,7 @@ seen_done start past later call done is made n =
 pub if_ok : {A E : Type 0} (r : Result A E) (P Q : A → Type 0) → IfOk r P → ((x : A) → P x → Q x) → IfOk r Q
 if_ok (Ok x) P Q h step = step x h
 if_ok (Err e) P Q h step = tt
+
+pub disk_noted : (start : List (List ℕ × List ℕ)) (calls new : List Kept) (call : Call) (done d : Bool) → latest_first new ≡ (call, done) ∷ latest_first calls → done ≡ d → disk_of start new ≡ noted (call, d) (disk_of start calls)
+disk_noted start calls new call done d is same =
+    ap (λ (past : List Made). let disk : Disk = record { start = contents_of start; past = past } in disk) (is ∙ ap (λ (b : Bool). (call, b) ∷ latest_first calls) same)

@@ -3,3 +3,6 @@ pub mod Pictures
 pub mod Crashes
 pub mod Reads
 pub mod Memory
+pub mod Folders
+pub mod Logs
+pub mod Texts

@@ -1,6 +1,7 @@
 -- A folder in memory: the files that it was made with, and the calls since, the first of them first.
 use Rattle.std.specs.Prelude.{◌≡◌, ℕ, ◌≤◌, Bool, List, [], ◌∷◌, ◌++◌, Option, Some, None, cond, Vec}
 use Rattle.std.specs.Str.{bytes_eq}
+use Rattle.std.specs.String.{string_bytes}
 use Rattle.std.specs.declared.alloc.Global.{Global}
 use Rattle.sv_bytes.specs.Stored.{contents_of}
 use Rattle.sv_log.specs.Pictures.{Picture, Call, Make, Grow, Write, Cut, Rename, Remove, Sync, SyncFolder, Made, Disk}
@@ -10,13 +11,13 @@ use Rattle.sv_log.specs.declared.calls.Kept.{Kept}
 
 -- what was asked, without where it lies in memory
 abbrev pub call_of : Asked → Call
-call_of (asked.Make name size) = Make name.items size
-call_of (asked.Grow name size) = Grow name.items size
-call_of (asked.Write name at bytes) = Write name.items at bytes.items
-call_of (asked.Cut name size) = Cut name.items size
-call_of (asked.Rename from to) = Rename from.items to.items
-call_of (asked.Remove name) = Remove name.items
-call_of (asked.Sync name) = Sync name.items
+call_of (asked.Make name size) = Make (string_bytes name) size
+call_of (asked.Grow name size) = Grow (string_bytes name) size
+call_of (asked.Write name at bytes) = Write (string_bytes name) at bytes.items
+call_of (asked.Cut name size) = Cut (string_bytes name) size
+call_of (asked.Rename from to) = Rename (string_bytes from) (string_bytes to)
+call_of (asked.Remove name) = Remove (string_bytes name)
+call_of (asked.Sync name) = Sync (string_bytes name)
 call_of asked.SyncFolder = SyncFolder
 
 abbrev pub made_of : Kept → Made

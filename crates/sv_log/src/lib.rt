@@ -3,7 +3,10 @@
 
 mod calls;
 mod folder;
+mod memory;
 mod replay;
+mod segment;
 
-pub use calls::{Asked, Kept};
 pub use folder::Folder;
+pub use memory::MemFolder;
+pub use segment::Segment;

@@ -11,23 +11,24 @@ use std::marker::Model;
 /// A name and the bytes of its file.
 #[derive(Drop)]
 pub(crate) struct Stored {
-    pub(crate) name: Vec<u8>,
+    pub(crate) name: String,
     pub(crate) bytes: Vec<u8>,
 }
 
 impl Model for Stored {
     ghost use Rattle.std.specs.Prelude.{ℕ, List};
+    ghost use Rattle.std.specs.String.{string_bytes};
 
     ghost Value = { List ℕ × List ℕ };
 
-    ghost view = { λ s. (s.name.items, s.bytes.items) };
+    ghost view = { λ s. (string_bytes s.name, s.bytes.items) };
 }
 
 impl Stored {
-    pub(crate) fn name(&self) -> &[u8]
+    pub(crate) fn name(&self) -> &str
         ensures { result.now ≡ self.now.0 }
     {
-        self.name.as_slice()
+        self.name.as_str()
     }
 
     pub(crate) fn bytes(&self) -> &[u8]
@@ -38,7 +39,7 @@ impl Stored {
 }
 
 // The bytes of the first file of this name.
-fn find(alloc: Global, stored: &[Stored], name: &[u8]) -> Result<Option<Vec<u8>>, AllocError>
+fn find(alloc: Global, stored: &[Stored], name: &str) -> Result<Option<Vec<u8>>, AllocError>
     ensures { IfOk result (λ file. bytes_in file ≡ contents_of stored.now name.now) }
 {
     for file in stored {
@@ -51,11 +52,11 @@ fn find(alloc: Global, stored: &[Stored], name: &[u8]) -> Result<Option<Vec<u8>>
 }
 
 // The name that a file had before the call.
-fn name_before<'a>(call: &'a Asked, name: &'a [u8]) -> &'a [u8]
+fn name_before<'a>(call: &'a Asked, name: &'a str) -> &'a str
     ensures { result.now ≡ earlier_name (call_of call.now) name.now }
 {
     match call {
-        Asked::Rename(from, to) if name == to.as_slice() => from.as_slice(),
+        Asked::Rename(from, to) if name == to.as_str() => from.as_str(),
         _ => name,
     }
 }
@@ -85,37 +86,37 @@ fn written(alloc: Global, old: &[u8], at: usize, bytes: &[u8]) -> Result<Vec<u8>
 fn changed(
     alloc: Global,
     call: &Asked,
-    name: &[u8],
+    name: &str,
     old: Option<Vec<u8>>,
 ) -> Result<Option<Vec<u8>>, AllocError>
     ensures { IfOk result (λ file. (p : Picture) → p (earlier_name (call_of call.now) name.now) ≡ bytes_in old → bytes_in file ≡ after (call_of call.now) p name.now) }
 {
     match call {
-        Asked::Make(of, size) if name == of.as_slice() => {
+        Asked::Make(of, size) if name == of.as_str() => {
             let mut bytes = Vec::new(alloc);
             grown(&mut bytes, *size)?;
             Ok(Some(bytes))
         }
-        Asked::Grow(of, size) if name == of.as_slice() => match old {
+        Asked::Grow(of, size) if name == of.as_str() => match old {
             Some(mut bytes) => {
                 grown(&mut bytes, *size)?;
                 Ok(Some(bytes))
             }
             None => Ok(None),
         },
-        Asked::Write(of, at, bytes) if name == of.as_slice() => match old {
+        Asked::Write(of, at, bytes) if name == of.as_str() => match old {
             Some(old) => Ok(Some(written(alloc, &old, *at, bytes)?)),
             None => Ok(None),
         },
-        Asked::Cut(of, size) if name == of.as_slice() => match old {
+        Asked::Cut(of, size) if name == of.as_str() => match old {
             Some(mut bytes) => {
                 bytes.truncate(*size);
                 Ok(Some(bytes))
             }
             None => Ok(None),
         },
-        Asked::Rename(from, to) if name == from.as_slice() && name != to.as_slice() => Ok(None),
-        Asked::Remove(of) if name == of.as_slice() => Ok(None),
+        Asked::Rename(from, to) if name == from.as_str() && name != to.as_str() => Ok(None),
+        Asked::Remove(of) if name == of.as_str() => Ok(None),
         _ => Ok(old),
     }
 }
@@ -126,7 +127,7 @@ pub(crate) fn bytes_after(
     start: &[Stored],
     calls: &[Kept],
     count: usize,
-    name: &[u8],
+    name: &str,
 ) -> Result<Option<Vec<u8>>, AllocError>
     requires { count ≤ length calls.now }
     ensures { IfOk result (λ file. bytes_in file ≡ seen_after (contents_of start.now) (latest_first (take count calls.now)) name.now) }

@@ -1,0 +1,10 @@
+-- What is proved by hand of `make_room`.
+use Rattle.std.proofs.Common.{◌≡◌, ◌+◌, ◌-◌, ℕ, inl, refl, arith}
+use Rattle.sv_log.proofs.Runs.{room_to_grow, grow_only, grow_sync_only, grow_stands, grow_others, all_open, all_text, all_synced, within_room, calm_only}
+use Rattle.sv_log.proofs.segment.Segment.make_room.Goals as goal
+
+pub grow-requires : goal.grow-requires
+grow-requires g c = room_to_grow g.F.Folder.disk c.args.self.now c.requires.open c.as_str.result.now c.as_str.ensures.value
+
+pub returns-in_err-grow-clause-any_moment : goal.returns-in_err-grow-clause-any_moment
+returns-in_err-grow-clause-any_moment g c = grow_only g.F.Folder.disk c.args.self.now c.requires.open c.as_str.result.now c.as_str.ensures.value _ _ c.grow.result c.grow.ensures.made
