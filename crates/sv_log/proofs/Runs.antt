@@ -4,11 +4,11 @@ use Rattle.std.specs.String.{string_bytes}
 use Rattle.std.proofs.lemmas.List.{append-nil}
 use Rattle.sv_log.specs.Pictures.{Picture, Call, Grow, Write, Sync, Disk, seen, noted, Makes, HasRoom}
 use Rattle.sv_log.specs.Crashes.{SameBut, Leaves, LeavesOnly}
-use Rattle.sv_log.specs.Texts.{IsText, IsFront}
+use Rattle.sv_log.specs.Texts.{IsText, IsFront, whole_in}
 use Rattle.sv_log.specs.Logs.{Stands, Within, IsOpen, appended, synced, pending}
 use Rattle.sv_log.specs.declared.segment.Segment.{Segment}
-use Rattle.sv_log.proofs.Texts.{front_same, front_more}
-use Rattle.sv_log.proofs.Moments.{made_only, then_only, same_only}
+use Rattle.sv_log.proofs.Texts.{front_same, front_more, front_then}
+use Rattle.sv_log.proofs.Moments.{made_only, then_only, same_only, weaker_only}
 use Rattle.sv_log.proofs.Standing.{now_within, grow_within, sync_within, write_within, synced_stands, grown_stands, written_stands, grown_within_again, has_room, opened, opened_text, opened_synced, put_other}
 
 module _ {F : Type 0} (disk : F → Disk) (old : Segment F) (is_open : IsOpen disk old) where
@@ -88,7 +88,7 @@ module _ {F : Type 0} (disk : F → Disk) (old : Segment F) (is_open : IsOpen di
         (made_only mid new (Sync name) result P (subst (λ (m : List ℕ). Makes (Sync m) mid new result) is_called makes) again.0 again.1)
 
   module _ (folder : F) (now : ℕ) (lines : List ℕ) (text : IsText lines) (fits : length lines ≤ room) (called : List ℕ) (is_called : called ≡ name)
-    (is : disk folder ≡ noted (Write called old.length lines, true) (disk old.folder)) (now_is : now ≡ old.length + length lines) where
+      (is : disk folder ≡ noted (Write called old.length lines, true) (disk old.folder)) (now_is : now ≡ old.length + length lines) where
     abbrev wrote : Segment F
     wrote = changed folder old.synced now old.size
 
@@ -154,3 +154,41 @@ module _ {F : Type 0} (disk : F → Disk) (old : Segment F) (is_open : IsOpen di
 
   pub calm_only : LeavesOnly (disk old.folder) (disk old.folder) (Within (seen (disk old.folder)) name s (appended disk old))
   calm_only = same_only (disk old.folder) (disk old.folder) _ refl (now_within (disk old.folder) name s p room is_open.stands (appended disk old) whole_front)
+
+  -- what is synced is a front of what was appended
+  pub synced_front : IsFront s (appended disk old)
+  synced_front = subst (λ (l : List ℕ). IsFront s l) parts (front_more s p)
+
+-- one run of a segment, and then a write
+module _ {F : Type 0} (disk : F → Disk) (old mid new : Segment F) (lines : List ℕ) (same_name : mid.name ≡ old.name) where
+  abbrev Grows : Picture → Type 0
+  Grows = Within (seen (disk old.folder)) (string_bytes old.name) (synced disk old) (appended disk old ++ lines)
+
+  pub ready_only : LeavesOnly (disk old.folder) (disk mid.folder) (Within (seen (disk old.folder)) (string_bytes old.name) (synced disk old) (appended disk old)) → LeavesOnly (disk old.folder) (disk mid.folder) Grows
+  ready_only only =
+      weaker_only (disk old.folder) (disk mid.folder) _ Grows
+      (λ c w. (w.0, w.1, front_then (whole_in (c (string_bytes old.name))) (appended disk old) (appended disk old ++ lines) w.2 (front_more (appended disk old) lines))) only
+
+  module _ (text : appended disk mid ≡ appended disk old) (front : IsFront (synced disk old) (synced disk mid)) (others : SameBut (string_bytes old.name) (seen (disk mid.folder)) (seen (disk old.folder))) where
+    moved : (c : Picture) → Within (seen (disk mid.folder)) (string_bytes mid.name) (synced disk mid) (appended disk mid ++ lines) c → Grows c
+    moved c w =
+        let v = subst (λ (n : _). Within (seen (disk mid.folder)) (string_bytes n) (synced disk mid) (appended disk mid ++ lines) c) same_name w in (
+          (λ n ne. v.0 n ne ∙ others n ne),
+          front_then (synced disk old) (synced disk mid) (whole_in (c (string_bytes old.name))) front v.1,
+          subst (λ (l : List ℕ). IsFront (whole_in (c (string_bytes old.name))) (l ++ lines)) text v.2,
+        )
+
+    pub append_only : LeavesOnly (disk old.folder) (disk mid.folder) (Within (seen (disk old.folder)) (string_bytes old.name) (synced disk old) (appended disk old))
+        → LeavesOnly (disk mid.folder) (disk new.folder) (Within (seen (disk mid.folder)) (string_bytes mid.name) (synced disk mid) (appended disk mid ++ lines)) → LeavesOnly (disk old.folder) (disk new.folder) Grows
+    append_only first second =
+        then_only (disk old.folder) (disk mid.folder) (disk new.folder) Grows (ready_only first)
+        (weaker_only (disk mid.folder) (disk new.folder) _ Grows moved second)
+
+    pub append_text : appended disk new ≡ appended disk mid ++ lines → appended disk new ≡ appended disk old ++ lines
+    append_text is = is ∙ ap (λ (l : List ℕ). l ++ lines) text
+
+    pub append_synced : synced disk new ≡ synced disk mid → IsFront (synced disk old) (synced disk new)
+    append_synced is = subst (λ (l : List ℕ). IsFront (synced disk old) l) (sym is) front
+
+    pub append_others : SameBut (string_bytes mid.name) (seen (disk new.folder)) (seen (disk mid.folder)) → SameBut (string_bytes old.name) (seen (disk new.folder)) (seen (disk old.folder))
+    append_others same n ne = same n (λ (e : n ≡ string_bytes mid.name). ne (e ∙ ap string_bytes same_name)) ∙ others n ne

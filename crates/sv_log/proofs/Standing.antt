@@ -1,10 +1,8 @@
 -- What the calls of a segment make of its file, and what a crash leaves of it.
 use Rattle.std.proofs.Common.{◌≡◌, ◌≢◌, ◌⊎◌, inl, inr, ⊎_elim, ℕ, ◌+◌, ◌-◌, ◌≤◌, Bool, true, false, cond, not, ◌&&◌, ◌||◌, List, [], ◌∷◌, ◌++◌, length, take, drop, Option, Some, None, option_map, refl, sym, ◌∙◌, ap, subst, arith, append_assoc, length-append}
 use Rattle.std.specs.Str.{bytes_eq}
-use Rattle.std.specs.Bool.{Decides}
 use Rattle.std.specs.String.{string_bytes}
 use Rattle.std.proofs.lemmas.Bool.{cond-true, cond-false, and_from, or_right, or_left, not_from_false, true_from_ne_false, false_from_ne_true}
-use Rattle.std.proofs.lemmas.Bool.Decides.{when_true, when_false, not_from_Decides}
 use Rattle.std.proofs.lemmas.List.{append-nil, take_at, drop_at, drop_all, replicate-append-replicate, length-replicate, drop-replicate, drop-drop}
 use Rattle.std.proofs.lemmas.Slice.Eq.{bytes_eq-Decides}
 use Rattle.sv_log.specs.Pictures.{Picture, Call, Grow, Write, Sync, Made, Disk, seen, seen_after, noted, put, over, zeros, HasRoom}
@@ -15,10 +13,10 @@ use Rattle.sv_log.specs.declared.segment.Segment.{Segment}
 use Rattle.sv_log.proofs.Texts.{whole-append, whole_text, text-append, front_same, front_more, front_then, front-append, masked_front, torn_masked, masked-append, length_masked}
 
 pub bytes_differ : (n name : List ℕ) → n ≢ name → bytes_eq n name ≡ false
-bytes_differ n name ne = false_from_ne_true (bytes_eq n name) (λ yes. ne (when_true (n ≡ name) (¬ (n ≡ name)) yes (bytes_eq-Decides n name)))
+bytes_differ n name ne = false_from_ne_true (bytes_eq n name) (λ same. ne ((bytes_eq-Decides n name).0 same))
 
 pub bytes_same : (n : List ℕ) → bytes_eq n n ≡ true
-bytes_same n = true_from_ne_false (bytes_eq n n) (λ no. when_false (n ≡ n) (¬ (n ≡ n)) no (bytes_eq-Decides n n) refl)
+bytes_same n = (bytes_eq-Decides n n).1 refl
 
 pub put_same : (name : List ℕ) (file : Option (List ℕ)) (p : Picture) → put name file p name ≡ file
 put_same name file p = cond-true (bytes_eq name name) file (p name) (bytes_same name)
@@ -177,7 +175,7 @@ module _ (disk : Disk) (name s p : List ℕ) (r : ℕ) (st : Stands disk name s 
     }
 
     pub has_room : HasRoom (seen disk) name at (length lines)
-    has_room = (s ++ p ++ zeros r, st.file, omega (arith, length-append (s ++ p) (zeros r), length-append s p, length-replicate r 0, is_at, fits))
+    has_room = (s ++ p ++ zeros r, st.file, omega (arith, length-append (s ++ p) (zeros r), length-append s p, length-replicate {A = ℕ} r 0, is_at, fits))
 
 -- a segment whose file stands so is open
 module _ {F : Type 0} (disk : F → Disk) (log : Segment F) (s p : List ℕ) (r : ℕ) (st : Stands (disk log.folder) (string_bytes log.name) s p r) where

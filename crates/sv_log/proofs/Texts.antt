@@ -21,8 +21,8 @@ has_line-append (b ∷ x) r h = elim (cases_Bool (b == 0)) [
 
 text_parts : (b : ℕ) (x : List ℕ) → IsText (b ∷ x) → (has_line (b ∷ x) ≡ true) × IsText x
 text_parts b x is = elim (cases_Bool (has_line (b ∷ x))) [
-  | inl yes ↦ let e : b ∷ whole x ≡ b ∷ x = sym (cond-true (has_line (b ∷ x)) (b ∷ whole x) [] yes) ∙ is in (yes, cc e)
-  | inr no ↦ let e : [] ≡ b ∷ x = sym (cond-false (has_line (b ∷ x)) (b ∷ whole x) [] no) ∙ is in absurd (cc e)
+  | inl ends ↦ let e : b ∷ whole x ≡ b ∷ x = sym (cond-true (has_line (b ∷ x)) (b ∷ whole x) [] ends) ∙ is in (ends, cc e)
+  | inr none ↦ let e : [] ≡ b ∷ x = sym (cond-false (has_line (b ∷ x)) (b ∷ whole x) [] none) ∙ is in absurd (cc e)
 ]
 
 -- what stands behind whole lines gives the lines behind them
@@ -70,11 +70,11 @@ masked_front (b ∷ bytes) (t ∷ torn) r m =
     elim m.0 [
       | inl lost ↦ subst (λ (l : List ℕ). IsFront l (b ∷ bytes)) (sym (whole_lost t rest lost)) (front_nil (b ∷ bytes))
       | inr kept ↦ elim (cases_Bool (has_line (t ∷ rest))) [
-        | inl yes ↦
+        | inl ends ↦
             let f = masked_front bytes torn r m.1 in
             let e : b ∷ bytes ≡ (t ∷ whole rest) ++ f.0 = ap (λ (l : List ℕ). b ∷ l) f.1 ∙ ap (λ (x : ℕ). x ∷ (whole rest ++ f.0)) (sym kept) in
-            subst (λ (l : List ℕ). IsFront l (b ∷ bytes)) (sym (cond-true (has_line (t ∷ rest)) (t ∷ whole rest) [] yes)) (f.0, e)
-        | inr no ↦ subst (λ (l : List ℕ). IsFront l (b ∷ bytes)) (sym (cond-false (has_line (t ∷ rest)) (t ∷ whole rest) [] no)) (front_nil (b ∷ bytes))
+            subst (λ (l : List ℕ). IsFront l (b ∷ bytes)) (sym (cond-true (has_line (t ∷ rest)) (t ∷ whole rest) [] ends)) (f.0, e)
+        | inr none ↦ subst (λ (l : List ℕ). IsFront l (b ∷ bytes)) (sym (cond-false (has_line (t ∷ rest)) (t ∷ whole rest) [] none)) (front_nil (b ∷ bytes))
       ]
     ]
 

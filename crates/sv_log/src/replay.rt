@@ -39,7 +39,11 @@ impl Stored {
 }
 
 // The bytes of the first file of this name.
-fn find(alloc: Global, stored: &[Stored], name: &str) -> Result<Option<Vec<u8>>, AllocError>
+pub(crate) fn find(
+    alloc: Global,
+    stored: &[Stored],
+    name: &str,
+) -> Result<Option<Vec<u8>>, AllocError>
     ensures { IfOk result (λ file. bytes_in file ≡ contents_of stored.now name.now) }
 {
     for file in stored {
@@ -52,7 +56,7 @@ fn find(alloc: Global, stored: &[Stored], name: &str) -> Result<Option<Vec<u8>>,
 }
 
 // The name that a file had before the call.
-fn name_before<'a>(call: &'a Asked, name: &'a str) -> &'a str
+pub(crate) fn name_before<'a>(call: &'a Asked, name: &'a str) -> &'a str
     ensures { result.now ≡ earlier_name (call_of call.now) name.now }
 {
     match call {
@@ -83,7 +87,7 @@ fn written(alloc: Global, old: &[u8], at: usize, bytes: &[u8]) -> Result<Vec<u8>
 }
 
 // What a file is after a change of it that was answered Ok, where `old` is what it was.
-fn changed(
+pub(crate) fn changed(
     alloc: Global,
     call: &Asked,
     name: &str,

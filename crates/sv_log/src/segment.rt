@@ -44,9 +44,7 @@ impl<F: Folder> Segment<F> {
         ensures honest { F.is_honest self.new.folder → F.is_honest self.old.folder }
         ensures cause { ReadAllCause (F.faults self.old.folder) (F.faults self.new.folder) result }
     {
-        if self.size - self.length < lines.len() {
-            self.make_room(lines.len())?;
-        }
+        self.ready(lines.len())?;
         self.write(lines)
     }
 
@@ -70,13 +68,33 @@ impl<F: Folder> Segment<F> {
         Ok(())
     }
 
+    // Sees to it that so many bytes fit behind the text.
+    fn ready(&mut self, least: usize) -> Result<(), FileFault>
+        requires open { IsOpen F.disk self.old }
+        ensures open { OnOk result (IsOpen F.disk self.new) }
+        ensures room { OnOk result (least ≤ self.new.size - self.new.length) }
+        ensures text { OnOk result (appended F.disk self.new ≡ appended F.disk self.old) }
+        ensures synced { OnOk result (IsFront (synced F.disk self.old) (synced F.disk self.new)) }
+        ensures any_moment { LeavesOnly (F.disk self.old.folder) (F.disk self.new.folder)
+            (Within (seen (F.disk self.old.folder)) (string_bytes self.old.name) (synced F.disk self.old) (appended F.disk self.old)) }
+        ensures others { OnOk result (SameBut (string_bytes self.old.name) (seen (F.disk self.new.folder)) (seen (F.disk self.old.folder))) }
+        ensures name { self.new.name ≡ self.old.name }
+        ensures honest { F.is_honest self.new.folder → F.is_honest self.old.folder }
+        ensures cause { ReadAllCause (F.faults self.old.folder) (F.faults self.new.folder) result }
+    {
+        if self.size - self.length < least {
+            return self.make_room(least);
+        }
+        Ok(())
+    }
+
     // Adds zeros for so many bytes and more, and syncs them, and the text with them.
     fn make_room(&mut self, least: usize) -> Result<(), FileFault>
         requires open { IsOpen F.disk self.old }
         ensures open { OnOk result (IsOpen F.disk self.new) }
         ensures room { OnOk result (least ≤ self.new.size - self.new.length) }
         ensures text { OnOk result (appended F.disk self.new ≡ appended F.disk self.old) }
-        ensures synced { OnOk result (synced F.disk self.new ≡ appended F.disk self.old) }
+        ensures synced { OnOk result (IsFront (synced F.disk self.old) (synced F.disk self.new)) }
         ensures any_moment { LeavesOnly (F.disk self.old.folder) (F.disk self.new.folder)
             (Within (seen (F.disk self.old.folder)) (string_bytes self.old.name) (synced F.disk self.old) (appended F.disk self.old)) }
         ensures others { OnOk result (SameBut (string_bytes self.old.name) (seen (F.disk self.new.folder)) (seen (F.disk self.old.folder))) }
@@ -89,8 +107,9 @@ impl<F: Folder> Segment<F> {
         let Some(size) = self.size.checked_add(more) else {
             return Err(FileFault::Memory);
         };
-        self.folder.grow(self.name.as_str(), more)?;
-        self.folder.sync(self.name.as_str())?;
+        let name = self.name.as_str();
+        self.folder.grow(name, more)?;
+        self.folder.sync(name)?;
         self.size = size;
         self.synced = self.length;
         Ok(())

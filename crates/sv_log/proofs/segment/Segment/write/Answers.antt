@@ -1,5 +1,5 @@
 -- What is proved by hand of `write`.
-use Rattle.std.proofs.Common.{ℕ, ◌+◌, ap}
+use Rattle.std.proofs.Common.{◌+◌, length, refl}
 use Rattle.sv_log.proofs.Runs.{room_to_write, write_only, write_open, write_text, write_synced, write_others}
 use Rattle.sv_log.proofs.segment.Segment.write.Goals as goal
 
@@ -15,13 +15,13 @@ returns-clause-any_moment g c =
     write_only g.F.Folder.disk c.args.self.now c.requires.open c.as_str.result.now c.as_str.ensures.value c.args.lines.now _ c.write_at.result c.requires.room c.write_at.ensures.made
 
 pub returns-clause-open : goal.returns-clause-open
-returns-clause-open g c = write_open g.F.Folder.disk c.args.self.now c.requires.open c.write_at.new.self _ c.args.lines.now c.requires.lines c.requires.room c.as_str.result.now c.as_str.ensures.value c.in_ok-write_at.ensures.made (ap (λ (n : ℕ). c.args.self.now.length + n) c.len.ensures)
+returns-clause-open g c = write_open g.F.Folder.disk c.args.self.now c.requires.open c.write_at.new.self (c.args.self.now.length + length c.args.lines.now) c.args.lines.now c.requires.lines c.requires.room c.as_str.result.now c.as_str.ensures.value c.in_ok-write_at.ensures.made refl
 
 pub returns-clause-text : goal.returns-clause-text
-returns-clause-text g c = write_text g.F.Folder.disk c.args.self.now c.requires.open c.write_at.new.self _ c.args.lines.now c.requires.lines c.requires.room c.as_str.result.now c.as_str.ensures.value c.in_ok-write_at.ensures.made (ap (λ (n : ℕ). c.args.self.now.length + n) c.len.ensures)
+returns-clause-text g c = write_text g.F.Folder.disk c.args.self.now c.requires.open c.write_at.new.self (c.args.self.now.length + length c.args.lines.now) c.args.lines.now c.requires.lines c.requires.room c.as_str.result.now c.as_str.ensures.value c.in_ok-write_at.ensures.made refl
 
 pub returns-clause-synced : goal.returns-clause-synced
-returns-clause-synced g c = write_synced g.F.Folder.disk c.args.self.now c.requires.open c.write_at.new.self _ c.args.lines.now c.requires.lines c.requires.room c.as_str.result.now c.as_str.ensures.value c.in_ok-write_at.ensures.made (ap (λ (n : ℕ). c.args.self.now.length + n) c.len.ensures)
+returns-clause-synced g c = write_synced g.F.Folder.disk c.args.self.now c.requires.open c.write_at.new.self (c.args.self.now.length + length c.args.lines.now) c.args.lines.now c.requires.lines c.requires.room c.as_str.result.now c.as_str.ensures.value c.in_ok-write_at.ensures.made refl
 
 pub returns-clause-others : goal.returns-clause-others
-returns-clause-others g c = write_others g.F.Folder.disk c.args.self.now c.requires.open c.write_at.new.self _ c.args.lines.now c.requires.lines c.requires.room c.as_str.result.now c.as_str.ensures.value c.in_ok-write_at.ensures.made (ap (λ (n : ℕ). c.args.self.now.length + n) c.len.ensures)
+returns-clause-others g c = write_others g.F.Folder.disk c.args.self.now c.requires.open c.write_at.new.self (c.args.self.now.length + length c.args.lines.now) c.args.lines.now c.requires.lines c.requires.room c.as_str.result.now c.as_str.ensures.value c.in_ok-write_at.ensures.made refl
