@@ -4,3 +4,5 @@ pub mod Moments
 pub mod Standing
 pub mod Texts
 pub mod Runs
+pub mod Mended
+pub mod Started

@@ -130,6 +130,9 @@ module _ {F : Type 0} (disk : F → Disk) (old : Segment F) (is_open : IsOpen di
     pub all_synced : synced disk settled ≡ appended disk old
     all_synced = opened_synced disk settled (s ++ p) [] r st all_size ∙ parts
 
+    pub all_synced_front : IsFront s (synced disk settled)
+    all_synced_front = subst (λ (l : List ℕ). IsFront s l) (sym (opened_synced disk settled (s ++ p) [] r st all_size)) (front_more s p)
+
   module _ (folder : F) (called : List ℕ) (is_called : called ≡ name) where
     pub sync_stands : disk folder ≡ noted (Sync called, true) (disk old.folder) → Stands (disk folder) name (s ++ p) [] room
     sync_stands is =

@@ -6,3 +6,4 @@ pub mod Memory
 pub mod Folders
 pub mod Logs
 pub mod Texts
+pub mod Rests

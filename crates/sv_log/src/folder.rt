@@ -43,34 +43,34 @@ pub trait Folder {
 
     /// Adds zeros behind a file.
     fn grow(&mut self, name: &str, size: usize) -> Result<(), FileFault>
-        requires there { HasRoom (seen (disk self.old)) name.now 0 0 }
+        requires there { is_honest self.old → HasRoom (seen (disk self.old)) name.now 0 0 }
         ensures made { Makes (Grow name.now size) (disk self.old) (disk self.new) result }
         ensures honest { is_honest self.new → is_honest self.old }
         ensures cause { ReadAllCause (faults self.old) (faults self.new) result };
 
     /// Writes over bytes that are there.
     fn write_at(&mut self, name: &str, at: usize, bytes: &[u8]) -> Result<(), FileFault>
-        requires within { HasRoom (seen (disk self.old)) name.now at (length bytes.now) }
+        requires within { is_honest self.old → HasRoom (seen (disk self.old)) name.now at (length bytes.now) }
         ensures made { Makes (Write name.now at bytes.now) (disk self.old) (disk self.new) result }
         ensures honest { is_honest self.new → is_honest self.old }
         ensures cause { ReadAllCause (faults self.old) (faults self.new) result };
 
     /// Cuts a file to a length.
     fn cut(&mut self, name: &str, size: usize) -> Result<(), FileFault>
-        requires within { HasRoom (seen (disk self.old)) name.now 0 size }
+        requires within { is_honest self.old → HasRoom (seen (disk self.old)) name.now 0 size }
         ensures made { Makes (Cut name.now size) (disk self.old) (disk self.new) result }
         ensures honest { is_honest self.new → is_honest self.old }
         ensures cause { ReadAllCause (faults self.old) (faults self.new) result };
 
     /// Gives a file another name, in place of one that has it.
     fn rename(&mut self, from: &str, to: &str) -> Result<(), FileFault>
-        requires there { HasRoom (seen (disk self.old)) from.now 0 0 }
+        requires there { is_honest self.old → HasRoom (seen (disk self.old)) from.now 0 0 }
         ensures made { Makes (Rename from.now to.now) (disk self.old) (disk self.new) result }
         ensures honest { is_honest self.new → is_honest self.old }
         ensures cause { ReadAllCause (faults self.old) (faults self.new) result };
 
     fn remove(&mut self, name: &str) -> Result<(), FileFault>
-        requires there { HasRoom (seen (disk self.old)) name.now 0 0 }
+        requires there { is_honest self.old → HasRoom (seen (disk self.old)) name.now 0 0 }
         ensures made { Makes (Remove name.now) (disk self.old) (disk self.new) result }
         ensures honest { is_honest self.new → is_honest self.old }
         ensures cause { ReadAllCause (faults self.old) (faults self.new) result };

@@ -4,9 +4,13 @@
 mod calls;
 mod folder;
 mod memory;
+mod mending;
 mod replay;
 mod segment;
+mod starting;
 
 pub use folder::Folder;
 pub use memory::MemFolder;
+pub use mending::{clear_behind, text_length};
 pub use segment::Segment;
+pub use starting::read_file;

@@ -25,6 +25,7 @@ pub struct Segment<F: Folder> {
     pub(crate) size: usize,
     /// How many zeros more than it needs it adds behind a file that is too short.
     pub(crate) spare: usize,
+    ghost ordered: { (synced ≤ length) × (length ≤ size) },
 }
 
 impl<F: Folder> Segment<F> {
@@ -32,14 +33,14 @@ impl<F: Folder> Segment<F> {
     ///
     /// After an `Err` nothing is asked of the log: it is opened anew.
     pub fn append(&mut self, lines: &[u8]) -> Result<(), FileFault>
-        requires open { IsOpen F.disk self.old }
+        requires open { F.is_honest self.old.folder → IsOpen F.disk self.old }
         requires lines { IsText lines.now }
-        ensures open { OnOk result (IsOpen F.disk self.new) }
-        ensures text { OnOk result (appended F.disk self.new ≡ appended F.disk self.old ++ lines.now) }
-        ensures synced { OnOk result (IsFront (synced F.disk self.old) (synced F.disk self.new)) }
-        ensures any_moment { LeavesOnly (F.disk self.old.folder) (F.disk self.new.folder)
+        ensures open { F.is_honest self.new.folder → OnOk result (IsOpen F.disk self.new) }
+        ensures text { F.is_honest self.new.folder → OnOk result (appended F.disk self.new ≡ appended F.disk self.old ++ lines.now) }
+        ensures synced { F.is_honest self.new.folder → OnOk result (IsFront (synced F.disk self.old) (synced F.disk self.new)) }
+        ensures any_moment { F.is_honest self.new.folder → LeavesOnly (F.disk self.old.folder) (F.disk self.new.folder)
             (Within (seen (F.disk self.old.folder)) (string_bytes self.old.name) (synced F.disk self.old) (appended F.disk self.old ++ lines.now)) }
-        ensures others { OnOk result (SameBut (string_bytes self.old.name) (seen (F.disk self.new.folder)) (seen (F.disk self.old.folder))) }
+        ensures others { F.is_honest self.new.folder → OnOk result (SameBut (string_bytes self.old.name) (seen (F.disk self.new.folder)) (seen (F.disk self.old.folder))) }
         ensures name { self.new.name ≡ self.old.name }
         ensures honest { F.is_honest self.new.folder → F.is_honest self.old.folder }
         ensures cause { ReadAllCause (F.faults self.old.folder) (F.faults self.new.folder) result }
@@ -52,13 +53,13 @@ impl<F: Folder> Segment<F> {
     ///
     /// After an `Err` nothing is asked of the log: it is opened anew.
     pub fn sync(&mut self) -> Result<(), FileFault>
-        requires open { IsOpen F.disk self.old }
-        ensures open { OnOk result (IsOpen F.disk self.new) }
-        ensures text { OnOk result (appended F.disk self.new ≡ appended F.disk self.old) }
-        ensures synced { OnOk result (synced F.disk self.new ≡ appended F.disk self.old) }
-        ensures any_moment { LeavesOnly (F.disk self.old.folder) (F.disk self.new.folder)
+        requires open { F.is_honest self.old.folder → IsOpen F.disk self.old }
+        ensures open { F.is_honest self.new.folder → OnOk result (IsOpen F.disk self.new) }
+        ensures text { F.is_honest self.new.folder → OnOk result (appended F.disk self.new ≡ appended F.disk self.old) }
+        ensures synced { F.is_honest self.new.folder → OnOk result (synced F.disk self.new ≡ appended F.disk self.old) }
+        ensures any_moment { F.is_honest self.new.folder → LeavesOnly (F.disk self.old.folder) (F.disk self.new.folder)
             (Within (seen (F.disk self.old.folder)) (string_bytes self.old.name) (synced F.disk self.old) (appended F.disk self.old)) }
-        ensures others { OnOk result (SameBut (string_bytes self.old.name) (seen (F.disk self.new.folder)) (seen (F.disk self.old.folder))) }
+        ensures others { F.is_honest self.new.folder → OnOk result (SameBut (string_bytes self.old.name) (seen (F.disk self.new.folder)) (seen (F.disk self.old.folder))) }
         ensures name { self.new.name ≡ self.old.name }
         ensures honest { F.is_honest self.new.folder → F.is_honest self.old.folder }
         ensures cause { ReadAllCause (F.faults self.old.folder) (F.faults self.new.folder) result }
@@ -70,14 +71,14 @@ impl<F: Folder> Segment<F> {
 
     // Sees to it that so many bytes fit behind the text.
     fn ready(&mut self, least: usize) -> Result<(), FileFault>
-        requires open { IsOpen F.disk self.old }
-        ensures open { OnOk result (IsOpen F.disk self.new) }
+        requires open { F.is_honest self.old.folder → IsOpen F.disk self.old }
+        ensures open { F.is_honest self.new.folder → OnOk result (IsOpen F.disk self.new) }
         ensures room { OnOk result (least ≤ self.new.size - self.new.length) }
-        ensures text { OnOk result (appended F.disk self.new ≡ appended F.disk self.old) }
-        ensures synced { OnOk result (IsFront (synced F.disk self.old) (synced F.disk self.new)) }
-        ensures any_moment { LeavesOnly (F.disk self.old.folder) (F.disk self.new.folder)
+        ensures text { F.is_honest self.new.folder → OnOk result (appended F.disk self.new ≡ appended F.disk self.old) }
+        ensures synced { F.is_honest self.new.folder → OnOk result (IsFront (synced F.disk self.old) (synced F.disk self.new)) }
+        ensures any_moment { F.is_honest self.new.folder → LeavesOnly (F.disk self.old.folder) (F.disk self.new.folder)
             (Within (seen (F.disk self.old.folder)) (string_bytes self.old.name) (synced F.disk self.old) (appended F.disk self.old)) }
-        ensures others { OnOk result (SameBut (string_bytes self.old.name) (seen (F.disk self.new.folder)) (seen (F.disk self.old.folder))) }
+        ensures others { F.is_honest self.new.folder → OnOk result (SameBut (string_bytes self.old.name) (seen (F.disk self.new.folder)) (seen (F.disk self.old.folder))) }
         ensures name { self.new.name ≡ self.old.name }
         ensures honest { F.is_honest self.new.folder → F.is_honest self.old.folder }
         ensures cause { ReadAllCause (F.faults self.old.folder) (F.faults self.new.folder) result }
@@ -90,14 +91,14 @@ impl<F: Folder> Segment<F> {
 
     // Adds zeros for so many bytes and more, and syncs them, and the text with them.
     fn make_room(&mut self, least: usize) -> Result<(), FileFault>
-        requires open { IsOpen F.disk self.old }
-        ensures open { OnOk result (IsOpen F.disk self.new) }
+        requires open { F.is_honest self.old.folder → IsOpen F.disk self.old }
+        ensures open { F.is_honest self.new.folder → OnOk result (IsOpen F.disk self.new) }
         ensures room { OnOk result (least ≤ self.new.size - self.new.length) }
-        ensures text { OnOk result (appended F.disk self.new ≡ appended F.disk self.old) }
-        ensures synced { OnOk result (IsFront (synced F.disk self.old) (synced F.disk self.new)) }
-        ensures any_moment { LeavesOnly (F.disk self.old.folder) (F.disk self.new.folder)
+        ensures text { F.is_honest self.new.folder → OnOk result (appended F.disk self.new ≡ appended F.disk self.old) }
+        ensures synced { F.is_honest self.new.folder → OnOk result (IsFront (synced F.disk self.old) (synced F.disk self.new)) }
+        ensures any_moment { F.is_honest self.new.folder → LeavesOnly (F.disk self.old.folder) (F.disk self.new.folder)
             (Within (seen (F.disk self.old.folder)) (string_bytes self.old.name) (synced F.disk self.old) (appended F.disk self.old)) }
-        ensures others { OnOk result (SameBut (string_bytes self.old.name) (seen (F.disk self.new.folder)) (seen (F.disk self.old.folder))) }
+        ensures others { F.is_honest self.new.folder → OnOk result (SameBut (string_bytes self.old.name) (seen (F.disk self.new.folder)) (seen (F.disk self.old.folder))) }
         ensures name { self.new.name ≡ self.old.name }
         ensures honest { F.is_honest self.new.folder → F.is_honest self.old.folder }
         ensures cause { ReadAllCause (F.faults self.old.folder) (F.faults self.new.folder) result }
@@ -117,15 +118,15 @@ impl<F: Folder> Segment<F> {
 
     // Writes lines over the zeros behind the text.
     fn write(&mut self, lines: &[u8]) -> Result<(), FileFault>
-        requires open { IsOpen F.disk self.old }
+        requires open { F.is_honest self.old.folder → IsOpen F.disk self.old }
         requires lines { IsText lines.now }
         requires room { length lines.now ≤ self.old.size - self.old.length }
-        ensures open { OnOk result (IsOpen F.disk self.new) }
-        ensures text { OnOk result (appended F.disk self.new ≡ appended F.disk self.old ++ lines.now) }
-        ensures synced { OnOk result (synced F.disk self.new ≡ synced F.disk self.old) }
-        ensures any_moment { LeavesOnly (F.disk self.old.folder) (F.disk self.new.folder)
+        ensures open { F.is_honest self.new.folder → OnOk result (IsOpen F.disk self.new) }
+        ensures text { F.is_honest self.new.folder → OnOk result (appended F.disk self.new ≡ appended F.disk self.old ++ lines.now) }
+        ensures synced { F.is_honest self.new.folder → OnOk result (synced F.disk self.new ≡ synced F.disk self.old) }
+        ensures any_moment { F.is_honest self.new.folder → LeavesOnly (F.disk self.old.folder) (F.disk self.new.folder)
             (Within (seen (F.disk self.old.folder)) (string_bytes self.old.name) (synced F.disk self.old) (appended F.disk self.old ++ lines.now)) }
-        ensures others { OnOk result (SameBut (string_bytes self.old.name) (seen (F.disk self.new.folder)) (seen (F.disk self.old.folder))) }
+        ensures others { F.is_honest self.new.folder → OnOk result (SameBut (string_bytes self.old.name) (seen (F.disk self.new.folder)) (seen (F.disk self.old.folder))) }
         ensures name { self.new.name ≡ self.old.name }
         ensures honest { F.is_honest self.new.folder → F.is_honest self.old.folder }
         ensures cause { ReadAllCause (F.faults self.old.folder) (F.faults self.new.folder) result }
