@@ -11,7 +11,7 @@ use Rattle.sv_log.specs.Rests.{IsAtRest, Tells}
 use Rattle.sv_log.specs.Logs.{Stands}
 use Rattle.sv_log.proofs.Texts.{whole-append, text-append}
 use Rattle.sv_log.proofs.Moments.{made_only, then_only, same_only}
-use Rattle.sv_log.proofs.Standing.{bytes_differ, put_same, put_other, surely}
+use Rattle.sv_log.proofs.Standing.{bytes_differ, put_same, put_other}
 
 pub whole_none : (x : List ℕ) → has_line x ≡ false → whole x ≡ []
 whole_none [] none = refl
@@ -198,7 +198,9 @@ module _ (disk : Disk) (name bytes : List ℕ) (end : ℕ) (rest : IsAtRest disk
     crash = λ c left.
         let e = left.1 in
         let w = cleared left.0 e.0 e.1 e.2 in
-        let is_seen : c name ≡ seen (noted (Write name end (zeros n), true) disk) name = surely (c name) _ _ (left.2 name ∙ w.2) (left.3 refl rest.calm rest.names) in (
+        let is_some : c name ≡ Some (take end bytes ++ w.0) = left.2 name ∙ w.2 in
+        let is_seen : c name ≡ seen (noted (Write name end (zeros n), true) disk) name =
+        ⊎_elim (λ (none : c name ≡ None). absurd (cc (is_some, none))) (λ same. same) (left.3 refl rest.calm rest.names) in (
           (λ m ne. left.2 m ∙ e.2.0 m ne ∙ rest.only e.0 e.1 m ∙ sym (put_other name m _ (seen disk) ne)),
           ([], tt, is_seen ∙ cleared_file),
         );

@@ -21,6 +21,10 @@ pub record Stands (disk : Disk) (name synced pending : List ℕ) (room : ℕ) : 
 abbrev pub Within : Picture → List ℕ → List ℕ → List ℕ → Picture → Type 0
 Within others name low high c = SameBut name c others × IsFront low (whole_in (c name)) × IsFront (whole_in (c name)) high
 
+-- what is synced is a part of the text, and the text of the file
+abbrev pub HasSizes : {F : Type 0} → Segment F → Type 0
+HasSizes log = (log.synced ≤ log.length) × (log.length ≤ log.size)
+
 module _ {F : Type 0} (disk : F → Disk) where
   -- the text that was appended
   abbrev pub appended : Segment F → List ℕ

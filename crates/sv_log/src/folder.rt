@@ -37,53 +37,53 @@ pub trait Folder {
 
     /// Makes a file of zeros, in place of one that has this name.
     fn make(&mut self, name: &str, size: usize) -> Result<(), FileFault>
-        ensures made { Makes (Make name.now size) (disk self.old) (disk self.new) result }
+        ensures made { is_honest self.new → Makes (Make name.now size) (disk self.old) (disk self.new) result }
         ensures honest { is_honest self.new → is_honest self.old }
         ensures cause { ReadAllCause (faults self.old) (faults self.new) result };
 
     /// Adds zeros behind a file.
     fn grow(&mut self, name: &str, size: usize) -> Result<(), FileFault>
         requires there { is_honest self.old → HasRoom (seen (disk self.old)) name.now 0 0 }
-        ensures made { Makes (Grow name.now size) (disk self.old) (disk self.new) result }
+        ensures made { is_honest self.new → Makes (Grow name.now size) (disk self.old) (disk self.new) result }
         ensures honest { is_honest self.new → is_honest self.old }
         ensures cause { ReadAllCause (faults self.old) (faults self.new) result };
 
     /// Writes over bytes that are there.
     fn write_at(&mut self, name: &str, at: usize, bytes: &[u8]) -> Result<(), FileFault>
         requires within { is_honest self.old → HasRoom (seen (disk self.old)) name.now at (length bytes.now) }
-        ensures made { Makes (Write name.now at bytes.now) (disk self.old) (disk self.new) result }
+        ensures made { is_honest self.new → Makes (Write name.now at bytes.now) (disk self.old) (disk self.new) result }
         ensures honest { is_honest self.new → is_honest self.old }
         ensures cause { ReadAllCause (faults self.old) (faults self.new) result };
 
     /// Cuts a file to a length.
     fn cut(&mut self, name: &str, size: usize) -> Result<(), FileFault>
         requires within { is_honest self.old → HasRoom (seen (disk self.old)) name.now 0 size }
-        ensures made { Makes (Cut name.now size) (disk self.old) (disk self.new) result }
+        ensures made { is_honest self.new → Makes (Cut name.now size) (disk self.old) (disk self.new) result }
         ensures honest { is_honest self.new → is_honest self.old }
         ensures cause { ReadAllCause (faults self.old) (faults self.new) result };
 
     /// Gives a file another name, in place of one that has it.
     fn rename(&mut self, from: &str, to: &str) -> Result<(), FileFault>
         requires there { is_honest self.old → HasRoom (seen (disk self.old)) from.now 0 0 }
-        ensures made { Makes (Rename from.now to.now) (disk self.old) (disk self.new) result }
+        ensures made { is_honest self.new → Makes (Rename from.now to.now) (disk self.old) (disk self.new) result }
         ensures honest { is_honest self.new → is_honest self.old }
         ensures cause { ReadAllCause (faults self.old) (faults self.new) result };
 
     fn remove(&mut self, name: &str) -> Result<(), FileFault>
         requires there { is_honest self.old → HasRoom (seen (disk self.old)) name.now 0 0 }
-        ensures made { Makes (Remove name.now) (disk self.old) (disk self.new) result }
+        ensures made { is_honest self.new → Makes (Remove name.now) (disk self.old) (disk self.new) result }
         ensures honest { is_honest self.new → is_honest self.old }
         ensures cause { ReadAllCause (faults self.old) (faults self.new) result };
 
     /// Puts a file's bytes on the disk.
     fn sync(&mut self, name: &str) -> Result<(), FileFault>
-        ensures made { Makes (Sync name.now) (disk self.old) (disk self.new) result }
+        ensures made { is_honest self.new → Makes (Sync name.now) (disk self.old) (disk self.new) result }
         ensures honest { is_honest self.new → is_honest self.old }
         ensures cause { ReadAllCause (faults self.old) (faults self.new) result };
 
     /// Puts the names on the disk.
     fn sync_folder(&mut self) -> Result<(), FileFault>
-        ensures made { Makes SyncFolder (disk self.old) (disk self.new) result }
+        ensures made { is_honest self.new → Makes SyncFolder (disk self.old) (disk self.new) result }
         ensures honest { is_honest self.new → is_honest self.old }
         ensures cause { ReadAllCause (faults self.old) (faults self.new) result };
 }

@@ -85,6 +85,13 @@ fn owned(alloc: Global, name: &str) -> Result<String, FileFault>
     String::from_str(alloc, name).map_err(|_| FileFault::Memory)
 }
 
+fn owned_bytes(alloc: Global, bytes: &[u8]) -> Result<Vec<u8>, FileFault>
+    ensures bytes { IfOk result (λ v. v.items ≡ bytes.now) }
+    ensures err { result ≢ Err FileFault.Failed }
+{
+    Vec::from_slice(alloc, bytes).map_err(|_| FileFault::Memory)
+}
+
 impl Folder for MemFolder {
     ghost use Rattle.sv_log.specs.Folders.{disk_in_memory};
 
@@ -114,7 +121,7 @@ impl Folder for MemFolder {
             self.faults.raise();
             return Err(FileFault::Failed);
         };
-        Ok(copied(&bytes, at, into))
+        Ok(copied(bytes.as_slice(), at, into))
     }
 
     fn make(&mut self, name: &str, size: usize) -> Result<(), FileFault> {
@@ -129,9 +136,7 @@ impl Folder for MemFolder {
 
     fn write_at(&mut self, name: &str, at: usize, bytes: &[u8]) -> Result<(), FileFault> {
         let name = owned(self.alloc, name)?;
-        let Ok(bytes) = Vec::from_slice(self.alloc, bytes) else {
-            return Err(FileFault::Memory);
-        };
+        let bytes = owned_bytes(self.alloc, bytes)?;
         self.note(Asked::Write(name, at, bytes))
     }
 

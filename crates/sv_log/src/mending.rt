@@ -1,13 +1,14 @@
 //! What a crash left of a segment, and how it is mended.
-ghost use Rattle.std.specs.Prelude.{◌≡◌, ◌-◌, ◌<◌, ◌≤◌, [], Some, false, length, take, OnOk, MatchOption};
+ghost use Rattle.std.specs.Prelude.{◌≡◌, ◌-◌, ◌<◌, ◌≤◌, ◌≢◌, [], Some, Err, false, length, take, IfOk, OnOk, MatchOption};
 ghost use Rattle.sv_bytes.specs.Faults.{ReadAllCause};
-ghost use Rattle.sv_log.specs.Pictures.{seen};
+ghost use Rattle.sv_log.specs.Pictures.{seen, zeros};
 ghost use Rattle.sv_log.specs.Crashes.{LeavesOnly};
 ghost use Rattle.sv_log.specs.Texts.{IsText, has_line, whole};
 ghost use Rattle.sv_log.specs.Rests.{IsAtRest, Tells};
 ghost use Rattle.sv_log.specs.Logs.{Stands};
 
 use super::folder::Folder;
+use super::replay::grown;
 use std::alloc::Global;
 use sv_bytes::FileFault;
 
@@ -28,10 +29,11 @@ fn line_end(bytes: &[u8]) -> Option<usize>
     ensures { MatchOption result (has_line bytes.now ≡ false) (λ n. (0 < n) × (n ≤ length bytes.now) × IsText (take n bytes.now)) }
 {
     for i in 0..bytes.len() {
-        if bytes[i] == 0 {
+        let byte = bytes[i];
+        if byte == 0 {
             return None;
         }
-        if bytes[i] == 10 {
+        if byte == 10 {
             return Some(i + 1);
         }
     }
@@ -55,9 +57,18 @@ pub fn clear_behind<F: Folder>(
     ensures honest { F.is_honest folder.new → F.is_honest folder.old }
     ensures cause { ReadAllCause (F.faults folder.old) (F.faults folder.new) result }
 {
-    let Ok(zeros) = vec![in alloc; 0u8; bytes.len() - end] else {
-        return Err(FileFault::Memory);
-    };
-    folder.write_at(name, end, &zeros)?;
+    let zeros = zeros_of(alloc, bytes.len() - end)?;
+    folder.write_at(name, end, zeros.as_slice())?;
     folder.sync(name)
+}
+
+fn zeros_of(alloc: Global, size: usize) -> Result<Vec<u8>, FileFault>
+    ensures zeros { IfOk result (λ v. v.items ≡ zeros size) }
+    ensures memory { result ≢ Err FileFault.Failed }
+{
+    let mut bytes = Vec::new(alloc);
+    if grown(&mut bytes, size).is_err() {
+        return Err(FileFault::Memory);
+    }
+    Ok(bytes)
 }

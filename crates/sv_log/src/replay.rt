@@ -66,7 +66,7 @@ pub(crate) fn name_before<'a>(call: &'a Asked, name: &'a str) -> &'a str
 }
 
 // Zeros behind bytes.
-fn grown(bytes: &mut Vec<u8>, size: usize) -> Result<(), AllocError>
+pub(crate) fn grown(bytes: &mut Vec<u8>, size: usize) -> Result<(), AllocError>
     ensures { IfOk result (λ _. bytes.new.items ≡ bytes.old.items ++ zeros size) }
 {
     for _ in 0..size {
