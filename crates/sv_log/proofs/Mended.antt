@@ -1,11 +1,11 @@
 -- What a crash leaves while the end of a segment is made zero.
-use Rattle.std.proofs.Common.{◌≡◌, ◌≢◌, ◌⊎◌, inl, inr, ⊎_elim, ℕ, zero, suc, ◌+◌, ◌-◌, ◌<◌, ◌≤◌, Bool, true, false, cond, not, ◌==◌, List, [], ◌∷◌, ◌++◌, length, take, drop, get_or, Option, Some, None, option_map, Result, Ok, Err, OnOk, refl, sym, ◌∙◌, ap, subst, arith, append_assoc, length-append, length-drop, take-append-drop}
+use Rattle.std.proofs.Common.{◌≡◌, ◌≢◌, inl, inr, ⊎_elim, ℕ, zero, suc, ◌+◌, ◌-◌, ◌<◌, ◌≤◌, true, false, cond, not, ◌==◌, List, [], ◌∷◌, ◌++◌, length, take, drop, get_or, Option, Some, None, option_map, Result, Ok, Err, OnOk, refl, sym, ◌∙◌, ap, subst, arith, append_assoc, take-append-drop}
 use Rattle.std.specs.Str.{bytes_eq}
 use Rattle.std.proofs.lemmas.Bool.{cases_Bool, cond-true, cond-false, false≢true, and_from, or_right, not_from_false, ne_eqb, eqb-true}
 use Rattle.std.proofs.lemmas.List.{append-nil, append_cancel_left, drop_all, take_all, take_more, drop_more, length-replicate}
 use Rattle.std.proofs.Math.Seq.{take-add}
-use Rattle.sv_log.specs.Pictures.{Picture, Call, Write, Sync, Made, Disk, seen, noted, put, over, zeros, HasRoom, Makes}
-use Rattle.sv_log.specs.Crashes.{Same, SameBut, Torn, Leaves, MayLeave, MayWrite, LeavesOnly}
+use Rattle.sv_log.specs.Pictures.{Picture, Call, Write, Sync, Disk, seen, noted, over, zeros, HasRoom, Makes}
+use Rattle.sv_log.specs.Crashes.{Same, Torn, Leaves, MayLeave, MayWrite, LeavesOnly}
 use Rattle.sv_log.specs.Texts.{has_line, whole, whole_in, IsText}
 use Rattle.sv_log.specs.Rests.{IsAtRest, Tells}
 use Rattle.sv_log.specs.Logs.{Stands}

@@ -1,5 +1,5 @@
 -- How runs of calls join, and what a crash leaves at each moment of them.
-use Rattle.std.proofs.Common.{◌≡◌, ◌⊎◌, inl, inr, ⊎_elim, ℕ, Bool, List, [], ◌∷◌, ◌++◌, true, false, Result, Ok, Err, refl, sym, ◌∙◌, ap, subst, append_assoc}
+use Rattle.std.proofs.Common.{◌≡◌, ⊎_elim, Bool, List, [], ◌∷◌, ◌++◌, true, false, Result, Ok, Err, sym, ◌∙◌, ap, subst, append_assoc}
 use Rattle.sv_log.specs.Pictures.{Picture, Call, Made, Disk, noted, Makes}
 use Rattle.sv_log.specs.Crashes.{Leaves, MayLeave, EachLeaves, LeavesOnly}
 

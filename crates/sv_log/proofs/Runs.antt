@@ -1,9 +1,9 @@
 -- What the calls of a segment leave, from one that is open.
-use Rattle.std.proofs.Common.{◌≡◌, ◌≢◌, ℕ, ◌+◌, ◌-◌, ◌≤◌, Bool, true, List, [], ◌∷◌, ◌++◌, length, take, drop, Option, Some, Result, Ok, refl, sym, ◌∙◌, ap, subst, arith, append_assoc, length-append, length-drop, length-take-le, take-append-drop}
+use Rattle.std.proofs.Common.{◌≡◌, ℕ, ◌+◌, ◌-◌, ◌≤◌, true, List, [], ◌++◌, length, Result, Ok, refl, sym, ◌∙◌, ap, subst, arith, append_assoc, length-append, length-take-le, take-append-drop}
 use Rattle.std.specs.String.{string_bytes}
 use Rattle.std.proofs.lemmas.List.{append-nil}
-use Rattle.sv_log.specs.Pictures.{Picture, Call, Grow, Write, Sync, Disk, seen, noted, Makes, HasRoom}
-use Rattle.sv_log.specs.Crashes.{SameBut, Leaves, LeavesOnly}
+use Rattle.sv_log.specs.Pictures.{Picture, Grow, Write, Sync, Disk, seen, noted, Makes, HasRoom}
+use Rattle.sv_log.specs.Crashes.{SameBut, LeavesOnly}
 use Rattle.sv_log.specs.Texts.{IsText, IsFront, whole_in}
 use Rattle.sv_log.specs.Logs.{Stands, Within, IsOpen, appended, synced, pending}
 use Rattle.sv_log.specs.declared.segment.Segment.{Segment}

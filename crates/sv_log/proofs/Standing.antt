@@ -1,11 +1,11 @@
 -- What the calls of a segment make of its file, and what a crash leaves of it.
-use Rattle.std.proofs.Common.{◌≡◌, ◌≢◌, ◌⊎◌, inl, inr, ⊎_elim, ℕ, ◌+◌, ◌-◌, ◌≤◌, Bool, true, false, cond, not, ◌&&◌, ◌||◌, List, [], ◌∷◌, ◌++◌, length, take, drop, Option, Some, None, option_map, refl, sym, ◌∙◌, ap, subst, arith, append_assoc, length-append}
+use Rattle.std.proofs.Common.{◌≡◌, ◌≢◌, ◌⊎◌, ⊎_elim, ℕ, ◌+◌, ◌-◌, ◌≤◌, true, false, not, List, [], ◌++◌, length, take, drop, Option, Some, None, option_map, refl, sym, ◌∙◌, ap, subst, arith, append_assoc, length-append}
 use Rattle.std.specs.Str.{bytes_eq}
 use Rattle.std.specs.String.{string_bytes}
-use Rattle.std.proofs.lemmas.Bool.{cond-true, cond-false, and_from, or_right, or_left, not_from_false, true_from_ne_false, false_from_ne_true}
-use Rattle.std.proofs.lemmas.List.{append-nil, take_at, drop_at, drop_all, replicate-append-replicate, length-replicate, drop-replicate, drop-drop}
+use Rattle.std.proofs.lemmas.Bool.{cond-true, cond-false, and_from, or_right, not_from_false, false_from_ne_true}
+use Rattle.std.proofs.lemmas.List.{append-nil, take_at, drop_at, replicate-append-replicate, length-replicate, drop-replicate, drop-drop}
 use Rattle.std.proofs.lemmas.Slice.Eq.{bytes_eq-Decides}
-use Rattle.sv_log.specs.Pictures.{Picture, Call, Grow, Write, Sync, Made, Disk, seen, seen_after, noted, put, over, zeros, HasRoom}
+use Rattle.sv_log.specs.Pictures.{Picture, Grow, Write, Sync, Disk, seen, noted, put, over, zeros, HasRoom}
 use Rattle.sv_log.specs.Crashes.{Same, SameBut, Torn, Leaves, MayLeave, MayWrite}
 use Rattle.sv_log.specs.Texts.{IsText, IsFront, Masked, whole, whole_in}
 use Rattle.sv_log.specs.Logs.{Stands, Within, IsOpen, appended, synced, pending}

@@ -1,17 +1,17 @@
 -- What a crash leaves while a segment is made.
-use Rattle.std.proofs.Common.{◌≡◌, ◌≢◌, ◌⊎◌, inl, inr, ⊎_elim, ℕ, ◌+◌, ◌-◌, ◌<◌, ◌≤◌, min, Bool, true, false, cond, not, List, [], ◌∷◌, ◌++◌, length, take, drop, Option, Some, None, Result, Ok, Err, refl, sym, ◌∙◌, ap, subst, arith, length-append, length-take-le}
+use Rattle.std.proofs.Common.{◌≡◌, ⊎_elim, ℕ, ◌-◌, ◌≤◌, true, false, not, List, [], ◌∷◌, ◌++◌, length, take, Option, Some, None, Result, Ok, refl, sym, ◌∙◌, ap, subst, arith, length-take-le}
 use Rattle.std.specs.Str.{bytes_eq}
 use Rattle.std.specs.String.{string_bytes}
 use Rattle.std.proofs.lemmas.List.{append-nil}
 use Rattle.std.proofs.lemmas.Bool.{cases_Bool, and_from, or_left, or_right, not_from_false}
-use Rattle.sv_log.specs.Pictures.{Picture, Call, Make, Sync, SyncFolder, Made, Disk, seen, noted, zeros, Makes}
-use Rattle.sv_log.specs.Crashes.{Same, SameBut, Leaves, MayLeave, MayMake, LeavesOnly, is_synced}
+use Rattle.sv_log.specs.Pictures.{Picture, Make, Sync, SyncFolder, Disk, seen, noted, zeros, Makes}
+use Rattle.sv_log.specs.Crashes.{Same, Leaves, MayLeave, MayMake, LeavesOnly, is_synced}
 use Rattle.sv_log.specs.Texts.{whole, whole_in}
 use Rattle.sv_log.specs.Rests.{IsAtRest, Tells}
 use Rattle.sv_log.specs.Logs.{Stands, IsOpen, appended, synced}
 use Rattle.sv_log.specs.declared.segment.Segment.{Segment}
 use Rattle.sv_log.proofs.Texts.{whole_zeros}
-use Rattle.sv_log.proofs.Moments.{made_only, then_only, same_only}
+use Rattle.sv_log.proofs.Moments.{made_only, then_only}
 use Rattle.sv_log.proofs.Standing.{put_same, opened, opened_text, opened_synced}
 
 tells_same : (others : Picture) (name text : List ℕ) (c d : Picture) → Same c d → Tells others name text d → Tells others name text c

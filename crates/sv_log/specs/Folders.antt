@@ -1,5 +1,4 @@
 -- What a folder in memory shows.
-use Rattle.std.specs.Prelude.{List}
 use Rattle.sv_log.specs.Pictures.{Disk}
 use Rattle.sv_log.specs.Memory.{disk_of}
 use Rattle.sv_log.specs.declared.memory.MemFolder.{MemFolder}

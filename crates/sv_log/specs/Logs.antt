@@ -1,9 +1,9 @@
 -- A segment of the log on its folder.
-use Rattle.std.specs.Prelude.{◌≡◌, ◌≢◌, ℕ, ◌-◌, ◌≤◌, Bool, true, false, List, [], ◌++◌, length, take, drop, Option, Some}
+use Rattle.std.specs.Prelude.{◌≡◌, ◌≢◌, ℕ, ◌-◌, ◌≤◌, true, false, List, ◌++◌, length, take, drop, Some}
 use Rattle.std.specs.String.{string_bytes}
 use Rattle.sv_log.specs.Pictures.{Picture, Disk, seen, zeros}
 use Rattle.sv_log.specs.Crashes.{SameBut, Leaves, has_failed, has_renamed, is_synced}
-use Rattle.sv_log.specs.Texts.{IsText, IsFront, Masked, whole, whole_in}
+use Rattle.sv_log.specs.Texts.{IsText, IsFront, Masked, whole_in}
 use Rattle.sv_log.specs.declared.segment.Segment.{Segment}
 
 -- A file has a synced text, behind it a text that is not synced yet, and then zeros. A crash loses some bytes of the second text: each is a zero then.

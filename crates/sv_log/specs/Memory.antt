@@ -1,10 +1,10 @@
 -- A folder in memory: the files that it was made with, and the calls since, the first of them first.
-use Rattle.std.specs.Prelude.{◌≡◌, ℕ, ◌≤◌, Bool, List, [], ◌∷◌, ◌++◌, Option, Some, None, cond, Vec}
+use Rattle.std.specs.Prelude.{ℕ, List, [], ◌∷◌, ◌++◌, Option, Some, None, cond, Vec}
 use Rattle.std.specs.Str.{bytes_eq}
 use Rattle.std.specs.String.{string_bytes}
 use Rattle.std.specs.declared.alloc.Global.{Global}
 use Rattle.sv_bytes.specs.Stored.{contents_of}
-use Rattle.sv_log.specs.Pictures.{Picture, Call, Make, Grow, Write, Cut, Rename, Remove, Sync, SyncFolder, Made, Disk}
+use Rattle.sv_log.specs.Pictures.{Call, Make, Grow, Write, Cut, Rename, Remove, Sync, SyncFolder, Made, Disk}
 use Rattle.sv_log.specs.declared.calls.Asked.{Asked}
 use Rattle.sv_log.specs.declared.calls.Asked.TheVariants as asked
 use Rattle.sv_log.specs.declared.calls.Kept.{Kept}

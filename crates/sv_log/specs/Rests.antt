@@ -1,5 +1,5 @@
 -- A folder after a restart.
-use Rattle.std.specs.Prelude.{◌≡◌, Bool, true, false, List, ℕ}
+use Rattle.std.specs.Prelude.{◌≡◌, true, false, List, ℕ}
 use Rattle.sv_log.specs.Pictures.{Picture, Disk, seen}
 use Rattle.sv_log.specs.Crashes.{Same, SameBut, Leaves, has_failed, has_renamed, is_synced}
 use Rattle.sv_log.specs.Texts.{whole_in}

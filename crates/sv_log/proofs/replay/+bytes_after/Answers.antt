@@ -1,8 +1,8 @@
 -- What is proved by hand of `bytes_after`.
-use Rattle.std.proofs.Common.{◌≡◌, ◌-◌, arith, List, ℕ, Option, take, sym, ◌∙◌, ap, subst, IfOk}
+use Rattle.std.proofs.Common.{◌-◌, arith, List, ℕ, take, sym, ◌∙◌, ap}
 use Rattle.sv_bytes.specs.Stored.{contents_of}
 use Rattle.sv_log.specs.Pictures.{seen_after}
-use Rattle.sv_log.specs.Memory.{call_of, latest_first, bytes_in}
+use Rattle.sv_log.specs.Memory.{call_of, latest_first}
 use Rattle.sv_log.proofs.Replays.{latest_at, seen_failed, seen_done, if_ok}
 use Rattle.sv_log.proofs.replay.+bytes_after.Goals as goal
 

@@ -1,5 +1,5 @@
 -- What is proved by hand of `read_at`.
-use Rattle.std.proofs.Common.{◌≡◌, List, ℕ, Option, Some, ◌-◌, min, length, take, drop, sym, ◌∙◌, ap, subst}
+use Rattle.std.proofs.Common.{◌≡◌, List, ℕ, Option, Some, sym, ◌∙◌, ap, subst}
 use Rattle.sv_log.specs.Pictures.{seen}
 use Rattle.sv_log.specs.Reads.{ReadsPart}
 use Rattle.sv_log.specs.Memory.{bytes_in}

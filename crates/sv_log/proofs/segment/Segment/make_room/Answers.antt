@@ -1,6 +1,6 @@
 -- What is proved by hand of `make_room`.
-use Rattle.std.proofs.Common.{◌≡◌, ◌+◌, ◌-◌, ℕ, refl, arith}
-use Rattle.sv_log.proofs.Runs.{room_to_grow, grow_only, grow_sync_only, grow_stands, grow_others, all_open, all_text, all_synced_front, within_room, calm_only}
+use Rattle.std.proofs.Common.{arith}
+use Rattle.sv_log.proofs.Runs.{room_to_grow, grow_only, grow_sync_only, grow_stands, grow_others, all_open, all_text, all_synced_front, calm_only}
 use Rattle.sv_log.proofs.segment.Segment.make_room.Goals as goal
 
 pub grow-requires : goal.grow-requires
