@@ -17,3 +17,4 @@ pub mod Looks
 pub mod Applies
 pub mod Raised
 pub mod Backwards
+pub mod Pasts

@@ -21,7 +21,7 @@ use Rattle.sv_client.specs.Invariant.{AreAwaited, IsClientOf}
 use Rattle.sv_client.specs.declared.fault.TakeFault.{TakeFault}
 use Rattle.sv_client.specs.Answers.{IsFine, IsTaken, IsTakeFault, got_now}
 use Rattle.sv_client.proofs.Looking.{fine_misses, Oldest, oldest}
-use Rattle.sv_client.proofs.Outstanding.{outstanding_got}
+use Rattle.sv_client.proofs.Outstanding.{got_turn}
 use Rattle.sv_client.proofs.Keeping.{latest_is, latest_in, latest_count, same_long}
 
 told_more : (o : Option ℕ) (n : ℕ) → n ≤ told_with o n
@@ -102,7 +102,7 @@ taken_is who t reply store pending ks sessions made commit joined is fine done s
         few = subst (λ (n : ℕ). (x : ℕ) → count_up_to store_after.held x n ≤ 1) c few;
       };
       actions = λ i. record { shape = shape i; items = a.2 i };
-      awaited = awaited_got who t reply ks kinds is.awaited (asked_some (outstanding who t) fine.request fine.rest fine.asked) (outstanding_got who 0 t (latest_session t) reply is.proper may) awaited;
+      awaited = awaited_got who t reply ks kinds is.awaited (asked_some (outstanding who t) fine.request fine.rest fine.asked) (got_turn who 0 t (latest_session t) reply is.turn may) awaited;
       commit_is = c;
       asked = a.1 ∙ sym (newly_got who t reply);
     }
@@ -131,7 +131,7 @@ missing_is who t reply fault fine m = subst (λ (o : Option Fault). IfSome (faul
 pub sessions_are : (who : Identity) (t : List Event) (reply : Reply) (store : Store) (pending : PendingList) (ks : List Awaited) (sessions made commit : ℕ) (joined : Bool)
     → IsClientOf who t store pending ks sessions made commit joined → IsFine who t reply → sessions ≡ latest_session t + 1
 sessions_are who t reply store pending ks sessions made commit joined is fine =
-    is.counts.sessions_are ∙ latest_count who t is.proper (latest_session t) (latest_in who t (current_session t) (asked_some (outstanding who t) fine.request fine.rest fine.asked))
+    is.counts.sessions_are ∙ latest_count who t is.turn (latest_session t) (latest_in who t (current_session t) (asked_some (outstanding who t) fine.request fine.rest fine.asked))
 
 pub got_event : (sessions : ℕ) (t : List Event) (reply : Reply) → sessions ≡ latest_session t + 1 → events.Got (sessions - 1) reply ≡ got_now t reply
 got_event sessions t reply e =
