@@ -18,3 +18,6 @@ pub mod Applies
 pub mod Raised
 pub mod Backwards
 pub mod Pasts
+pub mod Wells
+pub mod Sizes
+pub mod Wires

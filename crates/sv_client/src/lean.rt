@@ -1,5 +1,5 @@
 //! A client of a world that keeps no trace: its calls, and what each of them changes.
-ghost use Rattle.std.specs.Prelude.{◌≡◌, ℕ, ◌-◌, ◌<◌, ◌≤◌, true, ◌∷◌, [], length, option_map, option_to_list, slice_get, IfOk, IfErr, OnOk, OnErr, MatchResult};
+ghost use Rattle.std.specs.Prelude.{◌≡◌, ℕ, ◌-◌, ◌<◌, ◌≤◌, true, ◌∷◌, [], length, option_map, option_to_list, slice_get, IfOk, IfErr, OnOk, OnErr, MatchResult, All};
 ghost use Rattle.sv_world.specs.Limits.{most_outstanding};
 ghost use Rattle.sv_world.specs.Sets.{numbers_of};
 ghost use Rattle.sv_versions.specs.Held.{AnswersAbove, count_up_to, latest, read_below};
@@ -8,9 +8,11 @@ ghost use Rattle.sv_client.specs.declared.trace.Event.TheVariants as events;
 ghost use Rattle.sv_client.specs.Traces.{joins, makes, held_of, pending_of, view_of};
 ghost use Rattle.sv_client.specs.Taking.{outstanding, observed_now, told, first_fault_of_reply};
 ghost use Rattle.sv_client.specs.Evaluating.{AreWithin};
-ghost use Rattle.sv_client.specs.Proper.{IsGoodInterest, IsReadyToMake, MayPoll, MayObserve, MayLeave, AreInTurn, in_session, most_numbers};
+ghost use Rattle.sv_client.specs.Proper.{IsGoodInterest, IsReadyToMake, MayCome, MayPoll, MayObserve, MayLeave, AreInTurn, in_session, most_numbers};
 ghost use Rattle.sv_client.specs.Seen.{new_client, with_event, newly_asked, event_of_mark, latest_session};
-ghost use Rattle.sv_client.specs.Answers.{view_seen, IsMakeFault, IsPollFault, IsObserveFault, IsTakeFault, IsFine, got_now};
+ghost use Rattle.sv_client.specs.Answers.{view_seen, IsMakeFault, IsPollFault, IsObserveFault, IsTakeFault, IsFine, IsServed, got_now};
+ghost use Rattle.sv_client.specs.declared.trace.Event.{Event};
+ghost use Rattle.sv_wire.specs.Grammar.{IsWireRequest};
 
 use crate::asking::{awaited_at_join, joining};
 use crate::checks::{is_out_of_order, is_unfit};
@@ -399,11 +401,18 @@ impl LeanClient {
         interest
     }
 
+    /// A law: what it asks is a message, each time; what it reports of a reply is one where that is.
+    pub fn asks_messages(&self)
+        ensures { (e : Event) → MayCome self.now.who 0 self.now.events e → IsServed self.now.who e → All IsWireRequest (newly_asked self.now.who self.now.events e) }
+    {
+        let _ = self.told;
+    }
+
     /// A law: each event of its trace is one that may come after those before it.
     pub fn in_turn(&self)
         ensures turn { AreInTurn self.now.who 0 self.now.events }
         ensures kept { AnswersAbove (told self.now.events) self.now.kept (held_of self.now.events) }
     {
-        let _ = self;
+        let _ = self.told;
     }
 }

@@ -22,7 +22,7 @@ mod view;
 pub use client::Client;
 pub use fault::{MakeFault, ObserveFault, PollFault, TakeFault};
 pub use lean::LeanClient;
-pub use limits::MOST_MADE;
+pub use limits::{MOST_MADE, MOST_NUMBERS};
 pub use same::{are_same_values, same_action, same_actions_are_equal, same_values_are_equal};
 pub use trace::{Event, Trace, TraceMark, is_make};
 pub use view::View;
