@@ -110,6 +110,12 @@ impl LeanClient {
         self.interest.as_slice()
     }
 
+    pub fn shape(&self) -> Shape
+        ensures { result ≡ self.now.who.shape }
+    {
+        self.shape
+    }
+
     /// How many actions are made and not settled, at most 8.
     pub fn pending(&self) -> usize
         ensures { result ≡ length (pending_of self.now.events) }
