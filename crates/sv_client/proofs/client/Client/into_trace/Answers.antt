@@ -48,5 +48,6 @@ returns-clause-proper c =
       who = is.identity;
       events = subst (AreProper v.who c.args.first) (sym (reverse-reverse (map f v.events))) (up_proper c.args.first v.who v.events proper);
     } in
-    subst (λ (w : ClientView). Proper w.who.shape c.returned) c.self.view_is
+    let trace : Trace = record { client = c.id.result; interest = c.into_interest.result; first = c.args.first; events = c.from_vec.result } in
+    subst (λ (w : ClientView). Proper w.who.shape trace) c.self.view_is
     (subst (Proper v.who.shape) (sym (λ i. record { client = c.id.ensures i; interest = c.into_interest.ensures i; first = c.args.first; events = events i })) good)
