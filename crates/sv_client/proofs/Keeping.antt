@@ -1,8 +1,8 @@
 -- A client stays one with each event that its calls append.
-use Rattle.std.proofs.Common.{◌≡◌, ℕ, zero, suc, ◌+◌, ◌<◌, ◌≤◌, Bool, true, false, List, [], ◌∷◌, ◌++◌, length, map, reverse, Option, Some, None, refl, sym, ap, subst, ◌∙◌, add-one, zero-add, arith}
+use Rattle.std.proofs.Common.{◌≡◌, ℕ, suc, ◌+◌, ◌<◌, ◌≤◌, Bool, true, false, List, [], ◌∷◌, ◌++◌, length, map, Option, Some, None, refl, sym, ap, subst, ◌∙◌, add-one, zero-add, arith}
 use Rattle.std.specs.Prelude.{if◌then◌else◌, replicate, unwrap_or}
 use Rattle.std.proofs.lemmas.Bool.{eq-eqb}
-use Rattle.std.proofs.lemmas.List.{length-append, map-append, reverse-append, length-replicate}
+use Rattle.std.proofs.lemmas.List.{length-append, map-append, length-replicate}
 use Rattle.sv_world.specs.declared.action.Action.{Action}
 use Rattle.sv_world.specs.declared.world.ObjectId.{ObjectId}
 use Rattle.sv_versions.specs.Held.{Store}
@@ -24,12 +24,9 @@ use Rattle.sv_client.specs.Kinds.{kind_of}
 use Rattle.sv_client.specs.Seen.{latest_session, event_of_mark}
 use Rattle.sv_client.specs.Invariant.{StandsFor, AreAwaited, IsClientOf}
 use Rattle.sv_client.specs.Answers.{got_now}
-use Rattle.sv_client.proofs.Sessions.{session_after, current_turn, some_current}
+use Rattle.sv_client.proofs.Sessions.{some_current}
 use Rattle.sv_client.proofs.Outstanding.{when, answers_some, joined_turn, made_turn, polled_turn, observed_turn, left_turn, outstanding_cut, outstanding_quit, outstanding_shown}
 use Rattle.sv_client.proofs.Standing.{kept_same}
-
-pub reverse_push : (es fs : List Event) (e : Event) → fs ≡ es ++ e ∷ [] → reverse fs ≡ e ∷ reverse es
-reverse_push es fs e h = ap reverse h ∙ reverse-append es (e ∷ [])
 
 -- ---- What is awaited
 
@@ -172,13 +169,6 @@ latest_in who t (Some s) l = refl
 -- A reply without a fault comes in a session.
 pub latest_is : (who : Identity) (t : List Event) (reply : Reply) → first_fault_of_reply who t reply ≡ None → current_session t ≡ Some (latest_session t)
 latest_is who t reply f = latest_in who t (current_session t) (answers_some who t reply f)
-
-count_of : (n s : ℕ) → session_after 0 n ≡ Some s → n ≡ s + 1
-count_of zero s e = cc
-count_of (suc n) s e = let same : 0 + n ≡ s = cc in omega (arith, same)
-
-pub latest_count : (who : Identity) (t : List Event) → AreInTurn who 0 t → (s : ℕ) → current_session t ≡ Some s → joins t ≡ s + 1
-latest_count who t p s e = count_of (joins t) s (sym (current_turn who 0 t p) ∙ e)
 
 pub got_keeps : (who : Identity) (t : List Event) (reply : Reply) (store : Store) (pending : PendingList) (ks ls : List Awaited) (sessions made commit after : ℕ) (joined : Bool) (held : Store) (list : PendingList)
     → IsClientOf who t store pending ks sessions made commit joined

@@ -1,5 +1,5 @@
 -- What a client asks is within the grammar of messages, whatever it was replied.
-use Rattle.std.proofs.Common.{◌≡◌, ℕ, suc, ◌≤◌, Bool, true, false, ◌&&◌, ◌||◌, nat_lt, nat_le, not, eqb, List, [], ◌∷◌, ◌++◌, length, map, ℤ, Option, Some, None, refl, sym, ap, ◌∙◌, subst, zero-add, arith, eq-eqb}
+use Rattle.std.proofs.Common.{◌≡◌, ℕ, suc, ◌≤◌, Bool, true, false, ◌&&◌, ◌||◌, nat_lt, nat_le, not, eqb, List, [], ◌∷◌, ◌++◌, length, map, ℤ, Option, None, refl, sym, ap, ◌∙◌, subst, zero-add, arith, eq-eqb}
 use Rattle.std.specs.Prelude.{All, is_none, unwrap_or, if◌then◌else◌}
 use Rattle.std.specs.List.{AllByRecursion, list_any}
 use Rattle.std.proofs.lemmas.List.{length-map}

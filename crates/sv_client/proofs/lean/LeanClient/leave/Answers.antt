@@ -3,7 +3,6 @@ use Rattle.std.proofs.Common.{false, List, length, sym, ap, subst, arith}
 use Rattle.sv_wire.specs.declared.message.Request.{Request}
 use Rattle.sv_wire.specs.declared.message.Request.TheVariants as requests
 use Rattle.sv_client.specs.declared.trace.Event.{Event}
-use Rattle.sv_client.specs.declared.trace.Event.TheVariants as events
 use Rattle.sv_client.specs.Taking.{outstanding}
 use Rattle.sv_client.specs.Proper.{MayLeave}
 use Rattle.sv_client.specs.Seen.{ClientView}

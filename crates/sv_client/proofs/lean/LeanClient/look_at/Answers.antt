@@ -1,5 +1,5 @@
 -- What is proved by hand of `LeanClient::look_at`.
-use Rattle.std.proofs.Common.{◌≡◌, List, reverse, Some, sym, ap, subst, ◌∙◌}
+use Rattle.std.proofs.Common.{◌≡◌, List, Some, sym, ap, subst, ◌∙◌}
 use Rattle.sv_client.specs.declared.kinds.Awaited.{Awaited}
 use Rattle.sv_client.specs.Seen.{ClientView}
 use Rattle.sv_client.specs.Invariant.{who_is}

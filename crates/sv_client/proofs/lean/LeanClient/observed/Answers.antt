@@ -1,5 +1,5 @@
 -- What the oldest request observes is of the world.
-use Rattle.std.proofs.Common.{List, reverse, slice_get, option_copied, sym, ap, subst, ◌∙◌}
+use Rattle.std.proofs.Common.{List, slice_get, option_copied, sym, ap, subst, ◌∙◌}
 use Rattle.sv_client.specs.declared.kinds.Awaited.{Awaited}
 use Rattle.sv_client.specs.Seen.{ClientView}
 use Rattle.sv_client.specs.Evaluating.{AreWithin}

@@ -1,5 +1,5 @@
 -- What is proved by hand of `LeanClient::old_versions`.
-use Rattle.std.proofs.Common.{◌≡◌, reverse, sym, subst, arith}
+use Rattle.std.proofs.Common.{◌≡◌, sym, subst, arith}
 use Rattle.sv_versions.specs.Held.{count_up_to}
 use Rattle.sv_client.specs.Invariant.{who_is}
 use Rattle.sv_client.specs.Seen.{ClientView}

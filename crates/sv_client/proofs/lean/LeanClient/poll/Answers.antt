@@ -2,7 +2,6 @@
 use Rattle.std.proofs.Common.{◌≡◌, true, List, sym, subst, arith}
 use Rattle.sv_wire.specs.declared.message.Request.TheVariants as requests
 use Rattle.sv_client.specs.declared.trace.Event.{Event}
-use Rattle.sv_client.specs.declared.trace.Event.TheVariants as events
 use Rattle.sv_client.specs.Taking.{outstanding}
 use Rattle.sv_client.specs.Proper.{MayPoll, in_session}
 use Rattle.sv_client.specs.Seen.{ClientView}

@@ -1,5 +1,5 @@
 -- What is proved by hand of `LeanClient::stable`.
-use Rattle.std.proofs.Common.{◌≡◌, None, reverse, sym, subst, arith}
+use Rattle.std.proofs.Common.{◌≡◌, None, sym, subst, arith}
 use Rattle.sv_versions.specs.Held.{latest}
 use Rattle.sv_client.specs.Invariant.{who_is}
 use Rattle.sv_client.specs.Seen.{ClientView}
