@@ -81,6 +81,11 @@ abbrev pub Watched : List ObjectId → ℕ → ℕ → PilotView → PilotView �
 Watched objects wait zero old new = HasTaken old new
 Watched objects wait (suc n) old new = (mid : PilotView) × Did (events.Observe objects wait) old mid × Watched objects wait n mid new
 
+-- Nothing was done for want of memory; or it made an action, which it might make, and took some replies, until it stopped.
+abbrev pub StoppedMake : Action → PilotView → PilotView → Trouble → Type 0
+StoppedMake action old new trouble =
+    ((new ≡ old) × (trouble ≡ troubles.Memory)) ⊎ (IsReadyToMake old.client.who old.client.events action × Did (events.Make action) old new × StopsBy old new trouble)
+
 -- It made an action of the text, which it might make, and then took some replies.
 pub record MadeAction (text : List ℕ) (old new : PilotView) : Type 0 where
   pub action : Action

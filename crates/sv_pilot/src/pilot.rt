@@ -13,7 +13,7 @@ ghost use Rattle.sv_client.specs.Proper.{IsReadyToMake, MayPoll, MayObserve, May
 ghost use Rattle.sv_pilot.specs.declared.trouble.Trouble.TheVariants as troubles;
 ghost use Rattle.sv_pilot.specs.Troubles.{trouble_of_text};
 ghost use Rattle.sv_pilot.specs.Lines.{line_of, IsCalm};
-ghost use Rattle.sv_pilot.specs.Doings.{HasTaken, Did, Stopped, StopsBy, Watched, NoReplyIsDue, MadeAction, StoppedAction, weight, NoneMayBeMade, number_seen, text_limit};
+ghost use Rattle.sv_pilot.specs.Doings.{HasTaken, Did, Stopped, StopsBy, Watched, NoReplyIsDue, MadeAction, StoppedMake, StoppedAction, weight, NoneMayBeMade, number_seen, text_limit};
 
 use crate::connection::Connection;
 use crate::seen::{Listener, Seen, tell_all, unseen};
@@ -175,7 +175,7 @@ impl<E: End, L: Listener> Pilot<E, L> {
     /// `Reply` and `Memory` come as at `join`.
     pub fn make(&mut self, action: Action) -> Result<(), Trouble>
         ensures made { OnOk result (IsReadyToMake self.old.client.who self.old.client.events action × Did (events.Make action) self.old self.new × NoReplyIsDue self.new × IsCalm self.old.line self.new.line) }
-        ensures stopped { IfErr result (λ trouble. (trouble ≡ troubles.Game) ⊎ Stopped (events.Make action) self.old self.new trouble) }
+        ensures stopped { IfErr result (λ trouble. (trouble ≡ troubles.Game) ⊎ StoppedMake action self.old self.new trouble) }
         ensures refused { IfErr result (λ trouble. trouble ≡ troubles.Game → (self.new ≡ self.old) × ((IsReadyToMake self.old.client.who self.old.client.events action → ⊥) ⊎ (most_numbers ≤ makes self.old.client.events))) }
     {
         if !self.client.in_session() || self.client.made() >= MOST_NUMBERS {
