@@ -25,7 +25,7 @@ use Rattle.sv_lock.specs.contracts.lock.SeqLock as lock
 use Rattle.sv_lock.specs.contracts.pass.Pass as pass
 use Rattle.sv_lock.proofs.lock.SeqLock.TheSendSync as locks
 use Rattle.sv_lock.proofs.pass.Pass.TheSendSync as passes
-use Rattle.sv_sequencer.specs.contracts.object.Opened as opened
+use Rattle.sv_sequencer.specs.contracts.opened.Opened as opened
 use Rattle.sv_sequencer.specs.contracts.object.SequencerObject.TheImpl.{ghosts}
 use Rattle.sv_sequencer.specs.contracts.sequencer.Sequencer as sequencer
 use Rattle.sv_sequencer.specs.contracts.server_core.Core as cores
