@@ -1,11 +1,12 @@
 #!/usr/bin/env python3
-"""Tests of the JavaScript client, by node, with no program of the product.
+"""Tests of the JavaScript client, by node.
 
-    python3 tests/outside/test_js.py
+    python3 tests/outside/test_js.py [PROGRAM]
 
 The cases of js_cases.py, which are those of the Python client's tests; the tests of clients/js/test; sessions over TCP
 with the stand-in for a server, through a relay that cuts connections, whose journals must be legal and whose clients
-must hold and tell serial values alone; the examples. Closes with `N passed, M failed`; where there is no node it says
+must hold and tell serial values alone; the examples. Where PROGRAM is there (the built one, if left out), 1,000 random
+actions are evaluated as its `replay` evaluates them. Closes with `N passed, M failed`; where there is no node it says
 so.
 """
 
@@ -35,6 +36,8 @@ from test_client import CLIENTS, judge, scenario
 
 LONGEST = 60
 RUNS, ACTS = 10, 12
+REPLAYS, REPLAYED = 20, 50
+PROGRAM = sys.argv[1] if len(sys.argv) > 1 else BUILT
 JS = os.path.join(ROOT, "clients", "js")
 TESTS = os.path.join(JS, "test")
 
@@ -73,6 +76,45 @@ def write_cases(path):
         json.dump(cases, file)
     void = [each for each in cases["actions"] if js_cases.is_void(each["text"], each["values"])]
     return len(cases["actions"]), len(void)
+
+
+# Actions that the program carried out.
+
+def replayed_run(room, seed):
+    """The opening values of a random world, and what each of a client's actions made of it, by the program."""
+    maker, chance = Maker(seed), random.Random(seed)
+    ends = [0, test_client.GREATEST, test_client.LEAST]
+    objects = [[maker.number() if chance.random() < 0.8 else chance.choice(ends) for _ in range(maker.attributes)] for _ in range(maker.objects)]
+    acts = [maker.act() for _ in range(REPLAYED)]
+    steps = [step for act in acts for step in ({"act": act}, "sync")]
+    path = os.path.join(room, f"replayed{seed}.json")
+    with open(path, "w", encoding="utf-8") as file:
+        json.dump({"attrs": maker.attributes, "objects": objects, "bound": 8, "clients": [{"interest": [], "steps": steps}]}, file)
+    done = subprocess.run([PROGRAM, "replay", path], capture_output=True, text=True, timeout=LONGEST, check=True)
+    told = re.findall(r"^\d+ s0 done \[\d+:(.*)\] -> noted \d+$", done.stdout, re.M)
+    results = [[value.split(",") for value in re.findall(r"\(([^)]*)\)", each)] for each in told]
+    return {"objects": [js_cases.texts(value) for value in objects],
+            "acts": [{"text": act, "result": result} for act, result in zip(acts, results)]}
+
+
+def test_replayed(count, room):
+    """The client evaluates random actions as the program does, void ones among them."""
+    runs = [replayed_run(room, seed) for seed in range(REPLAYS)]
+    void = acts = 0
+    for run in runs:
+        world = run["objects"]
+        world = [list(value) for value in world]
+        for each in run["acts"]:
+            act = js_cases.read_action(each["text"])
+            void += js_cases.is_void(each["text"], [world[target] for target in act.reads])
+            acts += 1
+            for target, value in zip(act.writes, each["result"]):
+                world[target] = value
+    count.expect(acts == REPLAYS * REPLAYED and void > 20, f"{void} of {acts} actions of the program are void")
+    path = os.path.join(room, "replayed.json")
+    with open(path, "w", encoding="utf-8") as file:
+        json.dump(runs, file)
+    run_tests(count, "replayed.js", path)
 
 
 # Sessions over TCP.
@@ -271,7 +313,11 @@ def tests_in(room):
     yield from [lambda count, seed=seed: test_random_run(count, room, seed) for seed in range(RUNS)]
     yield from [test_taking_up, test_types]
     yield from [lambda count, test=test: test(count, room) for test in (test_page, test_pip, test_npm)]
-    servers = [STAND_IN, [BUILT, "serve", MINE]] if os.access(BUILT, os.X_OK) else [STAND_IN]
+    if os.access(PROGRAM, os.X_OK):
+        yield lambda count: test_replayed(count, room)
+    else:
+        print(f"there is no {os.path.relpath(PROGRAM, ROOT)}: no action is evaluated beside it")
+    servers = [STAND_IN, [PROGRAM, "serve", MINE]] if os.access(PROGRAM, os.X_OK) else [STAND_IN]
     for words in itertools.product(servers, ((JS_MINE, JS_MINE), (JS_MINE, PYTHON_MINE))):
         yield lambda count, words=words: test_mine(count, *words)
 
