@@ -27,6 +27,7 @@ from concurrent.futures import ThreadPoolExecutor
 
 import js_cases
 import test_client
+from actions import read_action
 from counting import BUILT, ROOT, Count
 from programs import free_port
 from random_scenario import Maker
@@ -102,10 +103,9 @@ def test_replayed(count, room):
     runs = [replayed_run(room, seed) for seed in range(REPLAYS)]
     void = acts = 0
     for run in runs:
-        world = run["objects"]
-        world = [list(value) for value in world]
+        world = list(run["objects"])
         for each in run["acts"]:
-            act = js_cases.read_action(each["text"])
+            act = read_action(each["text"])
             void += js_cases.is_void(each["text"], [world[target] for target in act.reads])
             acts += 1
             for target, value in zip(act.writes, each["result"]):
