@@ -62,6 +62,7 @@ relay-one : (n : ℕ) (w : Logged) → is_relay w ≡ true → length (outcome_i
 relay-one n (logged.Relay seq commit head positions) y = refl
 relay-one n (logged.Welcome commit head) y = absurd (true≢false (sym y))
 relay-one n (logged.Dropped seq chain far) y = absurd (true≢false (sym y))
+relay-one n (logged.Denied seq object) y = absurd (true≢false (sym y))
 relay-one n (logged.Seen last commit head positions) y = absurd (true≢false (sym y))
 relay-one n (logged.Settled seq pos) y = absurd (true≢false (sym y))
 relay-one n (logged.Noted commit) y = absurd (true≢false (sym y))

@@ -42,6 +42,7 @@ not-sent : (k : Keeping) (h : List Entry) (A : List Authored) (s : ℕ) (q : Req
 not-sent k h A s q (logged.Relay seq commit head positions) e f = absurd (true≢false e)
 not-sent k h A s q (logged.Welcome commit head) e f = tt
 not-sent k h A s q (logged.Dropped seq chain far) e f = tt
+not-sent k h A s q (logged.Denied seq object) e f = tt
 not-sent k h A s q (logged.Seen last commit head positions) e f = absurd (true≢false f)
 not-sent k h A s q (logged.Settled seq pos) e f = tt
 not-sent k h A s q (logged.Noted commit) e f = tt
@@ -116,7 +117,7 @@ module _ (ends : NeededEnds) (up_to : NeededUpTo) (none : NoneOfSent) (k : Keepi
   pub brings-here : (q : Request) → BringsWhatIsAsked k h (entry_of s q (reply_for k r h s q))
   brings-here q = each_reply k law r h s (λ (w : Logged). BringsBy k h (accepted (entry_of s q w ∷ h)) s q w) q (record {
     other = λ w e f. not-sent k h (accepted (entry_of s q w ∷ h)) s q w e f;
-    fresh = λ j seq a client asked next good chain.
+    fresh = λ j seq a client asked next good chain room rightful.
         let p = suc (length (actions_of h)) in
         let w = relay_of r (k.kept h) (actions_of h ++ a ∷ []) s seq p in
         let count : length (actions_of h) ≡ length (accepted h) = length-map (accepted h) (λ (x : Authored). x.action) in

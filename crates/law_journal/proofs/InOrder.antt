@@ -99,6 +99,7 @@ of-lower k g A s requests.Bad (logged.Relay seq commit head positions) n p b nam
 of-lower k g A s requests.End (logged.Relay seq commit head positions) n p b named low = absurd b
 of-lower k g A s q (logged.Welcome commit head) n p b named low = absurd (true≢false (sym named))
 of-lower k g A s q (logged.Dropped seq chain far) n p b named low = absurd (true≢false (sym named))
+of-lower k g A s q (logged.Denied seq object) n p b named low = absurd (true≢false (sym named))
 of-lower k g A s (requests.Submit m a) (logged.Seen last commit head positions) n p b named low = absurd b
 of-lower k g A s requests.Poll (logged.Seen last commit head positions) n p b named low = absurd b
 of-lower k g A s (requests.Observe objects wait) (logged.Seen last commit head positions) n p b named low = absurd low

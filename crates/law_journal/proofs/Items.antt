@@ -63,6 +63,7 @@ module _ (k : Keeping) (h : List Entry) (s : ℕ) (within : (p : ℕ) → is_in 
       omega arith
   some-items q w (logged.Welcome commit head) A asks b = tt
   some-items q w (logged.Dropped seq chain far) A asks b = tt
+  some-items q w (logged.Denied seq object) A asks b = tt
   some-items q w (logged.Seen last commit head positions) A asks b = tt
   some-items q w (logged.Settled seq pos) A asks b = tt
   some-items q w (logged.Noted commit) A asks b = tt

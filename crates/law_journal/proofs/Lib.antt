@@ -10,3 +10,5 @@ pub mod Ascends
 pub mod InOrder
 pub mod Answered
 pub mod Observed
+pub mod Stewarding
+pub mod Serves

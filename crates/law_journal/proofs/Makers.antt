@@ -8,7 +8,7 @@ use Rattle.sv_wire.specs.declared.message.Request.TheVariants as requests
 use Rattle.sv_journal.specs.declared.entry.Entry.{Entry}
 use Rattle.sv_journal.specs.declared.entry.Logged.{Logged}
 use Rattle.sv_journal.specs.declared.entry.Logged.TheVariants as logged
-use Rattle.sv_journal.specs.History.{is_relay, client_of, is_client, is_submit_of, Outcome, Accepted, Dropped, outcome_in, outcomes_of, Authored, accepted, next_seq, authored_at}
+use Rattle.sv_journal.specs.History.{is_relay, client_of, is_client, is_submit_of, Outcome, Accepted, Dropped, Denied, outcome_in, outcomes_of, Authored, accepted, next_seq, authored_at}
 use Rattle.sv_journal.specs.Sessions.{outcome_at, kept_outcome}
 use Rattle.sv_journal.proofs.Stays.{authored_stays, authored_last}
 use Rattle.sv_journal.proofs.Named.{client_is, submit_is}
@@ -74,10 +74,12 @@ made-new e h k n a client asked number relayed =
 abbrev TellsOwn : List Authored → ℕ → ℕ → Outcome → Type 0
 TellsOwn A k n (Accepted p) = IsMadeBy A k n p
 TellsOwn A k n (Dropped chain far) = Unit {0}
+TellsOwn A k n (Denied object) = Unit {0}
 
 tells-more : (A more : List Authored) (k n : ℕ) (o : Outcome) → TellsOwn A k n o → TellsOwn (A ++ more) k n o
 tells-more A more k n (Accepted p) own = made-more A more k n p own
 tells-more A more k n (Dropped chain far) own = tt
+tells-more A more k n (Denied object) own = tt
 
 tells-new : (e : Entry) (h : List Entry) (k : ℕ) (a : Action) → client_of h e.session ≡ Some k → e.request ≡ requests.Submit (next_seq h k) a →
     (w : Logged) → e.reply ≡ w → (j : ℕ) (o : Outcome) → slice_get (outcome_in (suc (length (accepted h))) w) j ≡ Some o →
@@ -90,7 +92,10 @@ tells-new e h k a client asked (logged.Relay seq commit head positions) is zero 
 tells-new e h k a client asked (logged.Relay seq commit head positions) is (suc j) o at = absurd (none-some o at)
 tells-new e h k a client asked (logged.Dropped seq chain far) is zero o at =
     (refl, subst (TellsOwn (accepted (e ∷ h)) k (next_seq h k)) (same_Some (Dropped chain far) o at) tt)
+tells-new e h k a client asked (logged.Denied seq object) is zero o at =
+    (refl, subst (TellsOwn (accepted (e ∷ h)) k (next_seq h k)) (same_Some (Denied object.0) o at) tt)
 tells-new e h k a client asked (logged.Dropped seq chain far) is (suc j) o at = absurd (none-some o at)
+tells-new e h k a client asked (logged.Denied seq object) is (suc j) o at = absurd (none-some o at)
 tells-new e h k a client asked (logged.Seen last commit head positions) is j o at = absurd (none-some o at)
 tells-new e h k a client asked (logged.Welcome commit head) is j o at = absurd (none-some o at)
 tells-new e h k a client asked (logged.Settled seq pos) is j o at = absurd (none-some o at)

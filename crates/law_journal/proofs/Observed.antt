@@ -33,6 +33,7 @@ none-seen (logged.Seen last commit head positions) e = absurd (true≢false e)
 none-seen (logged.Welcome commit head) e = refl
 none-seen (logged.Relay seq commit head positions) e = refl
 none-seen (logged.Dropped seq chain far) e = refl
+none-seen (logged.Denied seq object) e = refl
 none-seen (logged.Settled seq pos) e = refl
 none-seen (logged.Noted commit) e = refl
 none-seen logged.Idle e = refl
@@ -52,7 +53,7 @@ IsAtCut k h s q None = Unit {0}
 cut-here : (k : Keeping) → IsKeeping k → (r : Rules) (h : List Entry) (s : ℕ) (q : Request) → IsAtCut k h s q (seen_in (reply_for k r h s q))
 cut-here k law r h s q = each_reply k law r h s (λ (w : Logged). IsAtCut k h s q (seen_in w)) q (record {
   other = λ w e f. subst (IsAtCut k h s q) (sym (none-seen w f)) tt;
-  fresh = λ j seq a client asked next good chain. tt;
+  fresh = λ j seq a client asked next good chain room rightful. tt;
   again = λ j seq p a client asked kept above. tt;
   poll = λ j p ps client asked open_still first. tt;
   seen = λ j wait objects client asked open_still good.
@@ -143,6 +144,7 @@ sends-not_seen n (logged.Seen last commit head positions) e = absurd (true≢fal
 sends-not_seen n (logged.Welcome commit head) e = tt
 sends-not_seen n (logged.Relay seq commit head positions) e = tt
 sends-not_seen n (logged.Dropped seq chain far) e = tt
+sends-not_seen n (logged.Denied seq object) e = tt
 sends-not_seen n (logged.Settled seq pos) e = tt
 sends-not_seen n (logged.Noted commit) e = tt
 sends-not_seen n logged.Idle e = tt
@@ -153,7 +155,7 @@ sends-here : SizeWithin → (k : Keeping) → IsKeeping k → (r : Rules) → r.
     SendsWhereMore (length (accepted h)) (reply_for k r h s q)
 sends-here size k law r bound h legal s q = each_reply k law r h s (SendsWhereMore (length (accepted h))) q (record {
   other = λ w e f. sends-not_seen (length (accepted h)) w f;
-  fresh = λ j seq a client asked next good chain. tt;
+  fresh = λ j seq a client asked next good chain room rightful. tt;
   again = λ j seq p a client asked kept above. tt;
   poll = λ j p ps client asked open_still first. tt;
   seen = λ j wait objects client asked open_still good more.

@@ -30,6 +30,7 @@ not-sent : (A : List Authored) (q : Request) (w : Logged) → is_relay w ≡ fal
 not-sent A q (logged.Relay seq commit head positions) e f = absurd (true≢false e)
 not-sent A q (logged.Welcome commit head) e f = tt
 not-sent A q (logged.Dropped seq chain far) e f = tt
+not-sent A q (logged.Denied seq object) e f = tt
 not-sent A q (logged.Seen last commit head positions) e f = tt
 not-sent A q (logged.Settled seq pos) e f = tt
 not-sent A q (logged.Noted commit) e f = tt
@@ -40,7 +41,7 @@ not-sent A q logged.Bye e f = tt
 told : (k : Keeping) → IsKeeping k → (r : Rules) (h : List Entry) (s : ℕ) (q : Request) → OfEntry TellsNumber h (entry_of s q (reply_for k r h s q))
 told k law r h s q = each_reply k law r h s (λ (w : Logged). TellsNumber q (full_reply (accepted (entry_of s q w ∷ h)) w)) q (record {
   other = λ w e f. not-sent (accepted (entry_of s q w ∷ h)) q w e f;
-  fresh = λ j seq a client asked next good chain.
+  fresh = λ j seq a client asked next good chain room rightful.
       let number : seq ≡ suc (length (outcomes_of h j)) = next in
       let some : 1 ≤ seq = omega arith in
       subst (λ (x : Request). IsNumberFor x seq) (sym asked) (refl, some);

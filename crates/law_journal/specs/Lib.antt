@@ -5,3 +5,4 @@ pub mod Numbered
 pub mod Brought
 pub mod Cuts
 pub mod Opened
+pub mod Stewarded

@@ -8,7 +8,6 @@ use Rattle.sv_world.specs.Control.{below}
 use Rattle.sv_world.proofs.Bases.{is_in-below}
 use Rattle.sv_journal.specs.declared.entry.Entry.{Entry}
 use Rattle.sv_journal.specs.Sessions.{is_end, is_ended}
-use Rattle.sv_journal.specs.Answer.{Rules}
 use Rattle.sv_client.specs.Traces.{is_session}
 use Rattle.sv_scenario.specs.declared.scenario.Plan.{Plan}
 use Rattle.sv_scenario.specs.declared.scenario.Scenario.{Scenario}
@@ -17,7 +16,7 @@ use Rattle.sv_scenario.specs.Sessions.{sessions_of_plan, sessions_in, session_co
 use Rattle.sv_script.proofs.Ends.{none-left}
 use Rattle.sv_script.proofs.Places.{finished-first}
 use Rattle.sv_system.specs.Fits.{IsEndLast, is_join_of}
-use Rattle.sv_system.specs.Laws.{NeverRefused}
+use Rattle.sv_system.specs.Laws.{NeverRefusedInScenarios}
 use Rattle.law_schedule.specs.Players.{Player, open_session, has_closed, player_turn, take_turns, repeated}
 use Rattle.law_schedule.specs.Serving.{Run, after_clients}
 use Rattle.law_schedule.specs.Schedule.{rules_of, plain_server, round, after_sessions}
@@ -104,9 +103,9 @@ closed-by : (p : Player) (s : ℕ) → p.closed ≡ true → list_any (is_join_o
 closed-by p s c j =
     and_from (list_any (is_join_of s) p.events) (not (is_session (open_session p) s)) j (ap (λ (o : Option ℕ). not (is_session o s)) (open-closed p c))
 
-round-closed : (r : Rules) (run : Run) → AreClosed run → AreClosed (round r run)
-round-closed r run closed i q at =
-    let h = (after_sessions r (after_clients run)).history in
+round-closed : (scenario : Scenario) (run : Run) → AreClosed run → AreClosed (round scenario run)
+round-closed scenario run closed i q at =
+    let h = (after_sessions scenario (after_clients run)).history in
     let m = unmap_at (take_turns h) (map player_turn run.players) i q at in
     let k = unmap_at player_turn run.players i m.0 m.1 in
     ap (λ (x : Player). x.closed) (sym m.2 ∙ ap (take_turns h) (sym k.2)) ∙ stays-closed h k.0 (closed i k.0 k.1)
@@ -118,10 +117,10 @@ clients-closed run closed i q at =
 
 -- Then a round ends all sessions.
 pub closed-done : (scenario : Scenario) → IsGoodScenario scenario → StaySound scenario → (run : Run) → IsGoing scenario run → AreClosed run →
-    IsRunDone scenario (round (rules_of scenario) run)
+    IsRunDone scenario (round scenario run)
 closed-done scenario good stay run g closed = record {
-  closed = All-from_recursion (λ (p : Player). p.closed ≡ true) (round (rules_of scenario) run).players
-      (each-place (λ (p : Player). p.closed ≡ true) (round (rules_of scenario) run).players (round-closed (rules_of scenario) run closed));
+  closed = All-from_recursion (λ (p : Player). p.closed ≡ true) (round scenario run).players
+      (each-place (λ (p : Player). p.closed ≡ true) (round scenario run).players (round-closed scenario run closed));
   ended = λ s l.
       let clients = after_clients run in
       let w = was-joined scenario good clients (going-clients scenario good stay run g).sound (clients-closed run closed) s l in
@@ -134,10 +133,10 @@ closed-done scenario good stay run g closed = record {
 
 -- ---- So many rounds are enough
 
-pub rounds-done : (scenario : Scenario) → IsGoodScenario scenario → NeverRefused → StaySound scenario → (run : Run) → IsGoing scenario run → (n : ℕ) → 777 ≤ n →
-    IsRunDone scenario (repeated n (round (rules_of scenario)) run)
+pub rounds-done : (scenario : Scenario) → IsGoodScenario scenario → NeverRefusedInScenarios → StaySound scenario → (run : Run) → IsGoing scenario run → (n : ℕ) → 777 ≤ n →
+    IsRunDone scenario (repeated n (round scenario) run)
 rounds-done scenario good honest stay run g n l =
-    let f : Run → Run = round (rules_of scenario) in
+    let f : Run → Run = round scenario in
     let first : Run = f run in
     let closing : Run = repeated 775 f first in
     let g1 : IsGoing scenario first = going-round scenario good stay run g in

@@ -1,5 +1,5 @@
 -- What soundness says of one player of a run.
-use Rattle.std.proofs.Common.{◌≡◌, ℕ, zero, suc, ◌+◌, ◌≤◌, Bool, true, List, [], ◌∷◌, map, length, reverse, Some, None, slice_get, refl, sym, ap, ◌∙◌, subst, arith}
+use Rattle.std.proofs.Common.{◌≡◌, ℕ, zero, suc, ◌+◌, ◌<◌, ◌≤◌, Bool, true, List, [], ◌∷◌, map, length, reverse, Some, None, slice_get, refl, sym, ap, ◌∙◌, subst, arith}
 use Rattle.std.specs.List.{list_any}
 use Rattle.std.proofs.lemmas.List.{reverse-reverse}
 use Rattle.std.proofs.lemmas.List.Elements.{recursion_from_All}
@@ -22,7 +22,7 @@ use Rattle.sv_system.specs.Fronts.{IsFront}
 use Rattle.sv_system.specs.Fits.{requests_in, replies_in, IsEndLast, is_join_of, FitsOne, AreApart, AreAllApart}
 use Rattle.sv_asked.proofs.Spent.{accepted-few}
 use Rattle.sv_system.proofs.Asked.{any-reverse}
-use Rattle.sv_system.specs.Laws.{NeverRefused}
+use Rattle.sv_system.specs.Laws.{NeverRefusedInScenarios}
 use Rattle.sv_system.proofs.Places.{map_at}
 use Rattle.sv_system.proofs.Every.{each-at}
 use Rattle.law_schedule.specs.Players.{Player, trace_of_player}
@@ -140,12 +140,12 @@ module _ (scenario : Scenario) (good : IsGoodScenario scenario) (run : Run) (sou
         fits = fit-in;
       }
 
-  -- All accepted actions have their positions.
-  positions-few : length (accepted run.history) ≤ 4294967294
-  positions-few = (let most = accepted-few (rules_of scenario) run.history (session_count scenario) sound.legal sound.sessions in let few = good.sessions in omega (arith, most, few))
+  -- A position is left.
+  positions-few : length (accepted run.history) < 4294967294
+  positions-few = (let most = accepted-few (rules_of scenario) run.history (session_count scenario) 1024 refl sound.legal sound.sessions in let few = good.sessions in omega (arith, most, few))
 
   -- The next reply of the player's latest session has no fault.
-  pub next-taken : NeverRefused → (s : ℕ) (reply : Reply) → current_session p.events ≡ Some s → length (asked p.who.client p.who.interest p.events s) ≤ 1024 →
+  pub next-taken : NeverRefusedInScenarios → (s : ℕ) (reply : Reply) → current_session p.events ≡ Some s → length (asked p.who.client p.who.interest p.events s) ≤ 1024 →
       slice_get (replies_in (accepted run.history) run.history s) (length (got p.events s)) ≡ Some reply → first_fault_of_reply p.who p.events reply ≡ None
   next-taken honest s reply current few next =
       let L = trace_of_player p in
@@ -153,7 +153,7 @@ module _ (scenario : Scenario) (good : IsGoodScenario scenario) (run : Run) (sou
       let back = sym (same-events p) in
       subst (λ (t : List Event). first_fault_of_reply p.who t reply ≡ None) (same-events p)
       (subst (λ (w : Identity). first_fault_of_reply w (reverse L.events) reply ≡ None) who-is
-      (honest (rules_of scenario) h (traces_of run) i L s reply good.world.objects
+      (honest scenario.world scenario.bound scenario.reach (session_count scenario) h (traces_of run) i L s reply good.world.objects
       good.world.attrs good.bound positions-few sound.legal sound.fits trace-at
       (subst (λ (t : List Event). current_session t ≡ Some s) back current)
       (subst (λ (t : List Event). length (asked p.who.client p.who.interest t s) ≤ 1024) back few)

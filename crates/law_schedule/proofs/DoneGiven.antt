@@ -14,5 +14,5 @@ pub record StaySound (scenario : Scenario) : Type 0 where
   pub turns : (run : Run) (turn : Turn) → IsGoodTurn (length scenario.clients) (session_count scenario) turn → IsSound scenario run →
       IsSound scenario (turned (rules_of scenario) run turn)
   pub clients : (run : Run) → IsSound scenario run → IsSound scenario (after_clients run)
-  pub sessions : (run : Run) → IsSound scenario run → IsSound scenario (after_sessions (rules_of scenario) run)
+  pub sessions : (run : Run) → IsSound scenario run → IsSound scenario (after_sessions scenario run)
   pub takes : (run : Run) → IsSound scenario run → IsSound scenario (after_takes run)

@@ -12,7 +12,7 @@ use Rattle.sv_scenario.specs.Limits.{IsGoodScenario}
 use Rattle.sv_scenario.specs.Sessions.{sessions_of_plan}
 use Rattle.sv_script.specs.Following.{FollowsTo, FollowsToEnd, is_finished}
 use Rattle.sv_system.specs.Records.{AreTracesOf, IsRecordOf, ScriptsAreFollowed}
-use Rattle.sv_system.specs.Laws.{NeverRefused}
+use Rattle.sv_system.specs.Laws.{NeverRefusedInScenarios}
 use Rattle.sv_system.proofs.Every.{each-at}
 use Rattle.law_schedule.specs.Players.{Player, repeated, trace_of_player}
 use Rattle.law_schedule.specs.Serving.{Run, opening_run, most_rounds, traces_of}
@@ -69,26 +69,26 @@ record-of scenario good run sound done =
 
 -- ---- The scheduled run
 
-module _ (scenario : Scenario) (good : IsGoodScenario scenario) (honest : NeverRefused) (stay : StaySound scenario) where
+module _ (scenario : Scenario) (good : IsGoodScenario scenario) (honest : NeverRefusedInScenarios) (stay : StaySound scenario) where
   going-schedule : IsGoing scenario (all_turned (rules_of scenario) (opening_run scenario) scenario.schedule)
   going-schedule =
       going-turned scenario good stay scenario.schedule (opening_run scenario) good.turns
       (record { sound = stay.opening; due = λ s e. absurd (true≢false (sym e)) })
 
   -- After at least 777 rounds.
-  rounds-going : (n : ℕ) → IsGoing scenario (repeated n (round (rules_of scenario)) (all_turned (rules_of scenario) (opening_run scenario) scenario.schedule))
+  rounds-going : (n : ℕ) → IsGoing scenario (repeated n (round scenario) (all_turned (rules_of scenario) (opening_run scenario) scenario.schedule))
   rounds-going n = going-rounds scenario good honest stay n (all_turned (rules_of scenario) (opening_run scenario) scenario.schedule) going-schedule
 
-  rounds-enough : (n : ℕ) → 777 ≤ n → IsRunDone scenario (repeated n (round (rules_of scenario)) (all_turned (rules_of scenario) (opening_run scenario) scenario.schedule))
+  rounds-enough : (n : ℕ) → 777 ≤ n → IsRunDone scenario (repeated n (round scenario) (all_turned (rules_of scenario) (opening_run scenario) scenario.schedule))
   rounds-enough n l = rounds-done scenario good honest stay (all_turned (rules_of scenario) (opening_run scenario) scenario.schedule) going-schedule n l
 
   rounds-record : (n : ℕ) → 777 ≤ n →
-      (λ (run : Run). IsRecordOf scenario run.history (traces_of run)) (repeated n (round (rules_of scenario)) (all_turned (rules_of scenario) (opening_run scenario) scenario.schedule))
+      (λ (run : Run). IsRecordOf scenario run.history (traces_of run)) (repeated n (round scenario) (all_turned (rules_of scenario) (opening_run scenario) scenario.schedule))
   rounds-record n l = record-of scenario good _ (rounds-going n).sound (rounds-enough n l)
 
   rounds-scripts : (n : ℕ) → 777 ≤ n →
       (λ (run : Run). ScriptsAreFollowed scenario.world.shape scenario.clients (traces_of run))
-      (repeated n (round (rules_of scenario)) (all_turned (rules_of scenario) (opening_run scenario) scenario.schedule))
+      (repeated n (round scenario) (all_turned (rules_of scenario) (opening_run scenario) scenario.schedule))
   rounds-scripts n l =
       scripts-followed scenario.world.shape 0 0 scenario.clients _ (rounds-going n).sound.players
       (recursion_from_All (λ (p : Player). p.closed ≡ true) _ (rounds-enough n l).closed)

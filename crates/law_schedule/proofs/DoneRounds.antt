@@ -14,7 +14,7 @@ use Rattle.sv_scenario.specs.declared.scenario.Turn.TheVariants as turns
 use Rattle.sv_scenario.specs.Limits.{IsGoodScenario, IsGoodTurn}
 use Rattle.sv_scenario.specs.Sessions.{cuts_in, session_count}
 use Rattle.sv_script.specs.Following.{must_join, is_welcomed}
-use Rattle.sv_system.specs.Laws.{NeverRefused}
+use Rattle.sv_system.specs.Laws.{NeverRefusedInScenarios}
 use Rattle.sv_system.proofs.Places.{map_at, unmap_at}
 use Rattle.law_schedule.specs.Players.{Player, is_settled, has_closed, player_turn, take_turn, take_turns, repeated}
 use Rattle.law_schedule.specs.Serving.{Run, after_clients, after_takes}
@@ -42,7 +42,7 @@ module _ (scenario : Scenario) (good : IsGoodScenario scenario) (stay : StaySoun
   due-clients run g =
       due-mapped run.players run.history player_turn (λ k p s at c. shut-turn p s (following scenario good run g.sound k p at).proper c) g.due
 
-  due-sessions : (run : Run) → IsGoing scenario run → EndsAreDue run.players (after_sessions (rules_of scenario) run).history
+  due-sessions : (run : Run) → IsGoing scenario run → EndsAreDue run.players (after_sessions scenario run).history
   due-sessions run g = due-round (rules_of scenario) run.players (below (session_count scenario)) run.history g.due
 
   due-takes : (run : Run) → IsGoing scenario run → EndsAreDue (after_takes run).players run.history
@@ -53,15 +53,15 @@ module _ (scenario : Scenario) (good : IsGoodScenario scenario) (stay : StaySoun
   pub going-clients : (run : Run) → IsGoing scenario run → IsGoing scenario (after_clients run)
   going-clients run g = record { sound = stay.clients run g.sound; due = due-clients run g }
 
-  pub going-sessions : (run : Run) → IsGoing scenario run → IsGoing scenario (after_sessions (rules_of scenario) run)
+  pub going-sessions : (run : Run) → IsGoing scenario run → IsGoing scenario (after_sessions scenario run)
   going-sessions run g = record { sound = stay.sessions run g.sound; due = due-sessions run g }
 
   pub going-takes : (run : Run) → IsGoing scenario run → IsGoing scenario (after_takes run)
   going-takes run g = record { sound = stay.takes run g.sound; due = due-takes run g }
 
-  pub going-round : (run : Run) → IsGoing scenario run → IsGoing scenario (round (rules_of scenario) run)
+  pub going-round : (run : Run) → IsGoing scenario run → IsGoing scenario (round scenario run)
   going-round run g =
-      going-takes (after_sessions (rules_of scenario) (after_clients run)) (going-sessions (after_clients run) (going-clients run g))
+      going-takes (after_sessions scenario (after_clients run)) (going-sessions (after_clients run) (going-clients run g))
 
   due-turned : (run : Run) → IsGoing scenario run → (turn : Turn) →
       EndsAreDue (turned (rules_of scenario) run turn).players (turned (rules_of scenario) run turn).history
@@ -152,7 +152,7 @@ waited-go s p q o w =
 waited-settled : (s : ℕ) (p q : Player) → HasWaited s p q → AreDones (outstanding p.who p.events) → is_settled q ≡ true
 waited-settled s p q w a = ap is_settled w.same ∙ ap (λ (os : List _). length os == 0) (w.settled a)
 
-module _ (scenario : Scenario) (good : IsGoodScenario scenario) (honest : NeverRefused) (stay : StaySound scenario) (run : Run) (g : IsGoing scenario run)
+module _ (scenario : Scenario) (good : IsGoodScenario scenario) (honest : NeverRefusedInScenarios) (stay : StaySound scenario) (run : Run) (g : IsGoing scenario run)
     (i : ℕ) (p : Player) (at : slice_get run.players i ≡ Some p) where
   abbrev turn : Player
   turn = player_turn p
@@ -161,7 +161,7 @@ module _ (scenario : Scenario) (good : IsGoodScenario scenario) (honest : NeverR
   clients = after_clients run
 
   abbrev h : List Entry
-  h = (after_sessions (rules_of scenario) clients).history
+  h = (after_sessions scenario clients).history
 
   going : IsGoing scenario clients
   going = going-clients scenario good stay run g
@@ -227,7 +227,7 @@ module _ (scenario : Scenario) (good : IsGoodScenario scenario) (honest : NeverR
 abbrev pub IsFalling : ℕ → Run → Type 0
 IsFalling n run = (i : ℕ) (p : Player) → slice_get run.players i ≡ Some p → IsRested p × ((p.closed ≡ true) ⊎ (weight p ≤ n))
 
-module _ (scenario : Scenario) (good : IsGoodScenario scenario) (honest : NeverRefused) (stay : StaySound scenario) where
+module _ (scenario : Scenario) (good : IsGoodScenario scenario) (honest : NeverRefusedInScenarios) (stay : StaySound scenario) where
   abbrev r : Rules
   r = rules_of scenario
 
@@ -235,46 +235,46 @@ module _ (scenario : Scenario) (good : IsGoodScenario scenario) (honest : NeverR
   record WasThere (run : Run) (i : ℕ) (q : Player) : Type 0 where
     before : Player
     at : slice_get run.players i ≡ Some before
-    same : q ≡ take_turns (after_sessions r (after_clients run)).history (player_turn before)
+    same : q ≡ take_turns (after_sessions scenario (after_clients run)).history (player_turn before)
 
-  was-there : (run : Run) (i : ℕ) (q : Player) → slice_get (round r run).players i ≡ Some q → WasThere run i q
+  was-there : (run : Run) (i : ℕ) (q : Player) → slice_get (round scenario run).players i ≡ Some q → WasThere run i q
   was-there run i q at =
-      let h = (after_sessions r (after_clients run)).history in
+      let h = (after_sessions scenario (after_clients run)).history in
       let m = unmap_at (take_turns h) (map player_turn run.players) i q at in
       let k = unmap_at player_turn run.players i m.0 m.1 in
       record { before = k.0; at = k.1; same = sym m.2 ∙ ap (take_turns h) (sym k.2) }
 
   -- After one round each player has at most 775 to do.
-  pub falling-first : (run : Run) → IsGoing scenario run → IsFalling 775 (round r run)
+  pub falling-first : (run : Run) → IsGoing scenario run → IsFalling 775 (round scenario run)
   falling-first run g i q at =
       let w = was-there run i q at in (
         subst IsRested (sym w.same) (rested-after scenario good honest stay run g i w.before w.at),
-        inr (weight-most scenario good (round r run) (going-round scenario good stay run g).sound i q at),
+        inr (weight-most scenario good (round scenario run) (going-round scenario good stay run g).sound i q at),
       )
 
   -- After one more it has less.
-  falling-next : (n : ℕ) (run : Run) → IsGoing scenario run → IsFalling (suc n) run → IsFalling n (round r run)
+  falling-next : (n : ℕ) (run : Run) → IsGoing scenario run → IsFalling (suc n) run → IsFalling n (round scenario run)
   falling-next n run g fall i q at =
       let w = was-there run i q at in
       let f = fall i w.before w.at in
-      let after = take_turns (after_sessions r (after_clients run)).history (player_turn w.before) in (
+      let after = take_turns (after_sessions scenario (after_clients run)).history (player_turn w.before) in (
         subst IsRested (sym w.same) (rested-after scenario good honest stay run g i w.before w.at),
         elim (less-after scenario good honest stay run g i w.before w.at f.0) [
           | inl c ↦ inl (ap (λ (p : Player). p.closed) w.same ∙ c)
           | inr l ↦ elim f.1 [
-            | inl c ↦ inl (ap (λ (p : Player). p.closed) w.same ∙ stays-closed (after_sessions r (after_clients run)).history w.before c)
+            | inl c ↦ inl (ap (λ (p : Player). p.closed) w.same ∙ stays-closed (after_sessions scenario (after_clients run)).history w.before c)
             | inr m ↦ inr (let same = ap weight w.same in omega (arith, l, m, same))
           ]
         ],
       )
 
-  pub going-rounds : (n : ℕ) (run : Run) → IsGoing scenario run → IsGoing scenario (repeated n (round r) run)
-  going-rounds n run g = repeated-keeps (IsGoing scenario) (round r) (going-round scenario good stay) n run g
+  pub going-rounds : (n : ℕ) (run : Run) → IsGoing scenario run → IsGoing scenario (repeated n (round scenario) run)
+  going-rounds n run g = repeated-keeps (IsGoing scenario) (round scenario) (going-round scenario good stay) n run g
 
   -- After so many rounds it has nothing to do.
-  pub falling-rounds : (n : ℕ) (run : Run) → IsGoing scenario run → IsFalling n run → IsFalling 0 (repeated n (round r) run)
+  pub falling-rounds : (n : ℕ) (run : Run) → IsGoing scenario run → IsFalling n run → IsFalling 0 (repeated n (round scenario) run)
   falling-rounds zero run g fall = fall
-  falling-rounds (suc n) run g fall = falling-rounds n (round r run) (going-round scenario good stay run g) (falling-next n run g fall)
+  falling-rounds (suc n) run g fall = falling-rounds n (round scenario run) (going-round scenario good stay run g) (falling-next n run g fall)
 
   pub fallen-closed : (run : Run) → IsFalling 0 run → (i : ℕ) (p : Player) → slice_get run.players i ≡ Some p → p.closed ≡ true
   fallen-closed run fall i p at = elim (fall i p at).1 [ inl c ↦ c | inr l ↦ (let some = weight-some p in absurd (omega (arith, l, some))) ]

@@ -27,7 +27,7 @@ use Rattle.sv_script.specs.Following.{must_join}
 use Rattle.sv_system.specs.Fits.{requests_in, replies_in}
 use Rattle.sv_system.proofs.Entered.{as-many}
 use Rattle.sv_system.proofs.Every.{each-append}
-use Rattle.sv_system.specs.Laws.{NeverRefused}
+use Rattle.sv_system.specs.Laws.{NeverRefusedInScenarios}
 use Rattle.law_schedule.specs.Players.{Player, does, open_session, takes, takes_if, take_in, take_turn, take_turns, repeated}
 use Rattle.law_schedule.specs.Serving.{Run}
 use Rattle.law_schedule.specs.Schedule.{turned, rules_of}
@@ -217,7 +217,7 @@ turn-takes h p s reply e f g = turn-some h p s (Some reply) e f ∙ ap (takes_if
 pub takes-none : (h : List Entry) (p : Player) → open_session p ≡ None → take_turns h p ≡ p
 takes-none h p e = repeated-still (length h) (take_turn h) p (turn-none h p e)
 
-module _ (scenario : Scenario) (good : IsGoodScenario scenario) (honest : NeverRefused) (stay : StaySound scenario) (i s : ℕ) where
+module _ (scenario : Scenario) (good : IsGoodScenario scenario) (honest : NeverRefusedInScenarios) (stay : StaySound scenario) (i s : ℕ) where
   few-asked : (run : Run) (sound : IsSound scenario run) (p : Player) → slice_get run.players i ≡ Some p → IsOpen p s → length (asks p p.events s) ≤ 1024
   few-asked run sound p at o =
       let f = following scenario good run sound i p at in

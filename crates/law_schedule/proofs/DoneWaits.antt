@@ -35,7 +35,7 @@ use Rattle.sv_system.proofs.Histories.{IsEarlier, same, after}
 use Rattle.sv_system.proofs.Entered.{is_of, as-many, replies-earlier}
 use Rattle.sv_system.proofs.Asked.{part-rest, asked-part, got-when, got-answers, begun-or_not, current-joined}
 use Rattle.sv_system.proofs.Leaving.{leave-last}
-use Rattle.sv_system.specs.Laws.{NeverRefused}
+use Rattle.sv_system.specs.Laws.{NeverRefusedInScenarios}
 use Rattle.sv_system.proofs.Order.{leave-only, never-refused}
 use Rattle.sv_system.proofs.Places.{map_at, at_place}
 use Rattle.law_schedule.specs.Players.{Player, open_session, has_closed, take_turns}
@@ -130,13 +130,13 @@ pub record HasWaited (s : ℕ) (p q : Player) : Type 0 where
   pub dones : AreDones (outstanding p.who events)
   pub settled : AreDones (outstanding p.who p.events) → outstanding p.who events ≡ []
 
-module _ (scenario : Scenario) (good : IsGoodScenario scenario) (honest : NeverRefused) (stay : StaySound scenario) (run : Run) (sound : IsSound scenario run)
+module _ (scenario : Scenario) (good : IsGoodScenario scenario) (honest : NeverRefusedInScenarios) (stay : StaySound scenario) (run : Run) (sound : IsSound scenario run)
     (due : EndsAreDue run.players run.history) (i : ℕ) (p : Player) (at : slice_get run.players i ≡ Some p) (s : ℕ) (o : IsOpen p s) where
   abbrev r : Rules
   r = rules_of scenario
 
   abbrev stepped : Run
-  stepped = after_sessions r run
+  stepped = after_sessions scenario run
 
   abbrev h : List Entry
   h = stepped.history

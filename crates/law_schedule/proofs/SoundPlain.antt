@@ -124,14 +124,14 @@ module _ (scenario : Scenario) (good : IsGoodScenario scenario) where
   pub clients-plain : (run : Run) → IsSound scenario run → IsSound scenario (after_clients run)
   clients-plain run a = sound-plain scenario (after_clients run) (clients-sound (plain_server r) (plain-keeps r) scenario good run (plain-sound scenario run a))
 
-  pub sessions-plain : (run : Run) → IsSound scenario run → IsSound scenario (after_sessions r run)
-  sessions-plain run a = sound-plain scenario (after_sessions r run) (sessions-sound (plain_server r) (plain-keeps r) scenario good run (plain-sound scenario run a))
+  pub sessions-plain : (run : Run) → IsSound scenario run → IsSound scenario (after_sessions scenario run)
+  sessions-plain run a = sound-plain scenario (after_sessions scenario run) (sessions-sound (plain_server r) (plain-keeps r) scenario good run (plain-sound scenario run a))
 
   pub takes-plain : (run : Run) → IsSound scenario run → IsSound scenario (after_takes run)
   takes-plain run a = sound-plain scenario (after_takes run) (takes-sound (plain_server r) (plain-keeps r) scenario good run (plain-sound scenario run a))
 
-  pub rounds-plain : (run : Run) → IsSound scenario run → IsSound scenario (round r run)
-  rounds-plain run a = sound-plain scenario (round r run) (rounds-sound (plain_server r) (plain-keeps r) scenario good run (plain-sound scenario run a))
+  pub rounds-plain : (run : Run) → IsSound scenario run → IsSound scenario (round scenario run)
+  rounds-plain run a = sound-plain scenario (round scenario run) (rounds-sound (plain_server r) (plain-keeps r) scenario good run (plain-sound scenario run a))
 
   pub run-plain : IsSound scenario (scheduled_run scenario)
   run-plain = sound-plain scenario (scheduled_run scenario) (run-sound (plain_server r) (plain-keeps r) scenario good)

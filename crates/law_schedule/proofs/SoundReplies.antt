@@ -58,6 +58,7 @@ names-here r e h l = go e.reply refl (legal-tells r e h l)
         (omega (arith, b.0), omega (arith, b.1, t.within, actions-count h, accepted-grows h (e ∷ h) (after e same)))))
     go (logged.Welcome commit head) is t = tt
     go (logged.Dropped seq chain far) is t = tt
+    go (logged.Denied seq object) is t = tt
     go (logged.Settled seq pos) is t = tt
     go (logged.Noted commit) is t = tt
     go logged.Idle is t = tt

@@ -6,6 +6,7 @@ use Rattle.sv_journal.specs.declared.entry.Entry.{Entry}
 use Rattle.sv_journal.specs.Answer.{Rules, reply_to}
 use Rattle.sv_scenario.specs.declared.scenario.Scenario.{Scenario}
 use Rattle.sv_scenario.specs.declared.scenario.Turn.{Turn}
+use Rattle.sv_scenario.specs.Sessions.{session_count}
 use Rattle.law_schedule.specs.Players.{Player}
 use Rattle.law_schedule.specs.Serving.{Run, Server, served, serves_next, session_served, turn_served, turns_served, all_served, sessions_served, after_served, round_served, run_served}
 pub use Rattle.sv_system.specs.Records.{rules_of}
@@ -35,11 +36,11 @@ session_turns r players h s = all_served (plain_server r) players h s
 abbrev pub sessions_turned : Rules → List Player → List Entry → List ℕ → List Entry
 sessions_turned r players h sessions = sessions_served (plain_server r) players h sessions
 
-abbrev pub after_sessions : Rules → Run → Run
-after_sessions r run = after_served (plain_server r) r.sessions run
+abbrev pub after_sessions : Scenario → Run → Run
+after_sessions scenario run = after_served (plain_server (rules_of scenario)) (session_count scenario) run
 
-abbrev pub round : Rules → Run → Run
-round r run = round_served (plain_server r) r.sessions run
+abbrev pub round : Scenario → Run → Run
+round scenario run = round_served (plain_server (rules_of scenario)) (session_count scenario) run
 
 -- The run of a scenario: the turns of its schedule, and then rounds.
 abbrev pub scheduled_run : Scenario → Run

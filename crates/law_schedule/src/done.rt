@@ -14,5 +14,5 @@ pub fn scheduled_runs_end()
     ensures done { (scenario : Scenario) → IsGoodScenario scenario → IsRunDone scenario (scheduled_run scenario) }
     ensures traffic { (scenario : Scenario) → IsGoodScenario scenario → IsRecordOf scenario (scheduled_run scenario).history (traces_of (scheduled_run scenario)) }
     ensures scripts { (scenario : Scenario) → IsGoodScenario scenario → ScriptsAreFollowed scenario.world.shape scenario.clients (traces_of (scheduled_run scenario)) }
-    ensures still { (scenario : Scenario) (run : Run) → IsGoodScenario scenario → IsSound scenario run → IsRunDone scenario run → round (rules_of scenario) run ≡ run }
+    ensures still { (scenario : Scenario) (run : Run) → IsGoodScenario scenario → IsSound scenario run → IsRunDone scenario run → round scenario run ≡ run }
 {}

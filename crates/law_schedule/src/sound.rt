@@ -19,7 +19,7 @@ pub fn turns_keep_runs_sound()
     ensures opening { (scenario : Scenario) → IsGoodScenario scenario → IsSound scenario (opening_run scenario) }
     ensures turns { (scenario : Scenario) (run : Run) (turn : Turn) → IsGoodScenario scenario →
         IsGoodTurn (length scenario.clients) (session_count scenario) turn → IsSound scenario run → IsSound scenario (turned (rules_of scenario) run turn) }
-    ensures rounds { (scenario : Scenario) (run : Run) → IsGoodScenario scenario → IsSound scenario run → IsSound scenario (round (rules_of scenario) run) }
+    ensures rounds { (scenario : Scenario) (run : Run) → IsGoodScenario scenario → IsSound scenario run → IsSound scenario (round scenario run) }
     ensures run { (scenario : Scenario) → IsGoodScenario scenario → IsSound scenario (scheduled_run scenario) }
 {}
 

@@ -115,8 +115,8 @@ module _ (stay : FullRepliesStay) (name : LegalRelaysNameAccepted) (messages : R
       let before = reversed_short j in
       omega (arith, split, sum, before)
 
-  -- all accepted actions have their positions
-  pub few_accepted : length (accepted (reverse journal)) ≤ most_positions
+  -- a position is left
+  pub few_accepted : length (accepted (reverse journal)) < most_positions
   few_accepted =
       let few = few_entries (session_count scenario) journal under few_in in
       let same = reversed_short journal in
@@ -128,11 +128,8 @@ module _ (stay : FullRepliesStay) (name : LegalRelaysNameAccepted) (messages : R
   all_sendable =
       let P : Entry → Type 0 = λ (e : Entry). RequestFits e.request in
       let fits = All-from_recursion P (reverse journal) (each-reverse P journal all_fit) in
-      let few = few_entries (session_count scenario) journal under few_in in
-      let same = reversed_short journal in
-      let most = good.good.sessions in
       recursion_from_All (λ (e : Entry). IsReply (full_reply (accepted (reverse journal)) e.reply)) (reverse journal)
-      (messages (rules_of scenario) (reverse journal) (limits_of scenario good.good) (objects_few scenario good.good) good.opening fits (omega (arith, few, same, most)) run.legal)
+      (messages (rules_of scenario) (reverse journal) (limits_of scenario good.good) (omega arith) (objects_few scenario good.good) good.opening fits run.legal)
 
   pub sendable : (s : ℕ) → AllByRecursion IsReply (replies_in (accepted (reverse journal)) (reverse journal) s)
   sendable s = sendable_in (accepted (reverse journal)) (reverse journal) s all_sendable

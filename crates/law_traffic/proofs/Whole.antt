@@ -14,12 +14,13 @@ use Rattle.sv_world.specs.declared.world.Shape.{Shape}
 use Rattle.sv_client.specs.Proper.{identity_of}
 use Rattle.sv_scenario.specs.declared.scenario.Plan.{Plan}
 use Rattle.sv_scenario.specs.declared.scenario.Scenario.{Scenario}
+use Rattle.sv_scenario.specs.Sessions.{session_count}
 use Rattle.sv_system.specs.Fits.{is_join_of, has_session}
-use Rattle.sv_system.specs.Records.{rules_of, EachTrace, ScriptsAreFollowed}
+use Rattle.sv_system.specs.Records.{EachTrace, ScriptsAreFollowed}
 use Rattle.sv_script.specs.Following.{FollowsToEnd}
 use Rattle.sv_system.proofs.Asked.{any-reverse, current-joined}
 use Rattle.sv_asked.specs.Asked.{RepliesAreMessages}
-use Rattle.sv_system.specs.Laws.{NeverRefused}
+use Rattle.sv_system.specs.Laws.{NeverRefusedInScenarios}
 use Rattle.sv_player.specs.Carried.{BeginsWithReplies}
 use Rattle.sv_player.specs.Stops.{IsShut}
 use Rattle.sv_player.specs.Played.{replies_of}
@@ -110,20 +111,20 @@ module _ (stay : FullRepliesStay) (name : LegalRelaysNameAccepted) (messages : R
         let awaited = shut.awaited in
         omega (arith, same, awaited)
 
-    pub next_taken : NeverRefused → (rest : List ℕ) → BeginsWithReplies x.client.received (replies_of L s) rest → IsTakeable scenario.world.shape L rest
+    pub next_taken : NeverRefusedInScenarios → (rest : List ℕ) → BeginsWithReplies x.client.received (replies_of L s) rest → IsTakeable scenario.world.shape L rest
     next_taken law rest begins =
         let limits = limits_of scenario good.good in
         let w = mine_well.1 in
         let few = few-asked (identity_of scenario.world.shape L) L.first mine_well.0.steps (reverse L.events) w.follows.left s w.good.few_steps w.proper.events w.follows.follows in
         takeable stay name journal L s x open_done can_be_sent rest begins scenario.world.shape
-        (λ reply there. law (rules_of scenario) (reverse journal) Ls o.place L s reply limits.objects limits.attrs limits.bound
+        (λ reply there. law scenario.world scenario.bound scenario.reach (session_count scenario) (reverse journal) Ls o.place L s reply limits.objects limits.attrs limits.bound
         (few_accepted stay name messages scenario journal Ls sessions good run) run.legal
         (fits stay name messages scenario journal Ls sessions good run) o.member o.session.current (omega (arith, few))
         (ap (λ (ws : List Reply). slice_get ws (length (got (reverse L.events) s))) (all_are stay name journal L s x open_done) ∙ there))
 
   -- ---- The ends of traces
 
-  not_stopped : NeverRefused → (i : ℕ) (L : Trace) → slice_get Ls i ≡ Some L → IsStopped scenario.world.shape L sessions → ⊥
+  not_stopped : NeverRefusedInScenarios → (i : ℕ) (L : Trace) → slice_get Ls i ≡ Some L → IsStopped scenario.world.shape L sessions → ⊥
   not_stopped law i L member stop =
       let o : IsOpenIn Ls sessions L stop.session stop.over = record { place = i; member = member; session = stop.open_is; there = stop.there } in
       elim stop.how [
@@ -132,12 +133,12 @@ module _ (stay : FullRepliesStay) (name : LegalRelaysNameAccepted) (messages : R
             not_bad scenario.world.shape L bad.bad.rest (next_taken L stop.session stop.over o law bad.bad.rest bad.bad.received) bad.payload bad.fault bad.bad.bad
       ]
 
-  to_the_end : NeverRefused → (i : ℕ) (plan : Plan) (L : Trace) → slice_get Ls i ≡ Some L → FollowsToEnd scenario.world.shape plan.steps L ⊎ IsStopped scenario.world.shape L sessions →
+  to_the_end : NeverRefusedInScenarios → (i : ℕ) (plan : Plan) (L : Trace) → slice_get Ls i ≡ Some L → FollowsToEnd scenario.world.shape plan.steps L ⊎ IsStopped scenario.world.shape L sessions →
       FollowsToEnd scenario.world.shape plan.steps L
   to_the_end law i plan L member (inl end) = end
   to_the_end law i plan L member (inr stop) = absurd (not_stopped law i L member stop)
 
-  pub scripts_are_followed : NeverRefused → EndOrAreStopped scenario Ls sessions → ScriptsAreFollowed scenario.world.shape scenario.clients Ls
+  pub scripts_are_followed : NeverRefusedInScenarios → EndOrAreStopped scenario Ls sessions → ScriptsAreFollowed scenario.world.shape scenario.clients Ls
   scripts_are_followed law ends =
       each_trace (λ plan L. FollowsToEnd scenario.world.shape plan.steps L ⊎ IsStopped scenario.world.shape L sessions) (λ plan L. FollowsToEnd scenario.world.shape plan.steps L)
       scenario.clients Ls ends (to_the_end law)

@@ -1,37 +1,43 @@
 -- Each reply of a server has numbers of its types, where its requests have, whatever results it keeps.
-use Rattle.std.proofs.Common.{◌≡◌, ℕ, zero, suc, ◌^◌, ◌<◌, ◌≤◌, Bool, true, false, ◌&&◌, not, cond, inl, inr, List, [], ◌∷◌, ◌++◌, length, map, filter, Some, None, subst, arith}
+use Rattle.std.proofs.Common.{◌≡◌, ℕ, zero, suc, ◌^◌, ◌<◌, ◌≤◌, Bool, true, false, ◌&&◌, not, cond, inl, inr, List, [], ◌∷◌, ◌++◌, length, map, filter, Some, None, subst, arith, length-append}
 use Rattle.std.specs.List.{AllByRecursion}
+use Rattle.std.proofs.lemmas.List.Elements.{recursion_from_All}
 use Rattle.sv_world.specs.declared.action.Action.{Action}
 use Rattle.sv_world.specs.declared.world.ClientId.{ClientId}
 use Rattle.sv_world.specs.declared.world.ObjectId.{ObjectId}
 use Rattle.sv_world.specs.Control.{is_in, below, needed_for, reads_committed, head_for, with_reading, up_to, chain_length, influence_distance}
 use Rattle.sv_world.specs.Faults.{first_fault_of_action}
-use Rattle.sv_world.specs.Sets.{numbers_of}
+use Rattle.sv_world.specs.Limits.{most_positions}
+use Rattle.sv_world.specs.Rights.{first_forbidden}
+use Rattle.sv_world.specs.Sets.{read_set, numbers_of}
 use Rattle.sv_world.proofs.Bases.{below-is_in}
 use Rattle.sv_world.proofs.Good.{good_of_none}
 use Rattle.sv_world.proofs.Greatest.{cut-high}
+use Rattle.sv_world.proofs.Written.{written_is_read}
 use Rattle.sv_wire.specs.declared.message.Request.{Request}
 use Rattle.sv_wire.specs.declared.message.Request.TheVariants as requests
 use Rattle.sv_wire.specs.Ranges.{ValueFits, HeldFits, RequestFits}
 use Rattle.sv_journal.specs.declared.entry.Entry.{Entry}
 use Rattle.sv_journal.specs.declared.entry.Logged.{Logged}
 use Rattle.sv_journal.specs.declared.entry.Logged.TheVariants as logged
-use Rattle.sv_journal.specs.History.{client_of, is_client, is_submit_of, Outcome, Accepted, Dropped, outcome_in, outcomes_of, accepted, actions_of, commit_of, committed_of}
+use Rattle.sv_journal.specs.History.{client_of, is_client, is_submit_of, Outcome, Accepted, Dropped, Denied, outcome_in, outcomes_of, accepted, actions_of, commit_of, committed_of}
 use Rattle.sv_journal.specs.Sessions.{kept_outcome, outcome_at, sent_to, already_given}
 use Rattle.sv_journal.specs.Answer.{Rules, relay_of, committed_held}
 use Rattle.sv_journal.specs.Serving.{Keeping, reply_for, IsKeeping}
 use Rattle.sv_journal.proofs.Kept.{commit_within-kept}
 use Rattle.sv_journal.proofs.Replies.{IsDetail, cut_for, seen_now, each_row}
 use Rattle.sv_system.proofs.Histories.{actions-count, kept-is, kept-within}
-use Rattle.sv_system.proofs.Every.{each-at, each-get, each-append, each-if, each-map, each-member}
+use Rattle.sv_system.proofs.Every.{each-at, each-get, each-append, each-if, each-is_in, each-map, each-member}
+use Rattle.sv_system.proofs.Rights.{denied-for}
 use Rattle.sv_asked.proofs.Evaluated.{AreNumbers}
-use Rattle.sv_asked.proofs.Facts.{RequestsFit, requests-kept, accepted-short, outcomes-short, life-fits, committed-fits, chain-short, IsInPlane, plane-of, far-near}
+use Rattle.sv_asked.proofs.Facts.{RequestsFit, requests-kept, life-fits, committed-fits, chain-short, IsInPlane, plane-of, far-near}
 
 -- The numbers of a reply are those of their types; its positions are left out.
 abbrev pub LoggedFits : Logged → Type 0
 LoggedFits (logged.Welcome commit head) = (commit < 2 ^ 32) × AllByRecursion HeldFits head
 LoggedFits (logged.Relay seq commit head positions) = (seq < 2 ^ 32) × (commit < 2 ^ 32) × AllByRecursion HeldFits head
 LoggedFits (logged.Dropped seq chain far) = (seq < 2 ^ 32) × (chain < 2 ^ 32) × (far < 2 ^ 32)
+LoggedFits (logged.Denied seq object) = (seq < 2 ^ 32) × (object.0 < 2 ^ 16)
 LoggedFits (logged.Seen last commit head positions) = (last < 2 ^ 32) × (commit < 2 ^ 32) × AllByRecursion HeldFits head
 LoggedFits (logged.Settled seq place) = (seq < 2 ^ 32) × (place < 2 ^ 32)
 LoggedFits (logged.Noted commit) = commit < 2 ^ 32
@@ -47,10 +53,12 @@ RepliesFit h = AllByRecursion (λ (e : Entry). LoggedFits e.reply) h
 abbrev OutcomeFits : Outcome → Type 0
 OutcomeFits (Accepted p) = Unit {0}
 OutcomeFits (Dropped chain far) = (chain < 2 ^ 32) × (far < 2 ^ 32)
+OutcomeFits (Denied object) = object < 2 ^ 16
 
 outcome-fits : (p : ℕ) (w : Logged) → LoggedFits w → AllByRecursion OutcomeFits (outcome_in p w)
 outcome-fits p (logged.Relay seq commit head positions) f = (tt, tt)
 outcome-fits p (logged.Dropped seq chain far) f = ((f.1, f.2), tt)
+outcome-fits p (logged.Denied seq object) f = (f.1, tt)
 outcome-fits p (logged.Seen last commit head positions) f = tt
 outcome-fits p (logged.Welcome commit head) f = tt
 outcome-fits p (logged.Settled seq place) f = tt
@@ -83,10 +91,11 @@ each-kept P test (x ∷ xs) all = go (test x) (each-kept P test xs all.1)
     go true rest = (all.0, rest)
     go false rest = rest
 
-module _ (k : Keeping) (law : IsKeeping k) (r : Rules) (objects : r.world.shape.objects ≤ 2 ^ 16) (opening : AreNumbers r.world.values) (h : List Entry) (s : ℕ) (few : suc (suc (length h)) < 2 ^ 32)
+module _ (k : Keeping) (law : IsKeeping k) (r : Rules) (objects : r.world.shape.objects ≤ 2 ^ 16) (opening : AreNumbers r.world.values) (h : List Entry) (s : ℕ)
+    (few : length (accepted h) ≤ most_positions) (numbers : (j : ℕ) → length (outcomes_of h j) ≤ most_positions)
     (asked : RequestsFit h) (replied : RepliesFit h) (plane : AllByRecursion IsInPlane (actions_of h)) where
   commit-fits : commit_of (k.kept h) < 2 ^ 32
-  commit-fits = omega (arith, commit_within-kept k law h, accepted-short h, few)
+  commit-fits = omega (arith, commit_within-kept k law h, few)
 
   head-fits : (xs : List ℕ) → AllByRecursion (λ x. x < 2 ^ 16) xs → AllByRecursion HeldFits (committed_held r (k.kept h) xs)
   head-fits [] all = tt
@@ -97,7 +106,7 @@ module _ (k : Keeping) (law : IsKeeping k) (r : Rules) (objects : r.world.shape.
 
   detail-fits : (n : ℕ) → IsDetail h n → n < 2 ^ 32
   detail-fits n (inl small) = omega (arith, small)
-  detail-fits n (inr (j, inl next)) = omega (arith, next, outcomes-short h j, few)
+  detail-fits n (inr (j, inl next)) = omega (arith, next, numbers j)
   detail-fits n (inr (j, inr life)) = omega (arith, life, life-fits h j asked)
 
   base-fits : (A : List Action) (sent given : List ℕ) (i : ℕ) → AllByRecursion HeldFits (committed_held r (k.kept h) (head_for r.world.shape.objects A (commit_of (k.kept h)) sent given i))
@@ -116,7 +125,7 @@ module _ (k : Keeping) (law : IsKeeping k) (r : Rules) (objects : r.world.shape.
       let last = cut_for g (actions_of h) s xs in
       let most : commit_of g ≤ length (actions_of h) = omega (arith, commit_within-kept k law h, actions-count h) in
       let high = cut-high (actions_of h) (commit_of g) (sent_to g s) xs most in (
-        omega (arith, high, actions-count h, accepted-short h, few),
+        omega (arith, high, actions-count h, few),
         commit-fits,
         base-fits (with_reading (actions_of h) last xs) (up_to last (sent_to g s)) (already_given r.world.shape.objects g s) (suc last),
       )
@@ -133,21 +142,31 @@ module _ (k : Keeping) (law : IsKeeping k) (r : Rules) (objects : r.world.shape.
       LoggedFits (logged.Dropped seq (chain_length (actions_of h) (commit_of (k.kept h)) a) (influence_distance (actions_of h) (commit_of (k.kept h)) a))
   dropped-fits seq a small good =
       let near = far-near (actions_of h) (commit_of (k.kept h)) a plane (plane-of a (good_of_none r.world.shape a good).origin) in
-      (small, omega (arith, chain-short (actions_of h) (commit_of (k.kept h)) a, actions-count h, accepted-short h, few), omega (arith, near))
+      (small, omega (arith, chain-short (actions_of h) (commit_of (k.kept h)) a, actions-count h, few), omega (arith, near))
+
+  denied-fits : (j object : ℕ) (a : Action) → first_fault_of_action r.world.shape a ≡ None → first_forbidden r.rights j a ≡ Some object → object < 2 ^ 16
+  denied-fits j object a good is =
+      let written = (denied-for r j a good object is).written in
+      let low : object < r.world.shape.objects =
+      each-is_in (λ x. x < r.world.shape.objects) (read_set a) (recursion_from_All (λ x. x < r.world.shape.objects) (read_set a) (good_of_none r.world.shape a good).objects)
+      object (written_is_read a object written) in
+      omega (arith, low, objects)
 
   pub reply-fits : (q : Request) → RequestFits q → LoggedFits (reply_for k r h s q)
   reply-fits q fits = each_row k law r h s LoggedFits q (record {
     refusal = λ code detail some low told. (omega (arith, low), detail-fits detail told);
     bye = tt;
     welcome = λ client life interest is open_still live later good. welcome-fits q client life interest is fits;
-    dropped = λ j seq a client is next good. dropped-fits seq a (seq-fits q seq a is fits) good;
+    dropped = λ j seq a client is next good room rightful. dropped-fits seq a (seq-fits q seq a is fits) good;
     dropped_again = λ j seq a chain far client is kept. (let f = kept-fits h j seq (Dropped chain far) kept replied in (seq-fits q seq a is fits, f.0, f.1));
-    settled = λ j seq p a client is kept. (seq-fits q seq a is fits, omega (arith, (kept-within h j seq p kept).1, accepted-short h, few));
-    fresh = λ j seq a client is next good chain. relay-fits (actions_of h ++ a ∷ []) seq (suc (length (actions_of h))) (seq-fits q seq a is fits);
+    denied = λ j seq object a client is next good room forbidden. (seq-fits q seq a is fits, denied-fits j object a good forbidden);
+    denied_again = λ j seq object a client is kept. (seq-fits q seq a is fits, kept-fits h j seq (Denied object) kept replied);
+    settled = λ j seq p a client is kept. (seq-fits q seq a is fits, omega (arith, (kept-within h j seq p kept).1, few));
+    fresh = λ j seq a client is next good chain room rightful. relay-fits (actions_of h ++ a ∷ []) seq (suc (length (actions_of h))) (seq-fits q seq a is fits);
     again = λ j seq p a client is kept above. relay-fits (actions_of h) seq p (seq-fits q seq a is fits);
     noted = λ results is good.
         let later : Entry = record { session = s; request = q; reply = logged.Noted 0 } in
-        omega (arith, commit_within-kept k law (later ∷ h), accepted-short (later ∷ h), few);
+        omega (arith, commit_within-kept k law (later ∷ h), length-append (accepted h) [], few);
     idle = tt;
     poll = λ j p ps client is open_still first. relay-fits (actions_of h) 0 p (omega arith);
     seen = λ j wait xs client is open_still good. seen-fits (numbers_of xs);

@@ -19,9 +19,8 @@ use Rattle.sv_wire.specs.declared.message.Request.{Request}
 use Rattle.sv_wire.specs.declared.message.Request.TheVariants as requests
 use Rattle.sv_wire.specs.Ranges.{ResultFits, ActionFits, RequestFits}
 use Rattle.sv_journal.specs.declared.entry.Entry.{Entry}
-use Rattle.sv_journal.specs.declared.entry.Logged.{Logged}
 use Rattle.sv_journal.specs.declared.entry.Logged.TheVariants as logged
-use Rattle.sv_journal.specs.History.{either, is_welcome, is_relay, is_noted, joining, client_of, is_client, is_submit_of, Outcome, outcome_in, new_action, outcomes_of, Authored, accepted, actions_of, reported, reports, result_at, commit_of, installed, committed_of}
+use Rattle.sv_journal.specs.History.{either, is_welcome, is_relay, is_noted, joining, client_of, new_action, outcomes_of, Authored, accepted, actions_of, reported, reports, result_at, commit_of, installed, committed_of}
 use Rattle.sv_journal.specs.Sessions.{welcomes, life_in, life_of}
 use Rattle.sv_journal.specs.Serving.{Keeping, with_results, IsKeeping}
 use Rattle.sv_system.proofs.Every.{each-get, each-append, each-if}
@@ -44,28 +43,6 @@ accepted-short (e ∷ h) = go (is_relay e.reply) (accepted-short h)
     go : (b : Bool) → length (accepted h) ≤ length h → length (accepted h ++ cond b new []) ≤ suc (length h)
     go true before = omega (arith, before, length-append (accepted h) new, new-few (client_of h e.session) (λ k. suc (length (outcomes_of h k))) e.request)
     go false before = omega (arith, before, length-append (accepted h) [])
-
-outcome-few : (p : ℕ) (w : Logged) → length (outcome_in p w) ≤ 1
-outcome-few p (logged.Relay seq commit head positions) = omega arith
-outcome-few p (logged.Dropped seq chain far) = omega arith
-outcome-few p (logged.Seen last commit head positions) = omega arith
-outcome-few p (logged.Welcome commit head) = omega arith
-outcome-few p (logged.Settled seq place) = omega arith
-outcome-few p (logged.Noted commit) = omega arith
-outcome-few p logged.Idle = omega arith
-outcome-few p (logged.Refused code detail) = omega arith
-outcome-few p logged.Bye = omega arith
-
-pub outcomes-short : (h : List Entry) (k : ℕ) → length (outcomes_of h k) ≤ length h
-outcomes-short [] k = omega arith
-outcomes-short (e ∷ h) k = go (is_client (client_of h e.session) k && is_submit_of e.request (suc (length (outcomes_of h k)))) (outcomes-short h k)
-  where
-    new : List Outcome
-    new = outcome_in (suc (length (accepted h))) e.reply
-
-    go : (b : Bool) → length (outcomes_of h k) ≤ length h → length (outcomes_of h k ++ cond b new []) ≤ suc (length h)
-    go true before = omega (arith, before, length-append (outcomes_of h k) new, outcome-few (suc (length (accepted h))) e.reply)
-    go false before = omega (arith, before, length-append (outcomes_of h k) [])
 
 -- ---- Clients and lives
 

@@ -82,6 +82,7 @@ module _ (r : Rules) (H : List Entry) (L : Trace) (fits : FitsButValues r.world.
       (recursion_from_All (λ p. (1 ≤ p) × (p ≤ length (accepted H))) ps among))
   reply-items (logged.Welcome commit head) among = tt
   reply-items (logged.Dropped seq chain far) among = tt
+  reply-items (logged.Denied seq object) among = tt
   reply-items (logged.Seen last commit head ps) among =
       each-map (item_at (accepted H)) (IsFineItem objects) ps
       (each-more (λ p. (1 ≤ p) × (p ≤ length (accepted H))) (λ p. IsFineItem objects (item_at (accepted H) p)) (λ p m. item-fine p m.1) ps

@@ -1,6 +1,6 @@
 -- What is said of the requests that honest clients ask.
-use Rattle.std.specs.Prelude.{◌≡◌, ℕ, ◌+◌, ◌*◌, ◌^◌, ◌<◌, ◌≤◌, List, [], ◌∷◌, length, reverse, slice_get, Some, All}
-use Rattle.sv_world.specs.Limits.{most_requests}
+use Rattle.std.specs.Prelude.{◌≡◌, ℕ, ◌*◌, ◌^◌, ◌<◌, ◌≤◌, List, [], ◌∷◌, length, reverse, slice_get, Some, All}
+use Rattle.sv_world.specs.Limits.{most_positions}
 use Rattle.sv_wire.specs.Ranges.{ValueFits, ActionFits, RequestFits}
 use Rattle.sv_wire.specs.Laws.{IsRequest, IsReply}
 use Rattle.sv_journal.specs.declared.entry.Entry.{Entry}
@@ -35,15 +35,16 @@ abbrev pub RequestsAreMessages : Type 0
 RequestsAreMessages = (r : Rules) (h : List Entry) (Ls : List Trace) (i : ℕ) (L : Trace) (s : ℕ) → AreWithinLimits r → HasNumbers r h Ls →
     Legal r h → Fits r.world.shape h Ls → slice_get Ls i ≡ Some L → All IsRequest (requests_of L s)
 
--- Each session may make 1,024 requests, so a journal of so many sessions accepts at most so many actions.
+-- Where each session may make so many requests, a journal of so many sessions accepts at most so many actions.
 abbrev pub AcceptedAreFew : Type 0
-AcceptedAreFew = (r : Rules) (h : List Entry) (sessions : ℕ) → Legal r h → All (λ (e : Entry). e.session < sessions) h → length (accepted h) ≤ most_requests * sessions
+AcceptedAreFew = (r : Rules) (h : List Entry) (sessions most : ℕ) → r.requests ≡ Some most → Legal r h → All (λ (e : Entry). e.session < sessions) h →
+    length (accepted h) ≤ most * sessions
 
 -- Each reply of a legal journal is a message, with numbers of its types, where the opening world and the requests have numbers of theirs,
--- whatever the clients ask. The journal is not longer than positions and sequence numbers go.
+-- whatever the clients ask, and however long the journal is. The rules have no more positions than there are numbers.
 abbrev pub RepliesAreMessages : Type 0
-RepliesAreMessages = (r : Rules) (h : List Entry) → AreWithinLimits r → r.world.shape.objects ≤ 2 ^ 16 → All ValueFits r.world.values →
-    All (λ (e : Entry). RequestFits e.request) h → length h + 1 < 2 ^ 32 → Legal r h → All (λ (e : Entry). IsReply (full_reply (accepted h) e.reply)) h
+RepliesAreMessages = (r : Rules) (h : List Entry) → AreWithinLimits r → r.positions ≤ most_positions → r.world.shape.objects ≤ 2 ^ 16 → All ValueFits r.world.values →
+    All (λ (e : Entry). RequestFits e.request) h → Legal r h → All (λ (e : Entry). IsReply (full_reply (accepted h) e.reply)) h
 
 -- ---- Any keeping
 
@@ -55,9 +56,9 @@ ServedRequestsFit = (k : Keeping) (r : Rules) (h : List Entry) (L : Trace) (s : 
     All IsRequest (requests_of L s)
 
 abbrev pub ServedAcceptedAreFew : Type 0
-ServedAcceptedAreFew = (k : Keeping) (r : Rules) (h : List Entry) (sessions : ℕ) → IsKeeping k → LegalFor k r h → All (λ (e : Entry). e.session < sessions) h →
-    length (accepted h) ≤ most_requests * sessions
+ServedAcceptedAreFew = (k : Keeping) (r : Rules) (h : List Entry) (sessions most : ℕ) → IsKeeping k → r.requests ≡ Some most → LegalFor k r h →
+    All (λ (e : Entry). e.session < sessions) h → length (accepted h) ≤ most * sessions
 
 abbrev pub ServedRepliesFit : Type 0
-ServedRepliesFit = (k : Keeping) (r : Rules) (h : List Entry) → IsKeeping k → AreWithinLimits r → r.world.shape.objects ≤ 2 ^ 16 → All ValueFits r.world.values →
-    All (λ (e : Entry). RequestFits e.request) h → length h + 1 < 2 ^ 32 → LegalFor k r h → All (λ (e : Entry). IsReply (full_reply (accepted h) e.reply)) h
+ServedRepliesFit = (k : Keeping) (r : Rules) (h : List Entry) → IsKeeping k → AreWithinLimits r → r.positions ≤ most_positions → r.world.shape.objects ≤ 2 ^ 16 →
+    All ValueFits r.world.values → All (λ (e : Entry). RequestFits e.request) h → LegalFor k r h → All (λ (e : Entry). IsReply (full_reply (accepted h) e.reply)) h

@@ -3,8 +3,8 @@ ghost use Rattle.sv_asked.specs.Asked.{AcceptedAreFew, RepliesAreMessages, Reque
 ghost use Rattle.sv_asked.specs.Asked.{ServedAcceptedAreFew, ServedRepliesFit, ServedRequestsFit};
 
 use sv_journal::{
-    served_actions_are_good, served_relays_are_small, served_relays_name_accepted,
-    served_replies_are_messages,
+    counts_have_an_end, served_actions_are_good, served_relays_are_small,
+    served_relays_name_accepted, served_replies_are_messages,
 };
 use sv_system::replicas_equal_serial_execution;
 
@@ -28,12 +28,13 @@ pub fn requests_are_messages()
 pub fn replies_are_messages()
     ensures { RepliesAreMessages }
 {
+    counts_have_an_end();
     served_relays_name_accepted();
     served_actions_are_good();
     served_replies_are_messages();
 }
 
-/// A legal journal of so many sessions accepts at most 1,024 actions for each of them, whatever its clients ask.
+/// A legal journal of so many sessions accepts at most as many actions for each of them as it may make requests, whatever its clients ask.
 pub fn accepted_are_few()
     ensures { AcceptedAreFew }
 {}
@@ -53,12 +54,13 @@ pub fn served_requests_fit()
 pub fn served_replies_fit()
     ensures { ServedRepliesFit }
 {
+    counts_have_an_end();
     served_relays_name_accepted();
     served_actions_are_good();
     served_replies_are_messages();
 }
 
-/// Whatever results a server keeps, it accepts at most 1,024 actions for each of its sessions.
+/// Whatever results a server keeps, it accepts at most as many actions for each of its sessions as it may make requests.
 pub fn served_accepted_are_few()
     ensures { ServedAcceptedAreFew }
 {}

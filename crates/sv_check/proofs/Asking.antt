@@ -172,7 +172,7 @@ module _ (scenario : Scenario) (H : List Entry) (Ls : List Trace) (good : IsGood
     objects = objects_few scenario good;
     opening = numbers.values;
     made = All-from_recursion (λ (L : Trace). All EventFits L.events) Ls (all_made_fit order shape scenario.clients Ls w (recursion_from_All PlanFits scenario.clients numbers.plans));
-    positions = (let most = few r H (session_count scenario) g.legal g.sessions in omega (arith, most, good.sessions));
+    positions = (let most = few r H (session_count scenario) 1024 refl g.legal g.sessions in omega (arith, most, good.sessions));
   }
 
   one_of : (i : ℕ) (L : Trace) → slice_get Ls i ≡ Some L → FitsOne shape H L

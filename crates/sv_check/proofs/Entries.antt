@@ -56,6 +56,7 @@ full_text_is A (logged.Welcome commit head) = refl
 full_text_is A (logged.Relay seq commit head positions) =
     ap (λ (l : List ℕ). codes "relay " ++ decimal seq ++ codes " at " ++ decimal commit ++ codes " " ++ head_text head ++ codes " " ++ (codes "[" ++ l ++ codes "]")) (items_are A positions)
 full_text_is A (logged.Dropped seq chain far) = refl
+full_text_is A (logged.Denied seq object) = refl
 full_text_is A (logged.Seen last commit head positions) =
     ap (λ (l : List ℕ). codes "seen " ++ decimal last ++ codes " at " ++ decimal commit ++ codes " " ++ head_text head ++ codes " " ++ (codes "[" ++ l ++ codes "]")) (items_are A positions)
 full_text_is A (logged.Settled seq pos) = refl

@@ -12,7 +12,7 @@ use Rattle.sv_wire.specs.Ranges.{RequestFits}
 use Rattle.sv_journal.specs.declared.entry.Entry.{Entry}
 use Rattle.sv_journal.specs.declared.entry.Logged.{Logged}
 use Rattle.sv_journal.specs.History.{accepted}
-use Rattle.sv_journal.specs.Answer.{Rules, reply_to}
+use Rattle.sv_journal.specs.Answer.{Rules, MayBeSession, reply_to}
 use Rattle.sv_journal.specs.Laws.{FullRepliesStay, LegalRelaysNameAccepted}
 use Rattle.sv_journal.specs.Sessions.{is_end, is_ended}
 use Rattle.sv_journal.specs.Text.{entry_line, entry_lines, journal_text, reply_text}
@@ -171,13 +171,13 @@ module _ (scenario : Scenario) (few : session_count scenario ≤ 64) (entries : 
 
   -- Where its request may not be asked, the text tells no entry.
   pub asked_none : (rules : Rules) → rules ≡ rules_of scenario → (asked : Asked) → ReadsAsked scenario.world.shape text (Ok asked) →
-      (asked.session < rules.sessions → (is_end asked.request ≡ true → is_ended (reverse entries) asked.session ≡ false) → ⊥) → NoEntry scenario entries text
+      (MayBeSession rules.sessions asked.session → (is_end asked.request ≡ true → is_ended (reverse entries) asked.session ≡ false) → ⊥) → NoEntry scenario entries text
   asked_none rules of_it asked reads refused e rest right is =
       let same = same_asked asked reads e rest right is in
       let may : ℕ × Request → Type 0 = λ (x : ℕ × Request). (x.0 < session_count scenario) × (is_end x.1 ≡ true → is_ended (reverse entries) x.0 ≡ false) in
       let here : may (e.session, e.request) = (right.session, right.once) in
       let it : may (asked.session, asked.request) = subst may same here in
-      refused (subst (λ (r : Rules). asked.session < r.sessions) (sym of_it) it.0) it.1
+      refused (subst (λ (r : Rules). MayBeSession r.sessions asked.session) (sym of_it) it.0) it.1
 
   -- Where nothing was read, the text tells no entry.
   pub unread_none : (read : Result Asked Unread) (e : Unread) → read ≡ Err e → e ≡ unread.Wrong → ReadsAsked scenario.world.shape text read → NoEntry scenario entries text

@@ -14,7 +14,7 @@ use Rattle.sv_script.specs.Laws.{StepsAreDoneInOrder}
 use Rattle.sv_asked.specs.Asked.{RequestsAreMessages, AcceptedAreFew}
 use Rattle.sv_asked.specs.Numbers.{ScenarioFits}
 use Rattle.sv_report.specs.Report.{trace_text, world_text}
-use Rattle.sv_journal.specs.Answer.{Rules}
+use Rattle.sv_journal.specs.Answer.{Rules, MayBeSession}
 use Rattle.sv_journal.specs.Sessions.{is_ended}
 use Rattle.sv_sequencer.specs.Step.{history}
 use Rattle.sv_check.specs.declared.journal.Served.{Served}
@@ -228,10 +228,10 @@ module _ (stay : FullRepliesStay) (names : LegalRelaysNameAccepted) (order : Ste
       pub served_unread : whole ≡ false → IsStop scenario text (length rest)
       served_unread stopped = stop_unread count text lines small short split (entries_of served) g.entries rest is (told.some stopped) (told.none stopped)
 
-      pub served_open : whole ≡ true → (((s : ℕ) → s < served.sequencer.rules.sessions → is_ended (history served.sequencer) s ≡ true) → ⊥) → IsStop scenario text (length rest)
+      pub served_open : whole ≡ true → (((s : ℕ) → MayBeSession served.sequencer.rules.sessions s → is_ended (history served.sequencer) s ≡ true) → ⊥) → IsStop scenario text (length rest)
       served_open all open_yet =
           stop_open count text lines small short split (entries_of served) g.entries rest is (told.all all)
-          (λ w. open_yet (λ s l. whole_ended scenario (history served.sequencer) w s (subst (λ (r : Rules). s < r.sessions) g.rules l)))
+          (λ w. open_yet (λ s l. whole_ended scenario (history served.sequencer) w s (subst (λ (r : Rules). MayBeSession r.sessions s) g.rules l)))
 
 -- ---- Stops that are passed on
 

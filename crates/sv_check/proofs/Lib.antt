@@ -8,6 +8,7 @@ pub mod Whole
 pub mod Moving
 pub mod Entries
 pub mod Journals
+pub mod Limited
 pub mod JournalParts
 pub mod JournalStops
 pub mod JournalLines

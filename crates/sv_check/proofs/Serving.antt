@@ -12,7 +12,7 @@ use Rattle.sv_journal.specs.History.{accepted, full_reply}
 use Rattle.sv_journal.specs.Sessions.{is_end, is_ended}
 use Rattle.sv_journal.specs.Laws.{FullRepliesStay, LegalRelaysNameAccepted}
 use Rattle.sv_journal.specs.Text.{NamesAccepted, RelaysNameAccepted}
-use Rattle.sv_journal.specs.Answer.{Rules, Legal, reply_to}
+use Rattle.sv_journal.specs.Answer.{Rules, MayBeSession, Legal, reply_to}
 use Rattle.sv_sequencer.specs.Step.{SequencerView, history, Answered, entry_of}
 use Rattle.sv_scenario.specs.declared.scenario.Scenario.{Scenario}
 use Rattle.sv_scenario.specs.Limits.{IsGoodScenario}
@@ -75,7 +75,7 @@ replies_more stay names r entries e legal =
 
 -- It answered one request more.
 pub answered : (scenario : Scenario) (old new : Served) (s : ℕ) (request : Request) (reply : Reply) → FullRepliesStay → LegalRelaysNameAccepted → IsServed scenario old →
-    Legal old.sequencer.rules (history old.sequencer) → s < old.sequencer.rules.sessions → IsTold scenario.world.shape request → (is_end request ≡ true → is_ended (history old.sequencer) s ≡ false) →
+    Legal old.sequencer.rules (history old.sequencer) → MayBeSession old.sequencer.rules.sessions s → IsTold scenario.world.shape request → (is_end request ≡ true → is_ended (history old.sequencer) s ≡ false) →
     Answered old.sequencer new.sequencer s request reply → new.replies.items ≡ old.replies.items ++ reply ∷ [] → IsServed scenario new
 answered scenario old new s request reply stay names g legal l told first a pushed =
     let e = entry_of s request (reply_to old.sequencer.rules (history old.sequencer) s request) in
@@ -83,11 +83,11 @@ answered scenario old new s request reply stay names g legal l told first a push
     record {
       rules = a.grew.rules ∙ g.rules;
       sessions = subst (All (λ (d : Entry). d.session < session_count scenario)) (sym turned)
-          (All-cons (λ (d : Entry). d.session < session_count scenario) e (history old.sequencer) (subst (λ (r : Rules). s < r.sessions) g.rules l) g.sessions);
+          (All-cons (λ (d : Entry). d.session < session_count scenario) e (history old.sequencer) (subst (λ (r : Rules). MayBeSession r.sessions s) g.rules l) g.sessions);
       once = subst (λ (h : List Entry). (n : ℕ) → ends_in h n ≤ 1) (sym turned) (once_more (history old.sequencer) e g.once first);
       entries = subst (AreEntries scenario) (sym turned) (
         record {
-          session = subst (λ (r : Rules). s < r.sessions) g.rules l;
+          session = subst (λ (r : Rules). MayBeSession r.sessions s) g.rules l;
           told = told;
           once = first;
           reply = ap (λ (r : Rules). reply_to r (history old.sequencer) s request) g.rules;
@@ -107,9 +107,9 @@ pub one_more : (scenario : Scenario) (old : Served) (new : SequencerView) (s : �
 one_more scenario old new s request reply g a =
     a.grew.entries ∙ ap (λ (r : Rules). entries_of old ++ entry_of s request (reply_to r (history old.sequencer) s request) ∷ []) g.rules
 
-pub ended_all : (scenario : Scenario) (served : Served) → IsServed scenario served → ((s : ℕ) → s < served.sequencer.rules.sessions → is_ended (history served.sequencer) s ≡ true) →
+pub ended_all : (scenario : Scenario) (served : Served) → IsServed scenario served → ((s : ℕ) → MayBeSession served.sequencer.rules.sessions s → is_ended (history served.sequencer) s ≡ true) →
     AreEnded scenario (history served.sequencer)
-ended_all scenario served g f s l = f s (subst (λ (r : Rules). s < r.sessions) (sym g.rules) l)
+ended_all scenario served g f s l = f s (subst (λ (r : Rules). MayBeSession r.sessions s) (sym g.rules) l)
 
 pub shape_is : (scenario : Scenario) (served : Served) → IsServed scenario served → scenario.world.shape ≡ served.sequencer.rules.world.shape
 shape_is scenario served g = ap (λ (r : Rules). r.world.shape) (sym g.rules)

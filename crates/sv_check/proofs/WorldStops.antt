@@ -59,7 +59,7 @@ module _ (stay : FullRepliesStay) (names : LegalRelaysNameAccepted) (order : Ste
   small : commit_of h < 2 ^ 64
   small =
       let most = commit_within h in
-      let accepts = few (rules_of scenario) h (session_count scenario) c.traffic.legal c.traffic.sessions in
+      let accepts = few (rules_of scenario) h (session_count scenario) 1024 refl c.traffic.legal c.traffic.sessions in
       let sessions = good.sessions in
       omega (arith, most, accepts, sessions)
 

@@ -3,7 +3,7 @@ ghost use Rattle.std.specs.Prelude.{◌≡◌, ℕ, List, [], ◌∷◌, ◌+◌
 ghost use Rattle.sv_scenario.specs.Limits.{IsGoodScenario};
 ghost use Rattle.sv_asked.specs.Numbers.{ScenarioFits};
 ghost use Rattle.sv_journal.specs.Sessions.{is_end, is_ended};
-ghost use Rattle.sv_journal.specs.Answer.{Legal, reply_to};
+ghost use Rattle.sv_journal.specs.Answer.{MayBeSession, Legal, reply_to};
 ghost use Rattle.sv_sequencer.specs.Step.{history, entry_of};
 ghost use Rattle.sv_journal.specs.Text.{journal_text};
 ghost use Rattle.sv_system.specs.Records.{rules_of};
@@ -80,9 +80,10 @@ impl Served {
     }
 
     /// Whether a request is of a session that may make it: a second End is none.
+    #[tactic(auto, using(crate::proofs::Limited::below_may, crate::proofs::Limited::may_below))]
     fn may_answer(&self, asked: &Asked) -> bool
-        ensures may { result ≡ true → (asked.now.session < self.now.sequencer.rules.sessions) × (is_end asked.now.request ≡ true → is_ended (history self.now.sequencer) asked.now.session ≡ false) }
-        ensures no { result ≡ false → asked.now.session < self.now.sequencer.rules.sessions → (is_end asked.now.request ≡ true → is_ended (history self.now.sequencer) asked.now.session ≡ false) → ⊥ }
+        ensures may { result ≡ true → (MayBeSession self.now.sequencer.rules.sessions asked.now.session) × (is_end asked.now.request ≡ true → is_ended (history self.now.sequencer) asked.now.session ≡ false) }
+        ensures no { result ≡ false → MayBeSession self.now.sequencer.rules.sessions asked.now.session → (is_end asked.now.request ≡ true → is_ended (history self.now.sequencer) asked.now.session ≡ false) → ⊥ }
     {
         if asked.session >= self.sequencer.sessions() {
             return false;
@@ -103,7 +104,7 @@ impl Served {
     /// Answers a request that it may answer.
     fn answer(&mut self, scenario: &Scenario, asked: &Asked) -> Result<(), AllocError>
         requires served { IsServed scenario.now self.old }
-        requires session { asked.now.session < self.old.sequencer.rules.sessions }
+        requires session { MayBeSession self.old.sequencer.rules.sessions asked.now.session }
         requires told { IsTold scenario.now.world.shape asked.now.request }
         requires first { is_end asked.now.request ≡ true → is_ended (history self.old.sequencer) asked.now.session ≡ false }
         ensures served { OnOk result (IsServed scenario.now self.new) }

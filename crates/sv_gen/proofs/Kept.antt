@@ -119,7 +119,7 @@ plans_fine pairs rounds some few =
 
 good_world : (objects : ℕ) → 1 ≤ objects → objects ≤ 4096 → IsGoodWorld (world objects)
 good_world objects some few = record {
-  shape = record { some_objects = some; few_objects = few; some_attrs = omega arith; few_attrs = omega arith };
+  shape = record { some_objects = some; few_objects = omega (arith, few); some_attrs = omega arith; few_attrs = omega arith };
   objects = length-map (below objects) opening ∙ length-below objects;
   attrs = All-from_recursion (λ (v : List ℤ). length v ≡ 2) (map opening (below objects)) (all_below (λ (v : List ℤ). length v ≡ 2) opening objects (λ k l. refl));
 }
@@ -137,6 +137,7 @@ good_scenario pairs rounds some_pairs few_pairs some_rounds few_rounds =
     let high = objects_fit pairs rounds few_pairs few_rounds in
     record {
       world = good_world (4 * (pairs * rounds)) (omega (arith, low)) (omega (arith, high));
+      few_objects = omega (arith, high);
       bound = omega arith;
       reach = tt;
       some_clients = omega (arith, count, some_pairs);

@@ -9,16 +9,16 @@ use Rattle.std.proofs.lemmas.Nat.Bits.{bit_at-zero, bit_at_set_same, bit_at_set_
 use Rattle.std.specs.Int.{bit_at, w64}
 use Rattle.sv_influence.specs.Objects.{has_object}
 
-pub has_object-none : (x : ℕ) → has_object (replicate 64 0) x ≡ false
+pub has_object-none : (x : ℕ) → has_object (replicate 1024 0) x ≡ false
 has_object-none x =
-    let none : slice_index_or (replicate 64 0) (x / 64) 0 ≡ 0 =
-    elim (cases_lt (x / 64) 64) [
-      | inl l ↦ get_or-replicate 64 (x / 64) 0 0 l
-      | inr l ↦ get_or_past (replicate 64 0) (x / 64) 0 l
+    let none : slice_index_or (replicate 1024 0) (x / 64) 0 ≡ 0 =
+    elim (cases_lt (x / 64) 1024) [
+      | inl l ↦ get_or-replicate 1024 (x / 64) 0 0 l
+      | inr l ↦ get_or_past (replicate 1024 0) (x / 64) 0 l
     ] in
     ap (λ (w : ℕ). nat_eq (bit_at w (x % 64)) 1) none ∙ ap (λ (b : ℕ). nat_eq b 1) (bit_at-zero (x % 64))
 
-pub has_object-add : (words : List ℕ) (o x : ℕ) → length words ≡ 64 → o < 4096 →
+pub has_object-add : (words : List ℕ) (o x : ℕ) → length words ≡ 1024 → o < 65535 →
     has_object (slice_set words (o / 64) (bit_or (slice_index_or words (o / 64) 0) (1 * 2 ^ (o % 64) % 2 ^ 64))) x ≡ (nat_eq x o || has_object words x)
 has_object-add words o x len low =
     let place : o / 64 < length words = omega arith in
@@ -46,7 +46,7 @@ has_object-add words o x len low =
           ∙ sym (ap (λ (b : Bool). b || has_object words x) (ne_eqb x o apart)))
     ]
 
-pub has_object-remove : (words : List ℕ) (o x : ℕ) → length words ≡ 64 → o < 4096 →
+pub has_object-remove : (words : List ℕ) (o x : ℕ) → length words ≡ 1024 → o < 65535 →
     has_object (slice_set words (o / 64) (bit_and (slice_index_or words (o / 64) 0) (bit_not w64 (1 * 2 ^ (o % 64) % 2 ^ 64)))) x ≡ (has_object words x && not (nat_eq x o))
 has_object-remove words o x len low =
     let place : o / 64 < length words = omega arith in

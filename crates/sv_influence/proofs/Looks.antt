@@ -9,9 +9,8 @@ use Rattle.sv_world.specs.Control.{is_in, below, blank, action_at, last_writer}
 use Rattle.sv_world.proofs.Members.{is_in-filter, is_in-filter_parts, same_test}
 use Rattle.sv_world.proofs.Bases.{is_in-below}
 use Rattle.sv_world.proofs.Writers.{last_writer-below, last_writer-writes}
-use Rattle.sv_queue.specs.declared.queued.Queued.{Queued}
 use Rattle.sv_queue.specs.Pairs.{is_pair}
-use Rattle.sv_queue.specs.Queue.{QueueView, IsUncommitted, last_position, queue_actions, entry_actions, sent_positions, given_objects}
+use Rattle.sv_queue.specs.Queue.{Queued, QueueView, IsUncommitted, last_position, queue_actions, entry_actions, sent_positions, given_objects}
 use Rattle.sv_queue.proofs.Members.{is_in-append}
 use Rattle.sv_queue.proofs.SourceLists.{committed_blank}
 use Rattle.sv_influence.specs.Lacking.{lacking_of, lacking_writers, base_of, committed_reads}

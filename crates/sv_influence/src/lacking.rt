@@ -1,8 +1,9 @@
 //! What a session lacks of a position, by the sources of what it reads.
-ghost use Rattle.std.specs.Prelude.{◌≡◌, ◌≢◌, ℕ, ◌+◌, ◌*◌, ◌<◌, ◌≤◌, true, [], ◌∷◌, ◌++◌, map, length, slice_index_or, option_to_list, IfOk, OnOk, All};
+ghost use Rattle.std.specs.Prelude.{◌≡◌, ◌≢◌, ℕ, ◌+◌, ◌*◌, ◌<◌, ◌≤◌, ◌==◌, true, [], ◌∷◌, ◌++◌, map, length, slice_index_or, option_to_list, IfOk, OnOk, All, if◌then◌else◌};
 ghost use Rattle.sv_world.specs.declared.world.ObjectId.{ObjectId};
 ghost use Rattle.sv_world.specs.Control.{is_in, action_at, wanted_up_to};
 ghost use Rattle.sv_world.specs.Faults.{is_ascending};
+ghost use Rattle.sv_world.specs.Limits.{most_items};
 ghost use Rattle.sv_world.specs.Sets.{numbers_of};
 ghost use Rattle.sv_queue.specs.Queue.{IsUncommitted, last_position, queue_actions, sent_positions};
 ghost use Rattle.sv_influence.specs.Lacking.{lacking, base_objects, lacking_of, lacking_writers, base_of, committed_reads, reads_at};
@@ -15,7 +16,7 @@ use std::sync::ledger::Ledger;
 use sv_queue::{Queue, Steps};
 use sv_world::{List, MOST_ITEMS, MOST_OBJECTS, ObjectId};
 
-/// What a relay of an uncommitted position has for a session: the positions that the session lacks, and the objects whose committed
+/// What a relay of an uncommitted position has for the session of a slot: the positions that the session lacks, and the objects whose committed
 /// values it needs with them.
 ///
 /// It goes from the position to the last writers of what it reads, from these to theirs, and so on, and looks at no other position: its
@@ -23,34 +24,29 @@ use sv_world::{List, MOST_ITEMS, MOST_OBJECTS, ObjectId};
 pub fn closure<L: Ledger>(
     alloc: Global,
     queue: &Queue,
-    session: u16,
+    slot: u16,
     pos: u32,
     steps: &mut Steps<L>,
 ) -> Result<Closure, AllocError>
     requires { IsUncommitted queue.now pos }
-    ensures items { IfOk result (λ c. c.items ≡ lacking queue.now session pos) }
-    ensures head { IfOk result (λ c. map (λ (o : ObjectId). o.0) c.head ≡ base_objects queue.now session pos) }
-    ensures ticks { steps.new ≤ steps.old + most_look_ups * length (lacking queue.now session pos) + 1 }
+    ensures items { IfOk result (λ c. c.items ≡ lacking queue.now slot pos) }
+    ensures head { IfOk result (λ c. map (λ (o : ObjectId). o.0) c.head ≡ base_objects queue.now slot pos) }
+    ensures ticks { steps.new ≤ steps.old + most_look_ups * length (lacking queue.now slot pos) + 1 }
 {
-    let found = expand_all(alloc, queue, session, pos, steps)?;
+    let found = expand_all(alloc, queue, slot, pos, steps)?;
     let shape = queue.shape();
     prove!(shape.objects <= MOST_OBJECTS);
     listed(alloc, found)
 }
 
 /// The position itself, where the session lacks it.
-fn first_wanted<L: Ledger>(
-    queue: &Queue,
-    session: u16,
-    pos: u32,
-    steps: &mut Steps<L>,
-) -> Option<u32>
+fn first_wanted<L: Ledger>(queue: &Queue, slot: u16, pos: u32, steps: &mut Steps<L>) -> Option<u32>
     requires { IsUncommitted queue.now pos }
     ensures within { (j : ℕ) → is_in j (option_to_list result) ≡ true → (queue.now.commit < j) × (j ≤ pos) }
-    ensures whole { wanted_up_to (queue_actions queue.now) queue.now.commit (sent_positions queue.now session) pos (option_to_list result) ≡ lacking queue.now session pos }
+    ensures whole { wanted_up_to (queue_actions queue.now) queue.now.commit (sent_positions queue.now slot) pos (option_to_list result) ≡ lacking queue.now slot pos }
     ensures ticks { steps.new ≡ steps.old + 1 }
 {
-    if queue.is_marked(pos, session, steps) {
+    if queue.is_marked(pos, slot, steps) {
         None
     } else {
         Some(pos)
@@ -84,22 +80,22 @@ pub fn listed(alloc: Global, found: Found) -> Result<Closure, AllocError>
 fn expand_all<L: Ledger>(
     alloc: Global,
     queue: &Queue,
-    session: u16,
+    slot: u16,
     pos: u32,
     steps: &mut Steps<L>,
 ) -> Result<Found, AllocError>
     requires { IsUncommitted queue.now pos }
-    ensures items { IfOk result (λ f. f.items.items ≡ lacking queue.now session pos) }
-    ensures bases { IfOk result (λ f. (x : ℕ) → is_in x f.bases ≡ is_in x (base_objects queue.now session pos)) }
-    ensures ticks { steps.new ≤ steps.old + most_look_ups * length (lacking queue.now session pos) + 1 }
+    ensures items { IfOk result (λ f. f.items.items ≡ lacking queue.now slot pos) }
+    ensures bases { IfOk result (λ f. (x : ℕ) → is_in x f.bases ≡ is_in x (base_objects queue.now slot pos)) }
+    ensures ticks { steps.new ≤ steps.old + most_look_ups * length (lacking queue.now slot pos) + 1 }
 {
-    let first = first_wanted(queue, session, pos, steps);
+    let first = first_wanted(queue, slot, pos, steps);
     let mut items = Vec::with_capacity(alloc, MOST_ITEMS)?;
     let mut missing = Missing::new(alloc);
     let mut next = first;
     while let Some(greatest) = next {
         items.push(greatest)?;
-        missing.expand(queue, session, greatest, steps)?;
+        missing.expand(queue, slot, greatest, steps)?;
         next = missing.wanted.pop();
     }
     items.reverse();
@@ -114,11 +110,11 @@ pub struct Missing {
     pub bases: Numbers,
 }
 
-/// What a position reads in a slot.
+/// What a position reads at a place of its reads.
 #[derive(Clone, Copy, Drop)]
-struct ReadSlot {
+struct ReadPlace {
     pos: u32,
-    slot: usize,
+    place: usize,
     object: ObjectId,
 }
 
@@ -133,28 +129,39 @@ impl Missing {
         }
     }
 
+    /// For how many items to make room: for none where none is wanted, so that no memory is taken then.
+    pub fn room(&self) -> usize
+        ensures { result ≡ (if length self.now.wanted == 0 then 0 else most_items) }
+    {
+        if self.wanted.is_empty() {
+            0
+        } else {
+            MOST_ITEMS
+        }
+    }
+
     /// Looks at each object that a position reads.
     pub fn expand<L: Ledger>(
         &mut self,
         queue: &Queue,
-        session: u16,
+        slot: u16,
         pos: u32,
         steps: &mut Steps<L>,
     ) -> Result<(), AllocError>
         requires { IsUncommitted queue.now pos }
-        ensures wanted { OnOk result ((j : ℕ) → is_in j self.new.wanted ≡ is_in j (lacking_writers queue.now session pos (reads_at queue.now pos) ++ self.old.wanted)) }
-        ensures bases { OnOk result ((x : ℕ) → is_in x self.new.bases ≡ is_in x (committed_reads queue.now session pos (reads_at queue.now pos) ++ self.old.bases)) }
+        ensures wanted { OnOk result ((j : ℕ) → is_in j self.new.wanted ≡ is_in j (lacking_writers queue.now slot pos (reads_at queue.now pos) ++ self.old.wanted)) }
+        ensures bases { OnOk result ((x : ℕ) → is_in x self.new.bases ≡ is_in x (committed_reads queue.now slot pos (reads_at queue.now pos) ++ self.old.bases)) }
         ensures low { All (λ x. x < queue.now.shape.objects) (reads_at queue.now pos) }
         ensures ticks { steps.new ≤ steps.old + most_look_ups }
     {
         let entry = queue.entry(pos, steps);
-        for (slot, object) in entry.action.reads.as_slice().iter().enumerate() {
-            let read = ReadSlot {
+        for (place, object) in entry.action.reads.as_slice().iter().enumerate() {
+            let read = ReadPlace {
                 pos,
-                slot,
+                place,
                 object: *object,
             };
-            self.look_up(queue, session, read, steps)?;
+            self.look_up(queue, slot, read, steps)?;
         }
         Ok(())
     }
@@ -163,20 +170,20 @@ impl Missing {
     pub fn read_below<L: Ledger>(
         &mut self,
         queue: &Queue,
-        session: u16,
+        slot: u16,
         objects: &[ObjectId],
         pos: u32,
         steps: &mut Steps<L>,
     ) -> Result<(), AllocError>
         requires objects { All (λ x. x < queue.now.shape.objects) (numbers_of objects.now) }
         requires pos { pos ≤ last_position queue.now + 1 }
-        ensures wanted { OnOk result ((j : ℕ) → is_in j self.new.wanted ≡ is_in j (lacking_writers queue.now session pos (numbers_of objects.now) ++ self.old.wanted)) }
-        ensures bases { OnOk result ((x : ℕ) → is_in x self.new.bases ≡ is_in x (committed_reads queue.now session pos (numbers_of objects.now) ++ self.old.bases)) }
+        ensures wanted { OnOk result ((j : ℕ) → is_in j self.new.wanted ≡ is_in j (lacking_writers queue.now slot pos (numbers_of objects.now) ++ self.old.wanted)) }
+        ensures bases { OnOk result ((x : ℕ) → is_in x self.new.bases ≡ is_in x (committed_reads queue.now slot pos (numbers_of objects.now) ++ self.old.bases)) }
         ensures ticks { steps.new ≤ steps.old + 2 * length objects.now }
     {
         for object in objects {
             let writer = queue.last_writer(*object, pos, steps);
-            self.add_writer(queue, session, *object, writer, steps)?;
+            self.add_writer(queue, slot, *object, writer, steps)?;
         }
         Ok(())
     }
@@ -184,20 +191,20 @@ impl Missing {
     fn look_up<L: Ledger>(
         &mut self,
         queue: &Queue,
-        session: u16,
-        read: ReadSlot,
+        slot: u16,
+        read: ReadPlace,
         steps: &mut Steps<L>,
     ) -> Result<(), AllocError>
         requires pos { IsUncommitted queue.now read.pos }
         requires object { read.object.0 < queue.now.shape.objects }
-        requires slot { read.slot < length (action_at (queue_actions queue.now) read.pos).reads }
-        requires read { slice_index_or (reads_at queue.now read.pos) read.slot 0 ≡ read.object.0 }
-        ensures wanted { OnOk result ((j : ℕ) → is_in j self.new.wanted ≡ is_in j (lacking_writers queue.now session read.pos (read.object.0 ∷ []) ++ self.old.wanted)) }
-        ensures bases { OnOk result ((x : ℕ) → is_in x self.new.bases ≡ is_in x (committed_reads queue.now session read.pos (read.object.0 ∷ []) ++ self.old.bases)) }
+        requires place { read.place < length (action_at (queue_actions queue.now) read.pos).reads }
+        requires read { slice_index_or (reads_at queue.now read.pos) read.place 0 ≡ read.object.0 }
+        ensures wanted { OnOk result ((j : ℕ) → is_in j self.new.wanted ≡ is_in j (lacking_writers queue.now slot read.pos (read.object.0 ∷ []) ++ self.old.wanted)) }
+        ensures bases { OnOk result ((x : ℕ) → is_in x self.new.bases ≡ is_in x (committed_reads queue.now slot read.pos (read.object.0 ∷ []) ++ self.old.bases)) }
         ensures ticks { steps.new ≤ steps.old + 2 }
     {
-        let writer = queue.source(read.pos, read.slot, steps);
-        self.add_writer(queue, session, read.object, writer, steps)
+        let writer = queue.source(read.pos, read.place, steps);
+        self.add_writer(queue, slot, read.object, writer, steps)
     }
 
     /// Where the last writer of an object that is read is committed the object is needed, unless it was given; where it is not, the writer is,
@@ -205,22 +212,22 @@ impl Missing {
     fn add_writer<L: Ledger>(
         &mut self,
         queue: &Queue,
-        session: u16,
+        slot: u16,
         object: ObjectId,
         writer: u32,
         steps: &mut Steps<L>,
     ) -> Result<(), AllocError>
         requires object { object.0 < queue.now.shape.objects }
         requires writer { writer ≢ 0 → IsUncommitted queue.now writer }
-        ensures wanted { OnOk result ((j : ℕ) → is_in j self.new.wanted ≡ is_in j (lacking_of queue.now session (writer ∷ []) ++ self.old.wanted)) }
-        ensures bases { OnOk result ((x : ℕ) → is_in x self.new.bases ≡ is_in x (base_of queue.now session writer object.0 ++ self.old.bases)) }
+        ensures wanted { OnOk result ((j : ℕ) → is_in j self.new.wanted ≡ is_in j (lacking_of queue.now slot (writer ∷ []) ++ self.old.wanted)) }
+        ensures bases { OnOk result ((x : ℕ) → is_in x self.new.bases ≡ is_in x (base_of queue.now slot writer object.0 ++ self.old.bases)) }
         ensures ticks { steps.new ≤ steps.old + 1 }
     {
         if writer == 0 {
-            if !queue.is_given(object, session) {
+            if !queue.is_given(object, slot) {
                 self.bases.insert(u32::from(object.0))?;
             }
-        } else if !queue.is_marked(writer, session, steps) {
+        } else if !queue.is_marked(writer, slot, steps) {
             self.wanted.insert(writer)?;
         }
         Ok(())

@@ -1,5 +1,5 @@
 //! Sets of numbers.
-ghost use Rattle.std.specs.Prelude.{◌≡◌, ◌<◌, ℕ, true, [], ◌∷◌, ◌++◌, IsTrue, OnOk, IfNone, option_to_list};
+ghost use Rattle.std.specs.Prelude.{◌≡◌, ◌<◌, ◌==◌, ℕ, true, length, [], ◌∷◌, ◌++◌, IsTrue, OnOk, IfNone, option_to_list};
 ghost use Rattle.sv_world.specs.Control.{is_in};
 ghost use Rattle.sv_world.specs.Faults.{is_ascending};
 
@@ -31,6 +31,12 @@ impl Numbers {
         Numbers {
             items: SmallVec::new(alloc),
         }
+    }
+
+    pub fn is_empty(&self) -> bool
+        ensures { result ≡ (length self.now == 0) }
+    {
+        self.items.is_empty()
     }
 
     /// The numbers as they are otherwise, and this one.

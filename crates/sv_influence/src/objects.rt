@@ -8,17 +8,20 @@ ghost use Rattle.sv_influence.specs.Objects.{has_object};
 
 use sv_world::{Action, ObjectId};
 
-/// A set of objects, one bit for each that there may be.
+/// A bit for each object that there may be.
+const WORDS: usize = 1024;
+
+/// A set of objects, one bit for each that there may be. It takes no memory, and 8 KB of the stack: it is for walks that look at much.
 #[derive(Drop)]
 pub struct ObjectSet {
-    words: [u64; 64],
+    words: [u64; WORDS],
 }
 
 impl ObjectSet {
     pub fn new() -> ObjectSet
         ensures { (x : ℕ) → has_object result.words x ≡ false }
     {
-        ObjectSet { words: [0; 64] }
+        ObjectSet { words: [0; WORDS] }
     }
 
     pub fn has(&self, object: ObjectId) -> bool

@@ -22,13 +22,13 @@ use sv_world::{List, MOST_OBJECTS, ObjectId};
 pub fn plain_closure<L: Ledger>(
     alloc: Global,
     queue: &Queue,
-    session: u16,
+    slot: u16,
     pos: u32,
     steps: &mut Steps<L>,
 ) -> Result<Closure, AllocError>
     requires { IsUncommitted queue.now pos }
-    ensures items { IfOk result (λ c. c.items ≡ lacking queue.now session pos) }
-    ensures head { IfOk result (λ c. map (λ (o : ObjectId). o.0) c.head ≡ base_objects queue.now session pos) }
+    ensures items { IfOk result (λ c. c.items ≡ lacking queue.now slot pos) }
+    ensures head { IfOk result (λ c. map (λ (o : ObjectId). o.0) c.head ≡ base_objects queue.now slot pos) }
     ensures ticks { steps.new ≤ steps.old + 3 * (pos - queue.now.commit) }
 {
     let commit = queue.commit();
@@ -38,14 +38,14 @@ pub fn plain_closure<L: Ledger>(
     let mut at = pos;
     while at > commit {
         if is_wanted(queue, pos, at, &walk.objects, steps) {
-            walk.visit(queue, session, at, steps)?;
+            walk.visit(queue, slot, at, steps)?;
         }
         at -= 1;
     }
     let Walk { items, objects } = walk;
     let mut items = items;
     items.reverse();
-    let head = bases_among(alloc, queue, session, &objects)?;
+    let head = bases_among(alloc, queue, slot, &objects)?;
     Ok(Closure {
         items: List::from_vec(items),
         head,
@@ -82,19 +82,19 @@ impl Walk {
     fn visit<L: Ledger>(
         &mut self,
         queue: &Queue,
-        session: u16,
+        slot: u16,
         at: u32,
         steps: &mut Steps<L>,
     ) -> Result<(), AllocError>
         requires at { IsUncommitted queue.now at }
-        ensures items { OnOk result (self.new.items.items ≡ (if is_in at (sent_positions queue.now session) then self.old.items.items else self.old.items.items ++ at ∷ [])) }
-        ensures objects { OnOk result ((x : ℕ) → has_object self.new.objects.words x ≡ (if is_in at (sent_positions queue.now session) then has_object self.old.objects.words x && not (is_in x (write_set (action_at (queue_actions queue.now) at))) else is_in x (read_set (action_at (queue_actions queue.now) at)) || has_object self.old.objects.words x)) }
+        ensures items { OnOk result (self.new.items.items ≡ (if is_in at (sent_positions queue.now slot) then self.old.items.items else self.old.items.items ++ at ∷ [])) }
+        ensures objects { OnOk result ((x : ℕ) → has_object self.new.objects.words x ≡ (if is_in at (sent_positions queue.now slot) then has_object self.old.objects.words x && not (is_in x (write_set (action_at (queue_actions queue.now) at))) else is_in x (read_set (action_at (queue_actions queue.now) at)) || has_object self.old.objects.words x)) }
         ensures ticks { steps.new ≡ steps.old + 2 }
     {
         let shape = queue.shape();
         prove!(shape.objects <= MOST_OBJECTS);
         let entry = queue.entry(at, steps);
-        if queue.is_marked(at, session, steps) {
+        if queue.is_marked(at, slot, steps) {
             self.objects.remove_writes(entry.action);
         } else {
             self.items.push(at)?;
@@ -108,17 +108,17 @@ impl Walk {
 fn bases_among(
     alloc: Global,
     queue: &Queue,
-    session: u16,
+    slot: u16,
     objects: &ObjectSet,
 ) -> Result<List<ObjectId>, AllocError>
-    ensures { IfOk result (λ list. map (λ (o : ObjectId). o.0) list ≡ filter (λ x. has_object objects.now.words x && not (is_in x (given_objects queue.now session))) (below queue.now.shape.objects)) }
+    ensures { IfOk result (λ list. map (λ (o : ObjectId). o.0) list ≡ filter (λ x. has_object objects.now.words x && not (is_in x (given_objects queue.now slot))) (below queue.now.shape.objects)) }
 {
     let shape = queue.shape();
     prove!(shape.objects <= MOST_OBJECTS);
     let mut bases = List::new(alloc);
     for number in 0..shape.objects {
         let object = ObjectId(number);
-        if objects.has(object) && !queue.is_given(object, session) {
+        if objects.has(object) && !queue.is_given(object, slot) {
             bases.push(object)?;
         }
     }

@@ -19,17 +19,17 @@ use Rattle.sv_client.proofs.Shifts.{Up, up_current, up_got, up_asked, up_fault}
 use Rattle.sv_scenario.specs.declared.scenario.Scenario.{Scenario}
 use Rattle.sv_scenario.specs.declared.scenario.Step.{Step}
 use Rattle.sv_scenario.specs.Limits.{IsGoodScenario}
+use Rattle.sv_scenario.specs.Sessions.{session_count}
 use Rattle.sv_script.specs.Following.{Follows}
 use Rattle.sv_system.specs.Fits.{replies_in}
 use Rattle.sv_system.specs.Records.{rules_of}
 use Rattle.sv_asked.specs.Asked.{RepliesAreMessages}
-use Rattle.sv_asked.proofs.Facts.{accepted-short}
 use Rattle.sv_player.specs.Carried.{BeginsWithReplies}
 use Rattle.sv_player.specs.Stops.{IsBadRest}
 use Rattle.sv_player.specs.Played.{IsOpenSession, replies_of}
 use Rattle.sv_player.specs.declared.outcome.ReplyFault.{ReplyFault}
 use Rattle.law_traffic.proofs.Messages.{AreGot, got_first}
-use Rattle.sv_system.specs.Laws.{NeverRefused}
+use Rattle.sv_system.specs.Laws.{NeverRefusedInScenarios}
 use Rattle.sv_door.specs.Doors.{Passage}
 use Rattle.sv_system.proofs.Limits.{limits_of, objects_few}
 use Rattle.law_schedule.proofs.Asking.{few-asked}
@@ -39,7 +39,7 @@ use Rattle.sv_join.specs.Legal.{numbered_from, IsLegalServer}
 
 -- ---- The law
 
-module _ (law : NeverRefused) (messages : RepliesAreMessages) (scenario : Scenario) (good : IsGoodScenario scenario) (opening : All ValueFits scenario.world.values)
+module _ (law : NeverRefusedInScenarios) (messages : RepliesAreMessages) (scenario : Scenario) (good : IsGoodScenario scenario) (opening : All ValueFits scenario.world.values)
     (L : Trace) (script : List Step) (few : length script ≤ 256) (proper : Proper scenario.world.shape L) (follows : Follows scenario.world.shape script L) (passages : List Passage)
     (server : IsLegalServer scenario L passages) (s : ℕ) (p : Passage) (there : slice_get passages s ≡ Some p) (session : IsOpenSession L s)
     (rest : List ℕ) (begins : BeginsWithReplies p.received (replies_of L s) rest) where
@@ -59,7 +59,7 @@ module _ (law : NeverRefused) (messages : RepliesAreMessages) (scenario : Scenar
   sendable =
       sendable_in (accepted server.journal) server.journal (s + server.first)
       (recursion_from_All (λ (e : Entry). IsReply (full_reply (accepted server.journal) e.reply)) server.journal
-      (messages (rules_of scenario) server.journal (limits_of scenario good) (objects_few scenario good) opening server.requests server.short server.legal))
+      (messages (rules_of scenario) server.journal (limits_of scenario good) (omega arith) (objects_few scenario good) opening server.requests server.legal))
 
   g : AreGot all p.received (replies_of L s) rest
   g = got_first all p.received (replies_of L s) rest sendable (server.received s p there) begins
@@ -73,16 +73,12 @@ module _ (law : NeverRefused) (messages : RepliesAreMessages) (scenario : Scenar
   current : current_session (reverse (numbered_from server.first L).events) ≡ Some (s + server.first)
   current = ap current_session up ∙ (up_current server.first done ∙ ap (option_map (λ n. n + server.first)) session.current)
 
-  -- All accepted actions have their positions.
-  positions-few : length (accepted server.journal) ≤ 4294967294
-  positions-few = (let most = accepted-short server.journal in let short = server.short in omega (arith, most, short))
-
   taken : (reply : Reply) → slice_get all (length (replies_of L s)) ≡ Some reply → first_fault_of_reply own done reply ≡ None
   taken reply is =
       let limits = limits_of scenario good in
       let count : length (got (reverse (numbered_from server.first L).events) (s + server.first)) ≡ length (replies_of L s) =
       ap (λ (l : List Event). length (got l (s + server.first))) up ∙ ap length (up_got server.first done s) in
-      let none = law (rules_of scenario) server.journal server.traces server.place (numbered_from server.first L) (s + server.first) reply limits.objects limits.attrs limits.bound positions-few server.legal server.fits server.member current few_here (ap (slice_get all) count ∙ is) in
+      let none = law scenario.world scenario.bound scenario.reach (session_count scenario) server.journal server.traces server.place (numbered_from server.first L) (s + server.first) reply limits.objects limits.attrs limits.bound server.room server.legal server.fits server.member current few_here (ap (slice_get all) count ∙ is) in
       sym (up_fault server.first own done reply) ∙ (ap (λ (l : List Event). first_fault_of_reply own l reply) (sym up) ∙ none)
 
   pub not_refused : (payload : List ℕ) (fault : ReplyFault) → IsBadRest own done rest payload fault → ⊥

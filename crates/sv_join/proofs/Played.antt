@@ -26,7 +26,7 @@ use Rattle.sv_client.specs.Proper.{identity_of}
 use Rattle.sv_player.specs.declared.outcome.PlayerCause.{PlayerCause}
 use Rattle.sv_player.specs.declared.outcome.PlayerCause.TheVariants as causes
 use Rattle.sv_player.specs.declared.outcome.ReplyFault.{ReplyFault}
-use Rattle.sv_system.specs.Laws.{NeverRefused}
+use Rattle.sv_system.specs.Laws.{NeverRefusedInScenarios}
 use Rattle.sv_system.specs.Places.{EachPlace}
 use Rattle.sv_system.proofs.Places.{map_at}
 use Rattle.sv_door.specs.Doors.{Passage, passage_of}
@@ -137,7 +137,7 @@ module _ {E : Type 0} (told : E → Told) (faults : E → ℕ) (calm : E → Typ
       (subst (λ (h : Shape). IsCause (steady_told told faults calm) (steady_faults told faults calm) (steady_calm told faults calm) h trace 0 old new cause) shape shows)
 
   -- A legal server's reply is never the one that is refused.
-  pub never_lawful : NeverRefused → RepliesAreMessages → (scenario : Scenario) → IsGoodScenario scenario → All ValueFits scenario.world.values → (k : ℕ) (door : Passed) (trace : Trace)
+  pub never_lawful : NeverRefusedInScenarios → RepliesAreMessages → (scenario : Scenario) → IsGoodScenario scenario → All ValueFits scenario.world.values → (k : ℕ) (door : Passed) (trace : Trace)
       (session : ℕ) (payload : Vec ℕ Global) (fault : ReplyFault) (play : IsPlay told faults calm scenario k door trace (causes.BadReply session payload fault))
       → IsLegalServer scenario trace (passages_of told faults play.left) → ⊥
   never_lawful law messages scenario good opening k door trace session payload fault play server =

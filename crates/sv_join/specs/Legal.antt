@@ -1,6 +1,7 @@
 -- Servers that keep a legal journal, as a client meets them.
-use Rattle.std.specs.Prelude.{◌≡◌, ℕ, ◌+◌, ◌<◌, ◌^◌, List, length, map, Some, slice_get, All}
+use Rattle.std.specs.Prelude.{◌≡◌, ℕ, ◌+◌, ◌<◌, List, length, map, Some, slice_get, All}
 use mathlib.Core.List.{IsPrefix}
+use Rattle.sv_world.specs.Limits.{most_positions}
 use Rattle.sv_wire.specs.Ranges.{RequestFits}
 use Rattle.sv_journal.specs.declared.entry.Entry.{Entry}
 use Rattle.sv_journal.specs.History.{accepted}
@@ -27,7 +28,8 @@ pub record IsLegalServer (scenario : Scenario) (trace : Trace) (passages : List 
   pub fits : Fits scenario.world.shape journal traces
   -- no other request can come as a message
   pub requests : All (λ (e : Entry). RequestFits e.request) journal
-  pub short : length journal + 1 < 2 ^ 32
+  -- a position is left
+  pub room : length (accepted journal) < most_positions
   pub first : ℕ
   pub place : ℕ
   pub member : slice_get traces place ≡ Some (numbered_from first trace)

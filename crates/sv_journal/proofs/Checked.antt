@@ -35,7 +35,7 @@ good_kept : (k : Keeping) → IsKeeping k → (r : Rules) (h : List Entry) (s : 
     AreGood r.world.shape (entry_of s q (reply_for k r h s q) ∷ h)
 good_kept k law r h s q inv = each_reply k law r h s (λ w. AreGood r.world.shape (entry_of s q w ∷ h)) q (record {
   other = λ w e f. with_new r.world.shape (entry_of s q w) h [] (rw e refl) tt inv;
-  fresh = λ j seq a client asked next good chain.
+  fresh = λ j seq a client asked next good chain room rightful.
       let w = relay_of r (k.kept h) (actions_of h ++ a ∷ []) s seq (suc (length (actions_of h))) in
       with_new r.world.shape (entry_of s q w) h (record { client = j; seq = seq; action = a } ∷ []) (one_fresh h s j seq q a w client asked next refl) (good, tt) inv;
   again = λ j seq p a client asked kept above.

@@ -79,7 +79,7 @@ module _ (k : Keeping) (law : IsKeeping k) (r : Rules) (h : List Entry) (s : ℕ
   closes_here : ClosesBy (reply_for k r h s q)
   closes_here = each_reply k law r h s ClosesBy q (record {
     other = λ w e f p x m reads above. absurd (true≢false (sym (subst (λ (ps : List ℕ). is_in p ps ≡ true) (sends_none w e f) m)));
-    fresh = λ j seq a client asked next good chain.
+    fresh = λ j seq a client asked next good chain room rightful.
         let x : Authored = record { client = j; seq = seq; action = a } in
         let i = suc (length (actions_of h)) in
         let w = relay_of r (k.kept h) (actions_of h ++ a ∷ []) s seq i in

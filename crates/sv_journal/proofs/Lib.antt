@@ -12,7 +12,9 @@ pub mod Named
 mod Places
 pub mod Plain
 pub mod Replies
+mod Rightful
 pub mod Results
 pub mod Sizes
 pub mod Stays
+pub mod Stewards
 mod Worked

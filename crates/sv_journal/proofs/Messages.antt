@@ -44,7 +44,7 @@ abbrev Fits : Logged → Type 0
 Fits (logged.Welcome commit head) = IsHead 64 head
 Fits (logged.Relay seq commit head positions) = IsHead (16 * length positions) head
 Fits (logged.Seen last commit head positions) = IsHead (16 * (length positions + 1)) head
-Fits (logged.Refused code detail) = (1 ≤ code) × (code ≤ 11)
+Fits (logged.Refused code detail) = (1 ≤ code) × (code ≤ 12)
 Fits _ = Unit {0}
 
 few_reads : GoodWhereNone → (shape : Shape) (A : List Authored) → AllByRecursion (IsGood shape) A → FewReads (map (λ (x : Authored). x.action) A)
@@ -81,12 +81,14 @@ fits_here ascends within none_good k law r h s q limits good results = each_row 
   welcome = λ client life interest asked open_still live later fine.
       let xs = map (λ (o : ObjectId). o.0) interest in
       quiet k law r h s q results (logged.Welcome (commit_of (k.kept h)) (committed_held r (k.kept h) xs)) refl (welcome_head r (k.kept h) xs limits results fine);
-  dropped = λ j seq a client asked next good. quiet k law r h s q results (logged.Dropped seq _ _) refl tt;
+  dropped = λ j seq a client asked next good room rightful. quiet k law r h s q results (logged.Dropped seq _ _) refl tt;
   dropped_again = λ j seq a chain far client asked is. quiet k law r h s q results (logged.Dropped seq chain far) refl tt;
+  denied = λ j seq object a client asked next good room forbidden. quiet k law r h s q results (logged.Denied seq _) refl tt;
+  denied_again = λ j seq object a client asked is. quiet k law r h s q results (logged.Denied seq _) refl tt;
   settled = λ j seq p a client asked is. quiet k law r h s q results (logged.Settled seq p) refl tt;
   noted = λ ds asked fine. noted k law r h s q results ds asked fine (commit_of (k.kept (entry_of s q (logged.Noted 0) ∷ h)));
   idle = quiet k law r h s q results logged.Idle refl tt;
-  fresh = λ j seq a client asked next none chain.
+  fresh = λ j seq a client asked next none chain room rightful.
       relay (actions_of h ++ a ∷ []) seq (suc (length (actions_of h))) (one_more (actions_of h) a few (none_good r.world.shape a none).few_reads);
   again = λ j seq p a client asked kept above. relay (actions_of h) seq p few;
   poll = λ j p ps client asked open_still first. relay (actions_of h) 0 p few;
@@ -146,6 +148,7 @@ wire_reply law r A (logged.Relay seq commit head positions) bound good named sma
       (wire_items law r.world.shape A positions good (recursion_from_All (λ p. (1 ≤ p) × (p ≤ length A)) positions named));
 }
 wire_reply law r A (logged.Dropped seq chain far) bound good named small fits = tt
+wire_reply law r A (logged.Denied seq object) bound good named small fits = tt
 wire_reply law r A (logged.Seen last commit head positions) bound good named small fits = record {
   base = wire_head (16 * (length positions + 1)) 544 head (omega (arith, small)) fits;
   few = omega (arith, length-map positions (item_at A), small);

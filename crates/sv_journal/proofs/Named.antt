@@ -17,7 +17,7 @@ use Rattle.sv_wire.specs.declared.message.Request.TheVariants as requests
 use Rattle.sv_journal.specs.declared.entry.Entry.{Entry}
 use Rattle.sv_journal.specs.declared.entry.Logged.{Logged}
 use Rattle.sv_journal.specs.declared.entry.Logged.TheVariants as logged
-use Rattle.sv_journal.specs.History.{is_relay, client_of, outcomes_of, Outcome, Accepted, Dropped, outcome_in, is_client, is_submit_of, Authored, accepted, actions_of, next_seq, commit_of}
+use Rattle.sv_journal.specs.History.{is_relay, client_of, outcomes_of, Outcome, Accepted, Dropped, Denied, outcome_in, is_client, is_submit_of, Authored, accepted, actions_of, next_seq, commit_of}
 use Rattle.sv_journal.specs.Sessions.{kept_count, outcome_at, kept_outcome, positions_in, sent_to}
 use Rattle.sv_journal.specs.Answer.{Rules, relay_of}
 use Rattle.sv_journal.specs.Serving.{Keeping, plain, reply_for, LegalFor, IsKeeping}
@@ -54,10 +54,12 @@ needed_are law A commit sent i n above within = λ k d low.
 abbrev TellsWithin : ℕ → Outcome → Type 0
 TellsWithin n (Accepted p) = p ≤ n
 TellsWithin n (Dropped chain far) = Unit {0}
+TellsWithin n (Denied object) = Unit {0}
 
 later_within : (m n : ℕ) (o : Outcome) → m ≤ n → TellsWithin m o → TellsWithin n o
 later_within m n (Accepted p) le h = omega (arith, le, h)
 later_within m n (Dropped chain far) le h = tt
+later_within m n (Denied object) le h = tt
 
 all_later : (m n : ℕ) (os : List Outcome) → m ≤ n → AllByRecursion (TellsWithin m) os → AllByRecursion (TellsWithin n) os
 all_later m n [] le h = tt
@@ -92,6 +94,7 @@ told_within : (e : Entry) (h : List Entry) (k : ℕ) → client_of h e.session �
 told_within e h k client a asked (logged.Relay seq commit head positions) is =
     (omega (arith, accepted_one_more e h k (next_seq h k) a (ap is_relay is) client asked refl), tt)
 told_within e h k client a asked (logged.Dropped seq chain far) is = (tt, tt)
+told_within e h k client a asked (logged.Denied seq object) is = (tt, tt)
 told_within e h k client a asked (logged.Seen last commit head positions) is = tt
 told_within e h k client a asked (logged.Welcome commit head) is = tt
 told_within e h k client a asked (logged.Settled seq pos) is = tt
@@ -146,6 +149,7 @@ not_sent : (h : List Entry) (s : ℕ) (q : Request) (w : Logged) → is_relay w 
 not_sent h s q (logged.Relay seq commit head positions) e f = absurd (cc)
 not_sent h s q (logged.Welcome commit head) e f = tt
 not_sent h s q (logged.Dropped seq chain far) e f = tt
+not_sent h s q (logged.Denied seq object) e f = tt
 not_sent h s q (logged.Seen last commit head positions) e f = absurd (cc)
 not_sent h s q (logged.Settled seq pos) e f = tt
 not_sent h s q (logged.Noted commit) e f = tt
@@ -169,7 +173,7 @@ seen_named r g h s q A xs low within = λ i d less.
 named_here : NeededWithin → (k : Keeping) → IsKeeping k → (r : Rules) (h : List Entry) (s : ℕ) (q : Request) → Named h s q (reply_for k r h s q)
 named_here needed k law r h s q = each_reply k law r h s (Named h s q) q (record {
   other = not_sent h s q;
-  fresh = λ j seq a client asked next good chain.
+  fresh = λ j seq a client asked next good chain room rightful.
       let i = suc (length (actions_of h)) in
       let w = relay_of r (k.kept h) (actions_of h ++ a ∷ []) s seq i in
       let count = length-map (accepted h) (λ (x : Authored). x.action) in
@@ -191,6 +195,7 @@ pub names_later : (m n : ℕ) (w : Logged) → m ≤ n → NamesAccepted m w →
 names_later m n (logged.Relay seq commit head positions) le f = λ k d low. let at = f k d low in (at.0, omega (arith, le, at.1))
 names_later m n (logged.Welcome commit head) le f = tt
 names_later m n (logged.Dropped seq chain far) le f = tt
+names_later m n (logged.Denied seq object) le f = tt
 names_later m n (logged.Seen last commit head positions) le f = λ k d low. let at = f k d low in (at.0, omega (arith, le, at.1))
 names_later m n (logged.Settled seq pos) le f = tt
 names_later m n (logged.Noted commit) le f = tt
@@ -231,6 +236,7 @@ named-within n p (logged.Seen last commit head positions) all m =
     member-within n p positions (recursion_from_All (λ (q : ℕ). (1 ≤ q) × (q ≤ n)) positions all) m
 named-within n p (logged.Welcome commit head) all m = absurd (true≢false (sym m))
 named-within n p (logged.Dropped seq chain far) all m = absurd (true≢false (sym m))
+named-within n p (logged.Denied seq object) all m = absurd (true≢false (sym m))
 named-within n p (logged.Settled seq pos) all m = absurd (true≢false (sym m))
 named-within n p (logged.Noted commit) all m = absurd (true≢false (sym m))
 named-within n p logged.Idle all m = absurd (true≢false (sym m))

@@ -8,7 +8,7 @@ use Rattle.sv_world.specs.declared.check.BadAction.{BadAction}
 use Rattle.sv_world.specs.declared.world.ObjectId.{ObjectId}
 use Rattle.sv_world.specs.Control.{is_in, below, chain_length, influence_distance}
 use Rattle.sv_world.specs.Faults.{first_fault_of_action, may_be_observed}
-use Rattle.sv_world.specs.Limits.{most_requests}
+use Rattle.sv_world.specs.Rights.{first_forbidden}
 use Rattle.sv_world.specs.Sets.{numbers_of}
 use Rattle.sv_world.proofs.Members.{is_in-append_cases, is_in-filter_parts}
 use Rattle.sv_world.proofs.Bases.{below-is_in}
@@ -17,9 +17,9 @@ use Rattle.sv_wire.specs.declared.message.Request.TheVariants as requests
 use Rattle.sv_wire.specs.declared.refusal.Refusal.TheVariants as refusals
 use Rattle.sv_journal.specs.declared.entry.Entry.{Entry}
 use Rattle.sv_journal.specs.declared.entry.Logged.{Logged}
-use Rattle.sv_journal.specs.History.{client_of, Outcome, Accepted, Dropped, accepted, actions_of, next_seq, result_at, commit_of}
+use Rattle.sv_journal.specs.History.{client_of, Outcome, Accepted, Dropped, Denied, accepted, actions_of, next_seq, result_at, commit_of}
 use Rattle.sv_journal.specs.Sessions.{is_over, is_live, asked_in, life_of, kept_outcome, positions_in, sent_to}
-use Rattle.sv_journal.specs.Answer.{Rules, refused_as, is_over_reach, reply_to_good, reply_to_checked, reply_to_submit, is_bad_done, is_abandoned, orphans, reply_to_poll, is_good_interest, reply_to_join, reply_to_client, reply_to_member, reply_to, Legal}
+use Rattle.sv_journal.specs.Answer.{Rules, refused_as, is_above, reply_to_allowed, reply_by_rights, is_full, reply_to_good, reply_to_checked, reply_to_submit, is_bad_done, is_abandoned, orphans, reply_to_poll, is_good_interest, is_no_next_life, reply_to_join, reply_to_client, reply_to_member, is_spent, reply_to, Legal}
 use Rattle.sv_journal.specs.Serving.{plain, polled_after, with_last_rows, reply_for, LegalFor, with_results, IsKeeping}
 
 -- ---- Its keeping
@@ -28,7 +28,7 @@ all-pass : {X : Type 0} (xs : List X) → filter (λ x. true) xs ≡ xs
 all-pass [] = refl
 all-pass (x ∷ xs) = ap (λ ys. x ∷ ys) (all-pass xs)
 
-all-results : (q : Request) → with_results (λ d. true) q ≡ q
+pub all-results : (q : Request) → with_results (λ d. true) q ≡ q
 all-results (requests.Done results) = ap (λ ds. requests.Done ds) (all-pass results)
 all-results (requests.Join client life interest) = refl
 all-results (requests.Submit seq a) = refl
@@ -41,7 +41,7 @@ all-results requests.End = refl
 abbrev is_orphan : List Entry → ℕ → Bool
 is_orphan h p = nat_lt (commit_of h) p && is_none (result_at h p) && is_abandoned h p
 
-orphan-parts : (h : List Entry) (p : ℕ) → is_in p (orphans h) ≡ true → (commit_of h < p) × ((p ≤ length (accepted h)) × (is_abandoned h p ≡ true))
+pub orphan-parts : (h : List Entry) (p : ℕ) → is_in p (orphans h) ≡ true → (commit_of h < p) × ((p ≤ length (accepted h)) × (is_abandoned h p ≡ true))
 orphan-parts h p e =
     let here = is_in-filter_parts (is_orphan h) p (below (suc (length (accepted h)))) e in
     let left = and_parts (nat_lt (commit_of h) p && is_none (result_at h p)) (is_abandoned h p) here.1 in
@@ -50,7 +50,7 @@ orphan-parts h p e =
     (ltb-true (commit_of h) p above.0, (omega (arith, low), left.1))
 
 -- A position that was sent to ended sessions alone was not sent to one that goes on.
-not-sent : (ended : ℕ → Bool) (h : List Entry) (s p : ℕ) → list_all (λ (e : Entry). not (is_in p (positions_in e.reply)) || ended e.session) h ≡ true → ended s ≡ false →
+pub not-sent : (ended : ℕ → Bool) (h : List Entry) (s p : ℕ) → list_all (λ (e : Entry). not (is_in p (positions_in e.reply)) || ended e.session) h ≡ true → ended s ≡ false →
     is_in p (sent_to h s) ≡ true → ⊥
 not-sent ended [] s p all on m = true≢false (sym m)
 not-sent ended (e ∷ h) s p all on m =
@@ -83,20 +83,29 @@ module _ (r : Rules) (h : List Entry) (s : ℕ) where
   abbrev Same : Request → Logged → Type 0
   Same q w = with_last_rows plain r h s q w ≡ w
 
-  good-same : (seq : ℕ) (a : Action) → Same (requests.Submit seq a) (reply_to_good r h s seq a)
-  good-same seq a =
-      cond_both (nat_lt r.bound (chain_length (actions_of h) (commit_of h) a) || is_over_reach r.reach (influence_distance (actions_of h) (commit_of h) a)) _ _
+  allowed-same : (seq : ℕ) (a : Action) → Same (requests.Submit seq a) (reply_to_allowed r h s seq a)
+  allowed-same seq a =
+      cond_both (nat_lt r.bound (chain_length (actions_of h) (commit_of h) a) || is_above r.reach (influence_distance (actions_of h) (commit_of h) a)) _ _
       (Same (requests.Submit seq a)) (λ _. refl) (λ _. refl)
 
-  checked-same : (seq : ℕ) (a : Action) (o : Option BadAction) → Same (requests.Submit seq a) (reply_to_checked r h s seq a o)
-  checked-same seq a (Some cause) = refl
-  checked-same seq a None = good-same seq a
+  rights-same : (seq : ℕ) (a : Action) (o : Option ℕ) → Same (requests.Submit seq a) (reply_by_rights r h s seq a o)
+  rights-same seq a (Some object) = refl
+  rights-same seq a None = allowed-same seq a
+
+  good-same : (j seq : ℕ) (a : Action) → Same (requests.Submit seq a) (reply_to_good r h s j seq a)
+  good-same j seq a =
+      cond_both (is_full r h seq) _ _ (Same (requests.Submit seq a)) (λ _. refl) (λ _. rights-same seq a (first_forbidden r.rights j a))
+
+  checked-same : (j seq : ℕ) (a : Action) (o : Option BadAction) → Same (requests.Submit seq a) (reply_to_checked r h s j seq a o)
+  checked-same j seq a (Some cause) = refl
+  checked-same j seq a None = good-same j seq a
 
   submit-same : (j seq : ℕ) (a : Action) (o : Option Outcome) → Same (requests.Submit seq a) (reply_to_submit r h s j seq a o)
   submit-same j seq a (Some (Dropped chain far)) = refl
+  submit-same j seq a (Some (Denied object)) = refl
   submit-same j seq a (Some (Accepted p)) = cond_both (nat_le p (commit_of h)) _ _ (Same (requests.Submit seq a)) (λ _. refl) (λ _. refl)
   submit-same j seq a None =
-      cond_both (seq == next_seq h j) _ _ (Same (requests.Submit seq a)) (λ _. checked-same seq a (first_fault_of_action r.world.shape a)) (λ _. refl)
+      cond_both (seq == next_seq h j) _ _ (Same (requests.Submit seq a)) (λ _. checked-same j seq a (first_fault_of_action r.world.shape a)) (λ _. refl)
 
   poll-same : (ps : List ℕ) → with_last_rows plain r h s requests.Poll (reply_to_poll r h s ps) ≡ polled_after plain r h s
   poll-same [] = refl
@@ -120,14 +129,14 @@ module _ (r : Rules) (h : List Entry) (s : ℕ) where
   join-same : (q : Request) (j life : ℕ) (interest : List ℕ) → Same q (reply_to_join r h s j life interest)
   join-same q j life interest =
       cond_both (is_live h s) _ _ (Same q) (λ _. refl) (λ _.
-      cond_both (nat_le 32 j) _ _ (Same q) (λ _. refl) (λ _.
-      cond_both (nat_le life (life_of h j)) _ _ (Same q) (λ _. refl) (λ _.
+      cond_both (nat_le r.clients j) _ _ (Same q) (λ _. refl) (λ _.
+      cond_both (is_no_next_life r.leap (life_of h j) life) _ _ (Same q) (λ _. refl) (λ _.
       cond_both (is_good_interest r.world.shape.objects interest) _ _ (Same q) (λ _. refl) (λ _. refl))))
 
   open-same : (q : Request) (w : Logged) → Same q w →
-      Same q (if is_over h s then refused_as refusals.Over 0 else (if nat_le most_requests (asked_in h s) then refused_as refusals.TooManyRequests 0 else w))
+      Same q (if is_over h s then refused_as refusals.Over 0 else (if is_spent r.requests (asked_in h s) then refused_as refusals.TooManyRequests 0 else w))
   open-same q w same =
-      cond_both (is_over h s) _ _ (Same q) (λ _. refl) (λ _. cond_both (nat_le most_requests (asked_in h s)) _ _ (Same q) (λ _. refl) (λ _. same))
+      cond_both (is_over h s) _ _ (Same q) (λ _. refl) (λ _. cond_both (is_spent r.requests (asked_in h s)) _ _ (Same q) (λ _. refl) (λ _. same))
 
   pub reply-same : (q : Request) → reply_for plain r h s q ≡ reply_to r h s q
   reply-same (requests.Join client life interest) =

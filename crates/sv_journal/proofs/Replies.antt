@@ -1,5 +1,5 @@
 -- The replies of a server, row by row: what holds of the reply of each row holds of every reply.
-use Rattle.std.proofs.Common.{◌≡◌, ℕ, suc, ◌<◌, ◌≤◌, Bool, true, false, ◌||◌, ◌⊎◌, inl, inr, List, [], ◌∷◌, ◌++◌, length, Option, Some, None, refl, sym, subst, ◌∙◌, arith}
+use Rattle.std.proofs.Common.{◌≡◌, ℕ, suc, ◌<◌, ◌≤◌, Bool, true, false, ◌||◌, ◌⊎◌, inl, inr, List, [], ◌∷◌, ◌++◌, length, Option, Some, None, refl, sym, ap, subst, ◌∙◌, arith}
 use Rattle.std.specs.Prelude.{if◌then◌else◌, nat_le, nat_lt, ◌==◌, map}
 use Rattle.std.proofs.lemmas.Bool.{cond_both, ltb-false, leb-false, eqb-true, or_parts}
 use Rattle.sv_world.specs.declared.action.Action.{Action}
@@ -9,8 +9,9 @@ use Rattle.sv_world.specs.declared.world.ClientId.{ClientId}
 use Rattle.sv_world.specs.declared.world.ObjectId.{ObjectId}
 use Rattle.sv_world.specs.Control.{chain_length, influence_distance, needed_to_see, head_to_see, greatest_cut}
 use Rattle.sv_world.specs.Faults.{first_fault_of_action, cause_number, may_be_observed}
-use Rattle.sv_world.specs.Limits.{most_requests}
-use Rattle.sv_world.specs.Sets.{numbers_of}
+use Rattle.sv_world.specs.Limits.{most_positions}
+use Rattle.sv_world.specs.Rights.{first_forbidden}
+use Rattle.sv_world.specs.Sets.{object_numbered, numbers_of}
 use Rattle.sv_wire.specs.declared.message.Done1.{Done1}
 use Rattle.sv_wire.specs.declared.message.Request.{Request}
 use Rattle.sv_wire.specs.declared.message.Request.TheVariants as requests
@@ -18,11 +19,11 @@ use Rattle.sv_wire.specs.declared.refusal.Refusal.TheVariants as refusals
 use Rattle.sv_journal.specs.declared.entry.Entry.{Entry}
 use Rattle.sv_journal.specs.declared.entry.Logged.{Logged}
 use Rattle.sv_journal.specs.declared.entry.Logged.TheVariants as logged
-use Rattle.sv_journal.specs.History.{is_relay, client_of, Outcome, Accepted, Dropped, actions_of, next_seq, commit_of}
+use Rattle.sv_journal.specs.History.{is_relay, client_of, Outcome, Accepted, Dropped, Denied, Authored, actions_of, next_seq, commit_of}
 use Rattle.sv_journal.specs.Sessions.{is_over, is_live, asked_in, life_of, kept_outcome, positions_in, sent_to, already_given}
-use Rattle.sv_journal.specs.Answer.{Rules, refused, refused_as, relay_of, is_over_reach, committed_held, reply_to_good, reply_to_checked, reply_to_submit, is_bad_done, orphans, reply_to_poll, is_good_interest, reply_to_join, reply_to_client, reply_to_member}
+use Rattle.sv_journal.specs.Answer.{Rules, refused, refused_as, relay_of, is_above, committed_held, reply_to_allowed, reply_by_rights, is_full, reply_to_good, reply_to_checked, reply_to_submit, is_bad_done, orphans, reply_to_poll, is_good_interest, is_no_next_life, reply_to_join, reply_to_client, reply_to_member, is_spent}
 use Rattle.sv_journal.specs.Serving.{Keeping, noted_after, polled_after, with_last_rows, reply_for, IsKeeping}
-use Rattle.sv_journal.proofs.Kept.{client-kept, actions-kept, next-kept, kept_outcome-kept, over-kept, live-kept, life-kept}
+use Rattle.sv_journal.proofs.Kept.{client-kept, accepted-kept, actions-kept, next-kept, kept_outcome-kept, over-kept, live-kept, life-kept}
 
 -- What a session sees of objects at the greatest cut, where A are the actions.
 abbrev pub seen_of : Rules → List Entry → List Action → ℕ → List ℕ → ℕ → Logged
@@ -45,6 +46,7 @@ sends_none (logged.Relay seq commit head positions) e f = absurd (cc)
 sends_none (logged.Seen last commit head positions) e f = absurd (cc)
 sends_none (logged.Welcome commit head) e f = refl
 sends_none (logged.Dropped seq chain far) e f = refl
+sends_none (logged.Denied seq object) e f = refl
 sends_none (logged.Settled seq pos) e f = refl
 sends_none (logged.Noted commit) e f = refl
 sends_none logged.Idle e f = refl
@@ -57,18 +59,24 @@ IsDetail h n = (n ≤ 11) ⊎ ((j : ℕ) × ((n ≡ next_seq h j) ⊎ (n ≡ lif
 
 -- The reply of each row, with what the row knows of its request and of the history before it.
 pub record HoldsByEachRow (k : Keeping) (r : Rules) (h : List Entry) (s : ℕ) (q : Request) (P : Logged → Type 0) : Type 0 where
-  pub refusal : (code detail : ℕ) → 1 ≤ code → code ≤ 11 → IsDetail h detail → P (refused code detail)
+  pub refusal : (code detail : ℕ) → 1 ≤ code → code ≤ 12 → IsDetail h detail → P (refused code detail)
   pub bye : P logged.Bye
   pub welcome : (client : ClientId) (life : ℕ) (interest : List ObjectId) → q ≡ requests.Join client life interest → is_over h s ≡ false → is_live h s ≡ false →
       life_of h client.0 < life → is_good_interest r.world.shape.objects (map (λ (o : ObjectId). o.0) interest) ≡ true →
       P (logged.Welcome (commit_of (k.kept h)) (committed_held r (k.kept h) (map (λ (o : ObjectId). o.0) interest)))
   pub dropped : (j seq : ℕ) (a : Action) → client_of h s ≡ Some j → q ≡ requests.Submit seq a → seq ≡ next_seq h j → first_fault_of_action r.world.shape a ≡ None →
+      is_full r h seq ≡ false → first_forbidden r.rights j a ≡ None →
       P (logged.Dropped seq (chain_length (actions_of h) (commit_of (k.kept h)) a) (influence_distance (actions_of h) (commit_of (k.kept h)) a))
   pub dropped_again : (j seq : ℕ) (a : Action) (chain far : ℕ) → client_of h s ≡ Some j → q ≡ requests.Submit seq a → kept_outcome h j seq ≡ Some (Dropped chain far) →
       P (logged.Dropped seq chain far)
+  pub denied : (j seq object : ℕ) (a : Action) → client_of h s ≡ Some j → q ≡ requests.Submit seq a → seq ≡ next_seq h j → first_fault_of_action r.world.shape a ≡ None →
+      is_full r h seq ≡ false → first_forbidden r.rights j a ≡ Some object → P (logged.Denied seq (object_numbered object))
+  pub denied_again : (j seq object : ℕ) (a : Action) → client_of h s ≡ Some j → q ≡ requests.Submit seq a → kept_outcome h j seq ≡ Some (Denied object) →
+      P (logged.Denied seq (object_numbered object))
   pub settled : (j seq p : ℕ) (a : Action) → client_of h s ≡ Some j → q ≡ requests.Submit seq a → kept_outcome h j seq ≡ Some (Accepted p) → P (logged.Settled seq p)
   pub fresh : (j seq : ℕ) (a : Action) → client_of h s ≡ Some j → q ≡ requests.Submit seq a → seq ≡ next_seq h j →
       first_fault_of_action r.world.shape a ≡ None → chain_length (actions_of h) (commit_of (k.kept h)) a ≤ r.bound →
+      is_full r h seq ≡ false → first_forbidden r.rights j a ≡ None →
       P (relay_of r (k.kept h) (actions_of h ++ a ∷ []) s seq (suc (length (actions_of h))))
   pub again : (j seq p : ℕ) (a : Action) → client_of h s ≡ Some j → q ≡ requests.Submit seq a → kept_outcome h j seq ≡ Some (Accepted p) → commit_of (k.kept h) < p →
       P (relay_of r (k.kept h) (actions_of h) s seq p)
@@ -102,24 +110,40 @@ module _ (k : Keeping) (law : IsKeeping k) (r : Rules) (h : List Entry) (s : ℕ
   none_told : IsDetail h 0
   none_told = inl (omega arith)
 
-  good_case : (j seq : ℕ) (a : Action) → Holds (requests.Submit seq a) → client_of h s ≡ Some j → seq ≡ next_seq h j → first_fault_of_action r.world.shape a ≡ None →
-      Shown (requests.Submit seq a) (reply_to_good r (k.kept h) s seq a)
-  good_case j seq a rows client next good =
+  allowed_case : (j seq : ℕ) (a : Action) → Holds (requests.Submit seq a) → client_of h s ≡ Some j → seq ≡ next_seq h j → first_fault_of_action r.world.shape a ≡ None →
+      is_full r h seq ≡ false → first_forbidden r.rights j a ≡ None → Shown (requests.Submit seq a) (reply_to_allowed r (k.kept h) s seq a)
+  allowed_case j seq a rows client next good room rightful =
       cond_both (nat_lt r.bound (chain_length (actions_of (k.kept h)) (commit_of (k.kept h)) a)
-      || is_over_reach r.reach (influence_distance (actions_of (k.kept h)) (commit_of (k.kept h)) a)) _ _ (Shown (requests.Submit seq a))
+      || is_above r.reach (influence_distance (actions_of (k.kept h)) (commit_of (k.kept h)) a)) _ _ (Shown (requests.Submit seq a))
       (λ _. subst (λ (A : List Action). P (logged.Dropped seq (chain_length A (commit_of (k.kept h)) a) (influence_distance A (commit_of (k.kept h)) a)))
-      (sym (actions-kept k law h)) (rows.dropped j seq a client refl next good))
+      (sym (actions-kept k law h)) (rows.dropped j seq a client refl next good room rightful))
       (λ n. subst (λ (A : List Action). nat_lt r.bound (chain_length A (commit_of (k.kept h)) a) ≡ false → P (relay_of r (k.kept h) (A ++ a ∷ []) s seq (suc (length A))))
-      (sym (actions-kept k law h)) (λ within. rows.fresh j seq a client refl next good (ltb-false _ _ within)) (or_parts _ _ n).0)
+      (sym (actions-kept k law h)) (λ within. rows.fresh j seq a client refl next good (ltb-false _ _ within) room rightful) (or_parts _ _ n).0)
+
+  rights_case : (j seq : ℕ) (a : Action) → Holds (requests.Submit seq a) → client_of h s ≡ Some j → seq ≡ next_seq h j → first_fault_of_action r.world.shape a ≡ None →
+      is_full r h seq ≡ false → (o : Option ℕ) → first_forbidden r.rights j a ≡ o → Shown (requests.Submit seq a) (reply_by_rights r (k.kept h) s seq a o)
+  rights_case j seq a rows client next good room (Some object) is = rows.denied j seq object a client refl next good room is
+  rights_case j seq a rows client next good room None is = allowed_case j seq a rows client next good room is
+
+  full-kept : (seq : ℕ) → is_full r (k.kept h) seq ≡ is_full r h seq
+  full-kept seq = ap (λ (A : List Authored). nat_le r.positions (length A) || nat_lt most_positions seq) (accepted-kept k law h)
+
+  good_case : (j seq : ℕ) (a : Action) → Holds (requests.Submit seq a) → client_of h s ≡ Some j → seq ≡ next_seq h j → first_fault_of_action r.world.shape a ≡ None →
+      Shown (requests.Submit seq a) (reply_to_good r (k.kept h) s j seq a)
+  good_case j seq a rows client next good =
+      cond_both (is_full r (k.kept h) seq) _ _ (Shown (requests.Submit seq a))
+      (λ _. rows.refusal 12 0 (omega arith) (omega arith) none_told)
+      (λ n. rights_case j seq a rows client next good (sym (full-kept seq) ∙ n) (first_forbidden r.rights j a) refl)
 
   checked_case : (j seq : ℕ) (a : Action) → Holds (requests.Submit seq a) → client_of h s ≡ Some j → seq ≡ next_seq h j → (o : Option BadAction) →
-      first_fault_of_action r.world.shape a ≡ o → Shown (requests.Submit seq a) (reply_to_checked r (k.kept h) s seq a o)
+      first_fault_of_action r.world.shape a ≡ o → Shown (requests.Submit seq a) (reply_to_checked r (k.kept h) s j seq a o)
   checked_case j seq a rows client next (Some cause) is = rows.refusal 6 (cause_number cause) (omega arith) (omega arith) (inl (cause-few cause))
   checked_case j seq a rows client next None is = good_case j seq a rows client next is
 
   submit_case : (j seq : ℕ) (a : Action) → Holds (requests.Submit seq a) → client_of h s ≡ Some j → (o : Option Outcome) → kept_outcome h j seq ≡ o →
       Shown (requests.Submit seq a) (reply_to_submit r (k.kept h) s j seq a o)
   submit_case j seq a rows client (Some (Dropped chain far)) is = rows.dropped_again j seq a chain far client refl is
+  submit_case j seq a rows client (Some (Denied object)) is = rows.denied_again j seq object a client refl is
   submit_case j seq a rows client (Some (Accepted p)) is =
       cond_both (nat_le p (commit_of (k.kept h))) _ _ (Shown (requests.Submit seq a))
       (λ _. rows.settled j seq p a client refl is)
@@ -163,21 +187,21 @@ module _ (k : Keeping) (law : IsKeeping k) (r : Rules) (h : List Entry) (s : ℕ
   join_case client life interest rows open_still =
       let Q : Logged → Type 0 = Shown (requests.Join client life interest) in
       cond_both (is_live (k.kept h) s) _ _ Q (λ _. rows.refusal 3 0 (omega arith) (omega arith) none_told) (λ live.
-      cond_both (nat_le 32 client.0) _ _ Q (λ _. rows.refusal 10 0 (omega arith) (omega arith) none_told) (λ _.
-      cond_both (nat_le life (life_of (k.kept h) client.0)) _ _ Q (λ _. rows.refusal 11 (life_of (k.kept h) client.0) (omega arith) (omega arith) (inr (client.0, inr (life-kept k law h client.0)))) (λ later.
+      cond_both (nat_le r.clients client.0) _ _ Q (λ _. rows.refusal 10 0 (omega arith) (omega arith) none_told) (λ _.
+      cond_both (is_no_next_life r.leap (life_of (k.kept h) client.0) life) _ _ Q (λ _. rows.refusal 11 (life_of (k.kept h) client.0) (omega arith) (omega arith) (inr (client.0, inr (life-kept k law h client.0)))) (λ later.
       cond_both (is_good_interest r.world.shape.objects (map (λ (o : ObjectId). o.0) interest)) _ _ Q
       (λ good. rows.welcome client life interest refl open_still (sym (live-kept k law h s) ∙ live)
-      (subst (λ m. m < life) (life-kept k law h client.0) (leb-false life (life_of (k.kept h) client.0) later)) good)
+      (subst (λ m. m < life) (life-kept k law h client.0) (leb-false life (life_of (k.kept h) client.0) (or_parts _ _ later).0)) good)
       (λ _. rows.refusal 8 0 (omega arith) (omega arith) none_told))))
 
   open_case : (q : Request) → Holds q → (w : Logged) → (is_over h s ≡ false → Shown q w) →
-      Shown q (if is_over (k.kept h) s then refused_as refusals.Over 0 else (if nat_le most_requests (asked_in (k.kept h) s) then refused_as refusals.TooManyRequests 0 else w))
+      Shown q (if is_over (k.kept h) s then refused_as refusals.Over 0 else (if is_spent r.requests (asked_in (k.kept h) s) then refused_as refusals.TooManyRequests 0 else w))
   open_case q rows w p =
       cond_both (is_over (k.kept h) s) _ _ (Shown q) (λ _. rows.refusal 4 0 (omega arith) (omega arith) none_told)
-      (λ f. cond_both (nat_le most_requests (asked_in (k.kept h) s)) _ _ (Shown q) (λ _. rows.refusal 9 0 (omega arith) (omega arith) none_told) (λ _. p (sym (over-kept k law h s) ∙ f)))
+      (λ f. cond_both (is_spent r.requests (asked_in (k.kept h) s)) _ _ (Shown q) (λ _. rows.refusal 9 0 (omega arith) (omega arith) none_told) (λ _. p (sym (over-kept k law h s) ∙ f)))
 
   asked_case : (q : Request) → Holds q → Shown q (if is_over (k.kept h) s then refused_as refusals.Over 0
-      else (if nat_le most_requests (asked_in (k.kept h) s) then refused_as refusals.TooManyRequests 0 else reply_to_member r (k.kept h) s (client_of (k.kept h) s) q))
+      else (if is_spent r.requests (asked_in (k.kept h) s) then refused_as refusals.TooManyRequests 0 else reply_to_member r (k.kept h) s (client_of (k.kept h) s) q))
   asked_case q rows = open_case q rows _ (member_case q rows (client_of (k.kept h) s) (sym (client-kept k law h s)))
 
   pub each_row : (q : Request) → Holds q → P (reply_for k r h s q)
@@ -196,6 +220,7 @@ pub record HoldsByRow (k : Keeping) (r : Rules) (h : List Entry) (s : ℕ) (q : 
   pub other : (w : Logged) → is_relay w ≡ false → is_seen w ≡ false → P w
   pub fresh : (j seq : ℕ) (a : Action) → client_of h s ≡ Some j → q ≡ requests.Submit seq a → seq ≡ next_seq h j →
       first_fault_of_action r.world.shape a ≡ None → chain_length (actions_of h) (commit_of (k.kept h)) a ≤ r.bound →
+      is_full r h seq ≡ false → first_forbidden r.rights j a ≡ None →
       P (relay_of r (k.kept h) (actions_of h ++ a ∷ []) s seq (suc (length (actions_of h))))
   pub again : (j seq p : ℕ) (a : Action) → client_of h s ≡ Some j → q ≡ requests.Submit seq a → kept_outcome h j seq ≡ Some (Accepted p) → commit_of (k.kept h) < p →
       P (relay_of r (k.kept h) (actions_of h) s seq p)
@@ -208,8 +233,10 @@ each_reply k law r h s P q rows = each_row k law r h s P q (record {
   refusal = λ code detail some few told. rows.other (refused code detail) refl refl;
   bye = rows.other logged.Bye refl refl;
   welcome = λ client life interest asked open_still live later good. rows.other _ refl refl;
-  dropped = λ j seq a client asked next good. rows.other _ refl refl;
+  dropped = λ j seq a client asked next good room rightful. rows.other _ refl refl;
   dropped_again = λ j seq a chain far client asked is. rows.other _ refl refl;
+  denied = λ j seq object a client asked next good room forbidden. rows.other _ refl refl;
+  denied_again = λ j seq object a client asked is. rows.other _ refl refl;
   settled = λ j seq p a client asked is. rows.other _ refl refl;
   noted = λ results asked good. rows.other _ refl refl;
   idle = rows.other logged.Idle refl refl;

@@ -145,7 +145,7 @@ bound_kept : SizeWithin → (k : Keeping) → IsKeeping k → (r : Rules) (h : L
     KeepsBound r k h s q (reply_for k r h s q)
 bound_kept size k law r h s q inv = each_reply k law r h s (KeepsBound r k h s q) q (record {
   other = λ w e f. (none_new k law r.bound (entry_of s q w) h (rw e refl) inv, no_items r w e f);
-  fresh = λ j seq a client asked next good chain.
+  fresh = λ j seq a client asked next good chain room rightful.
       let count = length-map (accepted h) (λ (x : Authored). x.action) in
       let w = relay_of r (k.kept h) (actions_of h ++ a ∷ []) s seq (suc (length (actions_of h))) in (
         one_new k law r.bound (entry_of s q w) h j seq a (one_fresh h s j seq q a w client asked next refl) chain inv,

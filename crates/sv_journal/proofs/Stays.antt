@@ -47,6 +47,7 @@ over_more A more (logged.Welcome commit head) h = refl
 over_more A more (logged.Relay seq commit head positions) h =
     ap (λ (items : List Item). replies.Relay seq commit head items) (items_stay A more positions (recursion_from_All _ positions h))
 over_more A more (logged.Dropped seq chain far) h = refl
+over_more A more (logged.Denied seq object) h = refl
 over_more A more (logged.Seen last commit head positions) h =
     ap (λ (items : List Item). replies.Seen last commit head items) (items_stay A more positions (recursion_from_All _ positions h))
 over_more A more (logged.Settled seq pos) h = refl

@@ -58,10 +58,12 @@ pub record Authored : Type 0 where
   pub seq : ℕ
   pub action : Action
 
--- What came of an action: it was accepted, at a position; or it was dropped, with so many actions that influence it, the farthest so far.
+-- What came of an action: it was accepted, at a position; or it was dropped, with so many actions that influence it, the farthest so far; or it
+-- was denied, for an object that its client may not write.
 pub data Outcome : Type 0 where
   Accepted : ℕ → Outcome
   Dropped : ℕ → ℕ → Outcome
+  Denied : ℕ → Outcome
 
 abbrev pub is_submit_of : Request → ℕ → Bool
 is_submit_of (requests.Submit seq action) n = seq == n
@@ -71,6 +73,7 @@ is_submit_of _ n = false
 abbrev pub outcome_in : ℕ → Logged → List Outcome
 outcome_in p (logged.Relay seq commit head positions) = Accepted p ∷ []
 outcome_in p (logged.Dropped seq chain far) = Dropped chain far ∷ []
+outcome_in p (logged.Denied seq object) = Denied object.0 ∷ []
 outcome_in p _ = []
 
 -- The action of a Submit of client k, where that client's next number is `next k`.
@@ -79,7 +82,7 @@ new_action (Some k) next (requests.Submit seq action) = if seq == next k then re
 new_action _ next _ = []
 
 abbrev mutual
-  -- The outcomes of a client's Submits that had its next number and were answered Relay or Dropped, in order.
+  -- The outcomes of a client's Submits that had its next number and were answered Relay, Dropped or Denied, in order.
   pub outcomes_of : List Entry → ℕ → List Outcome
   outcomes_of [] k = []
   outcomes_of (e ∷ h) k = outcomes_of h k ++ (if is_client (client_of h e.session) k && is_submit_of e.request (suc (length (outcomes_of h k)))
@@ -146,6 +149,7 @@ abbrev pub full_reply : List Authored → Logged → Reply
 full_reply A (logged.Welcome commit head) = replies.Welcome commit head
 full_reply A (logged.Relay seq commit head positions) = replies.Relay seq commit head (map (item_at A) positions)
 full_reply A (logged.Dropped seq chain far) = replies.Dropped seq chain far
+full_reply A (logged.Denied seq object) = replies.Denied seq object
 full_reply A (logged.Seen last commit head positions) = replies.Seen last commit head (map (item_at A) positions)
 full_reply A (logged.Settled seq pos) = replies.Settled seq pos
 full_reply A (logged.Noted commit) = replies.Noted commit

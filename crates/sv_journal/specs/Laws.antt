@@ -1,15 +1,18 @@
 -- Laws of journals: first those of a server that trusts its clients, and then the same of a server with any keeping.
-use Rattle.std.specs.Prelude.{◌≡◌, ℕ, ◌+◌, ◌≤◌, ◌↔◌, All, List, ◌++◌, length, reverse, None}
+use Rattle.std.specs.Prelude.{◌≡◌, ℕ, true, ◌+◌, ◌≤◌, ◌↔◌, All, List, ◌++◌, length, reverse, None}
 use Rattle.sv_world.specs.Control.{SentIsClosed}
 use Rattle.sv_world.specs.Faults.{first_fault_of_action}
-use Rattle.sv_world.specs.Limits.{most_attrs, most_bound, most_items}
+use Rattle.sv_world.specs.Limits.{most_attrs, most_bound, most_items, most_positions}
+use Rattle.sv_world.specs.Rights.{may_write}
+use Rattle.sv_world.specs.Sets.{write_set}
 use Rattle.sv_wire.specs.Grammar.{IsWireReply}
 use Rattle.sv_journal.specs.declared.entry.Entry.{Entry}
 use Rattle.sv_journal.specs.declared.entry.Logged.{Logged}
 use Rattle.sv_journal.specs.declared.entry.Logged.TheVariants as logged
-use Rattle.sv_journal.specs.History.{Authored, accepted, actions_of, commit_of, full_reply}
+use Rattle.sv_journal.specs.History.{Authored, accepted, actions_of, outcomes_of, commit_of, full_reply}
 use Rattle.sv_journal.specs.Answer.{Rules, Legal}
 use Rattle.sv_journal.specs.Serving.{Keeping, plain, LegalFor, IsKeeping}
+use Rattle.sv_journal.specs.Living.{Stewardship, nobody, living}
 use Rattle.sv_journal.specs.Sessions.{positions_in, sent_to}
 use Rattle.sv_journal.specs.Text.{NamesAccepted, RelaysNameAccepted}
 
@@ -34,6 +37,22 @@ LegalRelaysAreSmall = (r : Rules) (h : List Entry) → Legal r h → All (λ (e 
 -- No cause of refusal applies to an accepted action of a legal journal.
 abbrev pub LegalActionsAreGood : Type 0
 LegalActionsAreGood = (r : Rules) (h : List Entry) → Legal r h → All (λ (a : Authored). first_fault_of_action r.world.shape a.action ≡ None) (accepted h)
+
+-- An action writes only what its author may write.
+abbrev pub IsRightful : Rules → Authored → Type 0
+IsRightful r a = All (λ x. may_write r.rights a.client x ≡ true) (write_set a.action)
+
+-- Each accepted action of a legal journal writes only what its author may write.
+abbrev pub LegalActionsAreRightful : Type 0
+LegalActionsAreRightful = (r : Rules) (h : List Entry) → Legal r h → All (IsRightful r) (accepted h)
+
+-- There is an end of accepted actions, and of a client's numbers for them.
+pub record AreWithinCounts (r : Rules) (h : List Entry) : Type 0 where
+  pub positions : length (accepted h) ≤ r.positions
+  pub numbers : (client : ℕ) → length (outcomes_of h client) ≤ most_positions
+
+abbrev pub LegalCountsEnd : Type 0
+LegalCountsEnd = (r : Rules) (h : List Entry) → Legal r h → AreWithinCounts r h
 
 -- Rules within the limits: each object of the world has a value, of one number for each of its attributes, and a chain has few enough
 -- actions.
@@ -60,6 +79,12 @@ pub record PlainIsLegal : Type 0 where
   pub keeping : IsKeeping plain
   pub same : (r : Rules) (h : List Entry) → Legal r h ↔ LegalFor plain r h
 
+-- A living world's server has a keeping, whatever its stewardship; and its legal journals are the legal ones where there is no steward and every
+-- client's reports count.
+pub record LivingIsServed : Type 0 where
+  pub keeping : (w : Stewardship) → IsKeeping (living w)
+  pub nobody : (r : Rules) (h : List Entry) → Legal r h ↔ LegalFor (living nobody) r h
+
 abbrev pub ServedRelaysNameAccepted : Type 0
 ServedRelaysNameAccepted = (k : Keeping) (r : Rules) (h : List Entry) → IsKeeping k → LegalFor k r h → All (λ (e : Entry). NamesAccepted (length (accepted h)) e.reply) h
 
@@ -69,6 +94,12 @@ ServedRelaysAreSmall = (k : Keeping) (r : Rules) (h : List Entry) → IsKeeping 
 abbrev pub ServedActionsAreGood : Type 0
 ServedActionsAreGood = (k : Keeping) (r : Rules) (h : List Entry) → IsKeeping k → LegalFor k r h →
     All (λ (a : Authored). first_fault_of_action r.world.shape a.action ≡ None) (accepted h)
+
+abbrev pub ServedActionsAreRightful : Type 0
+ServedActionsAreRightful = (k : Keeping) (r : Rules) (h : List Entry) → IsKeeping k → LegalFor k r h → All (IsRightful r) (accepted h)
+
+abbrev pub ServedCountsEnd : Type 0
+ServedCountsEnd = (k : Keeping) (r : Rules) (h : List Entry) → IsKeeping k → LegalFor k r h → AreWithinCounts r h
 
 abbrev pub ServedRepliesAreMessages : Type 0
 ServedRepliesAreMessages = (k : Keeping) (r : Rules) (h : List Entry) → IsKeeping k → AreWithinLimits r → LegalFor k r h →

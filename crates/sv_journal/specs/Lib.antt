@@ -1,6 +1,7 @@
 -- The definitions of this crate, file by file.
 pub mod Answer
 pub mod Serving
+pub mod Living
 pub mod Examples
 pub mod History
 pub mod Pieces

@@ -25,6 +25,7 @@ places_of (e ∷ h) = places_of h ++ (if is_relay e.reply then new_place (client
 abbrev pub tells_outcome : Logged → Bool
 tells_outcome (logged.Relay seq commit head positions) = true
 tells_outcome (logged.Dropped seq chain far) = true
+tells_outcome (logged.Denied seq object) = true
 tells_outcome _ = false
 
 -- How many outcomes a client has after an entry of one of its sessions, where it had n.

@@ -37,6 +37,7 @@ reply_text A (logged.Welcome commit head) = codes "welcome " ++ decimal commit +
 reply_text A (logged.Relay seq commit head positions) =
     codes "relay " ++ decimal seq ++ codes " at " ++ decimal commit ++ codes " " ++ head_text head ++ codes " " ++ bracketed (item_text A) positions
 reply_text A (logged.Dropped seq chain far) = codes "dropped " ++ decimal seq ++ codes " chain " ++ decimal chain ++ codes " far " ++ decimal far
+reply_text A (logged.Denied seq object) = codes "denied " ++ decimal seq ++ codes " object " ++ decimal object.0
 reply_text A (logged.Seen last commit head positions) =
     codes "seen " ++ decimal last ++ codes " at " ++ decimal commit ++ codes " " ++ head_text head ++ codes " " ++ bracketed (item_text A) positions
 reply_text A (logged.Settled seq pos) = codes "settled " ++ decimal seq ++ codes " at " ++ decimal pos

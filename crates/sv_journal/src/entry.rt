@@ -3,7 +3,7 @@ ghost use Rattle.std.specs.Prelude.{◌≡◌};
 ghost use Rattle.sv_journal.specs.Sessions.{is_end};
 
 use sv_wire::{ObjectValue, Request};
-use sv_world::List;
+use sv_world::{List, ObjectId};
 
 /// A reply as the journal keeps it: a relay, and what was seen, name the positions of their items, whose actions stand in the journal already.
 #[derive(Debug, Drop)]
@@ -22,6 +22,10 @@ pub enum Logged {
         seq: u32,
         chain: u32,
         far: u32,
+    },
+    Denied {
+        seq: u32,
+        object: ObjectId,
     },
     Seen {
         last: u32,

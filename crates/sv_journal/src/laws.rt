@@ -1,7 +1,7 @@
 //! Laws of journals.
 ghost use Rattle.sv_journal.specs.Examples.{ExamplesAreAnswered};
-ghost use Rattle.sv_journal.specs.Laws.{FullRepliesStay, LegalActionsAreGood, LegalRelaysAreSmall, LegalRelaysNameAccepted, LegalRepliesAreMessages, LegalSentIsClosed};
-ghost use Rattle.sv_journal.specs.Laws.{PlainIsLegal, ServedActionsAreGood, ServedRelaysAreSmall, ServedRelaysNameAccepted, ServedRepliesAreMessages, ServedSentIsClosed};
+ghost use Rattle.sv_journal.specs.Laws.{FullRepliesStay, LegalActionsAreGood, LegalActionsAreRightful, LegalCountsEnd, LegalRelaysAreSmall, LegalRelaysNameAccepted, LegalRepliesAreMessages, LegalSentIsClosed};
+ghost use Rattle.sv_journal.specs.Laws.{LivingIsServed, PlainIsLegal, ServedActionsAreGood, ServedActionsAreRightful, ServedCountsEnd, ServedRelaysAreSmall, ServedRelaysNameAccepted, ServedRepliesAreMessages, ServedSentIsClosed};
 
 use sv_world::{
     base_values_are_those_read_as_committed, good_actions_have_no_fault, missing_influences_ascend,
@@ -52,6 +52,24 @@ pub fn legal_replies_are_messages()
 /// are the legal ones.
 pub fn legal_journals_are_plain()
     ensures { PlainIsLegal }
+{}
+
+/// A living world's server is one of those that the laws below speak of too, whatever its stewardship. Where it has no steward, and every
+/// client's reports count, it is one that trusts its clients.
+pub fn living_worlds_are_served()
+    ensures { LivingIsServed }
+{}
+
+/// Every accepted action writes only what its author may write, for a server that trusts its clients, and whatever results a server keeps.
+pub fn accepted_actions_are_rightful()
+    ensures legal { LegalActionsAreRightful }
+    ensures served { ServedActionsAreRightful }
+{}
+
+/// No more actions are accepted than there are positions, and no client has more outcomes than an action has numbers.
+pub fn counts_have_an_end()
+    ensures legal { LegalCountsEnd }
+    ensures served { ServedCountsEnd }
 {}
 
 /// Whatever results a server keeps, its replies name accepted actions alone.

@@ -12,8 +12,9 @@ mod text;
 pub use entry::{Entry, Logged, is_end};
 pub use journal::Journal;
 pub use laws::{
-    examples_are_answered, full_replies_stay, legal_actions_are_good, legal_journals_are_plain,
-    legal_relays_are_small, legal_relays_name_accepted, legal_replies_are_messages,
+    accepted_actions_are_rightful, counts_have_an_end, examples_are_answered, full_replies_stay,
+    legal_actions_are_good, legal_journals_are_plain, legal_relays_are_small,
+    legal_relays_name_accepted, legal_replies_are_messages, living_worlds_are_served,
     sent_positions_are_closed, served_actions_are_good, served_relays_are_small,
     served_relays_name_accepted, served_replies_are_messages,
 };

@@ -88,6 +88,13 @@ fn append_welcome(commit: u32, head: &[ObjectValue], out: &mut String) -> Result
     append_head(head, out)
 }
 
+fn append_denied(seq: u32, object: ObjectId, out: &mut String) -> Result<(), AllocError>
+    ensures { OnOk result (string_bytes out.new ≡ string_bytes out.old ++ codes "denied " ++ decimal seq ++ codes " object " ++ decimal object.0) }
+{
+    let number = object.0;
+    write!(out, "denied {seq} object {number}")
+}
+
 /// Appends the base values and the items of a reply.
 fn append_relayed(
     journal: &Journal,
@@ -119,6 +126,7 @@ fn append_reply(journal: &Journal, reply: &Logged, out: &mut String) -> Result<(
             append_relayed(journal, head.as_slice(), positions.as_slice(), out)
         }
         Logged::Dropped { seq, chain, far } => write!(out, "dropped {seq} chain {chain} far {far}"),
+        Logged::Denied { seq, object } => append_denied(*seq, *object, out),
         Logged::Seen {
             last,
             commit,

@@ -79,7 +79,10 @@ fn is_relay(reply: &Logged) -> bool
 fn tells_outcome(reply: &Logged) -> bool
     ensures { result ≡ tells_outcome reply.now }
 {
-    matches!(reply, Logged::Relay { .. } | Logged::Dropped { .. })
+    matches!(
+        reply,
+        Logged::Relay { .. } | Logged::Dropped { .. } | Logged::Denied { .. }
+    )
 }
 
 /// How many outcomes a client has after an entry of one of its sessions, where it had `count`.

@@ -175,6 +175,9 @@ inner_reply A (logged.Dropped seq chain far) =
     let two = one ++ codes " chain " ++ decimal chain in
     numbered (two ++ codes " far ") far
     (then_inner two (codes " far ") (numbered (one ++ codes " chain ") chain (then_inner one (codes " chain ") (numbered (codes "dropped ") seq refl) refl)) refl)
+inner_reply A (logged.Denied seq object) =
+    let one = codes "denied " ++ decimal seq in
+    numbered (one ++ codes " object ") object.0 (then_inner one (codes " object ") (numbered (codes "denied ") seq refl) refl)
 inner_reply A (logged.Settled seq position) =
     let one = codes "settled " ++ decimal seq in
     numbered (one ++ codes " at ") position (then_inner one (codes " at ") (numbered (codes "settled ") seq refl) refl)

@@ -38,6 +38,36 @@ pub trait Job: Send + Drop {
         ensures kept { keeps self result };
 }
 
+/// So many jobs ran, all of those that `run_all` was given. Nothing else makes one.
+#[derive(Debug, Drop)]
+pub struct AllRan {
+    jobs: usize,
+}
+
+impl AllRan {
+    /// How many jobs ran.
+    pub fn jobs(&self) -> usize
+        ensures { result ≡ self.now.jobs }
+    {
+        self.jobs
+    }
+}
+
+/// A start of `run_all` was refused, of one of so many jobs. Nothing else makes one.
+#[derive(Debug, Drop)]
+pub struct StartRefused {
+    jobs: usize,
+}
+
+impl StartRefused {
+    /// How many jobs there were.
+    pub fn jobs(&self) -> usize
+        ensures { result ≡ self.now.jobs }
+    {
+        self.jobs
+    }
+}
+
 /// Runs jobs at once, each on a thread of its own.
 ///
 /// Contracts see how many jobs each `run_all` ran that answered Done.
@@ -55,13 +85,13 @@ pub trait Crew {
         ensures same { (ran self.new ≡ ran self.old) × (faults self.new ≡ faults self.old) };
 
     /// Notes that so many jobs ran.
-    fn note(&mut self, count: usize)
+    fn note(&mut self, all: AllRan)
         requires room { 0 < room self.old }
-        ensures noted { ran self.new ≡ ran self.old ++ count ∷ [] }
+        ensures noted { ran self.new ≡ ran self.old ++ all.jobs ∷ [] }
         ensures same { faults self.new ≡ faults self.old };
 
     /// Counts a start that was refused.
-    fn count_fault(&mut self)
+    fn count_fault(&mut self, refused: StartRefused)
         ensures counted { Rose (faults self.old) (faults self.new) }
         ensures same { ran self.new ≡ ran self.old };
 
@@ -84,12 +114,12 @@ pub trait Crew {
         if self.make_room().is_err() {
             return Ran::Memory;
         }
-        let count = jobs.len();
+        let jobs_given = jobs.len();
         let refused = self.refused();
         let ran = run_each(rt, jobs, refused);
         match &ran {
-            Ran::Done(_) => self.note(count),
-            Ran::Failed => self.count_fault(),
+            Ran::Done(_) => self.note(AllRan { jobs: jobs_given }),
+            Ran::Failed => self.count_fault(StartRefused { jobs: jobs_given }),
             Ran::Memory => {}
         }
         ran

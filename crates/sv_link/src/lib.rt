@@ -19,7 +19,7 @@ mod tcp;
 mod thread_crew;
 
 pub use book::Book;
-pub use crews::{Crew, Job, Ran};
+pub use crews::{AllRan, Crew, Job, Ran, StartRefused};
 pub use ends::{End, EndRead, EndWrote, Sent, send_all};
 pub use gates::{Gate, HoldGate, OpenGate};
 pub use link::MemLink;

@@ -2,7 +2,7 @@
 ghost use Rattle.std.specs.Prelude.{◌≡◌};
 ghost use Rattle.sv_link.specs.ThreadCrews.{IsNew, IsNewFew};
 
-use crate::crews::Crew;
+use crate::crews::{AllRan, Crew, StartRefused};
 use std::alloc::{AllocError, Global};
 use sv_bytes::FaultCount;
 
@@ -39,11 +39,11 @@ impl Crew for ThreadCrew {
         self.ran.reserve(1)
     }
 
-    fn note(&mut self, count: usize) {
-        self.ran.push_reserved(count);
+    fn note(&mut self, all: AllRan) {
+        self.ran.push_reserved(all.jobs());
     }
 
-    fn count_fault(&mut self) {
+    fn count_fault(&mut self, _refused: StartRefused) {
         self.faults.raise();
     }
 
@@ -85,12 +85,12 @@ impl Crew for FewCrew {
         self.crew.make_room()
     }
 
-    fn note(&mut self, count: usize) {
-        self.crew.note(count);
+    fn note(&mut self, all: AllRan) {
+        self.crew.note(all);
     }
 
-    fn count_fault(&mut self) {
-        self.crew.count_fault();
+    fn count_fault(&mut self, refused: StartRefused) {
+        self.crew.count_fault(refused);
     }
 
     fn refused(&self) -> Option<usize> {

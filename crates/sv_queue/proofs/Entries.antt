@@ -4,10 +4,9 @@ use Rattle.std.proofs.lemmas.Bool.{cases_lt, eq-eqb, ne_eqb}
 use Rattle.sv_world.specs.declared.action.Action.{Action}
 use Rattle.sv_world.specs.Control.{is_in, blank, action_at, last_writer}
 use Rattle.sv_world.specs.Sets.{write_set}
-use Rattle.sv_queue.specs.declared.queued.Queued.{Queued}
 use Rattle.sv_queue.specs.Invariant.{writers_above}
 use Rattle.sv_queue.specs.Positions.{greatest_below, AreAbove, IsAscending}
-use Rattle.sv_queue.specs.Queue.{IsFirstWriter, IsUnwritten, entry_actions, marked_above, no_entry}
+use Rattle.sv_queue.specs.Queue.{Queued, IsFirstWriter, IsUnwritten, entry_actions, marked_above, no_entry}
 use Rattle.sv_queue.proofs.PositionLists.{greatest_below-zero, greatest_below-suc}
 
 pub writers_above_bound : (n m : ℕ) (es : List Queued) (x : ℕ) → n ≤ m → AreAbove n (writers_above m es x)

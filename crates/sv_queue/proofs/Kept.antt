@@ -10,9 +10,8 @@ use Rattle.sv_world.specs.Sets.{write_set}
 use Rattle.sv_eval.specs.Serial.{put_all}
 use Rattle.sv_eval.proofs.Lists.{all_set}
 use Rattle.sv_eval.proofs.Serials.{put_all_length}
-use Rattle.sv_queue.specs.declared.queued.Queued.{Queued}
 use Rattle.sv_queue.specs.Invariant.{AgreeOn, IsGoodEntry, writers_above}
-use Rattle.sv_queue.specs.Queue.{no_entry}
+use Rattle.sv_queue.specs.Queue.{Queued, no_entry}
 use Rattle.sv_world.specs.Worlds.{HaveAttrs, IsGoodShape}
 use Rattle.sv_queue.specs.Written.{CanWrite, IsChangedAt, front_of}
 use Rattle.sv_queue.proofs.Entries.{writers_above-push}
@@ -21,14 +20,14 @@ use Rattle.sv_queue.proofs.WrittenObjects.{front_of-push}
 pub can_write : (shape : Shape) (a : Action) → IsGoodAction shape a → CanWrite shape.objects a
 can_write shape a g = record { few_reads = g.few_reads; ascending = g.ascending; objects = g.objects }
 
-All-push : {X : Type 0} (P : X → Type 0) (xs : List X) (y : X) → All P xs → P y → All P (xs ++ y ∷ [])
+pub All-push : {X : Type 0} (P : X → Type 0) (xs : List X) (y : X) → All P xs → P y → All P (xs ++ y ∷ [])
 All-push P xs y h p k d low = go (cases_lt k (length xs))
   where
     go : (k < length xs) ⊎ (length xs ≤ k) → P (get_or (xs ++ y ∷ []) k d)
     go (inl small) = rw (get_or_append_left xs (y ∷ []) d k small) (h k d small)
     go (inr large) = let e : length xs ≡ k = omega (arith, length-append xs (y ∷ [])) in rw (get_or_push xs y d k e) p
 
-All-front : {X : Type 0} (P : X → Type 0) (xs ys : List X) → All P (xs ++ ys) → All P xs
+pub All-front : {X : Type 0} (P : X → Type 0) (xs ys : List X) → All P (xs ++ ys) → All P xs
 All-front P xs ys h k d low = let e = get_or_append_left xs ys d k low in subst P e (h k d (omega (arith, length-append xs ys)))
 
 writers_above-set : (n : ℕ) (es : List Queued) (i : ℕ) (e : Queued) (x : ℕ) → e.action ≡ (get_or es i no_entry).action → writers_above n (set es i e) x ≡ writers_above n es x

@@ -1,10 +1,13 @@
 -- The lemmas of this crate, file by file.
 pub mod Entries
+pub mod Forgets
 pub mod Installs
 pub mod Kept
 pub mod Members
 pub mod PairSets
 pub mod PositionLists
-pub mod SessionSets
+pub mod SlotSets
+pub mod SlotWords
 pub mod SourceLists
+pub mod Waits
 pub mod WrittenObjects

@@ -8,9 +8,8 @@ use Rattle.sv_world.specs.declared.world.Shape.{Shape}
 use Rattle.sv_world.specs.Control.{is_in, blank, action_at, last_writer}
 use Rattle.sv_world.specs.Sets.{read_set, write_set}
 use Rattle.sv_world.proofs.Writers.{last_writer-writes, last_writer-agree, last_writer-same}
-use Rattle.sv_queue.specs.declared.queued.Queued.{Queued}
 use Rattle.sv_queue.specs.Invariant.{HaveSources, IsGoodEntry, uncommitted}
-use Rattle.sv_queue.specs.Queue.{entry_actions, no_entry}
+use Rattle.sv_queue.specs.Queue.{Queued, entry_actions, no_entry}
 use Rattle.sv_queue.proofs.Entries.{action_past}
 
 pub committed_blank : (c k : ℕ) (bs : List Action) → k ≤ c → action_at (replicate c blank ++ bs) k ≡ blank
@@ -185,7 +184,7 @@ pub sources_below : (c : ℕ) (es : List Queued) (ss : List (List ℕ)) (p : ℕ
 sources_below c es ss p h low high = omega (arith, h.count, length-map es (λ (e : Queued). e.action))
 
 -- The action at a position above the commit.
-action_above : (c : ℕ) (bs : List Action) (p : ℕ) → c < p → action_at (replicate c blank ++ bs) p ≡ get_or bs (p - c - 1) blank
+pub action_above : (c : ℕ) (bs : List Action) (p : ℕ) → c < p → action_at (replicate c blank ++ bs) p ≡ get_or bs (p - c - 1) blank
 action_above c bs p low =
     let q : p ≡ suc (c + (p - c - 1)) = omega arith in
     ap (action_at (replicate c blank ++ bs)) q ∙ action_past c bs (p - c - 1)

@@ -1,23 +1,30 @@
 -- What a queue's fields keep.
-use Rattle.std.specs.Prelude.{◌≡◌, ℕ, suc, ◌+◌, ◌^◌, ◌<◌, nat_lt, List, [], ◌∷◌, ◌++◌, length, replicate, ℤ, All, IfSome, slice_index_or, if◌then◌else◌}
+use Rattle.std.specs.Prelude.{◌≡◌, ℕ, suc, ◌+◌, ◌^◌, ◌<◌, ◌≤◌, true, nat_lt, List, [], ◌∷◌, ◌++◌, map, length, replicate, ℤ, All, IfSome, slice_index_or, if◌then◌else◌}
 use Rattle.sv_world.specs.declared.action.Action.{Action}
 use Rattle.sv_world.specs.declared.world.Shape.{Shape}
 use Rattle.sv_world.specs.Control.{is_in, blank, last_writer}
 use Rattle.sv_world.specs.Faults.{IsGoodAction}
+use Rattle.sv_world.specs.Limits.{most_open}
 use Rattle.sv_world.specs.Sets.{read_set, write_set}
 use Rattle.sv_queue.specs.declared.queue.Queue.TheInside.{Inside}
-use Rattle.sv_queue.specs.declared.queued.Queued.{Queued}
+use Rattle.sv_queue.specs.Marks.{all_queued, marks_of}
 use Rattle.sv_queue.specs.Pairs.{pairs_of}
-use Rattle.sv_queue.specs.Queue.{QueueView, entry_actions}
+use Rattle.sv_queue.specs.Queue.{Queued, QueueView, entry_actions}
+use Rattle.sv_queue.specs.Slots.{SlotSet}
 use Rattle.sv_world.specs.Worlds.{IsGoodShape, HaveAttrs}
+
+-- The slots of each set.
+abbrev pub slots_in : List SlotSet → List (List ℕ)
+slots_in sets = map (λ (r : SlotSet). r.slots) sets
 
 abbrev pub model_of : Inside → QueueView
 model_of a = record {
   shape = a.shape;
   commit = a.commit;
+  room = a.room;
   committed = a.committed;
-  entries = a.entries.items;
-  given = pairs_of a.shape.objects a.given.items;
+  entries = all_queued a.entries.items;
+  given = pairs_of a.shape.objects (slots_in a.given.items);
 }
 
 -- Of the entries, which stand at the positions above n, the positions of those that write an object; ascending.
@@ -56,6 +63,18 @@ pub record HaveSources (commit : ℕ) (actions : List Action) (sources : List (L
       uncommitted commit (slice_index_or (slice_index_or sources i []) k 0)
       ≡ last_writer (replicate commit blank ++ actions) (slice_index_or (read_set (slice_index_or actions i blank)) k 0) (suc (commit + i))
 
+-- A set has room for so many slots, and its slots are among them.
+pub record HasRoom (room : ℕ) (r : SlotSet) : Type 0 where
+  pub enough : room ≤ r.room
+  pub within : (s : ℕ) → is_in s r.slots ≡ true → s < room
+
+-- The sets of a queue have its room.
+pub record HaveRoom (room : ℕ) (sent rows : List SlotSet) : Type 0 where
+  pub limit : room ≤ most_open
+  pub marks : All (HasRoom room) sent
+  pub given : All (HasRoom room) rows
+
 pub record IsQueue (a : Inside) : Type 0 where
-  pub agree : AgreeOn a.shape a.commit a.committed a.entries.items a.writers a.given.items
-  pub sources : HaveSources a.commit (entry_actions a.entries.items) a.sources.items
+  pub agree : AgreeOn a.shape a.commit a.committed (all_queued a.entries.items) a.writers (slots_in a.given.items)
+  pub sources : HaveSources a.commit (entry_actions (all_queued a.entries.items)) a.sources.items
+  pub room : HaveRoom a.room (marks_of a.entries.items) a.given.items

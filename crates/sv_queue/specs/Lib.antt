@@ -1,7 +1,9 @@
 -- The definitions of this crate, file by file.
 pub mod Invariant
+pub mod Marks
 pub mod Pairs
 pub mod Positions
 pub mod Queue
-pub mod Sessions
+pub mod Rooms
+pub mod Slots
 pub mod Written

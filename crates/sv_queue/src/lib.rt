@@ -2,12 +2,14 @@
 #![tactic(auto)]
 
 mod queue;
-mod queued;
-mod sessions;
+mod rooms;
+mod slots;
 mod sources;
 mod steps;
+mod waiting;
 mod writers;
 mod written;
 
 pub use queue::{Queue, QueueEntry};
+pub use slots::Slots;
 pub use steps::Steps;

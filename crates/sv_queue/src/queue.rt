@@ -1,49 +1,58 @@
 //! The queue of a server: what is committed, and the actions after it.
-ghost use Rattle.std.specs.Prelude.{◌≡◌, ℕ, ◌+◌, ◌-◌, ◌^◌, ◌<◌, nat_lt, [], length, slice_index_or, is_some, IfNone, IfOk, IfSome, IsNone, OnOk, OnErr};
+ghost use Rattle.std.specs.Prelude.{◌≡◌, ℕ, ◌+◌, ◌-◌, ◌^◌, ◌<◌, ◌≤◌, nat_lt, [], length, slice_index_or, is_some, IfNone, IfOk, IfSome, IsNone, OnOk, OnErr};
+ghost use Rattle.std.specs.List.{list_any};
 ghost use Rattle.sv_world.specs.Control.{is_in, last_writer, action_at};
 ghost use Rattle.sv_world.specs.Faults.{IsGoodAction};
-ghost use Rattle.sv_world.specs.Limits.{most_sessions};
+ghost use Rattle.sv_world.specs.Limits.{most_open};
 ghost use Rattle.sv_world.specs.Sets.{read_set, write_set};
 ghost use Rattle.sv_queue.specs.Pairs.{is_pair};
-ghost use Rattle.sv_queue.specs.Queue.{IsFirstWriter, IsUncommitted, IsUnwritten, last_position, entry_at, queue_actions, sent_positions, opening_queue, with_action, without_last, with_mark, with_result, with_given, ready, first_installed, ready_installed};
+ghost use Rattle.sv_queue.specs.Queue.{IsFirstWriter, IsUncommitted, IsUnwritten, last_position, entry_at, queue_actions, sent_positions, opening_queue, with_action, without_last, with_mark, with_result, with_given, without_slot, ready, first_installed, ready_installed};
 ghost use Rattle.sv_world.specs.Worlds.{IsGoodShape, IsGoodWorld, HaveAttrs};
 
-use crate::queued::Queued;
-use crate::sessions::Sessions;
+use crate::rooms::{forget_given, forget_marks, make_given_room, make_marks_room};
+use crate::slots::Slots;
 use crate::sources::Sources;
 use crate::steps::Steps;
+use crate::waiting::Waiting;
 use crate::writers::Writers;
-use crate::written::{give_written, no_sessions, put_values};
+use crate::written::{give_written, no_rows, put_values};
 use std::alloc::{AllocError, Global};
 use std::collections::VecDeque;
 use std::marker::Model;
 use std::sync::ledger::Ledger;
-use sv_world::{Action, ClientId, List, ObjectId, Shape, Value, World};
+use sv_world::{Action, ClientId, List, MOST_OPEN, ObjectId, Shape, Value, World};
+
+/// How many slots there is room for at first.
+const FIRST_ROOM: u16 = 64;
 
 /// The committed values of a world's objects, and the accepted actions after the commit.
 ///
-/// Actions have positions 1, 2, 3, and so on. Those up to the commit are in the committed values. A position is marked for a session
-/// when it is sent to it, and the pair of an object and a session is given when the session knows the object's committed value.
+/// Actions have positions 1, 2, 3, and so on. Those up to the commit are in the committed values. A slot is the place of an open session,
+/// and stands for it: a position is marked for a slot when it is sent to the session that has it, and the pair of an object and a slot is
+/// given when this session knows the object's committed value.
 #[derive(Debug, Drop)]
 pub struct Queue {
+    alloc: Global,
     shape: Shape,
     commit: u32,
+    /// Each set of slots has room for so many.
+    room: u16,
     committed: List<Value>,
-    entries: VecDeque<Queued>,
+    entries: VecDeque<Waiting>,
     /// The last writers of what each entry reads, found when it was pushed: later ones are above it.
     sources: VecDeque<Sources>,
     writers: Writers,
-    given: Vec<Sessions>,
+    given: Vec<Slots>,
 }
 
 impl Model for Queue {
     ghost use Rattle.std.specs.Coded.{codes};
     ghost use Rattle.sv_queue.specs.Queue.{QueueView};
-    ghost use Rattle.sv_queue.specs.contracts.queued.Queued as queued;
+    ghost use Rattle.sv_world.specs.contracts.action.Stmt as statements;
 
     ghost Value = { QueueView };
 
-    ghost coded = { Prim.hlevel (codes, queued.the_row.coded) };
+    ghost coded = { Prim.hlevel (codes, statements.the_row.coded) };
 
     ghost use Rattle.sv_queue.specs.Invariant.{model_of, IsQueue};
 
@@ -70,10 +79,12 @@ impl Queue {
         let World { shape, values } = world;
         let objects = shape.objects as usize;
         let writers = Writers::new(alloc, objects)?;
-        let given = no_sessions(alloc, objects)?;
+        let given = no_rows(alloc, objects)?;
         Ok(Queue {
+            alloc,
             shape,
             commit: 0,
+            room: FIRST_ROOM,
             committed: values,
             entries: VecDeque::new(alloc),
             sources: VecDeque::new(alloc),
@@ -102,6 +113,13 @@ impl Queue {
         ensures { result ≡ last_position self.now }
     {
         self.commit + self.entries.len() as u32
+    }
+
+    /// How many slots there is room for.
+    pub fn room(&self) -> u16
+        ensures { result ≡ self.now.room }
+    {
+        self.room
     }
 
     /// The value of an object at the commit.
@@ -142,19 +160,20 @@ impl Queue {
         self.writers.first(object)
     }
 
-    /// The last writer, below an uncommitted position, of what it reads in a slot, where that is above the commit, else 0. One look-up.
+    /// The last writer, below an uncommitted position, of what it reads at a place of its reads, where that is above the commit, else 0. One
+    /// look-up.
     ///
     /// It is the answer of `last_writer`, without a search.
-    pub fn source<L: Ledger>(&self, pos: u32, slot: usize, steps: &mut Steps<L>) -> u32
+    pub fn source<L: Ledger>(&self, pos: u32, place: usize, steps: &mut Steps<L>) -> u32
         requires pos { IsUncommitted self.now pos }
-        requires slot { slot < length (action_at (queue_actions self.now) pos).reads }
-        ensures writer { result ≡ last_writer (queue_actions self.now) (slice_index_or (read_set (action_at (queue_actions self.now) pos)) slot 0) pos }
+        requires place { place < length (action_at (queue_actions self.now) pos).reads }
+        ensures writer { result ≡ last_writer (queue_actions self.now) (slice_index_or (read_set (action_at (queue_actions self.now) pos)) place 0) pos }
         ensures ticks { steps.new ≡ steps.old + 1 }
     {
         steps.tick();
-        let place = (pos - self.commit - 1) as usize;
-        let sources = &self.sources[place];
-        let source = sources.get(slot);
+        let entry = (pos - self.commit - 1) as usize;
+        let sources = &self.sources[entry];
+        let source = sources.get(place);
         if self.commit < source { source } else { 0 }
     }
 
@@ -171,17 +190,35 @@ impl Queue {
         sources
     }
 
-    /// Whether an uncommitted position was sent to a session. One look-up.
-    pub fn is_marked<L: Ledger>(&self, pos: u32, session: u16, steps: &mut Steps<L>) -> bool
+    /// Whether an uncommitted position was sent to a slot. One look-up.
+    pub fn is_marked<L: Ledger>(&self, pos: u32, slot: u16, steps: &mut Steps<L>) -> bool
         requires { IsUncommitted self.now pos }
-        ensures marked { result ≡ is_in pos (sent_positions self.now session) }
-        ensures in_marks { result ≡ is_in session (entry_at self.now pos).marks }
+        ensures marked { result ≡ is_in pos (sent_positions self.now slot) }
+        ensures in_marks { result ≡ is_in slot (entry_at self.now pos).marks }
         ensures ticks { steps.new ≡ steps.old + 1 }
     {
         steps.tick();
         let place = (pos - self.commit - 1) as usize;
         let entry = &self.entries[place];
-        entry.marks.has(session)
+        entry.marks.has(slot)
+    }
+
+    /// Whether an uncommitted position was sent to one of some slots. One look-up.
+    pub fn is_marked_for_any<L: Ledger>(
+        &self,
+        pos: u32,
+        slots: &Slots,
+        steps: &mut Steps<L>,
+    ) -> bool
+        requires { IsUncommitted self.now pos }
+        ensures marked { result ≡ list_any (λ s. is_in pos (sent_positions self.now s)) slots.now.slots }
+        ensures in_marks { result ≡ list_any (λ s. is_in s (entry_at self.now pos).marks) slots.now.slots }
+        ensures ticks { steps.new ≡ steps.old + 1 }
+    {
+        steps.tick();
+        let place = (pos - self.commit - 1) as usize;
+        let entry = &self.entries[place];
+        slots.meets(&entry.marks)
     }
 
     /// What stands at an uncommitted position. One look-up.
@@ -216,13 +253,13 @@ impl Queue {
         entry.has_result
     }
 
-    /// Whether a session knows the committed value of an object.
-    pub fn is_given(&self, object: ObjectId, session: u16) -> bool
+    /// Whether a slot was given the committed value of an object.
+    pub fn is_given(&self, object: ObjectId, slot: u16) -> bool
         requires { object.0 < self.now.shape.objects }
-        ensures { result ≡ is_pair object.0 session self.now.given }
+        ensures { result ≡ is_pair object.0 slot self.now.given }
     {
         let row = &self.given[object.0 as usize];
-        row.has(session)
+        row.has(slot)
     }
 
     /// Adds an action at the next position and answers that position.
@@ -235,16 +272,17 @@ impl Queue {
     {
         let pos = self.commit + self.entries.len() as u32 + 1;
         let sources = self.sources_at(pos, &action);
+        let marks = Slots::with_room(self.alloc, self.room)?;
         self.entries.reserve(1)?;
         self.sources.reserve(1)?;
         self.writers.add(&action, pos)?;
         self.sources.push_back_reserved(sources);
-        let entry = Queued {
+        let entry = Waiting {
             author,
             seq,
             action,
             result: None,
-            marks: Sessions::new(),
+            marks,
         };
         match self.entries.push_back(entry) {
             Ok(()) => Ok(pos),
@@ -263,15 +301,15 @@ impl Queue {
         drop(entry);
     }
 
-    /// Marks an uncommitted position for a session, to which it is sent.
-    pub fn mark(&mut self, pos: u32, session: u16)
+    /// Marks an uncommitted position for a slot, to which it is sent.
+    pub fn mark(&mut self, pos: u32, slot: u16)
         requires position { IsUncommitted self.old pos }
-        requires session { session < most_sessions }
-        ensures { self.new ≡ with_mark self.old pos session }
+        requires slot { slot < self.old.room }
+        ensures { self.new ≡ with_mark self.old pos slot }
     {
         let place = (pos - self.commit - 1) as usize;
         let entry = &mut self.entries[place];
-        entry.marks.add(session);
+        entry.marks.add(slot);
     }
 
     /// Keeps the result of an uncommitted position until it is installed.
@@ -287,14 +325,39 @@ impl Queue {
         entry.result = Some(List::from_vec(values));
     }
 
-    /// Notes that a session knows the committed value of an object.
-    pub fn set_given(&mut self, object: ObjectId, session: u16)
+    /// Notes that a slot was given the committed value of an object.
+    pub fn set_given(&mut self, object: ObjectId, slot: u16)
         requires object { object.0 < self.old.shape.objects }
-        requires session { session < most_sessions }
-        ensures { self.new ≡ with_given self.old object.0 session }
+        requires slot { slot < self.old.room }
+        ensures { self.new ≡ with_given self.old object.0 slot }
     {
         let row = &mut self.given[object.0 as usize];
-        row.add(session);
+        row.add(slot);
+    }
+
+    /// Makes room for so many slots.
+    pub fn make_room(&mut self, slots: u16) -> Result<(), AllocError>
+        requires { slots ≤ most_open }
+        ensures ok { OnOk result ((slots ≤ self.new.room) × (self.new ≡ record self.old { room = self.new.room })) }
+        ensures grows { self.old.room ≤ self.new.room }
+        ensures err { OnErr result (self.new ≡ self.old) }
+    {
+        if slots <= self.room {
+            return Ok(());
+        }
+        let room = slots.max(2 * self.room).min(MOST_OPEN);
+        make_marks_room(&mut self.entries, room)?;
+        make_given_room(&mut self.given, room)?;
+        self.room = room;
+        Ok(())
+    }
+
+    /// Forgets what was sent and given to a slot, whose session is at its end.
+    pub fn forget(&mut self, slot: u16)
+        ensures { self.new ≡ without_slot self.old slot }
+    {
+        forget_marks(&mut self.entries, slot);
+        forget_given(&mut self.given, slot);
     }
 
     /// Commits the actions before the first that has no result, in order, and answers how many.
@@ -324,7 +387,7 @@ impl Queue {
     {
         let entry = self.entries.pop_front().unwrap();
         self.sources.pop_front();
-        let Queued {
+        let Waiting {
             author: _,
             seq: _,
             action,

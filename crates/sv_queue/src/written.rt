@@ -1,14 +1,15 @@
 //! The objects that an action writes, and rows that are changed at them.
-ghost use Rattle.std.specs.Prelude.{◌≡◌, ◌+◌, ◌<◌, ◌≤◌, false, true, [], ◌++◌, length, map, replicate, slice_index_or, IfOk, IfSome, option_to_list};
+ghost use Rattle.std.specs.Prelude.{◌≡◌, ◌+◌, ◌<◌, ◌≤◌, ℕ, false, true, [], ◌++◌, length, map, replicate, slice_index_or, All, IfOk, IfSome, option_to_list};
 ghost use Rattle.sv_world.specs.declared.world.ObjectId.{ObjectId};
 ghost use Rattle.sv_world.specs.Control.{is_in};
 ghost use Rattle.sv_world.specs.Faults.{is_ascending};
 ghost use Rattle.sv_world.specs.Limits.{most_reads};
 ghost use Rattle.sv_world.specs.Sets.{read_set, write_set};
 ghost use Rattle.sv_eval.specs.Serial.{put_all};
+ghost use Rattle.sv_queue.specs.Slots.{SlotSet, no_slots};
 ghost use Rattle.sv_queue.specs.Written.{CanWrite, IsChangedAt, writes_before};
 
-use crate::sessions::Sessions;
+use crate::slots::Slots;
 use std::alloc::{AllocError, Global};
 use sv_world::{Action, List, ObjectId, Value};
 
@@ -45,24 +46,26 @@ pub fn put_values(committed: &mut List<Value>, action: &Action, values: List<Val
 }
 
 /// One empty set for each object.
-pub fn no_sessions(alloc: Global, objects: usize) -> Result<Vec<Sessions>, AllocError>
-    ensures { IfOk result (λ rows. rows.items ≡ replicate objects []) }
+pub fn no_rows(alloc: Global, objects: usize) -> Result<Vec<Slots>, AllocError>
+    ensures { IfOk result (λ rows. rows.items ≡ replicate objects no_slots) }
 {
     let mut rows = Vec::with_capacity(alloc, objects)?;
     for _ in 0..objects {
-        rows.push(Sessions::new())?;
+        rows.push(Slots::new(alloc))?;
     }
     Ok(rows)
 }
 
-/// Gives each object that an action writes to just these sessions.
-pub fn give_written(rows: &mut Vec<Sessions>, action: &Action, sessions: &Sessions)
-    requires { CanWrite (length rows.old.items) action.now }
-    ensures { IsChangedAt [] (λ _. sessions.now) (write_set action.now) rows.old.items rows.new.items }
+/// Gives each object that an action writes to just these slots.
+pub fn give_written(rows: &mut Vec<Slots>, action: &Action, slots: &Slots)
+    requires can { CanWrite (length rows.old.items) action.now }
+    requires room { All (λ (r : SlotSet). (s : ℕ) → is_in s slots.now.slots ≡ true → s < r.room) rows.old.items }
+    ensures { IsChangedAt no_slots (λ (r : SlotSet). record r { slots = slots.now.slots }) (write_set action.now) rows.old.items rows.new.items }
 {
     for slot in 0..action.reads.len() {
         if let Some(object) = written_at(action, slot) {
-            rows[object.0 as usize] = sessions.copy();
+            let row = &mut rows[object.0 as usize];
+            row.copy_from(slots);
         }
     }
 }

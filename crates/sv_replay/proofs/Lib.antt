@@ -13,6 +13,7 @@ pub mod Heading
 pub mod Working
 pub mod Sending
 pub mod Lengths
+pub mod Limited
 pub mod Scripts
 pub mod Messages
 pub mod Opened

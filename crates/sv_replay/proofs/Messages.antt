@@ -22,7 +22,7 @@ use Rattle.sv_scenario.specs.Limits.{IsGoodScenario}
 use Rattle.sv_scenario.specs.Sessions.{session_count}
 use Rattle.sv_asked.specs.Numbers.{PlanFits, ScenarioFits}
 use Rattle.sv_system.specs.Fits.{requests_in, replies_in}
-use Rattle.sv_system.specs.Laws.{NeverRefused}
+use Rattle.sv_system.specs.Laws.{NeverRefusedInScenarios}
 use Rattle.sv_system.proofs.Histories.{IsEarlier, same, earlier-rest}
 use Rattle.sv_system.proofs.Entered.{of-from, request-there}
 use Rattle.sv_asked.specs.Asked.{EventFits, HasNumbers, RequestsAreMessages, RepliesAreMessages, AcceptedAreFew}
@@ -43,7 +43,7 @@ use Rattle.sv_replay.specs.Players.{asked_by_player}
 use Rattle.sv_replay.specs.Messages.{AsksMessages}
 use Rattle.sv_replay.specs.Playable.{IsPlayable}
 use Rattle.sv_replay.proofs.Scripts.{players_made}
-use Rattle.sv_replay.proofs.Lengths.{owner_of, history_few}
+use Rattle.sv_replay.proofs.Lengths.{owner_of}
 
 -- ---- A run
 
@@ -60,7 +60,7 @@ module _ (scenario : Scenario) (run : Run) (good : IsGoodScenario scenario) (num
     opening = numbers.values;
     made = All-from_recursion (λ (L : Trace). All EventFits L.events) (traces_of run)
         (players_made scenario.world.shape 0 0 scenario.clients run.players (recursion_from_All PlanFits scenario.clients numbers.plans) sound.players);
-    positions = (let most = few r H (session_count scenario) sound.legal sound.sessions in omega (arith, most, good.sessions));
+    positions = (let most = few r H (session_count scenario) 1024 refl sound.legal sound.sessions in omega (arith, most, good.sessions));
   }
 
   asks : RequestsAreMessages → AcceptedAreFew → (k : ℕ) (p : Player) → slice_get run.players k ≡ Some p → AsksMessages p
@@ -88,16 +88,15 @@ module _ (scenario : Scenario) (run : Run) (good : IsGoodScenario scenario) (num
 
 -- ---- The server that answers by the table
 
-module _ (law : RequestsAreMessages) (few : AcceptedAreFew) (replied : RepliesAreMessages) (honest : NeverRefused) (scenario : Scenario) (good : IsGoodScenario scenario) (numbers : ScenarioFits scenario) where
+module _ (law : RequestsAreMessages) (few : AcceptedAreFew) (replied : RepliesAreMessages) (honest : NeverRefusedInScenarios) (scenario : Scenario) (good : IsGoodScenario scenario) (numbers : ScenarioFits scenario) where
   abbrev plain : Server
   plain = plain_server (rules_of scenario)
 
   plain_replied : (run : Run) → IsSoundOver plain scenario run → All (λ (e : Entry). IsReply (full_reply (accepted run.history) e.reply)) run.history
   plain_replied run over =
       let sound = sound-plain scenario run over in
-      let short = history_few plain scenario run good over in
       let asked = All-from_recursion (λ (e : Entry). RequestFits e.request) run.history (entries_fit scenario run good numbers sound law few run.history same) in
-      replied (rules_of scenario) run.history (limits_of scenario good) (objects_few scenario good) numbers.values asked (omega (arith, short)) sound.legal
+      replied (rules_of scenario) run.history (limits_of scenario good) (omega arith) (objects_few scenario good) numbers.values asked sound.legal
 
   plain_taken : (run : Run) (k : ℕ) (p : Player) (s : ℕ) (reply : Reply) → IsSoundOver plain scenario run → slice_get run.players k ≡ Some p →
       current_session p.events ≡ Some s → slice_get (replies_in (accepted run.history) run.history s) (length (got p.events s)) ≡ Some reply → first_fault_of_reply p.who p.events reply ≡ None

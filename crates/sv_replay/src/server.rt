@@ -1,5 +1,6 @@
 //! What a run asks of its server.
-ghost use Rattle.std.specs.Prelude.{◌≡◌, ℕ, ◌<◌, ℤ, List, [], true, false, slice_index_or, IfOk};
+ghost use Rattle.std.specs.Prelude.{◌≡◌, ℕ, ◌<◌, ℤ, List, [], Some, true, false, slice_index_or, IfOk};
+ghost use Rattle.sv_journal.specs.Answer.{MayBeSession};
 ghost use Rattle.sv_journal.specs.Sessions.{is_end, is_ended};
 ghost use Rattle.sv_replay.specs.Serving.{Answers, ServerView, sequencer_view, sequencer_world};
 
@@ -18,16 +19,16 @@ pub trait Server: Drop {
 
     /// How many sessions it was opened for.
     fn sessions(&self) -> u16
-        ensures { result ≡ (view self.now).rules.sessions };
+        ensures { Some result ≡ (view self.now).rules.sessions };
 
     /// Whether a session had its End.
     fn is_ended(&self, session: u16) -> bool
-        requires { session < (view self.now).rules.sessions }
+        requires { MayBeSession (view self.now).rules.sessions session }
         ensures { result ≡ is_ended (view self.now).history session };
 
     /// Answers a request of a session, whose End comes at most once, and enters both into its journal.
     fn step(&mut self, session: u16, request: &Request) -> Result<Reply, AllocError>
-        requires session { session < (view self.old).rules.sessions }
+        requires session { MayBeSession (view self.old).rules.sessions session }
         requires first { is_end request.now ≡ true → is_ended (view self.old).history session ≡ false }
         ensures { IfOk result (Answers (view self.old) (view self.new) session request.now) };
 
@@ -38,9 +39,10 @@ pub trait Server: Drop {
 }
 
 /// Whether each session of a server had its End.
+#[tactic(auto, using(crate::proofs::Limited::below_may, crate::proofs::Limited::may_below))]
 pub fn are_ended<S: Server>(server: &S) -> bool
-    ensures all { result ≡ true → (s : ℕ) → s < (S.view server.now).rules.sessions → is_ended (S.view server.now).history s ≡ true }
-    ensures not { result ≡ false → ((s : ℕ) → s < (S.view server.now).rules.sessions → is_ended (S.view server.now).history s ≡ true) → ⊥ }
+    ensures all { result ≡ true → (s : ℕ) → MayBeSession (S.view server.now).rules.sessions s → is_ended (S.view server.now).history s ≡ true }
+    ensures not { result ≡ false → ((s : ℕ) → MayBeSession (S.view server.now).rules.sessions s → is_ended (S.view server.now).history s ≡ true) → ⊥ }
 {
     for session in 0..server.sessions() {
         if !server.is_ended(session) {

@@ -3,6 +3,7 @@
 ghost use Rattle.std.specs.Prelude.{◌≡◌, ◌<◌, ◌+◌, [], ◌∷◌, ◌++◌, true, false, length, IfOk, OnOk};
 ghost use Rattle.sv_wire.specs.declared.message.Request.TheVariants as requests;
 ghost use Rattle.sv_wire.specs.Laws.{IsReply};
+ghost use Rattle.sv_journal.specs.Answer.{MayBeSession};
 ghost use Rattle.sv_journal.specs.Sessions.{is_ended};
 ghost use Rattle.sv_replay.specs.Serving.{whole_reply, with_answer, AnswersMessage, Entered, HadTurn, one_if};
 
@@ -19,7 +20,7 @@ pub(crate) fn serve<S: Server>(
     channel: &mut Exchange,
     session: u16,
 ) -> Result<bool, AllocError>
-    requires session { session < (S.view server.old).rules.sessions }
+    requires session { MayBeSession (S.view server.old).rules.sessions session }
     requires message { AnswersMessage (S.view server.old).server (S.view server.old).history session channel.old }
     ensures served { OnOk result (HadTurn session (S.view server.old) (S.view server.new) channel.old channel.new) }
     ensures found { IfOk result (λ found. length (S.view server.new).history ≡ length (S.view server.old).history + one_if found) }
@@ -51,7 +52,7 @@ fn answer<S: Server>(
     session: u16,
     request: &Request,
 ) -> Result<(), AllocError>
-    requires session { session < (S.view server.old).rules.sessions }
+    requires session { MayBeSession (S.view server.old).rules.sessions session }
     requires running { is_ended (S.view server.old).history session ≡ false }
     requires unstopped { channel.old.stopped ≡ false }
     requires message { IsReply (whole_reply (S.view server.old).server (S.view server.old).history session request.now) }
@@ -78,7 +79,7 @@ fn send_answer(channel: &mut Exchange, reply: &Reply, stops: bool) -> Result<(),
 
 /// Ends a session.
 fn end<S: Server>(server: &mut S, channel: &mut Exchange, session: u16) -> Result<(), AllocError>
-    requires session { session < (S.view server.old).rules.sessions }
+    requires session { MayBeSession (S.view server.old).rules.sessions session }
     requires running { is_ended (S.view server.old).history session ≡ false }
     ensures { OnOk result (Entered session requests.End (S.view server.old) (S.view server.new) channel.new (record channel.old { stopped = true })) }
 {

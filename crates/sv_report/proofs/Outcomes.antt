@@ -6,7 +6,7 @@ use Rattle.sv_wire.specs.declared.message.Request.{Request}
 use Rattle.sv_journal.specs.declared.entry.Entry.{Entry}
 use Rattle.sv_journal.specs.declared.entry.Logged.{Logged}
 use Rattle.sv_journal.specs.declared.entry.Logged.TheVariants as logged
-use Rattle.sv_journal.specs.History.{Outcome, Accepted, Dropped, accepted, client_of, is_client, is_submit_of, outcome_in, outcomes_of, either, is_welcome, joining}
+use Rattle.sv_journal.specs.History.{Outcome, Accepted, Dropped, Denied, accepted, client_of, is_client, is_submit_of, outcome_in, outcomes_of, either, is_welcome, joining}
 use Rattle.sv_report.specs.Drops.{is_dropped, is_new_submit, drops, dropped_count}
 use Rattle.sv_report.specs.Laws.{dropped_of, sum_below}
 
@@ -69,6 +69,7 @@ told_drop : (p : ℕ) (reply : Logged) → dropped_of (outcome_in p reply) ≡ b
 told_drop p (logged.Welcome commit head) = refl
 told_drop p (logged.Relay seq commit head positions) = refl
 told_drop p (logged.Dropped seq chain far) = refl
+told_drop p (logged.Denied seq object) = refl
 told_drop p (logged.Seen last commit head positions) = refl
 told_drop p (logged.Settled seq pos) = refl
 told_drop p (logged.Noted commit) = refl
@@ -84,6 +85,7 @@ dropped_both : (os ns : List Outcome) → dropped_of (os ++ ns) ≡ dropped_of o
 dropped_both [] ns = let same : dropped_of ns ≡ 0 + dropped_of ns = omega arith in same
 dropped_both (Accepted p ∷ os) ns = dropped_both os ns
 dropped_both (Dropped chain far ∷ os) ns = let ih = dropped_both os ns in omega (arith, ih)
+dropped_both (Denied object ∷ os) ns = dropped_both os ns
 
 -- What an entry adds to the dropped outcomes of client k, where the client of its session is o.
 abbrev adds : Option ℕ → (ℕ → ℕ) → Request → Logged → ℕ → ℕ

@@ -65,12 +65,12 @@ good_world : (attrs : ℕ) (values : List (List ℤ)) → 1 ≤ attrs → attrs 
     → IsGoodWorld (world_with attrs values)
 good_world attrs values some few all some_values few_values =
     record {
-      shape = record { some_objects = some_values; few_objects = few_values; some_attrs = some; few_attrs = few };
+      shape = record { some_objects = some_values; few_objects = omega (arith, few_values); some_attrs = some; few_attrs = few };
       objects = refl;
       attrs = All-from_recursion (λ (v : List ℤ). length v ≡ attrs) values all;
     }
 
-world_ok : (d : Data) (w : World) → world_of d ≡ Ok w → IsGoodWorld w
+world_ok : (d : Data) (w : World) → world_of d ≡ Ok w → IsGoodWorld w × (w.shape.objects ≤ 4096)
 unfolding world_of
 world_ok d w is =
     let p = bound (value_at (codes "attrs") (number_within 1 4) d) (λ attrs. value_at (codes "objects") (values_of attrs) d >>= λ values. Ok (world_with attrs values)) w is in
@@ -80,7 +80,7 @@ world_ok d w is =
     let n = number_ok 1 4 a.0 p.0 a.1 in
     let m = values_ok p.0 v.0 q.0 v.1 in
     let e : world_with p.0 q.0 ≡ w = cc in
-    subst IsGoodWorld e (good_world p.0 q.0 n.0 n.1 m.0 m.1 m.2)
+    subst (λ (x : World). IsGoodWorld x × (x.shape.objects ≤ 4096)) e (good_world p.0 q.0 n.0 n.1 m.0 m.1 m.2, m.2)
 
 -- ---- objects
 
@@ -408,7 +408,8 @@ scenario_ok d s is =
     at_key_if (codes "schedule") [] (turns_of (length c.0) (sessions_in c.0)) (get (codes "schedule") d) t.0 (AreTurns (length c.0) (sessions_in c.0)) (tt, omega arith) (λ e h. turns_ok (length c.0) (sessions_in c.0) e t.0 h) t.1 in
     just IsGoodScenario s (record { world = w.0; bound = b.0; reach = r.0; clients = c.0; schedule = t.0 })
     (record {
-      world = world_ok d w.0 w.1;
+      world = (world_ok d w.0 w.1).0;
+      few_objects = (world_ok d w.0 w.1).1;
       bound = (number_ok 0 32 bv.0 b.0 bv.1).1;
       reach = at_key_if (codes "reach") None reach_of (get (codes "reach") d) r.0 IsReach tt (λ e h. reach_ok e r.0 h) r.1;
       some_clients = good_clients.some;

@@ -6,7 +6,7 @@ use Rattle.sv_world.specs.declared.world.Shape.{Shape}
 use Rattle.sv_world.specs.Faults.{is_ascending, may_be_observed, IsGoodAction}
 use Rattle.sv_world.specs.Sets.{numbers_of}
 use Rattle.sv_world.specs.Worlds.{IsGoodWorld}
-use Rattle.sv_world.specs.Limits.{most_clients, most_sessions, most_bound, most_reach, most_interest, most_steps, most_shown, most_turns}
+use Rattle.sv_world.specs.Limits.{most_scenario_objects, most_clients, most_sessions, most_bound, most_reach, most_interest, most_steps, most_shown, most_turns}
 use Rattle.sv_scenario.specs.declared.scenario.Plan.{Plan}
 use Rattle.sv_scenario.specs.declared.scenario.Scenario.{Scenario}
 use Rattle.sv_scenario.specs.declared.scenario.Step.{Step}
@@ -64,6 +64,7 @@ IsGoodTurn clients sessions (turns.Take k) = k < clients
 -- A scenario that keeps the limits and rules.
 pub record IsGoodScenario (scenario : Scenario) : Type 0 where
   pub world : IsGoodWorld scenario.world
+  pub few_objects : scenario.world.shape.objects ≤ most_scenario_objects
   pub bound : scenario.bound ≤ most_bound
   pub reach : IfSome scenario.reach (λ n. n ≤ most_reach)
   pub some_clients : 1 ≤ length scenario.clients

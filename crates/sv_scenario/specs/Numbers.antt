@@ -2,7 +2,7 @@
 use Rattle.std.specs.Prelude.{ℕ, suc, ℤ, pos, negsuc, cond, ◌&&◌, nat_le, List, [], option_and_then, Ok}
 use Rattle.serde_json.specs.Data.{Data, Items, no_items, item}
 use Rattle.serde_json.specs.Find.{as_array, as_integer, as_number}
-use Rattle.sv_world.specs.Limits.{most_objects}
+use Rattle.sv_world.specs.Limits.{most_scenario_objects}
 use Rattle.sv_world.specs.Ranges.{is_i64}
 use Rattle.sv_scenario.specs.declared.fault.ScenarioCause.TheVariants as causes
 use Rattle.sv_scenario.specs.Faults.{Read, ◌>>=◌, refuse, given, each}
@@ -43,4 +43,4 @@ value_of attrs d = list_within attrs attrs d >>= each attribute_of []
 
 -- The values of all objects.
 unfoldable pub values_of : ℕ → Data → Read (List (List ℤ))
-values_of attrs d = list_within 1 most_objects d >>= each (value_of attrs) []
+values_of attrs d = list_within 1 most_scenario_objects d >>= each (value_of attrs) []

@@ -2,7 +2,7 @@
 
 ghost use Rattle.std.specs.Prelude.{◌≡◌, ◌≤◌, [], length, vec_len, IfOk};
 ghost use Rattle.serde_json.specs.View.{view, items_view};
-ghost use Rattle.sv_world.specs.Limits.{most_objects};
+ghost use Rattle.sv_world.specs.Limits.{most_scenario_objects};
 ghost use Rattle.sv_scenario.specs.Faults.{Gives, each};
 ghost use Rattle.sv_scenario.specs.Numbers.{whole_number, number_within, attribute_of, list_within, value_of, values_of};
 
@@ -10,7 +10,7 @@ use crate::place::{at_place, refuse};
 use crate::{ReadFault, ScenarioCause};
 use serde_json::Value;
 use std::alloc::Global;
-use sv_world::{MOST_OBJECTS, Value as ObjectValue};
+use sv_world::{MOST_SCENARIO_OBJECTS, Value as ObjectValue};
 
 #[tactic(auto, unfolding(crate::specs::Numbers::whole_number))]
 fn whole_number(alloc: Global, value: &Value) -> Result<i128, ReadFault>
@@ -122,8 +122,8 @@ pub(crate) fn values_of(
     value: &Value,
 ) -> Result<Vec<ObjectValue>, ReadFault>
     ensures reads { Gives (λ v. v.items) result (values_of attrs (view value.now)) }
-    ensures count { IfOk result (λ v. vec_len v ≤ most_objects) }
+    ensures count { IfOk result (λ v. vec_len v ≤ most_scenario_objects) }
 {
-    let values = list_within(alloc, 1, MOST_OBJECTS as usize, value)?;
+    let values = list_within(alloc, 1, MOST_SCENARIO_OBJECTS as usize, value)?;
     each_value(alloc, attrs, values)
 }

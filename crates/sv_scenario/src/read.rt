@@ -4,7 +4,7 @@ ghost use Rattle.std.specs.Prelude.{◌≡◌, ◌≤◌, ◌∷◌, [], codes, 
 ghost use Rattle.serde_json.specs.Errors.{IsMemory};
 ghost use Rattle.serde_json.specs.Read.{read};
 ghost use Rattle.serde_json.specs.View.{view};
-ghost use Rattle.sv_world.specs.Limits.{most_objects, most_clients, most_sessions};
+ghost use Rattle.sv_world.specs.Limits.{most_scenario_objects, most_clients, most_sessions};
 ghost use Rattle.sv_scenario.specs.Faults.{Gives};
 ghost use Rattle.sv_scenario.specs.Keys.{keys_of, value_at, value_if};
 ghost use Rattle.sv_scenario.specs.Limits.{IsGoodScenario};
@@ -37,7 +37,7 @@ fn number_in(alloc: Global, key: &str, low: u32, high: u32, value: &Value) -> Re
 
 fn values_in(alloc: Global, attrs: u32, value: &Value) -> Result<Vec<ObjectValue>, ReadFault>
     ensures reads { Gives (λ v. v.items) result (value_at (codes "objects") (values_of attrs) (view value.now)) }
-    ensures count { IfOk result (λ v. vec_len v ≤ most_objects) }
+    ensures count { IfOk result (λ v. vec_len v ≤ most_scenario_objects) }
 {
     let values = needed(alloc, "objects", value)?;
     at_key(alloc, "objects", values_of(alloc, attrs, values))

@@ -1,5 +1,5 @@
 -- Abandoned positions by the queue and the rows of sessions, against those of the history.
-use Rattle.std.proofs.Common.{◌≡◌, ℕ, zero, suc, ◌<◌, ◌≤◌, Bool, true, false, ◌&&◌, ◌||◌, not, cond, nat_eq, nat_lt, inl, inr, List, [], ◌∷◌, ◌++◌, filter, length, get_or, All, is_none, refl, sym, ◌∙◌, ap, arith}
+use Rattle.std.proofs.Common.{◌≡◌, ℕ, zero, suc, ◌<◌, ◌≤◌, Bool, true, false, ◌&&◌, ◌||◌, not, cond, nat_eq, nat_lt, inl, inr, List, [], ◌∷◌, ◌++◌, filter, length, Option, Some, None, is_none, is_some, refl, sym, ◌∙◌, ap, arith}
 use Rattle.std.proofs.lemmas.Bool.{cases_Bool, cases_eq, cond_both, and_parts, and_from, or_cases, or_left, or_right, not_from_false, not-true, both_ways, eq-eqb, eqb-true, ltb-true}
 use Rattle.std.proofs.lemmas.List.Elements.{filter-append}
 use Rattle.std.proofs.lemmas.List.Folds.{list_all-append}
@@ -9,14 +9,17 @@ use Rattle.sv_world.proofs.Bases.{below-is_in}
 use Rattle.sv_world.proofs.Members.{is_in-append_cases, is_in-append_left, is_in-append_right, same_test, filter-ext}
 use Rattle.sv_journal.specs.declared.entry.Entry.{Entry}
 use Rattle.sv_journal.specs.History.{accepted, result_at, commit_of}
-use Rattle.sv_journal.specs.Sessions.{is_over, positions_in, sent_to, named_to}
+use Rattle.sv_journal.specs.Sessions.{is_over, positions_in, sent_to}
 use Rattle.sv_journal.specs.Answer.{Rules, is_abandoned, orphans}
 use Rattle.sv_queue.specs.Queue.{QueueView, entry_at, sent_positions}
+use Rattle.sv_clients.specs.declared.clients.Clients.{Clients}
 use Rattle.sv_sequencer.specs.declared.sessions.SessionRow.{SessionRow}
-use Rattle.sv_sequencer.specs.Fits.{QueueFits}
-use Rattle.sv_sequencer.specs.Orphans.{is_abandoned_in, is_orphan_in, orphans_in}
-use Rattle.sv_sequencer.specs.Rows.{no_session, IsSessionRow}
+use Rattle.sv_sequencer.specs.Agreement.{sent_at, Agrees}
+use Rattle.sv_sequencer.specs.Orphans.{is_live_row, is_abandoned_in, is_orphan_in, orphans_in}
+use Rattle.sv_sequencer.specs.Rows.{row_at, seat_in, has_entry}
+use Rattle.sv_sequencer.proofs.AgreeSteps.{sent_seats, named_seats, sent-within}
 use Rattle.sv_sequencer.proofs.FitRelays.{sent-is}
+use Rattle.sv_sequencer.proofs.Seating.{seat-low}
 
 -- ---- All numbers below another
 
@@ -86,57 +89,64 @@ over-sent O p (e ∷ g) h =
     older s m = cond_both (nat_eq e.session s) (sent_to g s ++ positions_in e.reply) (sent_to g s) (λ xs. is_in p xs ≡ true)
         (λ q. is_in-append_left p (sent_to g s) (positions_in e.reply) m) (λ q. m)
 
-sent-within : (n p : ℕ) (g : List Entry) → All (λ (e : Entry). e.session < n) g → (s : ℕ) → is_in p (sent_to g s) ≡ true → s < n
-sent-within n p [] all s m = cc
-sent-within n p (e ∷ g) all s m = go (nat_eq e.session s) refl m (sent-within n p g (λ i d low. all (suc i) d (omega arith)) s)
+sent-has : (p : ℕ) (g : List Entry) (s : ℕ) → is_in p (sent_to g s) ≡ true → has_entry g s ≡ true
+sent-has p [] s m = cc
+sent-has p (e ∷ g) s m = go (nat_eq e.session s) m (sent-has p g s)
   where
-    go : (b : Bool) → nat_eq e.session s ≡ b → is_in p (cond b (sent_to g s ++ positions_in e.reply) (sent_to g s)) ≡ true →
-        (is_in p (sent_to g s) ≡ true → s < n) → s < n
-    go true q k ih = (let low : e.session < n = all 0 e (omega arith) in let same : e.session ≡ s = eqb-true e.session s q in omega arith)
-    go false q k ih = ih k
+    go : (b : Bool) → is_in p (cond b (sent_to g s ++ positions_in e.reply) (sent_to g s)) ≡ true → (is_in p (sent_to g s) ≡ true → has_entry g s ≡ true) → (b || has_entry g s) ≡ true
+    go true k ih = refl
+    go false k ih = ih k
 
-pub abandoned-is : (r : Rules) (h : List Entry) (v : QueueView) (rows : List SessionRow) (p : ℕ) → r.sessions ≤ 64 → length rows ≡ r.sessions → v.commit < p →
-    ((t q : ℕ) → is_in q (sent_to h t) ≡ true → q ≤ length (accepted h)) → QueueFits r.world (accepted h) (result_at h) (sent_to h) (named_to h) v →
-    ((s : ℕ) → s < r.sessions → IsSessionRow h s (get_or rows s no_session)) → All (λ (e : Entry). e.session < r.sessions) h →
-    is_abandoned_in v rows p ≡ is_abandoned h p
-abandoned-is r h v rows p few count low within f are all = same_test (is_abandoned_in v rows p) (is_abandoned h p) there back
-  where
-    T : ℕ → Bool
-    T s = not (is_in p (sent_positions v s)) || (get_or rows s no_session).over
+module _ (r : Rules) (h : List Entry) (v : QueueView) (rows : List SessionRow) (clients : Clients) (owed : ℕ) (a : Agrees r h v rows clients owed) where
+  -- A session was sent a position where its slot is marked.
+  marked : (slot s p : ℕ) → seat_in rows slot ≡ Some s → v.commit < p → is_in p (sent_positions v slot) ≡ is_in p (sent_to h s)
+  marked slot s p at low =
+      sent-is r.world (accepted h) (result_at h) (sent_seats h rows) (named_seats h rows) v a.fits (sent-within r h rows a.sound) slot p
+      (omega (arith, seat-low rows slot s at, a.few)) low
+      ∙ ap (λ o. is_in p (sent_at h o)) at
 
-    marked : (s : ℕ) → s < r.sessions → is_in p (sent_positions v s) ≡ is_in p (sent_to h s)
-    marked s l = sent-is r.world (accepted h) (result_at h) (sent_to h) (named_to h) v f within s p (omega arith) low
+  abbrev test : ℕ → ℕ → Bool
+  test p slot = not (is_live_row (row_at rows slot)) || not (is_in p (sent_positions v slot))
 
-    there : is_abandoned_in v rows p ≡ true → is_abandoned h p ≡ true
-    there q = over-sent (is_over h) p h (λ s m.
-        let l : s < r.sessions = sent-within r.sessions p h all s m in
-        let at : T s ≡ true = all-below-at T (length rows) s q (omega arith) in
-        elim (or_cases (not (is_in p (sent_positions v s))) (get_or rows s no_session).over at) [
-          | inl none ↦ absurd (both_ways (is_in p (sent_positions v s)) (not-true (is_in p (sent_positions v s)) none) (marked s l ∙ m))
-          | inr over ↦ sym (are s l).over ∙ over
-        ])
+  live-row : (slot s : ℕ) → seat_in rows slot ≡ Some s → is_live_row (row_at rows slot) ≡ not (is_over h s)
+  live-row slot s at = ap (λ o. is_some o && not (row_at rows slot).over) at ∙ ap not (a.session_rows slot s at).over
 
-    back : is_abandoned h p ≡ true → is_abandoned_in v rows p ≡ true
-    back q = all-below-from T (length rows) (λ s l.
-        let low' : s < r.sessions = omega arith in
-        elim (cases_Bool (is_in p (sent_positions v s))) [
-          | inl m ↦ or_right (not (is_in p (sent_positions v s))) (get_or rows s no_session).over
-              ((are s low').over ∙ sent-over (is_over h) p h q s (sym (marked s low') ∙ m))
-          | inr none ↦ or_left (not (is_in p (sent_positions v s))) (get_or rows s no_session).over (not_from_false (is_in p (sent_positions v s)) none)
-        ])
+  there : (p : ℕ) → v.commit < p → is_abandoned_in v rows p ≡ true → is_abandoned h p ≡ true
+  there p low q = over-sent (is_over h) p h (λ s m. elim (cases_Bool (is_over h s)) [
+    | inl over ↦ over
+    | inr not-over ↦
+        let found = a.seats.all s (sent-has p h s m) not-over in
+        let at : seat_in rows found.0 ≡ Some s = found.1 in
+        elim (or_cases (not (is_live_row (row_at rows found.0))) (not (is_in p (sent_positions v found.0)))
+        (all-below-at (test p) (length rows) found.0 q (seat-low rows found.0 s at))) [
+          | inl gone ↦ absurd (both_ways (is_live_row (row_at rows found.0)) (not-true (is_live_row (row_at rows found.0)) gone)
+              (live-row found.0 s at ∙ not_from_false (is_over h s) not-over))
+          | inr none ↦ absurd (both_ways (is_in p (sent_positions v found.0)) (not-true (is_in p (sent_positions v found.0)) none) (marked found.0 s p at low ∙ m))
+        ]
+  ])
 
-pub orphans-are : (r : Rules) (h : List Entry) (v : QueueView) (rows : List SessionRow) → r.sessions ≤ 64 → length rows ≡ r.sessions → v.commit ≡ commit_of h →
-    ((t q : ℕ) → is_in q (sent_to h t) ≡ true → q ≤ length (accepted h)) → QueueFits r.world (accepted h) (result_at h) (sent_to h) (named_to h) v →
-    ((s : ℕ) → s < r.sessions → IsSessionRow h s (get_or rows s no_session)) → All (λ (e : Entry). e.session < r.sessions) h →
-    orphans_in v rows ≡ orphans h
-orphans-are r h v rows few count at within f are all =
-    ap (λ n. filter (is_orphan_in v rows) (below (suc n))) f.last
-    ∙ filter-ext (is_orphan_in v rows) (λ p. nat_lt (commit_of h) p && is_none (result_at h p) && is_abandoned h p) (below (suc (length (accepted h))))
-    (λ p m. (let high : p < suc (length (accepted h)) = below-is_in (suc (length (accepted h))) p m in
-    go p (omega arith) (nat_lt v.commit p) refl ∙ ap (λ c. nat_lt c p && is_none (result_at h p) && is_abandoned h p) at))
-  where
-    go : (p : ℕ) → p ≤ length (accepted h) → (b : Bool) → nat_lt v.commit p ≡ b →
-        (b && is_none (entry_at v p).result && is_abandoned_in v rows p) ≡ (b && is_none (result_at h p) && is_abandoned h p)
-    go p high true q = (let low : v.commit < p = ltb-true v.commit p q in
-        rw ((f.entries p low high).result, abandoned-is r h v rows p few count low within f are all) refl)
-    go p high false q = refl
+  free : (p slot : ℕ) (o : Option ℕ) → seat_in rows slot ≡ o → v.commit < p → is_abandoned h p ≡ true → test p slot ≡ true
+  free p slot None at low q =
+      or_left (not (is_live_row (row_at rows slot))) (not (is_in p (sent_positions v slot))) (ap (λ o. not (is_some o && not (row_at rows slot).over)) at)
+  free p slot (Some s) at low q = elim (cases_Bool (is_in p (sent_to h s))) [
+    | inl m ↦ or_left (not (is_live_row (row_at rows slot))) (not (is_in p (sent_positions v slot)))
+        (ap not (live-row slot s at) ∙ ap (λ b. not (not b)) (sent-over (is_over h) p h q s m))
+    | inr none ↦ or_right (not (is_live_row (row_at rows slot))) (not (is_in p (sent_positions v slot)))
+        (not_from_false (is_in p (sent_positions v slot)) (marked slot s p at low ∙ none))
+  ]
+
+  pub abandoned-is : (p : ℕ) → v.commit < p → is_abandoned_in v rows p ≡ is_abandoned h p
+  abandoned-is p low = same_test (is_abandoned_in v rows p) (is_abandoned h p) (there p low)
+      (λ q. all-below-from (test p) (length rows) (λ slot l. free p slot (seat_in rows slot) refl low q))
+
+  pub orphans-are : orphans_in v rows ≡ orphans h
+  orphans-are =
+      ap (λ n. filter (is_orphan_in v rows) (below (suc n))) a.fits.last
+      ∙ filter-ext (is_orphan_in v rows) (λ p. nat_lt (commit_of h) p && is_none (result_at h p) && is_abandoned h p) (below (suc (length (accepted h))))
+      (λ p m. (let high : p < suc (length (accepted h)) = below-is_in (suc (length (accepted h))) p m in
+      go p (omega arith) (nat_lt v.commit p) refl ∙ ap (λ c. nat_lt c p && is_none (result_at h p) && is_abandoned h p) a.commit))
+    where
+      go : (p : ℕ) → p ≤ length (accepted h) → (b : Bool) → nat_lt v.commit p ≡ b →
+          (b && is_none (entry_at v p).result && is_abandoned_in v rows p) ≡ (b && is_none (result_at h p) && is_abandoned h p)
+      go p high true q = (let low : v.commit < p = ltb-true v.commit p q in rw ((a.fits.entries p low high).result, abandoned-is p low) refl)
+      go p high false q = refl

@@ -9,7 +9,7 @@ use Rattle.sv_world.specs.Sets.{write_set}
 use Rattle.sv_wire.specs.declared.message.Done1.{Done1}
 use Rattle.sv_journal.specs.declared.entry.Entry.{Entry}
 use Rattle.sv_journal.specs.History.{accepted, actions_of, result_at, commit_of}
-use Rattle.sv_journal.specs.Sessions.{sent_to, named_to}
+use Rattle.sv_journal.specs.Sessions.{sent_to}
 use Rattle.sv_journal.specs.Answer.{Rules, is_bad_result, is_bad_done}
 use Rattle.sv_queue.specs.Queue.{QueueView, last_position, queue_actions, sent_positions}
 use Rattle.sv_world.specs.Worlds.{HaveAttrs}
@@ -22,21 +22,21 @@ any-alike f g [] same = refl
 any-alike f g (x ∷ xs) same = rw (same x, any-alike f g xs same) refl
 
 -- The same results are bad by the queue as by the history.
-pub bad-is : (r : Rules) (h : List Entry) (v : QueueView) (s : ℕ) (d : Done1) → s < 64 → v.commit ≡ commit_of h →
-    ((t q : ℕ) → is_in q (sent_to h t) ≡ true → q ≤ length (accepted h)) → QueueFits r.world (accepted h) (result_at h) (sent_to h) (named_to h) v →
-    is_bad_report v s d ≡ is_bad_result r h s d
-bad-is r h v s d small at within f =
+pub bad-is : (r : Rules) (h : List Entry) (v : QueueView) (S : ℕ → List ℕ) (N : ℕ → ℕ → List ℕ) (slot s : ℕ) (d : Done1) → S slot ≡ sent_to h s → slot < 1024 → v.commit ≡ commit_of h →
+    ((t q : ℕ) → is_in q (S t) ≡ true → q ≤ length (accepted h)) → QueueFits r.world (accepted h) (result_at h) S N v →
+    is_bad_report v slot d ≡ is_bad_result r h s d
+bad-is r h v S N slot s d sent small at within f =
     ap (λ n. d.pos == 0 || nat_lt n d.pos || later n) f.last
     ∙ go (nat_lt (length (accepted h)) d.pos) refl (nat_lt v.commit d.pos) refl
     ∙ ap (λ c. d.pos == 0 || nat_lt (length (accepted h)) d.pos || (nat_lt c d.pos && (not (is_in d.pos (sent_to h s))
     || not (length d.values == length (write_set (action_at (actions_of h) d.pos))) || not (list_all (λ w. length w == r.world.shape.attrs) d.values)))) at
   where
     later : ℕ → Bool
-    later n = nat_lt v.commit d.pos && (not (is_in d.pos (sent_positions v s))
+    later n = nat_lt v.commit d.pos && (not (is_in d.pos (sent_positions v slot))
         || not (length d.values == length (write_set (action_at (queue_actions v) d.pos))) || not (list_all (λ w. length w == v.shape.attrs) d.values))
 
     go : (b : Bool) → nat_lt (length (accepted h)) d.pos ≡ b → (c : Bool) → nat_lt v.commit d.pos ≡ c →
-        (d.pos == 0 || b || (c && (not (is_in d.pos (sent_positions v s))
+        (d.pos == 0 || b || (c && (not (is_in d.pos (sent_positions v slot))
         || not (length d.values == length (write_set (action_at (queue_actions v) d.pos))) || not (list_all (λ w. length w == v.shape.attrs) d.values))))
         ≡ (d.pos == 0 || b || (c && (not (is_in d.pos (sent_to h s))
         || not (length d.values == length (write_set (action_at (actions_of h) d.pos))) || not (list_all (λ w. length w == r.world.shape.attrs) d.values))))
@@ -49,17 +49,17 @@ bad-is r h v s d small at within f =
     go false q true t = (let low : v.commit < d.pos = ltb-true v.commit d.pos t in
         let high : d.pos ≤ length (accepted h) = ltb-false (length (accepted h)) d.pos q in
         rw (
-          sent-is r.world (accepted h) (result_at h) (sent_to h) (named_to h) v f within s d.pos small low,
-          action-is r.world (accepted h) (result_at h) (sent_to h) (named_to h) v f within d.pos low high,
+          sent-is r.world (accepted h) (result_at h) S N v f within slot d.pos small low ∙ ap (is_in d.pos) sent,
+          action-is r.world (accepted h) (result_at h) S N v f within d.pos low high,
           f.shape,
         ) refl)
 
-pub bad-done : (r : Rules) (h : List Entry) (v : QueueView) (s : ℕ) (ds : List Done1) → s < 64 → v.commit ≡ commit_of h →
-    ((t q : ℕ) → is_in q (sent_to h t) ≡ true → q ≤ length (accepted h)) → QueueFits r.world (accepted h) (result_at h) (sent_to h) (named_to h) v →
-    (length ds == 0 || nat_lt 33 (length ds) || not (is_ascending (map (λ (d : Done1). d.pos) ds)) || list_any (is_bad_report v s) ds) ≡ is_bad_done r h s ds
-bad-done r h v s ds small at within f =
+pub bad-done : (r : Rules) (h : List Entry) (v : QueueView) (S : ℕ → List ℕ) (N : ℕ → ℕ → List ℕ) (slot s : ℕ) (ds : List Done1) → S slot ≡ sent_to h s → slot < 1024 → v.commit ≡ commit_of h →
+    ((t q : ℕ) → is_in q (S t) ≡ true → q ≤ length (accepted h)) → QueueFits r.world (accepted h) (result_at h) S N v →
+    (length ds == 0 || nat_lt 33 (length ds) || not (is_ascending (map (λ (d : Done1). d.pos) ds)) || list_any (is_bad_report v slot) ds) ≡ is_bad_done r h s ds
+bad-done r h v S N slot s ds sent small at within f =
     ap (λ b. length ds == 0 || nat_lt 33 (length ds) || not (is_ascending (map (λ (d : Done1). d.pos) ds)) || b)
-    (any-alike (is_bad_report v s) (is_bad_result r h s) ds (λ d. bad-is r h v s d small at within f))
+    (any-alike (is_bad_report v slot) (is_bad_result r h s) ds (λ d. bad-is r h v S N slot s d sent small at within f))
 
 -- A result that is not bad may be kept.
 pub can_report : (v : QueueView) (s : ℕ) (d : Done1) → is_bad_report v s d ≡ false → CanReport v d
@@ -105,11 +105,11 @@ can_report_all v s (d ∷ ds) h = (let both = or_parts (is_bad_report v s d) (li
     all-cons here rest (suc i) o low = rest i o (omega arith)
 
 -- Of results of which none is bad, each may be kept.
-pub can_report_done : (r : Rules) (h : List Entry) (v : QueueView) (s : ℕ) (ds : List Done1) → s < 64 → v.commit ≡ commit_of h →
-    ((t q : ℕ) → is_in q (sent_to h t) ≡ true → q ≤ length (accepted h)) → QueueFits r.world (accepted h) (result_at h) (sent_to h) (named_to h) v →
+pub can_report_done : (r : Rules) (h : List Entry) (v : QueueView) (S : ℕ → List ℕ) (N : ℕ → ℕ → List ℕ) (slot s : ℕ) (ds : List Done1) → S slot ≡ sent_to h s → slot < 1024 → v.commit ≡ commit_of h →
+    ((t q : ℕ) → is_in q (S t) ≡ true → q ≤ length (accepted h)) → QueueFits r.world (accepted h) (result_at h) S N v →
     list_any (is_bad_result r h s) ds ≡ false → All (CanReport v) ds
-can_report_done r h v s ds small at within f q =
-    can_report_all v s ds (any-alike (is_bad_report v s) (is_bad_result r h s) ds (λ d. bad-is r h v s d small at within f) ∙ q)
+can_report_done r h v S N slot s ds sent small at within f q =
+    can_report_all v slot ds (any-alike (is_bad_report v slot) (is_bad_result r h s) ds (λ d. bad-is r h v S N slot s d sent small at within f) ∙ q)
 
 -- Of a Done that is not bad no result is.
 pub no-bad : (r : Rules) (h : List Entry) (s : ℕ) (ds : List Done1) → is_bad_done r h s ds ≡ false → list_any (is_bad_result r h s) ds ≡ false

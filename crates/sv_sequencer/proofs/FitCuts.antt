@@ -15,6 +15,7 @@ use Rattle.sv_queue.specs.Queue.{QueueView, IsUncommitted, queue_actions, sent_p
 use Rattle.sv_influence.specs.Lacking.{latest_cut, MarksAreClosed}
 use Rattle.sv_influence.proofs.Looks.{queue_length}
 use Rattle.sv_journal.specs.declared.entry.Entry.{Entry}
+use Rattle.sv_journal.specs.declared.entry.Logged.{Logged}
 use Rattle.sv_journal.specs.declared.entry.Logged.TheVariants as logged
 use Rattle.sv_journal.specs.History.{Authored, accepted, actions_of, result_at, commit_of}
 use Rattle.sv_journal.specs.Sessions.{sent_to, named_to}
@@ -40,19 +41,19 @@ module _ (w : World) (A : List Authored) (R : ℕ → Option (List (List ℤ))) 
   acts : (k : ℕ) → v.commit < k → k ≤ length (queue_actions v) → action_at (queue_actions v) k ≡ action_at (actions_in A) k
   acts k low high = action-is w A R S N v f within k low (omega (arith, same_length, length-actions A))
 
-  marks : (s : ℕ) → s < 64 → (j : ℕ) → v.commit < j → is_in j (sent_positions v s) ≡ is_in j (S s)
+  marks : (s : ℕ) → s < 1024 → (j : ℕ) → v.commit < j → is_in j (sent_positions v s) ≡ is_in j (S s)
   marks s small j low = sent-is w A R S N v f within s j small low
 
-  pub cut-is : (s : ℕ) (xs : List ℕ) → s < 64 → latest_cut v s xs ≡ greatest_cut (actions_in A) v.commit (S s) xs
+  pub cut-is : (s : ℕ) (xs : List ℕ) → s < 1024 → latest_cut v s xs ≡ greatest_cut (actions_in A) v.commit (S s) xs
   cut-is s xs small = cut-agree (queue_actions v) (actions_in A) v.commit (sent_positions v s) (S s) xs same_length acts (marks s small)
 
-  pub seen-are : (s : ℕ) (xs : List ℕ) → s < 64 → seen_positions v s xs ≡ needed_to_see (actions_in A) v.commit (S s) xs (latest_cut v s xs)
+  pub seen-are : (s : ℕ) (xs : List ℕ) → s < 1024 → seen_positions v s xs ≡ needed_to_see (actions_in A) v.commit (S s) xs (latest_cut v s xs)
   seen-are s xs small =
       let high = within_cut s xs in
       see-agree (queue_actions v) (actions_in A) v.commit (sent_positions v s) (S s) xs (latest_cut v s xs)
       (cut-low (queue_actions v) v.commit (sent_positions v s) xs) high (omega (arith, same_length)) (λ k a b. acts k a (omega arith)) (marks s small)
 
-  pub seen_bases-are : (given : List ℕ) (s : ℕ) (xs : List ℕ) → s < 64 → given_objects v s ≡ given →
+  pub seen_bases-are : (given : List ℕ) (s : ℕ) (xs : List ℕ) → s < 1024 → given_objects v s ≡ given →
       seen_bases v s xs ≡ head_to_see w.shape.objects (actions_in A) v.commit (S s) given xs (latest_cut v s xs)
   seen_bases-are given s xs small same =
       let high = within_cut s xs in
@@ -62,7 +63,7 @@ module _ (w : World) (A : List Authored) (R : ℕ → Option (List (List ℤ))) 
       ∙ ap (λ (d : Shape). head_to_see d.objects (actions_in A) v.commit (S s) given xs (latest_cut v s xs)) f.shape
 
   -- What was sent is closed by the queue too.
-  pub marks-closed : (s : ℕ) → s < 64 → SentIsClosed (actions_in A) v.commit (S s) → MarksAreClosed v s
+  pub marks-closed : (s : ℕ) → s < 1024 → SentIsClosed (actions_in A) v.commit (S s) → MarksAreClosed v s
   marks-closed s small closed p x m reads low =
       let L = last_writer (queue_actions v) x p in
       let some : 0 < L = omega arith in
@@ -77,29 +78,32 @@ module _ (w : World) (A : List Authored) (R : ℕ → Option (List (List ℤ))) 
         | inr e ↦ (let none : L ≤ v.commit = e.0 in absurd (omega arith))
       ]
 
--- What is seen by a fitting queue is what the history says.
-pub seen-is : (r : Rules) (h : List Entry) (v : QueueView) (s : ℕ) (xs : List ℕ) → s < 64 → v.commit ≡ commit_of h →
-    ((t q : ℕ) → is_in q (sent_to h t) ≡ true → q ≤ length (accepted h)) → QueueFits r.world (accepted h) (result_at h) (sent_to h) (named_to h) v →
-    logged.Seen (latest_cut v s xs) v.commit (held_in v (seen_bases v s xs)) (seen_positions v s xs)
+-- What the session of a slot sees by a fitting queue is what the history says.
+pub seen-is : (r : Rules) (h : List Entry) (v : QueueView) (S : ℕ → List ℕ) (N : ℕ → ℕ → List ℕ) (slot s : ℕ) (xs : List ℕ) →
+    S slot ≡ sent_to h s → N slot ≡ named_to h s → slot < 1024 → v.commit ≡ commit_of h →
+    ((t q : ℕ) → is_in q (S t) ≡ true → q ≤ length (accepted h)) → QueueFits r.world (accepted h) (result_at h) S N v →
+    logged.Seen (latest_cut v slot xs) v.commit (held_in v (seen_bases v slot xs)) (seen_positions v slot xs)
     ≡ seen_at r h s xs (greatest_cut (actions_of h) (commit_of h) (sent_to h s) xs)
-seen-is r h v s xs small at within f =
-    ap (λ os. logged.Seen n v.commit os (seen_positions v s xs)) (held-is r h v (seen_bases v s xs) (committed-is r h (accepted h) (sent_to h) (named_to h) v at f))
-    ∙ ap (λ os. logged.Seen n v.commit (committed_held r h os) (seen_positions v s xs))
-    (seen_bases-are r.world (accepted h) (result_at h) (sent_to h) (named_to h) v f within
-    (filter (λ x. was_given (actions_in (accepted h)) (sent_to h s) (named_to h s x) x v.commit) (below r.world.shape.objects)) s xs small
-    (given-are r.world (accepted h) (result_at h) (sent_to h) (named_to h) v f within s small))
-    ∙ ap (logged.Seen n v.commit (committed_held r h (head_to_see r.world.shape.objects (actions_of h) v.commit (sent_to h s)
-    (filter (λ x. was_given (actions_in (accepted h)) (sent_to h s) (named_to h s x) x v.commit) (below r.world.shape.objects)) xs n)))
-    (seen-are r.world (accepted h) (result_at h) (sent_to h) (named_to h) v f within s xs small)
-    ∙ ap (λ m. logged.Seen m v.commit (committed_held r h (head_to_see r.world.shape.objects (actions_of h) v.commit (sent_to h s)
-    (filter (λ x. was_given (actions_of h) (sent_to h s) (named_to h s x) x v.commit) (below r.world.shape.objects)) xs m)) (needed_to_see (actions_of h) v.commit (sent_to h s) xs m))
-    (cut-is r.world (accepted h) (result_at h) (sent_to h) (named_to h) v f within s xs small)
-    ∙ ap (λ c. logged.Seen (greatest_cut (actions_of h) c (sent_to h s) xs) c (committed_held r h (head_to_see r.world.shape.objects (actions_of h) c (sent_to h s)
-    (filter (λ x. was_given (actions_of h) (sent_to h s) (named_to h s x) x c) (below r.world.shape.objects)) xs (greatest_cut (actions_of h) c (sent_to h s) xs)))
-    (needed_to_see (actions_of h) c (sent_to h s) xs (greatest_cut (actions_of h) c (sent_to h s) xs))) at
+seen-is r h v S N slot s xs sent named small at within f =
+    ap (λ os. logged.Seen n v.commit os (seen_positions v slot xs)) (held-is r h v (seen_bases v slot xs) (committed-is r h (accepted h) S N v at f))
+    ∙ ap (λ os. logged.Seen n v.commit (committed_held r h os) (seen_positions v slot xs))
+    (seen_bases-are r.world (accepted h) (result_at h) S N v f within
+    (filter (λ x. was_given (actions_in (accepted h)) (S slot) (N slot x) x v.commit) (below r.world.shape.objects)) slot xs small
+    (given-are r.world (accepted h) (result_at h) S N v f within slot small))
+    ∙ ap (logged.Seen n v.commit (committed_held r h (head_to_see r.world.shape.objects (actions_of h) v.commit (S slot)
+    (filter (λ x. was_given (actions_in (accepted h)) (S slot) (N slot x) x v.commit) (below r.world.shape.objects)) xs n)))
+    (seen-are r.world (accepted h) (result_at h) S N v f within slot xs small)
+    ∙ ap (λ m. told m v.commit (S slot) (N slot)) (cut-is r.world (accepted h) (result_at h) S N v f within slot xs small)
+    ∙ ap (λ c. told (greatest_cut (actions_of h) c (S slot) xs) c (S slot) (N slot)) at
+    ∙ ap (λ ps. told (greatest_cut (actions_of h) (commit_of h) ps xs) (commit_of h) ps (N slot)) sent
+    ∙ ap (told (greatest_cut (actions_of h) (commit_of h) (sent_to h s) xs) (commit_of h) (sent_to h s)) named
   where
     n : ℕ
-    n = latest_cut v s xs
+    n = latest_cut v slot xs
+
+    told : ℕ → ℕ → List ℕ → (ℕ → List ℕ) → Logged
+    told m c ps ns = logged.Seen m c (committed_held r h (head_to_see r.world.shape.objects (actions_of h) c ps
+        (filter (λ x. was_given (actions_of h) ps (ns x) x c) (below r.world.shape.objects)) xs m)) (needed_to_see (actions_of h) c ps xs m)
 
 -- What is seen is uncommitted, and its objects are of the world.
 pub seen-within : (v : QueueView) (s : ℕ) (xs : List ℕ) → All (IsUncommitted v) (seen_positions v s xs)

@@ -9,9 +9,8 @@ use Rattle.sv_world.specs.declared.world.World.{World}
 use Rattle.sv_world.specs.Control.{is_in, action_at, last_writer}
 use Rattle.sv_world.specs.Sets.{write_set}
 use Rattle.sv_eval.specs.Serial.{put_all}
-use Rattle.sv_queue.specs.declared.queued.Queued.{Queued}
 use Rattle.sv_queue.specs.Pairs.{is_pair}
-use Rattle.sv_queue.specs.Queue.{QueueView, entry_at, no_entry, given_by, ready, ready_installed, first_installed}
+use Rattle.sv_queue.specs.Queue.{Queued, QueueView, entry_at, no_entry, given_by, ready, ready_installed, first_installed}
 use Rattle.sv_queue.proofs.Installs.{installed-first, installed-none}
 use Rattle.sv_queue.proofs.Members.{is_in-append, is_in-filtered}
 use Rattle.sv_queue.proofs.PairSets.{is_pair-where}
@@ -24,7 +23,7 @@ any-same p q [] same = refl
 any-same p q (x ∷ xs) same =
     rw (same x (or_left (nat_eq x x) (is_in x xs) (eq-eqb x x refl)), any-same p q xs (λ k h. same k (or_right (nat_eq k x) (is_in k xs) h))) refl
 
-any-none : (p : ℕ → Bool) (xs : List ℕ) → ((k : ℕ) → is_in k xs ≡ true → p k ≡ false) → list_any p xs ≡ false
+pub any-none : (p : ℕ → Bool) (xs : List ℕ) → ((k : ℕ) → is_in k xs ≡ true → p k ≡ false) → list_any p xs ≡ false
 any-none p [] none = refl
 any-none p (x ∷ xs) none =
     rw (none x (or_left (nat_eq x x) (is_in x xs) (eq-eqb x x refl)), any-none p xs (λ k h. none k (or_right (nat_eq k x) (is_in k xs) h))) refl
@@ -85,14 +84,15 @@ was_given-next acts sent named x c early = go (W (suc c)) refl
         ∙ any-is W (T (suc c) (suc c)) (suc c) sent e (between (suc c))
     go false e = any-same (T (last_writer acts x (suc c)) (suc c)) (T (last_writer acts x (suc c)) c) (named ++ filter W sent) (λ q h. one_more (last_writer acts x (suc c)) q (unlike q e h))
 
-abbrev pub view_by : Shape → ℕ → List (List ℤ) → List Queued → List (ℕ × ℕ) → QueueView
-view_by shape commit committed entries given = record { shape = shape; commit = commit; committed = committed; entries = entries; given = given }
+abbrev pub view_by : Shape → ℕ → ℕ → List (List ℤ) → List Queued → List (ℕ × ℕ) → QueueView
+view_by shape commit room committed entries given =
+    record { shape = shape; commit = commit; room = room; committed = committed; entries = entries; given = given }
 
 fits-first : (w : World) (A : List Authored) (R : ℕ → Option (List (List ℤ))) (S : ℕ → List ℕ) (N : ℕ → ℕ → List ℕ)
-    (shape : Shape) (c : ℕ) (committed : List (List ℤ)) (e : Queued) (es : List Queued) (given : List (ℕ × ℕ)) →
-    ((t x q : ℕ) → is_in q (N t x) ≡ true → q ≤ c) → QueueFits w A R S N (view_by shape c committed (e ∷ es) given) →
-    QueueFits w A R S N (view_by shape (c + 1) (put_all committed (write_set e.action) (unwrap_or e.result [])) es (given_by shape.objects given e))
-fits-first w A R S N shape c committed e es given early f = record {
+    (shape : Shape) (c room : ℕ) (committed : List (List ℤ)) (e : Queued) (es : List Queued) (given : List (ℕ × ℕ)) →
+    ((t x q : ℕ) → is_in q (N t x) ≡ true → q ≤ c) → QueueFits w A R S N (view_by shape c room committed (e ∷ es) given) →
+    QueueFits w A R S N (view_by shape (c + 1) room (put_all committed (write_set e.action) (unwrap_or e.result [])) es (given_by shape.objects given e))
+fits-first w A R S N shape c room committed e es given early f = record {
   shape = f.shape;
   last = omega (arith, f.last);
   committed =
@@ -110,7 +110,7 @@ fits-first w A R S N shape c committed e es given early f = record {
       ∙ ap (was_given (actions_in A) (S t) (N t x) x) (sym (add-one c));
 }
   where
-    first : entry_at (view_by shape c committed (e ∷ es) given) (suc c) ≡ e
+    first : entry_at (view_by shape c room committed (e ∷ es) given) (suc c) ≡ e
     first = ap (λ n. get_or (e ∷ es) n no_entry) (let zero' : suc c - c - 1 ≡ 0 = omega arith in zero')
 
     here : IsEntry A R S (suc c) e
@@ -123,29 +123,29 @@ fits-first w A R S N shape c committed e es given early f = record {
     place p low = omega arith
 
 pub fits-installed : (w : World) (A : List Authored) (R : ℕ → Option (List (List ℤ))) (S : ℕ → List ℕ) (N : ℕ → ℕ → List ℕ)
-    (shape : Shape) (c : ℕ) (committed : List (List ℤ)) (es : List Queued) (given : List (ℕ × ℕ)) →
-    ((t x q : ℕ) → is_in q (N t x) ≡ true → q ≤ c) → QueueFits w A R S N (view_by shape c committed es given) →
-    QueueFits w A R S N (ready_installed (view_by shape c committed es given))
-fits-installed w A R S N shape c committed [] given early f = subst (QueueFits w A R S N) (sym (installed-none (view_by shape c committed [] given) refl)) f
-fits-installed w A R S N shape c committed (e ∷ es) given early f =
+    (shape : Shape) (c room : ℕ) (committed : List (List ℤ)) (es : List Queued) (given : List (ℕ × ℕ)) →
+    ((t x q : ℕ) → is_in q (N t x) ≡ true → q ≤ c) → QueueFits w A R S N (view_by shape c room committed es given) →
+    QueueFits w A R S N (ready_installed (view_by shape c room committed es given))
+fits-installed w A R S N shape c room committed [] given early f = subst (QueueFits w A R S N) (sym (installed-none (view_by shape c room committed [] given) refl)) f
+fits-installed w A R S N shape c room committed (e ∷ es) given early f =
     go (is_some e.result) refl
-    (fits-installed w A R S N shape (c + 1) (put_all committed (write_set e.action) (unwrap_or e.result [])) es (given_by shape.objects given e)
-    (λ t x q h. (let low : q ≤ c = early t x q h in omega arith)) (fits-first w A R S N shape c committed e es given early f))
+    (fits-installed w A R S N shape (c + 1) room (put_all committed (write_set e.action) (unwrap_or e.result [])) es (given_by shape.objects given e)
+    (λ t x q h. (let low : q ≤ c = early t x q h in omega arith)) (fits-first w A R S N shape c room committed e es given early f))
   where
     v : QueueView
-    v = view_by shape c committed (e ∷ es) given
+    v = view_by shape c room committed (e ∷ es) given
 
     go : (b : Bool) → is_some e.result ≡ b → QueueFits w A R S N (ready_installed (first_installed v)) → QueueFits w A R S N (ready_installed v)
-    go true q h = subst (QueueFits w A R S N) (installed-first shape c committed e es given q) h
+    go true q h = subst (QueueFits w A R S N) (installed-first shape c room committed e es given q) h
     go false q h = subst (QueueFits w A R S N) (sym (installed-none v (ap length (cond-false (is_some e.result) (e ∷ ready es) [] q)))) f
 
 -- The new commit: all up to it have results, and the next position has none.
 pub installed-commit : (w : World) (A : List Authored) (R : ℕ → Option (List (List ℤ))) (S : ℕ → List ℕ) (N : ℕ → ℕ → List ℕ)
-    (shape : Shape) (c : ℕ) (committed : List (List ℤ)) (es : List Queued) (given : List (ℕ × ℕ)) →
-    ((p : ℕ) → 0 < p → p ≤ c → is_some (R p) ≡ true) → QueueFits w A R S N (view_by shape c committed es given) →
-    let n = (ready_installed (view_by shape c committed es given)).commit in
+    (shape : Shape) (c room : ℕ) (committed : List (List ℤ)) (es : List Queued) (given : List (ℕ × ℕ)) →
+    ((p : ℕ) → 0 < p → p ≤ c → is_some (R p) ≡ true) → QueueFits w A R S N (view_by shape c room committed es given) →
+    let n = (ready_installed (view_by shape c room committed es given)).commit in
     (c ≤ n) × ((n ≤ length A) × (((p : ℕ) → 0 < p → p ≤ n → is_some (R p) ≡ true) × (n < length A → is_some (R (suc n)) ≡ false)))
-installed-commit w A R S N shape c committed es given done f =
+installed-commit w A R S N shape c room committed es given done f =
     (omega arith, (omega (arith, f.last, ready-most es), (passed, next)))
   where
     ready-most : (ds : List Queued) → length (ready ds) ≤ length ds

@@ -13,13 +13,12 @@ use Rattle.sv_world.specs.Control.{is_in, action_at, last_writer}
 use Rattle.sv_world.specs.Sets.{write_set}
 use Rattle.sv_world.proofs.Writers.{last_writer-most}
 use Rattle.sv_wire.specs.declared.message.ObjectValue.{ObjectValue}
-use Rattle.sv_queue.specs.declared.queued.Queued.{Queued}
 use Rattle.sv_queue.specs.Pairs.{is_pair}
-use Rattle.sv_queue.specs.Queue.{QueueView, IsUncommitted, last_position, entry_at, no_entry, place_of, with_entry, with_mark, with_given}
-use Rattle.sv_queue.specs.Sessions.{with_session}
+use Rattle.sv_queue.specs.Queue.{Queued, QueueView, IsUncommitted, last_position, entry_at, no_entry, place_of, with_entry, with_mark, with_given}
+use Rattle.sv_queue.specs.Slots.{with_slot}
 use Rattle.sv_queue.proofs.Members.{is_in-append}
 use Rattle.sv_queue.proofs.PairSets.{is_pair-where}
-use Rattle.sv_queue.proofs.SessionSets.{in_sessions}
+use Rattle.sv_queue.proofs.SlotSets.{in_slots}
 use Rattle.sv_journal.specs.History.{Authored}
 use Rattle.sv_journal.specs.Sessions.{names}
 use Rattle.sv_sequencer.specs.Fits.{actions_in, values_after, was_given, IsEntry, QueueFits}
@@ -125,14 +124,14 @@ is_sent_also s p S t q = go (nat_eq s t)
     go false = sym (or-false (is_in q (S t)))
 
 marked-entry : (A : List Authored) (R : ℕ → Option (List (List ℤ))) (S : ℕ → List ℕ) (p s : ℕ) (q : Queued) → IsEntry A R S p q →
-    IsEntry A R (sent_also s (p ∷ []) S) p (record q { marks = with_session s q.marks })
+    IsEntry A R (sent_also s (p ∷ []) S) p (record q { marks = with_slot s q.marks })
 marked-entry A R S p s q e = record {
   author = e.author;
   seq = e.seq;
   action = e.action;
   result = e.result;
   marks = λ t small.
-      in_sessions (λ u. nat_eq u s || is_in u q.marks) t small
+      in_slots (λ u. nat_eq u s || is_in u q.marks) t small
       ∙ ap (λ b. nat_eq t s || b) (e.marks t small)
       ∙ ap (λ b. b || is_in p (S t)) (nat_eq_swap t s)
       ∙ or_comm (nat_eq s t) (is_in p (S t))
@@ -165,14 +164,14 @@ fits-mark w A R S N v p s is f = record {
 }
   where
     e : Queued
-    e = record (entry_at v p) { marks = with_session s (entry_at v p).marks }
+    e = record (entry_at v p) { marks = with_slot s (entry_at v p).marks }
 
     late : (b : Bool) (x t : ℕ) → was_given (actions_in A) (S t) (N t x) x v.commit ≡ was_given (actions_in A) (cond b (S t ++ p ∷ []) (S t)) (N t x) x v.commit
     late true x t = sym (was_given-late (actions_in A) (S t) (N t x) x v.commit p is.0)
     late false x t = refl
 
 uncommitted-marked : (v : QueueView) (p s : ℕ) (ps : List ℕ) → All (IsUncommitted v) ps → All (IsUncommitted (with_mark v p s)) ps
-uncommitted-marked v p s ps all = λ i d low. (let both = all i d low in (both.0, omega (arith, both.1, last-with_entry v p (record (entry_at v p) { marks = with_session s (entry_at v p).marks }))))
+uncommitted-marked v p s ps all = λ i d low. (let both = all i d low in (both.0, omega (arith, both.1, last-with_entry v p (record (entry_at v p) { marks = with_slot s (entry_at v p).marks }))))
 
 pub fits-marked : (w : World) (A : List Authored) (R : ℕ → Option (List (List ℤ))) (S : ℕ → List ℕ) (N : ℕ → ℕ → List ℕ) (v : QueueView) (ps : List ℕ) (s : ℕ) →
     All (IsUncommitted v) ps → QueueFits w A R S N v → QueueFits w A R (sent_also s ps S) N (marked_all v ps s)
@@ -191,14 +190,22 @@ pub shape-marked : (v : QueueView) (ps : List ℕ) (s : ℕ) → (marked_all v p
 shape-marked v [] s = refl
 shape-marked v (p ∷ ps) s = shape-marked (with_mark v p s) ps s
 
+pub room-marked : (v : QueueView) (ps : List ℕ) (slot : ℕ) → (marked_all v ps slot).room ≡ v.room
+room-marked v [] slot = refl
+room-marked v (p ∷ ps) slot = room-marked (with_mark v p slot) ps slot
+
 -- ---- Heads
+
+pub room-given : (v : QueueView) (head : List ObjectValue) (slot : ℕ) → (given_all v head slot).room ≡ v.room
+room-given v [] slot = refl
+room-given v (x ∷ xs) slot = room-given (with_given v x.object.0 slot) xs slot
 
 -- A head of a reply at a commit named to one session more.
 abbrev pub named_also : ℕ → List ObjectValue → ℕ → (ℕ → ℕ → List ℕ) → ℕ → ℕ → List ℕ
 named_also s head c N t x = cond (nat_eq s t) (N t x ++ cond (names head x) (c ∷ []) []) (N t x)
 
 -- The pairs once a session was given a head.
-given-all-pair : (v : QueueView) (head : List ObjectValue) (s x t : ℕ) → x < v.shape.objects → t < 64 →
+given-all-pair : (v : QueueView) (head : List ObjectValue) (s x t : ℕ) → x < v.shape.objects → t < 1024 →
     is_pair x t (given_all v head s).given ≡ (is_pair x t v.given || (nat_eq s t && names head x))
 given-all-pair v [] s x t low small = sym (ap (λ b. is_pair x t v.given || b) (and_right (nat_eq s t) false refl) ∙ or-false (is_pair x t v.given))
 given-all-pair v (o ∷ os) s x t low small =

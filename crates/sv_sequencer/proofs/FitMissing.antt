@@ -2,8 +2,7 @@
 use Rattle.std.proofs.Common.{◌≡◌, ℕ, Bool, true, false, ◌&&◌, cond, nat_lt, inl, inr, Some, List, [], ◌∷◌, filter, is_none, refl, sym, ◌∙◌, ap, subst}
 use Rattle.std.proofs.lemmas.Bool.{cases_eq, ltb-true, and_parts}
 use Rattle.sv_wire.specs.declared.message.Done1.{Done1}
-use Rattle.sv_queue.specs.declared.queued.Queued.{Queued}
-use Rattle.sv_queue.specs.Queue.{QueueView, entry_at, with_result}
+use Rattle.sv_queue.specs.Queue.{Queued, QueueView, entry_at, with_result}
 use Rattle.sv_sequencer.specs.Relays.{is_missing, with_report, with_reports}
 use Rattle.sv_sequencer.proofs.FitMarks.{entry-other}
 

@@ -11,8 +11,7 @@ use Rattle.sv_world.specs.Control.{is_in, blank, action_at, last_writer}
 use Rattle.sv_world.specs.Sets.{write_set}
 use Rattle.sv_world.proofs.Writers.{action_at-append, last_writer-same}
 use Rattle.sv_world.proofs.Members.{filter-ext}
-use Rattle.sv_queue.specs.declared.queued.Queued.{Queued}
-use Rattle.sv_queue.specs.Queue.{QueueView, entry_at, no_entry, with_action}
+use Rattle.sv_queue.specs.Queue.{Queued, QueueView, entry_at, no_entry, with_action}
 use Rattle.sv_journal.specs.History.{Authored, authored_at}
 use Rattle.sv_journal.proofs.Stays.{authored_stays, authored_last}
 use Rattle.sv_sequencer.specs.Fits.{actions_in, values_after, was_given, IsEntry, QueueFits}

@@ -12,9 +12,8 @@ use Rattle.sv_world.proofs.Needs.{needed-agree}
 use Rattle.sv_world.proofs.Bases.{head_for-agree, below-is_in}
 use Rattle.sv_world.proofs.Influences.{influence-agree, influence-bounds, map_same}
 use Rattle.sv_world.proofs.Members.{filter-ext}
-use Rattle.sv_queue.specs.declared.queued.Queued.{Queued}
 use Rattle.sv_queue.specs.Pairs.{is_pair}
-use Rattle.sv_queue.specs.Queue.{QueueView, entry_at, no_entry, entry_actions, queue_actions, sent_positions, given_objects}
+use Rattle.sv_queue.specs.Queue.{Queued, QueueView, entry_at, no_entry, entry_actions, queue_actions, sent_positions, given_objects}
 use Rattle.sv_queue.proofs.Entries.{in_marked}
 use Rattle.sv_influence.specs.Lacking.{lacking, base_objects}
 use Rattle.sv_influence.proofs.Looks.{queue_length}
@@ -37,7 +36,7 @@ module _ (w : World) (A : List Authored) (R : ℕ → Option (List (List ℤ))) 
   past : (k : ℕ) → length A < k → entry_at v k ≡ no_entry
   past k high = get_or_past v.entries (k - v.commit - 1) no_entry (omega (arith, f.last))
 
-  pub sent-is : (s k : ℕ) → s < 64 → v.commit < k → is_in k (sent_positions v s) ≡ is_in k (S s)
+  pub sent-is : (s k : ℕ) → s < 1024 → v.commit < k → is_in k (sent_positions v s) ≡ is_in k (S s)
   sent-is s k small low =
       in_marked v.commit v.entries s k low
       ∙ elim (cases_lt (length A) k) [
@@ -46,11 +45,11 @@ module _ (w : World) (A : List Authored) (R : ℕ → Option (List (List ℤ))) 
         | inr high ↦ (f.entries k low high).marks s small
       ]
 
-  pub lacking-is : (s p : ℕ) → s < 64 → v.commit < p → p ≤ length A → lacking v s p ≡ needed_for (actions_in A) v.commit (S s) p
+  pub lacking-is : (s p : ℕ) → s < 1024 → v.commit < p → p ≤ length A → lacking v s p ≡ needed_for (actions_in A) v.commit (S s) p
   lacking-is s p small low high =
       needed-agree (queue_actions v) (actions_in A) v.commit (sent_positions v s) (S s) p low (λ k a b. action-is k a (omega arith)) (λ k a. sent-is s k small a)
 
-  pub bases-are : (given : List ℕ) (s p : ℕ) → s < 64 → v.commit < p → p ≤ length A → given_objects v s ≡ given →
+  pub bases-are : (given : List ℕ) (s p : ℕ) → s < 1024 → v.commit < p → p ≤ length A → given_objects v s ≡ given →
       base_objects v s p ≡ head_for w.shape.objects (actions_in A) v.commit (S s) given p
   bases-are given s p small low high same =
       ap (λ g. head_for v.shape.objects (queue_actions v) v.commit (sent_positions v s) g p) same
@@ -58,7 +57,7 @@ module _ (w : World) (A : List Authored) (R : ℕ → Option (List (List ℤ))) 
       (λ k a b. action-is k a (omega arith)) (λ k a. sent-is s k small a)
       ∙ ap (λ (d : Shape). head_for d.objects (actions_in A) v.commit (S s) given p) f.shape
 
-  pub given-are : (s : ℕ) → s < 64 → given_objects v s ≡ filter (λ x. was_given (actions_in A) (S s) (N s x) x v.commit) (below w.shape.objects)
+  pub given-are : (s : ℕ) → s < 1024 → given_objects v s ≡ filter (λ x. was_given (actions_in A) (S s) (N s x) x v.commit) (below w.shape.objects)
   given-are s small =
       ap (λ (d : Shape). filter (λ x. is_pair x s v.given) (below d.objects)) f.shape
       ∙ filter-ext (λ x. is_pair x s v.given) (λ x. was_given (actions_in A) (S s) (N s x) x v.commit) (below w.shape.objects)

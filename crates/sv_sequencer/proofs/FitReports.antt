@@ -5,8 +5,7 @@ use Rattle.sv_world.specs.declared.action.Action.{Action}
 use Rattle.sv_world.specs.declared.world.World.{World}
 use Rattle.sv_world.specs.Sets.{write_set}
 use Rattle.sv_wire.specs.declared.message.Done1.{Done1}
-use Rattle.sv_queue.specs.declared.queued.Queued.{Queued}
-use Rattle.sv_queue.specs.Queue.{QueueView, last_position, entry_at, with_result}
+use Rattle.sv_queue.specs.Queue.{Queued, QueueView, last_position, entry_at, with_result}
 use Rattle.sv_journal.specs.History.{Authored, either, reported}
 use Rattle.sv_journal.proofs.Results.{either_none}
 use Rattle.sv_sequencer.specs.Fits.{actions_in, IsEntry, QueueFits}

@@ -1,23 +1,13 @@
 -- Kept outcomes, by the rows of clients.
 use Rattle.std.proofs.Common.{◌≡◌, ℕ, zero, suc, ◌+◌, ◌<◌, Bool, true, false, ◌&&◌, cond, nat_eq, nat_le, List, [], ◌∷◌, map, length, Option, Some, None, slice_get, refl, sym, ◌∙◌, ap, arith}
 use Rattle.std.proofs.lemmas.Bool.{cond_both, cond-false, eqb-true, ne_eqb, and_right}
-use Rattle.std.proofs.lemmas.List.{length-map}
 use Rattle.sv_world.specs.declared.action.Action.{Action}
 use Rattle.sv_world.specs.declared.world.ObjectId.{ObjectId}
 use Rattle.sv_wire.specs.declared.message.Request.TheVariants as requests
 use Rattle.sv_journal.specs.declared.entry.Entry.{Entry}
 use Rattle.sv_journal.specs.History.{Outcome, is_client, new_action, client_of, outcomes_of, next_seq}
 use Rattle.sv_journal.specs.Sessions.{outcome_at, kept_count, kept_outcome}
-use Rattle.sv_sequencer.specs.declared.clients.ClientRow.{ClientRow}
-use Rattle.sv_sequencer.specs.Agreement.{IsClientRow}
-use Rattle.sv_sequencer.specs.Clients.{kept_among, outcome_value}
 use Rattle.sv_sequencer.specs.Decisions.{IsOld}
-
-pub kept-is : (h : List Entry) (k seq : ℕ) (row : ClientRow) → IsClientRow h k row → kept_among row.outcomes seq ≡ kept_outcome h k seq
-kept-is h k seq row is =
-    ap (λ n. cond (nat_le (suc n) (seq + kept_count)) (outcome_at (map outcome_value row.outcomes) seq) None)
-    (sym (length-map row.outcomes outcome_value) ∙ ap length is.outcomes)
-    ∙ ap (λ os. cond (nat_le (next_seq h k) (seq + kept_count)) (outcome_at os seq) None) is.outcomes
 
 pub get-within : {X : Type 0} (xs : List X) (n : ℕ) (y : X) → slice_get xs n ≡ Some y → n < length xs
 get-within [] n y h = cc

@@ -15,13 +15,16 @@ pub mod FitPush
 pub mod FitRelays
 pub mod FitReports
 pub mod HistorySteps
+pub mod Seating
 pub mod Sent
 pub mod Shared
 pub mod SoundSteps
 pub mod Replies
 pub mod Kept
+pub mod Live
 pub mod Quiet
 pub mod Opening
 pub mod Missing
+pub mod Taking
 pub mod Stepped
 pub mod Rows

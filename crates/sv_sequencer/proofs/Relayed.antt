@@ -1,8 +1,7 @@
 -- What a relay of a queue's position has is within the queue.
 use Rattle.std.proofs.Common.{◌≡◌, ℕ, zero, suc, ◌+◌, ◌<◌, ◌≤◌, ◌-◌, Bool, true, false, ◌&&◌, cond, nat_lt, nat_le, is_none, List, [], ◌∷◌, map, drop, length, get_or, All, Option, option_map, Some, None, slice_get, slice_index_or, refl, sym, ◌∙◌, ap, subst, arith, length-append}
-use Rattle.std.proofs.lemmas.Bool.{and_parts, ltb-true, lt-ltb, leb-true, leb-false}
+use Rattle.std.proofs.lemmas.Bool.{and_parts, ltb-true}
 use Rattle.std.proofs.lemmas.List.{drop_more, length-map, get_or-map as read_mapped}
-use Rattle.std.proofs.lemmas.Option.{slice_get-map}
 use Rattle.std.proofs.Math.ListN.{get_or-map}
 use Rattle.sv_world.specs.declared.world.ObjectId.{ObjectId}
 use Rattle.sv_world.specs.Control.{is_in, below}
@@ -14,14 +13,10 @@ use Rattle.sv_wire.specs.declared.message.ObjectValue.{ObjectValue}
 use Rattle.sv_influence.specs.Lacking.{lacking, base_objects}
 use Rattle.sv_world.specs.declared.action.Action.{Action}
 use Rattle.sv_world.specs.declared.world.ClientId.{ClientId}
-use Rattle.sv_queue.specs.declared.queued.Queued.{Queued}
-use Rattle.sv_queue.specs.Queue.{QueueView, IsUncommitted, last_position, with_action, queue_actions, sent_positions, given_objects}
-use Rattle.sv_journal.specs.History.{Outcome, accepted, result_at, commit_of}
+use Rattle.sv_queue.specs.Queue.{Queued, QueueView, IsUncommitted, last_position, with_action, queue_actions, sent_positions, given_objects}
+use Rattle.sv_journal.specs.History.{accepted, result_at, commit_of}
 use Rattle.sv_journal.specs.declared.entry.Entry.{Entry}
-use Rattle.sv_journal.specs.Sessions.{outcome_at}
 use Rattle.sv_journal.specs.Answer.{orphans, is_abandoned}
-use Rattle.sv_sequencer.specs.declared.clients.Outcome.{Outcome as OutcomeRow}
-use Rattle.sv_sequencer.specs.Clients.{outcome_value}
 use Rattle.sv_sequencer.specs.Relays.{held_in}
 
 pub lacking-within : (v : QueueView) (s p : ℕ) → IsUncommitted v p → All (IsUncommitted v) (lacking v s p)
@@ -41,30 +36,6 @@ bases-low v s p head is i d low =
   where
     all-low : (xs : List ℕ) → ((x : ℕ) → is_in x xs ≡ true → x < v.shape.objects) → All (λ x. x < v.shape.objects) xs
     all-low xs h = all-members (λ x. x < v.shape.objects) xs h
-
--- The outcome at a number from 1 to how many there are, and none elsewhere.
-pub outcome-within : (os : List OutcomeRow) (seq : ℕ) (d : OutcomeRow) → (nat_lt 0 seq && nat_le seq (length os)) ≡ true →
-    ◌≡◌ {A = Option Outcome} (Some (outcome_value (get_or os (seq - 1) d))) (outcome_at (map outcome_value os) seq)
-outcome-within os zero d h = cc
-outcome-within os (suc n) d h =
-    let low : suc n ≤ length os = leb-true (suc n) (length os) (and_parts (nat_lt 0 (suc n)) (nat_le (suc n) (length os)) h).1 in
-    ap (λ (m : ℕ). Some (outcome_value (get_or os m d))) (let e : suc n - 1 ≡ n = omega arith in e) ∙ ap (option_map outcome_value) (there os n (omega arith)) ∙ sym (slice_get-map outcome_value os n)
-  where
-    there : (xs : List OutcomeRow) (m : ℕ) → m < length xs → ◌≡◌ {A = Option OutcomeRow} (Some (get_or xs m d)) (slice_get xs m)
-    there [] m low = absurd (omega arith)
-    there (x ∷ xs) zero low = refl
-    there (x ∷ xs) (suc m) low = there xs m (omega arith)
-
-pub outcome-outside : (os : List OutcomeRow) (seq : ℕ) → (nat_lt 0 seq && nat_le seq (length os)) ≡ false → ◌≡◌ {A = Option Outcome} None (outcome_at (map outcome_value os) seq)
-outcome-outside os zero h = refl
-outcome-outside os (suc n) h =
-    let past : length os < suc n = leb-false (suc n) (length os) (sym (ap (λ b. b && nat_le (suc n) (length os)) (lt-ltb 0 (suc n) (omega arith))) ∙ h) in
-    ap (option_map outcome_value) (beyond os n (omega arith)) ∙ sym (slice_get-map outcome_value os n)
-  where
-    beyond : (xs : List OutcomeRow) (m : ℕ) → length xs ≤ m → ◌≡◌ {A = Option OutcomeRow} None (slice_get xs m)
-    beyond [] m low = refl
-    beyond (x ∷ xs) zero low = absurd (omega arith)
-    beyond (x ∷ xs) (suc m) low = beyond xs m (omega arith)
 
 -- The slots in a mask from one on.
 pub mask-step : (mask k : ℕ) (xs : List ℕ) → k < length xs →

@@ -1,6 +1,7 @@
 -- The replies that a fitting queue gives, against those of the definition.
 use Rattle.std.proofs.Common.{◌≡◌, ℕ, suc, ◌<◌, ◌≤◌, true, List, [], ◌∷◌, ◌++◌, map, filter, length, Option, ℤ, slice_index_or, refl, sym, ◌∙◌, ap, arith, length-append}
 use Rattle.std.proofs.lemmas.List.{map_push}
+use Rattle.sv_world.specs.declared.action.Action.{Action}
 use Rattle.sv_world.specs.declared.world.ClientId.{ClientId}
 use Rattle.sv_world.specs.declared.world.World.{World}
 use Rattle.sv_world.specs.Control.{is_in, below, needed_for, head_for}
@@ -8,6 +9,7 @@ use Rattle.sv_world.proofs.Members.{is_in-head, is_in-tail}
 use Rattle.sv_queue.specs.Queue.{QueueView, last_position, entry_at, given_objects}
 use Rattle.sv_influence.specs.Lacking.{lacking, base_objects}
 use Rattle.sv_journal.specs.declared.entry.Entry.{Entry}
+use Rattle.sv_journal.specs.declared.entry.Logged.{Logged}
 use Rattle.sv_journal.specs.declared.entry.Logged.TheVariants as logged
 use Rattle.sv_journal.specs.History.{Authored, authored_at, item_at, accepted, actions_of, result_at, commit_of, committed_of}
 use Rattle.sv_journal.specs.Sessions.{sent_to, named_to}
@@ -28,48 +30,59 @@ committed-is r h A S N v at f =
 pub held-is : (r : Rules) (h : List Entry) (v : QueueView) (xs : List ℕ) → v.committed ≡ committed_of r.world.values h → held_in v xs ≡ committed_held r h xs
 held-is r h v xs same = ap (λ (values : List (List ℤ)). map (λ x. record { object = record { 0 = x }; value = slice_index_or values x [] }) xs) same
 
--- The relay of a position of the history's own actions.
-pub relay-is : (r : Rules) (h : List Entry) (v : QueueView) (s seq p : ℕ) → s < 64 → v.commit ≡ commit_of h → v.commit < p → p ≤ length (accepted h) →
-    ((t q : ℕ) → is_in q (sent_to h t) ≡ true → q ≤ length (accepted h)) → QueueFits r.world (accepted h) (result_at h) (sent_to h) (named_to h) v →
-    logged.Relay seq v.commit (held_in v (base_objects v s p)) (lacking v s p) ≡ relay_of r h (actions_of h) s seq p
-relay-is r h v s seq p small at low high within f =
-    ap (λ xs. logged.Relay seq v.commit xs (lacking v s p)) (held-is r h v (base_objects v s p) (committed-is r h (accepted h) (sent_to h) (named_to h) v at f))
-    ∙ ap (λ xs. logged.Relay seq v.commit (committed_held r h xs) (lacking v s p))
-    (bases-are r.world (accepted h) (result_at h) (sent_to h) (named_to h) v f within
-    (filter (λ x. was_given (actions_in (accepted h)) (sent_to h s) (named_to h s x) x v.commit) (below r.world.shape.objects)) s p small low high
-    (given-are r.world (accepted h) (result_at h) (sent_to h) (named_to h) v f within s small))
-    ∙ ap (logged.Relay seq v.commit (committed_held r h (head_for r.world.shape.objects (actions_of h) v.commit (sent_to h s)
-    (filter (λ x. was_given (actions_in (accepted h)) (sent_to h s) (named_to h s x) x v.commit) (below r.world.shape.objects)) p)))
-    (lacking-is r.world (accepted h) (result_at h) (sent_to h) (named_to h) v f within s p small low high)
-    ∙ ap (λ c. logged.Relay seq c (committed_held r h (head_for r.world.shape.objects (actions_of h) c (sent_to h s)
-    (filter (λ x. was_given (actions_of h) (sent_to h s) (named_to h s x) x c) (below r.world.shape.objects)) p)) (needed_for (actions_of h) c (sent_to h s) p)) at
+-- The relay of a position of the history's own actions, to the session of a slot.
+pub relay-is : (r : Rules) (h : List Entry) (v : QueueView) (S : ℕ → List ℕ) (N : ℕ → ℕ → List ℕ) (slot s seq p : ℕ) →
+    S slot ≡ sent_to h s → N slot ≡ named_to h s → slot < 1024 → v.commit ≡ commit_of h → v.commit < p → p ≤ length (accepted h) →
+    ((t q : ℕ) → is_in q (S t) ≡ true → q ≤ length (accepted h)) → QueueFits r.world (accepted h) (result_at h) S N v →
+    logged.Relay seq v.commit (held_in v (base_objects v slot p)) (lacking v slot p) ≡ relay_of r h (actions_of h) s seq p
+relay-is r h v S N slot s seq p sent named small at low high within f =
+    ap (λ xs. logged.Relay seq v.commit xs (lacking v slot p)) (held-is r h v (base_objects v slot p) (committed-is r h (accepted h) S N v at f))
+    ∙ ap (λ xs. logged.Relay seq v.commit (committed_held r h xs) (lacking v slot p))
+    (bases-are r.world (accepted h) (result_at h) S N v f within
+    (filter (λ x. was_given (actions_in (accepted h)) (S slot) (N slot x) x v.commit) (below r.world.shape.objects)) slot p small low high
+    (given-are r.world (accepted h) (result_at h) S N v f within slot small))
+    ∙ ap (logged.Relay seq v.commit (committed_held r h (head_for r.world.shape.objects (actions_of h) v.commit (S slot)
+    (filter (λ x. was_given (actions_in (accepted h)) (S slot) (N slot x) x v.commit) (below r.world.shape.objects)) p)))
+    (lacking-is r.world (accepted h) (result_at h) S N v f within slot p small low high)
+    ∙ ap (λ c. told c (S slot) (N slot)) at
+    ∙ ap (λ xs. told (commit_of h) xs (N slot)) sent
+    ∙ ap (told (commit_of h) (sent_to h s)) named
+  where
+    told : ℕ → List ℕ → (ℕ → List ℕ) → Logged
+    told c xs ns = logged.Relay seq c (committed_held r h (head_for r.world.shape.objects (actions_of h) c xs
+        (filter (λ x. was_given (actions_of h) xs (ns x) x c) (below r.world.shape.objects)) p)) (needed_for (actions_of h) c xs p)
 
--- The relay of a new action, which the queue v has and the queue w has beside it.
-pub relay-new : (r : Rules) (h : List Entry) (v w : QueueView) (a : Authored) (s seq : ℕ) → s < 64 → v.commit ≡ commit_of h → w.commit ≡ v.commit →
-    w.committed ≡ v.committed → given_objects w s ≡ given_objects v s →
-    ((t q : ℕ) → is_in q (sent_to h t) ≡ true → q ≤ length (accepted h)) → QueueFits r.world (accepted h) (result_at h) (sent_to h) (named_to h) v →
-    QueueFits r.world (accepted h ++ a ∷ []) (result_at h) (sent_to h) (named_to h) w →
-    logged.Relay seq w.commit (held_in w (base_objects w s (last_position w))) (lacking w s (last_position w))
+-- The relay of a new action, which the queue w has beside those of the queue v.
+pub relay-new : (r : Rules) (h : List Entry) (v w : QueueView) (S : ℕ → List ℕ) (N : ℕ → ℕ → List ℕ) (a : Authored) (slot s seq : ℕ) →
+    S slot ≡ sent_to h s → N slot ≡ named_to h s → slot < 1024 → v.commit ≡ commit_of h → w.commit ≡ v.commit →
+    w.committed ≡ v.committed → given_objects w slot ≡ given_objects v slot →
+    ((t q : ℕ) → is_in q (S t) ≡ true → q ≤ length (accepted h)) → QueueFits r.world (accepted h) (result_at h) S N v →
+    QueueFits r.world (accepted h ++ a ∷ []) (result_at h) S N w →
+    logged.Relay seq w.commit (held_in w (base_objects w slot (last_position w))) (lacking w slot (last_position w))
     ≡ relay_of r h (actions_of h ++ a.action ∷ []) s seq (suc (length (actions_of h)))
-relay-new r h v w a s seq small at same values gave within f g =
-    ap (λ p. logged.Relay seq w.commit (held_in w (base_objects w s p)) (lacking w s p)) place
-    ∙ ap (λ xs. logged.Relay seq w.commit xs (lacking w s m)) (held-is r h w (base_objects w s m) (values ∙ committed-is r h (accepted h) (sent_to h) (named_to h) v at f))
-    ∙ ap (λ xs. logged.Relay seq w.commit (committed_held r h xs) (lacking w s m))
-    (bases-are r.world (accepted h ++ a ∷ []) (result_at h) (sent_to h) (named_to h) w g later
-    (filter (λ x. was_given (actions_in (accepted h)) (sent_to h s) (named_to h s x) x v.commit) (below r.world.shape.objects)) s m small low high
-    (gave ∙ given-are r.world (accepted h) (result_at h) (sent_to h) (named_to h) v f within s small))
-    ∙ ap (logged.Relay seq w.commit (committed_held r h (head_for r.world.shape.objects (actions_in (accepted h ++ a ∷ [])) w.commit (sent_to h s)
-    (filter (λ x. was_given (actions_in (accepted h)) (sent_to h s) (named_to h s x) x v.commit) (below r.world.shape.objects)) m)))
-    (lacking-is r.world (accepted h ++ a ∷ []) (result_at h) (sent_to h) (named_to h) w g later s m small low high)
-    ∙ ap (λ c. logged.Relay seq c (committed_held r h (head_for r.world.shape.objects (actions_in (accepted h ++ a ∷ [])) c (sent_to h s)
-    (filter (λ x. was_given (actions_of h) (sent_to h s) (named_to h s x) x v.commit) (below r.world.shape.objects)) m)) (needed_for (actions_in (accepted h ++ a ∷ [])) c (sent_to h s) m)) (same ∙ at)
-    ∙ ap (λ c. logged.Relay seq (commit_of h) (committed_held r h (head_for r.world.shape.objects (actions_in (accepted h ++ a ∷ [])) (commit_of h) (sent_to h s)
-    (filter (λ x. was_given (actions_of h) (sent_to h s) (named_to h s x) x c) (below r.world.shape.objects)) m)) (needed_for (actions_in (accepted h ++ a ∷ [])) (commit_of h) (sent_to h s) m)) at
+relay-new r h v w S N a slot s seq sent named small at same values gave within f g =
+    ap (λ p. logged.Relay seq w.commit (held_in w (base_objects w slot p)) (lacking w slot p)) place
+    ∙ ap (λ xs. logged.Relay seq w.commit xs (lacking w slot m)) (held-is r h w (base_objects w slot m) (values ∙ committed-is r h (accepted h) S N v at f))
+    ∙ ap (λ xs. logged.Relay seq w.commit (committed_held r h xs) (lacking w slot m))
+    (bases-are r.world (accepted h ++ a ∷ []) (result_at h) S N w g later
+    (filter (λ x. was_given (actions_in (accepted h)) (S slot) (N slot x) x v.commit) (below r.world.shape.objects)) slot m small low high
+    (gave ∙ given-are r.world (accepted h) (result_at h) S N v f within slot small))
+    ∙ ap (logged.Relay seq w.commit (committed_held r h (head_for r.world.shape.objects (actions_in (accepted h ++ a ∷ [])) w.commit (S slot)
+    (filter (λ x. was_given (actions_in (accepted h)) (S slot) (N slot x) x v.commit) (below r.world.shape.objects)) m)))
+    (lacking-is r.world (accepted h ++ a ∷ []) (result_at h) S N w g later slot m small low high)
+    ∙ ap (λ c. told c v.commit (actions_in (accepted h ++ a ∷ [])) (S slot) (N slot)) (same ∙ at)
+    ∙ ap (λ c. told (commit_of h) c (actions_in (accepted h ++ a ∷ [])) (S slot) (N slot)) at
+    ∙ ap (λ xs. told (commit_of h) (commit_of h) (actions_in (accepted h ++ a ∷ [])) xs (N slot)) sent
+    ∙ ap (told (commit_of h) (commit_of h) (actions_in (accepted h ++ a ∷ [])) (sent_to h s)) named
     ∙ ap (λ acts. relay_of r h acts s seq m) (map_push (λ (b : Authored). b.action) (accepted h) a)
     ∙ ap (λ n. relay_of r h (actions_of h ++ a.action ∷ []) s seq (suc n)) (sym (length-actions (accepted h)))
   where
     m : ℕ
     m = suc (length (accepted h))
+
+    told : ℕ → ℕ → List Action → List ℕ → (ℕ → List ℕ) → Logged
+    told c d acts xs ns = logged.Relay seq c (committed_held r h (head_for r.world.shape.objects acts c xs
+        (filter (λ x. was_given (actions_of h) xs (ns x) x d) (below r.world.shape.objects)) m)) (needed_for acts c xs m)
 
     longer : length (accepted h ++ a ∷ []) ≡ suc (length (accepted h))
     longer = (let l = length-append (accepted h) (a ∷ []) in omega arith)
@@ -83,7 +96,7 @@ relay-new r h v w a s seq small at same values gave within f g =
     high : m ≤ length (accepted h ++ a ∷ [])
     high = omega (arith, longer)
 
-    later : (t q : ℕ) → is_in q (sent_to h t) ≡ true → q ≤ length (accepted h ++ a ∷ [])
+    later : (t q : ℕ) → is_in q (S t) ≡ true → q ≤ length (accepted h ++ a ∷ [])
     later t q k = omega (arith, within t q k, longer)
 
 -- The items of a relay.

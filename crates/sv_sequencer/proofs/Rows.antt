@@ -1,5 +1,5 @@
 -- What an entry that welcomes nobody leaves of the rows of other sessions.
-use Rattle.std.proofs.Common.{◌≡◌, ℕ, false, nat_eq, Option, Some, None, refl}
+use Rattle.std.proofs.Common.{◌≡◌, ℕ, false, Option, Some, None, refl}
 use mathlib.Core.Bool.{or-false}
 use Rattle.sv_wire.specs.declared.message.Request.{Request}
 use Rattle.sv_journal.specs.declared.entry.Entry.{Entry}
@@ -15,9 +15,6 @@ welcomes-none : (e : Entry) (c : Option ℕ) → is_welcome e.reply ≡ false �
 welcomes-none e None h = refl
 welcomes-none e (Some k) h = rw h refl
 
-row-stays : (e : Entry) (s : ℕ) (r : SessionRow) → is_welcome e.reply ≡ false → nat_eq e.session s ≡ false → session_after e s r ≡ r
-row-stays e s r h q = rw (q, welcomes-none e r.client h, either_none r.client, or-false r.over) refl
-
-pub other_row_stays : (asker : ℕ) (request : Request) (reply : Logged) (s : ℕ) (r : SessionRow) → is_welcome reply ≡ false → nat_eq asker s ≡ false →
-    session_after (entry_of asker request reply) s r ≡ r
-other_row_stays asker request reply s r h q = row-stays (entry_of asker request reply) s r h q
+pub other_row_stays : (asker : ℕ) (request : Request) (reply : Logged) (r : SessionRow) → is_welcome reply ≡ false →
+    session_after false (entry_of asker request reply) r ≡ r
+other_row_stays asker request reply r h = rw (welcomes-none (entry_of asker request reply) r.client h, either_none r.client, or-false r.over) refl

@@ -12,11 +12,11 @@ use Rattle.sv_wire.specs.contracts.message.Request as request
 use Rattle.sv_wire.specs.contracts.message.Reply as reply
 use Rattle.sv_journal.specs.contracts.entry.Entry as entry
 use Rattle.sv_journal.specs.contracts.entry.Logged as logged
-use Rattle.sv_queue.specs.contracts.queued.Queued as queued
+use Rattle.sv_queue.specs.contracts.waiting.Waiting as queued
 use Rattle.sv_queue.specs.contracts.queue.Queue as queue
 use Rattle.sv_queue.proofs.sources.Sources.TheSendSync as sources
 use Rattle.sv_queue.proofs.writers.Writers.TheSendSync as writers
-use Rattle.sv_queue.proofs.sessions.Sessions.TheSendSync as sessions
+use Rattle.sv_queue.proofs.slots.Slots.TheSendSync as slots
 use Rattle.sv_journal.specs.contracts.journal.Journal as journal
 use Rattle.sv_world.proofs.list.List.TheSendSync as lists
 use Rattle.sv_world.proofs.short.Short.TheSendSync as shorts
@@ -25,7 +25,7 @@ use Rattle.sv_lock.specs.contracts.lock.SeqLock as lock
 use Rattle.sv_lock.specs.contracts.pass.Pass as pass
 use Rattle.sv_lock.proofs.lock.SeqLock.TheSendSync as locks
 use Rattle.sv_lock.proofs.pass.Pass.TheSendSync as passes
-use Rattle.sv_sequencer.specs.contracts.object.Opened as opened
+use Rattle.sv_sequencer.specs.contracts.opened.Opened as opened
 use Rattle.sv_sequencer.specs.contracts.object.SequencerObject.TheImpl.{ghosts}
 use Rattle.sv_sequencer.specs.contracts.sequencer.Sequencer as sequencer
 use Rattle.sv_sequencer.specs.contracts.server_core.Core as cores
@@ -40,7 +40,7 @@ queued-sends : IsSend queued.the_row
 queued-sends = search (action-field-sends, lists.the_send, shorts.the_send, sendable, crosses) depth 30
 
 queue-sends : IsSend queue.the_row
-queue-sends = search (queued-sends, lists.the_send, shorts.the_send, sources.the_send, writers.the_send, sessions.the_send, sendable, crosses) depth 40
+queue-sends = search (queued-sends, lists.the_send, shorts.the_send, sources.the_send, writers.the_send, slots.the_send, sendable, crosses) depth 40
 
 request-field-sends : IsSend (request.the_field).row
 request-field-sends = search (lists.the_send, shorts.the_send, action-field-sends, sendable, crosses) depth 30 fits 10000

@@ -21,6 +21,7 @@ pub logged-back : (A : List Authored) (l : Logged) → logged_of (full_reply A l
 logged-back A (logged.Welcome commit head) = refl
 logged-back A (logged.Relay seq commit head ps) = ap (logged.Relay seq commit head) (positions-back A ps)
 logged-back A (logged.Dropped seq chain far) = refl
+logged-back A (logged.Denied seq object) = refl
 logged-back A (logged.Seen last commit head ps) = ap (logged.Seen last commit head) (positions-back A ps)
 logged-back A (logged.Settled seq pos) = refl
 logged-back A (logged.Noted commit) = refl

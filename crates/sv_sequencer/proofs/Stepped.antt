@@ -1,5 +1,5 @@
 -- One step of a sequencer, put together.
-use Rattle.std.proofs.Common.{◌≡◌, ℕ, ◌<◌, ◌≤◌, false, true≢false, ℤ, List, [], ◌∷◌, map, reverse, All, Option, Result, Ok, Err, IfOk, OnErr, refl, sym, ◌∙◌, ap, subst, arith}
+use Rattle.std.proofs.Common.{◌≡◌, ℕ, ◌<◌, ◌≤◌, false, true≢false, ℤ, List, [], ◌∷◌, map, reverse, All, Option, Some, IsSome, Result, Ok, Err, IfOk, OnErr, refl, sym, ◌∙◌, ap, subst, arith}
 use Rattle.std.proofs.lemmas.List.{reverse-append}
 use Rattle.sv_world.specs.declared.world.World.{World}
 use Rattle.sv_wire.specs.declared.message.ObjectValue.{ObjectValue}
@@ -13,18 +13,19 @@ use Rattle.sv_journal.specs.declared.entry.Logged.TheVariants as logged
 use Rattle.sv_journal.specs.View.{JournalView}
 use Rattle.sv_journal.specs.History.{Authored, item_at, full_reply}
 use Rattle.sv_journal.specs.Sessions.{is_end}
-use Rattle.sv_journal.specs.Answer.{Rules, reply_to_request, reply_to, Legal}
+use Rattle.sv_journal.specs.Answer.{Rules, MayBeSession, reply_to_request, reply_to, Legal}
 use Rattle.sv_influence.proofs.Places.{members-all}
 use Rattle.sv_queue.specs.Queue.{QueueView, IsUncommitted}
 use Rattle.sv_sequencer.specs.declared.decision.Decision.{Decision}
 use Rattle.sv_sequencer.specs.declared.sequencer.Sequencer.TheInside.{Inside}
 use Rattle.sv_sequencer.specs.declared.server_core.Core.{Core}
-use Rattle.sv_sequencer.specs.Cores.{core_rules, owed_by, Keeps, decided_entry}
+use Rattle.sv_sequencer.specs.Cores.{core_rules, owed_by, session_at, Keeps, SitByNumber, decided_entry}
 use Rattle.sv_sequencer.specs.Decisions.{reply_by}
 use Rattle.sv_sequencer.specs.Entering.{HasRoomForEnds, TookEntry, EnteredReply, NothingEntered}
 use Rattle.sv_sequencer.specs.Fits.{QueueFits}
-use Rattle.sv_sequencer.specs.Invariant.{IsSequencer}
+use Rattle.sv_sequencer.specs.Invariant.{model_of, IsSequencer}
 use Rattle.sv_sequencer.specs.Relays.{item_in}
+use Rattle.sv_sequencer.specs.Step.{SequencerView}
 use Rattle.sv_sequencer.proofs.Replies.{items-are}
 
 -- A request that is no End is answered by the table.
@@ -38,11 +39,23 @@ reply-open r h s requests.Leave more = refl
 reply-open r h s requests.Bad more = refl
 reply-open r h s requests.End more = absurd (true≢false more)
 
+-- Sessions sit at the slots of their numbers while the rules and the seats stay.
+pub still-seated : (old new' : Core) → core_rules new' ≡ core_rules old → ((slot : ℕ) → session_at new' slot ≡ session_at old slot) → SitByNumber old → SitByNumber new'
+still-seated old new' rules seats is = record {
+  count = subst (λ (r : Rules). IsSome r.sessions) (sym rules) is.count;
+  seats = λ s may. seats s ∙ is.seats s (subst (λ (r : Rules). MayBeSession r.sessions s) rules may);
+}
+
+-- A session that there may be sits at the slot of its number.
+pub sits-by-view : (a : Inside) (v : SequencerView) (s : ℕ) → model_of a ≡ v → IsSequencer a → MayBeSession v.rules.sessions s → session_at a.core s ≡ Some s
+sits-by-view a v s same is may = is.seats.seats s (subst (λ (w : SequencerView). MayBeSession w.rules.sessions s) (sym same) may)
+
 -- A sequencer's fields as it is opened.
-pub as-opened : (core : Core) (j : JournalView) → j.entries ≡ [] → Keeps core [] → HasRoomForEnds core j → IsSequencer (record { core = core; journal = j })
-as-opened core j none stands room = record {
+pub as-opened : (core : Core) (j : JournalView) → j.entries ≡ [] → Keeps core [] → SitByNumber core → HasRoomForEnds core j → IsSequencer (record { core = core; journal = j })
+as-opened core j none stands seats room = record {
   legal = subst (λ (es : List Entry). Legal (core_rules core) (reverse es)) (sym none) tt;
   keeps = subst (λ (es : List Entry). Keeps core (reverse es)) (sym none) stands;
+  seats = seats;
   room = room;
 }
 
@@ -52,6 +65,7 @@ pub after-entry : (a : Inside) (core : Core) (j : JournalView) (e : Entry) → I
 after-entry a core j e is done told = record {
   legal = subst (λ (r : Rules). Legal r (reverse j.entries)) (sym done.rules) (subst (Legal (core_rules a.core)) (sym past) (told, is.legal));
   keeps = subst (Keeps core) (sym past) done.keeps;
+  seats = still-seated a.core core done.rules done.seats is.seats;
   room = done.room;
 }
   where
@@ -67,6 +81,7 @@ after-reply a core j s q d (Ok reply) is told done none = after-entry a core j (
 after-reply a core j s q d (Err error) is told done none = record {
   legal = subst (λ (r : Rules). Legal r (reverse j.entries)) (sym none.core.rules) (subst (λ (es : List Entry). Legal (core_rules a.core) (reverse es)) (sym none.entries) is.legal);
   keeps = subst (λ (es : List Entry). Keeps core (reverse es)) (sym none.entries) none.core.keeps;
+  seats = still-seated a.core core none.core.rules none.core.seats is.seats;
   room = (let enough : owed_by a.core ≤ a.journal.spare = is.room in omega (arith, none.core.owed, none.room));
 }
 

@@ -5,7 +5,7 @@ use Rattle.sv_world.specs.declared.action.Action.{Action}
 use Rattle.sv_world.specs.declared.world.ObjectId.{ObjectId}
 use Rattle.sv_world.specs.Control.{blank, greatest_cut}
 use Rattle.sv_world.specs.Faults.{first_fault_of_action, may_be_observed}
-use Rattle.sv_world.specs.Limits.{most_requests}
+use Rattle.sv_world.specs.Limits.{most_positions}
 use Rattle.sv_world.specs.Sets.{numbers_of}
 use Rattle.sv_wire.specs.declared.message.Done1.{Done1}
 use Rattle.sv_wire.specs.declared.message.ObjectValue.{ObjectValue}
@@ -15,7 +15,7 @@ use Rattle.sv_journal.specs.declared.entry.Entry.{Entry}
 use Rattle.sv_journal.specs.declared.entry.Logged.{Logged}
 use Rattle.sv_journal.specs.declared.entry.Logged.TheVariants as logged
 use Rattle.sv_journal.specs.History.{joining, is_welcome, is_relay, is_noted, client_of, is_client, is_submit_of, new_action, outcomes_of, accepted, actions_of, next_seq, commit_of}
-use Rattle.sv_journal.specs.Sessions.{names, positions_in, named_in, asked_in, life_in, life_of, sent_to}
+use Rattle.sv_journal.specs.Sessions.{names, positions_in, named_in, life_in, life_of, sent_to}
 use Rattle.sv_journal.specs.Answer.{Rules, refused_as, committed_held, relay_of, seen_at, commit_with, is_bad_result}
 use Rattle.sv_sequencer.specs.declared.decision.Decision.{Decision}
 use Rattle.sv_sequencer.specs.declared.decision.Decision.TheVariants as decisions
@@ -42,6 +42,8 @@ reply_by r h s request (decisions.Refuse refusal detail) = refused_as refusal de
 reply_by r h s request (decisions.Welcome client life) = logged.Welcome (commit_of h) (committed_held r h (interest_in request))
 reply_by r h s request (decisions.Drop client seq chain far) = logged.Dropped seq chain far
 reply_by r h s request (decisions.Repeat seq chain far) = logged.Dropped seq chain far
+reply_by r h s request (decisions.Deny client seq object) = logged.Denied seq object
+reply_by r h s request (decisions.RepeatDenied seq object) = logged.Denied seq object
 reply_by r h s request (decisions.Settle seq pos) = logged.Settled seq pos
 reply_by r h s request (decisions.Relay seq pos) = relay_of r h (actions_of h) s seq pos
 reply_by r h s request (decisions.Accept client seq) = relay_of r h (actions_of h ++ action_in request ∷ []) s seq (suc (length (actions_of h)))
@@ -55,6 +57,7 @@ reply_by r h s request decisions.Leave = logged.Bye
 abbrev pub changes_nothing : Decision → Bool
 changes_nothing (decisions.Refuse refusal detail) = true
 changes_nothing (decisions.Repeat seq chain far) = true
+changes_nothing (decisions.RepeatDenied seq object) = true
 changes_nothing (decisions.Settle seq pos) = true
 changes_nothing decisions.Idle = true
 changes_nothing decisions.Leave = true
@@ -65,12 +68,12 @@ pub record IsOld (h : List Entry) (s : ℕ) (request : Request) : Type 0 where
   pub accepts : new_action (client_of h s) (next_seq h) request ≡ []
   pub outcomes : (k : ℕ) → (is_client (client_of h s) k && is_submit_of request (next_seq h k)) ≡ false
 
--- The request is a client's next Submit, in a session that may ask more.
+-- The request is a client's next Submit.
 pub record IsNextSubmit (h : List Entry) (s : ℕ) (request : Request) (k seq : ℕ) : Type 0 where
   pub client : client_of h s ≡ Some k
   pub submit : request ≡ requests.Submit seq (action_in request)
   pub next : seq ≡ next_seq h k
-  pub early : asked_in h s < most_requests
+  pub few : seq ≤ most_positions
 
 -- The request is a Join with a life above the client's earlier ones, and an interest of objects of the world.
 pub record IsJoin (r : Rules) (h : List Entry) (request : Request) (k life : ℕ) : Type 0 where
@@ -85,9 +88,12 @@ Holds r h s request (decisions.Refuse refusal detail) = Unit {0}
 Holds r h s request (decisions.Welcome client life) = IsJoin r h request client life
 Holds r h s request (decisions.Drop client seq chain far) = IsNextSubmit h s request client seq
 Holds r h s request (decisions.Repeat seq chain far) = IsOld h s request
+Holds r h s request (decisions.Deny client seq object) = IsNextSubmit h s request client seq
+Holds r h s request (decisions.RepeatDenied seq object) = IsOld h s request
 Holds r h s request (decisions.Settle seq pos) = Unit {0}
 Holds r h s request (decisions.Relay seq pos) = IsOld h s request × ((commit_of h < pos) × (pos ≤ length (accepted h)))
-Holds r h s request (decisions.Accept client seq) = IsNextSubmit h s request client seq × (first_fault_of_action r.world.shape (action_in request) ≡ None)
+Holds r h s request (decisions.Accept client seq) = IsNextSubmit h s request client seq
+    × ((first_fault_of_action r.world.shape (action_in request) ≡ None) × (length (accepted h) < r.positions))
 Holds r h s request decisions.See = IsOld h s request × (may_be_observed r.world.shape.objects (observed_in request) ≡ true)
 Holds r h s request decisions.Note = (request ≡ requests.Done (results_in request)) × (list_any (is_bad_result r h s) (results_in request) ≡ false)
 Holds r h s request decisions.Idle = Unit {0}

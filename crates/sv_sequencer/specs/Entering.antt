@@ -9,7 +9,7 @@ use Rattle.sv_journal.specs.History.{accepted, full_reply}
 use Rattle.sv_journal.specs.View.{JournalView}
 use Rattle.sv_sequencer.specs.declared.decision.Decision.{Decision}
 use Rattle.sv_sequencer.specs.declared.server_core.Core.{Core}
-use Rattle.sv_sequencer.specs.Cores.{core_rules, owed_by, Keeps, Remained, decided_entry}
+use Rattle.sv_sequencer.specs.Cores.{core_rules, session_at, owed_by, Keeps, Remained, decided_entry}
 use Rattle.sv_sequencer.specs.Decisions.{reply_by}
 use Rattle.sv_sequencer.specs.Step.{entry_of}
 
@@ -20,6 +20,7 @@ HasRoomForEnds core journal = owed_by core ≤ journal.spare
 -- The core stands where a history leads once it has the entry `taken`, and the journal grew by just the entry `asked`.
 pub record TookEntry (old new : Core) (before after : JournalView) (h : List Entry) (taken asked : Entry) : Type 0 where
   pub rules : core_rules new ≡ core_rules old
+  pub seats : (slot : ℕ) → session_at new slot ≡ session_at old slot
   pub keeps : Keeps new (taken ∷ h)
   pub entries : after.entries ≡ before.entries ++ asked ∷ []
   pub room : HasRoomForEnds new after

@@ -1,17 +1,16 @@
 -- A queue against what was accepted, reported and sent.
--- `A` are the accepted actions with their authors, `R` the results of positions, `S` the positions that were sent to each session, and `N` the
--- commits of the replies to a session whose heads name an object.
+-- `A` are the accepted actions with their authors, `R` the results of positions, `S` the positions that were sent to the session of each slot,
+-- and `N` the commits of the replies to it whose heads name an object.
 use Rattle.std.specs.Prelude.{◌≡◌, ℕ, zero, suc, ◌<◌, ◌≤◌, Bool, ◌&&◌, nat_le, ℤ, List, [], ◌++◌, map, filter, length, Option, unwrap_or}
 use Rattle.std.specs.List.{list_any}
 use Rattle.sv_world.specs.declared.action.Action.{Action}
 use Rattle.sv_world.specs.declared.world.World.{World}
 use Rattle.sv_world.specs.Control.{is_in, action_at, last_writer}
-use Rattle.sv_world.specs.Limits.{most_sessions}
+use Rattle.sv_world.specs.Limits.{most_open}
 use Rattle.sv_world.specs.Sets.{write_set}
 use Rattle.sv_eval.specs.Serial.{put_all}
-use Rattle.sv_queue.specs.declared.queued.Queued.{Queued}
 use Rattle.sv_queue.specs.Pairs.{is_pair}
-use Rattle.sv_queue.specs.Queue.{QueueView, last_position, entry_at}
+use Rattle.sv_queue.specs.Queue.{Queued, QueueView, last_position, entry_at}
 use Rattle.sv_journal.specs.History.{Authored, authored_at}
 
 abbrev pub actions_in : List Authored → List Action
@@ -33,11 +32,11 @@ pub record IsEntry (A : List Authored) (R : ℕ → Option (List (List ℤ))) (S
   pub seq : q.seq ≡ (authored_at A p).seq
   pub action : q.action ≡ (authored_at A p).action
   pub result : q.result ≡ R p
-  pub marks : (s : ℕ) → s < most_sessions → is_in s q.marks ≡ is_in p (S s)
+  pub marks : (s : ℕ) → s < most_open → is_in s q.marks ≡ is_in p (S s)
 
 pub record QueueFits (w : World) (A : List Authored) (R : ℕ → Option (List (List ℤ))) (S : ℕ → List ℕ) (N : ℕ → ℕ → List ℕ) (v : QueueView) : Type 0 where
   pub shape : v.shape ≡ w.shape
   pub last : last_position v ≡ length A
   pub committed : v.committed ≡ values_after w.values (actions_in A) R v.commit
   pub entries : (p : ℕ) → v.commit < p → p ≤ length A → IsEntry A R S p (entry_at v p)
-  pub given : (x s : ℕ) → x < w.shape.objects → s < most_sessions → is_pair x s v.given ≡ was_given (actions_in A) (S s) (N s x) x v.commit
+  pub given : (x s : ℕ) → x < w.shape.objects → s < most_open → is_pair x s v.given ≡ was_given (actions_in A) (S s) (N s x) x v.commit

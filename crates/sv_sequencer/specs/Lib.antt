@@ -1,6 +1,5 @@
 -- The definitions of this crate, file by file.
 pub mod Agreement
-pub mod Clients
 pub mod Cores
 pub mod Decisions
 pub mod Entering

@@ -1,58 +1,57 @@
 //! What is done on a request: the rows of the rules in order.
-ghost use Rattle.std.specs.Prelude.{◌≡◌, ℕ, List, ◌<◌, ◌≤◌, Some, None, [], ◌∷◌, map, length};
+ghost use Rattle.std.specs.Prelude.{◌≡◌, List, ◌<◌, ◌≤◌, false, Some, None, map, length};
 ghost use Rattle.sv_world.specs.declared.world.ObjectId.{ObjectId};
 ghost use Rattle.sv_world.specs.Faults.{first_fault_of_action, IsGoodAction};
 ghost use Rattle.sv_world.specs.Sets.{numbers_of};
-ghost use Rattle.sv_world.specs.Limits.{most_requests};
 ghost use Rattle.sv_wire.specs.declared.message.Request.TheVariants as requests;
 ghost use Rattle.sv_journal.specs.declared.entry.Entry.{Entry};
 ghost use Rattle.sv_journal.specs.History.{Accepted, accepted, client_of, next_seq};
-ghost use Rattle.sv_journal.specs.Sessions.{asked_in, is_live, kept_outcome};
-ghost use Rattle.sv_journal.specs.Answer.{reply_to_request, reply_to_open, reply_to_join, reply_to_member, reply_to_submit, reply_to_new, reply_to_good, reply_to_done, reply_to_poll, reply_to_observe, orphans, is_good_interest, is_over_reach};
+ghost use Rattle.sv_journal.specs.Sessions.{is_live, kept_outcome};
+ghost use Rattle.sv_journal.specs.Answer.{reply_to_request, reply_to_open, reply_to_join, reply_to_member, reply_to_submit, reply_to_new, reply_to_good, reply_to_allowed, is_full, reply_to_done, reply_to_poll, reply_to_observe, orphans, is_good_interest};
 ghost use Rattle.sv_sequencer.specs.Decisions.{reply_by, Holds};
-ghost use Rattle.sv_sequencer.specs.Cores.{core_rules, Keeps};
+ghost use Rattle.sv_sequencer.specs.Cores.{core_rules, SitsAt, Keeps};
 
-use crate::clients::Outcome;
 use crate::decision::{ActionId, Decision};
+use crate::seats::Seat;
 use crate::server_core::Core;
+use sv_clients::Outcome;
 use sv_wire::{Done1, Refusal, Request};
 use sv_world::{
-    Action, ClientId, List, MOST_CLIENTS, MOST_INTEREST, ObjectId, are_below, check_action,
-    is_ascending, may_be_observed,
+    Action, ClientId, List, MOST_INTEREST, ObjectId, are_below, check_action, is_ascending,
+    may_be_observed,
 };
 
 impl Core {
-    /// What is done on a request in a session, where `h` is a history that the core keeps.
-    pub fn decide(&self, session: u16, request: &Request) -> Decision
+    /// What is done on a request of a session, where `h` is a history that the core keeps.
+    pub fn decide(&self, seat: Seat, request: &Request) -> Decision
         ghost h: { List Entry }
         requires keeps { Keeps self.now h }
-        requires session { session < (core_rules self.now).sessions }
-        ensures reply { reply_by (core_rules self.now) h session request.now result ≡ reply_to_request (core_rules self.now) h session request.now }
-        ensures holds { Holds (core_rules self.now) h session request.now result }
+        requires seat { SitsAt self.now seat }
+        ensures reply { reply_by (core_rules self.now) h seat.session request.now result ≡ reply_to_request (core_rules self.now) h seat.session request.now }
+        ensures holds { Holds (core_rules self.now) h seat.session request.now result }
     {
-        if self.is_over(session) {
+        if self.is_over(seat) {
             return Decision::Refuse {
                 refusal: Refusal::Over,
                 detail: 0,
             };
         }
-        if !self.has_more(session) {
+        if !self.has_more(seat) {
             return Decision::Refuse {
                 refusal: Refusal::TooManyRequests,
                 detail: 0,
             };
         }
-        self.decide_open(session, request)
+        self.decide_open(seat, request)
     }
 
     /// In a session that is not over and not spent.
-    fn decide_open(&self, session: u16, request: &Request) -> Decision
+    fn decide_open(&self, seat: Seat, request: &Request) -> Decision
         ghost h: { List Entry }
         requires keeps { Keeps self.now h }
-        requires session { session < (core_rules self.now).sessions }
-        requires early { asked_in h session < most_requests }
-        ensures reply { reply_by (core_rules self.now) h session request.now result ≡ reply_to_open (core_rules self.now) h session request.now }
-        ensures holds { Holds (core_rules self.now) h session request.now result }
+        requires seat { SitsAt self.now seat }
+        ensures reply { reply_by (core_rules self.now) h seat.session request.now result ≡ reply_to_open (core_rules self.now) h seat.session request.now }
+        ensures holds { Holds (core_rules self.now) h seat.session request.now result }
     {
         match request {
             Request::Bad => Decision::Refuse {
@@ -63,38 +62,38 @@ impl Core {
                 client,
                 life,
                 interest,
-            } => self.decide_join(session, *client, *life, interest),
-            _ => self.decide_member(session, request),
+            } => self.decide_join(seat, *client, *life, interest),
+            _ => self.decide_member(seat, request),
         }
     }
 
     fn decide_join(
         &self,
-        session: u16,
+        seat: Seat,
         client: ClientId,
         life: u32,
         interest: &List<ObjectId>,
     ) -> Decision
         ghost h: { List Entry }
         requires keeps { Keeps self.now h }
-        requires session { session < (core_rules self.now).sessions }
-        ensures reply { reply_by (core_rules self.now) h session (requests.Join client life interest.now) result ≡ reply_to_join (core_rules self.now) h session client.0 life (map (λ (o : ObjectId). o.0) interest.now) }
-        ensures holds { Holds (core_rules self.now) h session (requests.Join client life interest.now) result }
+        requires seat { SitsAt self.now seat }
+        ensures reply { reply_by (core_rules self.now) h seat.session (requests.Join client life interest.now) result ≡ reply_to_join (core_rules self.now) h seat.session client.0 life (map (λ (o : ObjectId). o.0) interest.now) }
+        ensures holds { Holds (core_rules self.now) h seat.session (requests.Join client life interest.now) result }
     {
-        if self.is_live(session) {
+        if self.is_live(seat) {
             return Decision::Refuse {
                 refusal: Refusal::AlreadyJoined,
                 detail: 0,
             };
         }
-        if client.0 >= MOST_CLIENTS {
+        if !self.opened.has_client(client) {
             return Decision::Refuse {
                 refusal: Refusal::NoSuchClient,
                 detail: 0,
             };
         }
         let greatest = self.life_of(client.0);
-        if life <= greatest {
+        if self.opened.is_no_next_life(greatest, life) {
             return Decision::Refuse {
                 refusal: Refusal::OldLife,
                 detail: greatest,
@@ -114,68 +113,67 @@ impl Core {
         }
     }
 
-    fn is_live(&self, session: u16) -> bool
+    fn is_live(&self, seat: Seat) -> bool
         ghost h: { List Entry }
         requires keeps { Keeps self.now h }
-        requires session { session < (core_rules self.now).sessions }
-        ensures { result ≡ is_live h session }
+        requires seat { SitsAt self.now seat }
+        ensures { result ≡ is_live h seat.session }
     {
-        let client = self.client_of(session);
-        client.is_some() && !self.is_over(session)
+        let client = self.client_of(seat);
+        client.is_some() && !self.is_over(seat)
     }
 
     /// In a session that only a Join may begin.
-    fn decide_member(&self, session: u16, request: &Request) -> Decision
+    fn decide_member(&self, seat: Seat, request: &Request) -> Decision
         ghost h: { List Entry }
         requires keeps { Keeps self.now h }
-        requires session { session < (core_rules self.now).sessions }
-        requires early { asked_in h session < most_requests }
-        ensures reply { reply_by (core_rules self.now) h session request.now result ≡ reply_to_member (core_rules self.now) h session (client_of h session) request.now }
-        ensures holds { Holds (core_rules self.now) h session request.now result }
+        requires seat { SitsAt self.now seat }
+        ensures reply { reply_by (core_rules self.now) h seat.session request.now result ≡ reply_to_member (core_rules self.now) h seat.session (client_of h seat.session) request.now }
+        ensures holds { Holds (core_rules self.now) h seat.session request.now result }
     {
-        let Some(client) = self.client_of(session) else {
+        let Some(client) = self.client_of(seat) else {
             return Decision::Refuse {
                 refusal: Refusal::NotJoined,
                 detail: 0,
             };
         };
         match request {
-            Request::Submit { seq, action } => self.decide_submit(session, client, *seq, action),
-            Request::Done { results } => self.decide_done(session, results),
-            Request::Poll => self.decide_poll(session, client),
-            Request::Observe { objects, wait } => self.decide_observe(session, objects, *wait),
+            Request::Submit { seq, action } => self.decide_submit(seat, client, *seq, action),
+            Request::Done { results } => self.decide_done(seat, results),
+            Request::Poll => self.decide_poll(seat, client),
+            Request::Observe { objects, wait } => self.decide_observe(seat, objects, *wait),
             _ => Decision::Leave,
         }
     }
 
     /// A repeated action is answered by what came of it.
-    fn decide_submit(&self, session: u16, client: u16, seq: u32, action: &Action) -> Decision
+    fn decide_submit(&self, seat: Seat, client: u16, seq: u32, action: &Action) -> Decision
         ghost h: { List Entry }
         requires keeps { Keeps self.now h }
-        requires session { session < (core_rules self.now).sessions }
-        requires early { asked_in h session < most_requests }
-        requires client { client_of h session ≡ Some client }
-        ensures reply { reply_by (core_rules self.now) h session (requests.Submit seq action.now) result ≡ reply_to_submit (core_rules self.now) h session client seq action.now (kept_outcome h client seq) }
-        ensures holds { Holds (core_rules self.now) h session (requests.Submit seq action.now) result }
+        requires seat { SitsAt self.now seat }
+        requires client { client_of h seat.session ≡ Some client }
+        ensures reply { reply_by (core_rules self.now) h seat.session (requests.Submit seq action.now) result ≡ reply_to_submit (core_rules self.now) h seat.session client seq action.now (kept_outcome h client seq) }
+        ensures holds { Holds (core_rules self.now) h seat.session (requests.Submit seq action.now) result }
     {
         match self.kept_outcome(client, seq) {
             Some(Outcome::Dropped { chain, far }) => Decision::Repeat { seq, chain, far },
+            Some(Outcome::Denied { object }) => Decision::RepeatDenied { seq, object },
             Some(Outcome::Accepted { pos }) => {
-                self.decide_accepted(session, ActionId { client, seq }, pos, action)
+                self.decide_accepted(seat, ActionId { client, seq }, pos, action)
             }
-            None => self.decide_new(session, client, seq, action),
+            None => self.decide_new(seat, client, seq, action),
         }
     }
 
     /// A repeated action that was accepted at a position.
-    fn decide_accepted(&self, session: u16, id: ActionId, pos: u32, action: &Action) -> Decision
+    fn decide_accepted(&self, seat: Seat, id: ActionId, pos: u32, action: &Action) -> Decision
         ghost h: { List Entry }
         requires keeps { Keeps self.now h }
-        requires client { client_of h session ≡ Some id.client }
+        requires client { client_of h seat.session ≡ Some id.client }
         requires earlier { id.seq < next_seq h id.client }
         requires placed { pos ≤ length (accepted h) }
-        ensures reply { reply_by (core_rules self.now) h session (requests.Submit id.seq action.now) result ≡ reply_to_submit (core_rules self.now) h session id.client id.seq action.now (Some (Accepted pos)) }
-        ensures holds { Holds (core_rules self.now) h session (requests.Submit id.seq action.now) result }
+        ensures reply { reply_by (core_rules self.now) h seat.session (requests.Submit id.seq action.now) result ≡ reply_to_submit (core_rules self.now) h seat.session id.client id.seq action.now (Some (Accepted pos)) }
+        ensures holds { Holds (core_rules self.now) h seat.session (requests.Submit id.seq action.now) result }
     {
         let seq = id.seq;
         if self.is_committed(pos) {
@@ -185,13 +183,12 @@ impl Core {
         }
     }
 
-    fn decide_new(&self, session: u16, client: u16, seq: u32, action: &Action) -> Decision
+    fn decide_new(&self, seat: Seat, client: u16, seq: u32, action: &Action) -> Decision
         ghost h: { List Entry }
         requires keeps { Keeps self.now h }
-        requires early { asked_in h session < most_requests }
-        requires client { client_of h session ≡ Some client }
-        ensures reply { reply_by (core_rules self.now) h session (requests.Submit seq action.now) result ≡ reply_to_new (core_rules self.now) h session client seq action.now }
-        ensures holds { Holds (core_rules self.now) h session (requests.Submit seq action.now) result }
+        requires client { client_of h seat.session ≡ Some client }
+        ensures reply { reply_by (core_rules self.now) h seat.session (requests.Submit seq action.now) result ≡ reply_to_new (core_rules self.now) h seat.session client seq action.now }
+        ensures holds { Holds (core_rules self.now) h seat.session (requests.Submit seq action.now) result }
     {
         let next = self.next_seq(client);
         if seq != next {
@@ -205,23 +202,51 @@ impl Core {
                 refusal: Refusal::BadAction,
                 detail: u32::from(cause.code()),
             },
-            Ok(()) => self.decide_good(session, client, seq, action),
+            Ok(()) => self.decide_good(seat, client, seq, action),
         }
     }
 
-    fn decide_good(&self, session: u16, client: u16, seq: u32, action: &Action) -> Decision
+    /// An action that the check passes.
+    fn decide_good(&self, seat: Seat, client: u16, seq: u32, action: &Action) -> Decision
         ghost h: { List Entry }
         requires keeps { Keeps self.now h }
-        requires early { asked_in h session < most_requests }
-        requires client { client_of h session ≡ Some client }
+        requires client { client_of h seat.session ≡ Some client }
         requires next { seq ≡ next_seq h client }
         requires good { IsGoodAction (core_rules self.now).world.shape action.now }
         requires fault { first_fault_of_action (core_rules self.now).world.shape action.now ≡ None }
-        ensures reply { reply_by (core_rules self.now) h session (requests.Submit seq action.now) result ≡ reply_to_good (core_rules self.now) h session seq action.now }
-        ensures holds { Holds (core_rules self.now) h session (requests.Submit seq action.now) result }
+        ensures reply { reply_by (core_rules self.now) h seat.session (requests.Submit seq action.now) result ≡ reply_to_good (core_rules self.now) h seat.session client seq action.now }
+        ensures holds { Holds (core_rules self.now) h seat.session (requests.Submit seq action.now) result }
+    {
+        if self.is_full(seq) {
+            return Decision::Refuse {
+                refusal: Refusal::Full,
+                detail: 0,
+            };
+        }
+        match self.opened.forbidden(client, action) {
+            Some(object) => Decision::Deny {
+                client,
+                seq,
+                object,
+            },
+            None => self.decide_allowed(seat, client, seq, action),
+        }
+    }
+
+    /// An action that its client may make.
+    fn decide_allowed(&self, seat: Seat, client: u16, seq: u32, action: &Action) -> Decision
+        ghost h: { List Entry }
+        requires keeps { Keeps self.now h }
+        requires client { client_of h seat.session ≡ Some client }
+        requires next { seq ≡ next_seq h client }
+        requires room { is_full (core_rules self.now) h seq ≡ false }
+        requires good { IsGoodAction (core_rules self.now).world.shape action.now }
+        requires fault { first_fault_of_action (core_rules self.now).world.shape action.now ≡ None }
+        ensures reply { reply_by (core_rules self.now) h seat.session (requests.Submit seq action.now) result ≡ reply_to_allowed (core_rules self.now) h seat.session seq action.now }
+        ensures holds { Holds (core_rules self.now) h seat.session (requests.Submit seq action.now) result }
     {
         let found = self.chain_of(action);
-        if found.count > self.bound() || self.is_over_reach(found.far) {
+        if self.opened.is_dropped(found.count, found.far) {
             Decision::Drop {
                 client,
                 seq,
@@ -233,14 +258,14 @@ impl Core {
         }
     }
 
-    fn decide_done(&self, session: u16, results: &List<Done1>) -> Decision
+    fn decide_done(&self, seat: Seat, results: &List<Done1>) -> Decision
         ghost h: { List Entry }
         requires keeps { Keeps self.now h }
-        requires session { session < (core_rules self.now).sessions }
-        ensures reply { reply_by (core_rules self.now) h session (requests.Done results.now) result ≡ reply_to_done (core_rules self.now) h session results.now }
-        ensures holds { Holds (core_rules self.now) h session (requests.Done results.now) result }
+        requires seat { SitsAt self.now seat }
+        ensures reply { reply_by (core_rules self.now) h seat.session (requests.Done results.now) result ≡ reply_to_done (core_rules self.now) h seat.session results.now }
+        ensures holds { Holds (core_rules self.now) h seat.session (requests.Done results.now) result }
     {
-        if self.is_bad_done(session, results.as_slice()) {
+        if self.is_bad_done(seat, results.as_slice()) {
             Decision::Refuse {
                 refusal: Refusal::BadResults,
                 detail: 0,
@@ -250,12 +275,12 @@ impl Core {
         }
     }
 
-    fn decide_poll(&self, session: u16, client: u16) -> Decision
+    fn decide_poll(&self, seat: Seat, client: u16) -> Decision
         ghost h: { List Entry }
         requires keeps { Keeps self.now h }
-        requires client { client_of h session ≡ Some client }
-        ensures reply { reply_by (core_rules self.now) h session requests.Poll result ≡ reply_to_poll (core_rules self.now) h session (orphans h) }
-        ensures holds { Holds (core_rules self.now) h session requests.Poll result }
+        requires client { client_of h seat.session ≡ Some client }
+        ensures reply { reply_by (core_rules self.now) h seat.session requests.Poll result ≡ reply_to_poll (core_rules self.now) h seat.session (orphans h) }
+        ensures holds { Holds (core_rules self.now) h seat.session requests.Poll result }
     {
         match self.orphan() {
             Some(pos) => Decision::Relay { seq: 0, pos },
@@ -263,11 +288,12 @@ impl Core {
         }
     }
 
-    fn decide_observe(&self, session: u16, objects: &List<ObjectId>, wait: u16) -> Decision
+    fn decide_observe(&self, seat: Seat, objects: &List<ObjectId>, wait: u16) -> Decision
         ghost h: { List Entry }
-        requires { Keeps self.now h }
-        ensures reply { reply_by (core_rules self.now) h session (requests.Observe objects.now wait) result ≡ reply_to_observe (core_rules self.now) h session (numbers_of objects.now) }
-        ensures holds { Holds (core_rules self.now) h session (requests.Observe objects.now wait) result }
+        requires keeps { Keeps self.now h }
+        requires seat { SitsAt self.now seat }
+        ensures reply { reply_by (core_rules self.now) h seat.session (requests.Observe objects.now wait) result ≡ reply_to_observe (core_rules self.now) h seat.session (numbers_of objects.now) }
+        ensures holds { Holds (core_rules self.now) h seat.session (requests.Observe objects.now wait) result }
     {
         let shape = self.shape();
         if may_be_observed(shape.objects, objects.as_slice()) {

@@ -1,5 +1,6 @@
 //! What a core decides on a request.
 use sv_wire::Refusal;
+use sv_world::ObjectId;
 
 /// An action by its client, and the client's number for it.
 #[derive(Clone, Copy, Drop)]
@@ -32,6 +33,17 @@ pub enum Decision {
         seq: u32,
         chain: u32,
         far: u32,
+    },
+    /// A new action is denied: its client may not write the object.
+    Deny {
+        client: u16,
+        seq: u32,
+        object: ObjectId,
+    },
+    /// An action was denied before.
+    RepeatDenied {
+        seq: u32,
+        object: ObjectId,
     },
     Settle {
         seq: u32,

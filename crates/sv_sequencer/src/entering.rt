@@ -1,23 +1,26 @@
 //! A core and a journal that has room for the Ends to come: what the core does goes into the journal.
-ghost use Rattle.std.specs.Prelude.{◌≡◌, List, ◌-◌, ◌<◌, ◌≤◌, [], ◌∷◌, ◌++◌, false, IfOk, OnErr};
+ghost use Rattle.std.specs.Prelude.{◌≡◌, List, ◌-◌, ◌<◌, ◌≤◌, [], ◌∷◌, ◌++◌, false, Some, IfOk, OnErr};
 ghost use Rattle.sv_world.specs.Limits.{most_sessions};
 ghost use Rattle.sv_world.specs.Worlds.{IsGoodWorld};
 ghost use Rattle.sv_journal.specs.declared.entry.Entry.{Entry};
 ghost use Rattle.sv_journal.specs.Sessions.{is_end, is_ended};
-ghost use Rattle.sv_sequencer.specs.Cores.{core_rules, Keeps};
+ghost use Rattle.sv_journal.specs.Answer.{scenario_rules};
+ghost use Rattle.sv_sequencer.specs.Cores.{core_rules, session_at, Keeps, SitByNumber};
 ghost use Rattle.sv_sequencer.specs.Decisions.{Holds};
 ghost use Rattle.sv_sequencer.specs.Entering.{HasRoomForEnds, TookEntry, EnteredReply, NothingEntered};
 ghost use Rattle.sv_sequencer.specs.Step.{entry_of, end_entry};
 
 use crate::answer::Answer;
 use crate::decision::Decided;
+use crate::opened::Opened;
+use crate::seats::Seat;
 use crate::server_core::Core;
 use std::alloc::{AllocError, Global};
 use sv_journal::{Entry, Journal, Logged};
 use sv_wire::{Reply, Request, copy_request};
 use sv_world::World;
 
-/// Opens a core for so many sessions, and a journal without entries that has room for the Ends of all of them.
+/// Opens a core for so many sessions, each at the slot of its number, and a journal without entries that has room for the Ends of all of them.
 ///
 /// An action is dropped where more than `bound` actions influence it, or, where a reach is given, one that was made farther away.
 pub fn open_core(
@@ -29,27 +32,33 @@ pub fn open_core(
 ) -> Result<(Core, Journal), AllocError>
     requires world { IsGoodWorld world }
     requires few { sessions ≤ most_sessions }
-    ensures rules { IfOk result (λ opened. core_rules opened.0 ≡ record { world = world; bound = bound; reach = reach; sessions = sessions }) }
+    ensures rules { IfOk result (λ opened. core_rules opened.0 ≡ scenario_rules world bound reach sessions) }
+    ensures seats { IfOk result (λ opened. SitByNumber opened.0) }
     ensures keeps { IfOk result (λ opened. Keeps opened.0 []) }
     ensures empty { IfOk result (λ opened. opened.1.entries ≡ []) }
     ensures room { IfOk result (λ opened. HasRoomForEnds opened.0 opened.1) }
 {
-    let core = Core::new(alloc, world, bound, reach, sessions)?;
+    let core = Core::new(alloc, Opened::scenario(world, bound, reach, sessions))?;
     let mut journal = Journal::new(alloc);
     journal.reserve(sessions as usize)?;
     Ok((core, journal))
 }
 
-/// The End of a session, whose entry the journal gets. It takes no memory. `h` is a history that the core keeps.
+/// The End of a session that sits at the slot of its number, whose entry the journal gets. It takes no memory. `h` is a history that the core
+/// keeps.
 pub fn enter_end(core: &mut Core, journal: &mut Journal, session: u16)
     ghost h: { List Entry }
     requires keeps { Keeps core.old h }
-    requires session { session < (core_rules core.old).sessions }
+    requires seat { session_at core.old session ≡ Some session }
     requires first { is_ended h session ≡ false }
     requires room { HasRoomForEnds core.old journal.old }
     ensures { TookEntry core.old core.new journal.old journal.new h (end_entry session) (end_entry session) }
 {
-    core.end(session);
+    let seat = Seat {
+        slot: session,
+        session: session as u64,
+    };
+    core.end(seat);
     journal.push(Entry {
         session,
         request: Request::End,
@@ -57,8 +66,8 @@ pub fn enter_end(core: &mut Core, journal: &mut Journal, session: u16)
     });
 }
 
-/// Does what was decided on a request as the core takes it, and enters it as it was asked, with the reply, which it gives in full. `h` is a
-/// history that the core keeps, by which the decision holds.
+/// Does what was decided on a request as the core takes it, of a session that sits at the slot of its number, and enters it as it was asked, with
+/// the reply, which it gives in full. `h` is a history that the core keeps, by which the decision holds.
 ///
 /// After running out of memory everything is as it was, but for room in the journal.
 pub fn enter_reply(
@@ -70,7 +79,7 @@ pub fn enter_reply(
 ) -> Result<Reply, AllocError>
     ghost h: { List Entry }
     requires keeps { Keeps core.old h }
-    requires session { decided.session < (core_rules core.old).sessions }
+    requires seat { session_at core.old decided.session ≡ Some decided.session }
     requires more { is_end taken.now ≡ false }
     requires holds { Holds (core_rules core.old) h decided.session taken.now decided.decision }
     ensures ok { IfOk result (EnteredReply core.old core.new journal.old journal.new h decided.session asked.now taken.now decided.decision) }
@@ -79,7 +88,11 @@ pub fn enter_reply(
     let Decided { session, decision } = decided;
     journal.reserve(core.owed() as usize + 1)?;
     let copy = copy_request(core.alloc, asked)?;
-    match core.carry_out(session, taken, decision) {
+    let seat = Seat {
+        slot: session,
+        session: session as u64,
+    };
+    match core.carry_out(seat, taken, decision) {
         Ok(answer) => Ok(enter(journal, session, copy, answer)),
         Err(error) => {
             // A tree that is let go at the end of its scope makes a long proof; a call that takes it, none.

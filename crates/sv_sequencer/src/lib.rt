@@ -3,16 +3,17 @@
 
 mod answer;
 mod carry;
-mod clients;
 mod decide;
 mod decision;
 mod deliver;
 mod entering;
 mod object;
+mod opened;
 mod orphans;
 mod positions;
 mod relays;
 mod reports;
+mod seats;
 mod see;
 mod sequencer;
 mod server_core;
@@ -23,6 +24,7 @@ pub use answer::Answer;
 pub use decision::{Decided, Decision};
 pub use deliver::reported_by;
 pub use entering::{enter_end, enter_reply, open_core};
-pub use object::Opened;
+pub use opened::Opened;
+pub use seats::Seat;
 pub use sequencer::Sequencer;
 pub use server_core::Core;

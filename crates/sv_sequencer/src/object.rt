@@ -5,29 +5,12 @@ ghost use Rattle.sv_journal.specs.Answer.{Legal};
 ghost use Rattle.sv_sequencer.specs.Shared.{logged_of, IsWhole, MayAsk};
 ghost use Rattle.sv_sequencer.specs.Step.{entry_of};
 
+use crate::opened::Opened;
 use crate::sequencer::Sequencer;
 use std::alloc::AllocError;
-use std::marker::Model;
 use sv_journal::Entry;
 use sv_lock::Object;
 use sv_wire::{Reply, Request};
-use sv_world::World;
-
-/// What a sequencer was opened with. Contracts see it as the rules; no value of it is made.
-pub struct Opened {
-    pub world: World,
-    pub bound: u8,
-    pub reach: Option<u32>,
-    pub sessions: u16,
-}
-
-impl Model for Opened {
-    ghost use Rattle.sv_journal.specs.Answer.{Rules};
-
-    ghost Value = { Rules };
-
-    ghost view = { λ o. record { world = o.world; bound = o.bound; reach = o.reach; sessions = o.sessions } };
-}
 
 impl Object for Sequencer {
     type Request = Request;

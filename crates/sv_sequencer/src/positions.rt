@@ -5,9 +5,10 @@ ghost use Rattle.sv_queue.specs.Queue.{IsUncommitted, sent_positions};
 ghost use Rattle.sv_journal.specs.declared.entry.Entry.{Entry};
 ghost use Rattle.sv_journal.specs.History.{client_of, accepted, result_at, commit_of};
 ghost use Rattle.sv_journal.specs.Sessions.{sent_to};
-ghost use Rattle.sv_sequencer.specs.Cores.{core_rules, Keeps, IsAccepted, IsOpen};
+ghost use Rattle.sv_sequencer.specs.Cores.{SitsAt, Keeps, IsAccepted, IsOpen};
 
 use crate::reports::is_missing;
+use crate::seats::Seat;
 use crate::server_core::Core;
 use std::marker::Brand;
 use std::sync::ledger::{Blank, Ledger};
@@ -22,11 +23,11 @@ impl Core {
     }
 
     /// The client of a session, once it has joined.
-    pub fn client(&self, session: u16) -> Option<u16>
-        requires { session < (core_rules self.now).sessions }
-        ensures { (h : List Entry) → Keeps self.now h → result ≡ client_of h session }
+    pub fn client(&self, seat: Seat) -> Option<u16>
+        requires { SitsAt self.now seat }
+        ensures { (h : List Entry) → Keeps self.now h → result ≡ client_of h seat.session }
     {
-        self.sessions[session as usize].client
+        self.sessions[seat.slot as usize].client
     }
 
     /// Whether an accepted position is above the commit and has no result.
@@ -38,23 +39,23 @@ impl Core {
     }
 
     /// Whether an accepted position above the commit was sent to a session.
-    pub fn was_sent(&self, pos: u32, session: u16) -> bool
+    pub fn was_sent(&self, pos: u32, seat: Seat) -> bool
         requires open { IsOpen self.now pos }
-        requires session { session < (core_rules self.now).sessions }
-        ensures { (h : List Entry) → Keeps self.now h → result ≡ is_in pos (sent_to h session) }
+        requires seat { SitsAt self.now seat }
+        ensures { (h : List Entry) → Keeps self.now h → result ≡ is_in pos (sent_to h seat.session) }
     {
-        is_marked::<Brand>(&self.queue, pos, session, Blank::new(1))
+        is_marked::<Brand>(&self.queue, pos, seat.slot, Blank::new(1))
     }
 }
 
 /// Its look-up is counted, and nobody asks how many there were.
-fn is_marked<L: Ledger>(queue: &Queue, pos: u32, session: u16, blank: Blank) -> bool
+fn is_marked<L: Ledger>(queue: &Queue, pos: u32, slot: u16, blank: Blank) -> bool
     requires name { blank.name ≡ L.name }
     requires parts { blank.parts ≡ L.parts }
     requires some { 0 < blank.parts }
     requires pos { IsUncommitted queue.now pos }
-    ensures { result ≡ is_in pos (sent_positions queue.now session) }
+    ensures { result ≡ is_in pos (sent_positions queue.now slot) }
 {
     let mut steps = Steps::<L>::new(blank);
-    queue.is_marked(pos, session, &mut steps)
+    queue.is_marked(pos, slot, &mut steps)
 }

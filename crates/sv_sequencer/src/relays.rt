@@ -2,7 +2,6 @@
 ghost use Rattle.std.specs.Prelude.{◌≡◌, ℕ, ◌^◌, ◌-◌, ◌<◌, ◌≤◌, true, [], ◌∷◌, map, length, All, IfOk};
 ghost use Rattle.sv_world.specs.declared.world.ObjectId.{ObjectId};
 ghost use Rattle.sv_world.specs.Faults.{may_be_observed};
-ghost use Rattle.sv_world.specs.Limits.{most_sessions};
 ghost use Rattle.sv_world.specs.Sets.{numbers_of};
 ghost use Rattle.sv_wire.specs.declared.message.ObjectValue.{ObjectValue};
 ghost use Rattle.sv_queue.specs.Queue.{IsUncommitted, last_position};
@@ -34,21 +33,21 @@ pub struct Seen {
 }
 
 /// What a relay of an uncommitted position has for a session.
-pub fn relay_in(alloc: Global, queue: &Queue, session: u16, pos: u32) -> Result<Relayed, AllocError>
+pub fn relay_in(alloc: Global, queue: &Queue, slot: u16, pos: u32) -> Result<Relayed, AllocError>
     requires { IsUncommitted queue.now pos }
-    ensures head { IfOk result (λ r. r.head ≡ held_in queue.now (base_objects queue.now session pos)) }
-    ensures positions { IfOk result (λ r. r.positions ≡ lacking queue.now session pos) }
-    ensures sent_head { IfOk result (λ r. r.sent_head ≡ held_in queue.now (base_objects queue.now session pos)) }
-    ensures items { IfOk result (λ r. r.items ≡ map (item_in queue.now) (lacking queue.now session pos)) }
+    ensures head { IfOk result (λ r. r.head ≡ held_in queue.now (base_objects queue.now slot pos)) }
+    ensures positions { IfOk result (λ r. r.positions ≡ lacking queue.now slot pos) }
+    ensures sent_head { IfOk result (λ r. r.sent_head ≡ held_in queue.now (base_objects queue.now slot pos)) }
+    ensures items { IfOk result (λ r. r.items ≡ map (item_in queue.now) (lacking queue.now slot pos)) }
 {
-    counted::<Brand>(alloc, queue, session, pos, Blank::new(1))
+    counted::<Brand>(alloc, queue, slot, pos, Blank::new(1))
 }
 
 /// Its look-ups are counted, and nobody asks how many there were.
 fn counted<L: Ledger>(
     alloc: Global,
     queue: &Queue,
-    session: u16,
+    slot: u16,
     pos: u32,
     blank: Blank,
 ) -> Result<Relayed, AllocError>
@@ -56,13 +55,13 @@ fn counted<L: Ledger>(
     requires parts { blank.parts ≡ L.parts }
     requires some { 0 < blank.parts }
     requires pos { IsUncommitted queue.now pos }
-    ensures head { IfOk result (λ r. r.head ≡ held_in queue.now (base_objects queue.now session pos)) }
-    ensures positions { IfOk result (λ r. r.positions ≡ lacking queue.now session pos) }
-    ensures sent_head { IfOk result (λ r. r.sent_head ≡ held_in queue.now (base_objects queue.now session pos)) }
-    ensures items { IfOk result (λ r. r.items ≡ map (item_in queue.now) (lacking queue.now session pos)) }
+    ensures head { IfOk result (λ r. r.head ≡ held_in queue.now (base_objects queue.now slot pos)) }
+    ensures positions { IfOk result (λ r. r.positions ≡ lacking queue.now slot pos) }
+    ensures sent_head { IfOk result (λ r. r.sent_head ≡ held_in queue.now (base_objects queue.now slot pos)) }
+    ensures items { IfOk result (λ r. r.items ≡ map (item_in queue.now) (lacking queue.now slot pos)) }
 {
     let mut steps = Steps::<L>::new(blank);
-    let found = closure(alloc, queue, session, pos, &mut steps)?;
+    let found = closure(alloc, queue, slot, pos, &mut steps)?;
     relayed_of(alloc, queue, found.items, found.head.as_slice(), &mut steps)
 }
 
@@ -70,25 +69,25 @@ fn counted<L: Ledger>(
 pub fn seen_in(
     alloc: Global,
     queue: &Queue,
-    session: u16,
+    slot: u16,
     objects: &[ObjectId],
 ) -> Result<Seen, AllocError>
     requires objects { may_be_observed queue.now.shape.objects (numbers_of objects.now) ≡ true }
-    requires marks { MarksAreClosed queue.now session }
+    requires marks { MarksAreClosed queue.now slot }
     requires room { last_position queue.now < 2 ^ 32 - 1 }
-    ensures last { IfOk result (λ r. r.last ≡ latest_cut queue.now session (numbers_of objects.now)) }
-    ensures head { IfOk result (λ r. r.relayed.head ≡ held_in queue.now (seen_bases queue.now session (numbers_of objects.now))) }
-    ensures positions { IfOk result (λ r. r.relayed.positions ≡ seen_positions queue.now session (numbers_of objects.now)) }
-    ensures sent_head { IfOk result (λ r. r.relayed.sent_head ≡ held_in queue.now (seen_bases queue.now session (numbers_of objects.now))) }
-    ensures items { IfOk result (λ r. r.relayed.items ≡ map (item_in queue.now) (seen_positions queue.now session (numbers_of objects.now))) }
+    ensures last { IfOk result (λ r. r.last ≡ latest_cut queue.now slot (numbers_of objects.now)) }
+    ensures head { IfOk result (λ r. r.relayed.head ≡ held_in queue.now (seen_bases queue.now slot (numbers_of objects.now))) }
+    ensures positions { IfOk result (λ r. r.relayed.positions ≡ seen_positions queue.now slot (numbers_of objects.now)) }
+    ensures sent_head { IfOk result (λ r. r.relayed.sent_head ≡ held_in queue.now (seen_bases queue.now slot (numbers_of objects.now))) }
+    ensures items { IfOk result (λ r. r.relayed.items ≡ map (item_in queue.now) (seen_positions queue.now slot (numbers_of objects.now))) }
 {
-    seen_counted::<Brand>(alloc, queue, session, objects, Blank::new(1))
+    seen_counted::<Brand>(alloc, queue, slot, objects, Blank::new(1))
 }
 
 fn seen_counted<L: Ledger>(
     alloc: Global,
     queue: &Queue,
-    session: u16,
+    slot: u16,
     objects: &[ObjectId],
     blank: Blank,
 ) -> Result<Seen, AllocError>
@@ -96,16 +95,16 @@ fn seen_counted<L: Ledger>(
     requires parts { blank.parts ≡ L.parts }
     requires some { 0 < blank.parts }
     requires objects { may_be_observed queue.now.shape.objects (numbers_of objects.now) ≡ true }
-    requires marks { MarksAreClosed queue.now session }
+    requires marks { MarksAreClosed queue.now slot }
     requires room { last_position queue.now < 2 ^ 32 - 1 }
-    ensures last { IfOk result (λ r. r.last ≡ latest_cut queue.now session (numbers_of objects.now)) }
-    ensures head { IfOk result (λ r. r.relayed.head ≡ held_in queue.now (seen_bases queue.now session (numbers_of objects.now))) }
-    ensures positions { IfOk result (λ r. r.relayed.positions ≡ seen_positions queue.now session (numbers_of objects.now)) }
-    ensures sent_head { IfOk result (λ r. r.relayed.sent_head ≡ held_in queue.now (seen_bases queue.now session (numbers_of objects.now))) }
-    ensures items { IfOk result (λ r. r.relayed.items ≡ map (item_in queue.now) (seen_positions queue.now session (numbers_of objects.now))) }
+    ensures last { IfOk result (λ r. r.last ≡ latest_cut queue.now slot (numbers_of objects.now)) }
+    ensures head { IfOk result (λ r. r.relayed.head ≡ held_in queue.now (seen_bases queue.now slot (numbers_of objects.now))) }
+    ensures positions { IfOk result (λ r. r.relayed.positions ≡ seen_positions queue.now slot (numbers_of objects.now)) }
+    ensures sent_head { IfOk result (λ r. r.relayed.sent_head ≡ held_in queue.now (seen_bases queue.now slot (numbers_of objects.now))) }
+    ensures items { IfOk result (λ r. r.relayed.items ≡ map (item_in queue.now) (seen_positions queue.now slot (numbers_of objects.now))) }
 {
     let mut steps = Steps::<L>::new(blank);
-    let found = cut(alloc, queue, session, objects, &mut steps)?;
+    let found = cut(alloc, queue, slot, objects, &mut steps)?;
     let last = found.last;
     let relayed = relayed_of(alloc, queue, found.items, found.head.as_slice(), &mut steps)?;
     Ok(Seen { last, relayed })
@@ -194,27 +193,27 @@ fn item_of<L: Ledger>(
 }
 
 /// Marks uncommitted positions for a session.
-pub fn mark_all(queue: &mut Queue, positions: &[u32], session: u16)
+pub fn mark_all(queue: &mut Queue, positions: &[u32], slot: u16)
     requires positions { All (λ p. IsUncommitted queue.old p) positions.now }
-    requires session { session < most_sessions }
-    ensures { queue.new ≡ marked_all queue.old positions.now session }
+    requires slot { slot < queue.old.room }
+    ensures { queue.new ≡ marked_all queue.old positions.now slot }
 {
     let [first, rest @ ..] = positions else {
         return;
     };
-    queue.mark(*first, session);
-    mark_all(queue, rest, session);
+    queue.mark(*first, slot);
+    mark_all(queue, rest, slot);
 }
 
 /// Notes that a session was given the objects of a head.
-pub fn give_all(queue: &mut Queue, head: &[ObjectValue], session: u16)
+pub fn give_all(queue: &mut Queue, head: &[ObjectValue], slot: u16)
     requires objects { All (λ (x : ObjectValue). x.object.0 < queue.old.shape.objects) head.now }
-    requires session { session < most_sessions }
-    ensures { queue.new ≡ given_all queue.old head.now session }
+    requires slot { slot < queue.old.room }
+    ensures { queue.new ≡ given_all queue.old head.now slot }
 {
     let [first, rest @ ..] = head else {
         return;
     };
-    queue.set_given(first.object, session);
-    give_all(queue, rest, session);
+    queue.set_given(first.object, slot);
+    give_all(queue, rest, slot);
 }

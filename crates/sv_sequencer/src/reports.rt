@@ -17,13 +17,13 @@ use sv_wire::{Done1, copy_result};
 use sv_world::{Action, List, MOST_ITEMS, Value, is_in_mask};
 
 /// Whether the results that a session reports may not be taken.
-pub fn are_bad(queue: &Queue, session: u16, results: &[Done1]) -> bool
-    ensures { result ≡ (length results.now == 0 || nat_lt most_items (length results.now) || not (is_ascending (map (λ (d : Done1). d.pos) results.now)) || list_any (is_bad_report queue.now session) results.now) }
+pub fn are_bad(queue: &Queue, slot: u16, results: &[Done1]) -> bool
+    ensures { result ≡ (length results.now == 0 || nat_lt most_items (length results.now) || not (is_ascending (map (λ (d : Done1). d.pos) results.now)) || list_any (is_bad_report queue.now slot) results.now) }
 {
     results.len() == 0
         || results.len() > MOST_ITEMS
         || !are_ascending(results)
-        || is_any_bad::<Brand>(queue, session, results, Blank::new(1))
+        || is_any_bad::<Brand>(queue, slot, results, Blank::new(1))
 }
 
 /// Whether the positions ascend strictly.
@@ -43,32 +43,27 @@ fn are_ascending(results: &[Done1]) -> bool
     true
 }
 
-fn is_any_bad<L: Ledger>(queue: &Queue, session: u16, results: &[Done1], blank: Blank) -> bool
+fn is_any_bad<L: Ledger>(queue: &Queue, slot: u16, results: &[Done1], blank: Blank) -> bool
     requires name { blank.name ≡ L.name }
     requires parts { blank.parts ≡ L.parts }
     requires some { 0 < blank.parts }
-    ensures { result ≡ list_any (is_bad_report queue.now session) results.now }
+    ensures { result ≡ list_any (is_bad_report queue.now slot) results.now }
 {
     let mut steps = Steps::<L>::new(blank);
-    is_one_bad(queue, session, results, &mut steps)
+    is_one_bad(queue, slot, results, &mut steps)
 }
 
-fn is_one_bad<L: Ledger>(
-    queue: &Queue,
-    session: u16,
-    results: &[Done1],
-    steps: &mut Steps<L>,
-) -> bool
-    ensures { result ≡ list_any (is_bad_report queue.now session) results.now }
+fn is_one_bad<L: Ledger>(queue: &Queue, slot: u16, results: &[Done1], steps: &mut Steps<L>) -> bool
+    ensures { result ≡ list_any (is_bad_report queue.now slot) results.now }
 {
     let [first, rest @ ..] = results else {
         return false;
     };
-    is_bad(queue, session, first, steps) || is_one_bad(queue, session, rest, steps)
+    is_bad(queue, slot, first, steps) || is_one_bad(queue, slot, rest, steps)
 }
 
-fn is_bad<L: Ledger>(queue: &Queue, session: u16, found: &Done1, steps: &mut Steps<L>) -> bool
-    ensures { result ≡ is_bad_report queue.now session found.now }
+fn is_bad<L: Ledger>(queue: &Queue, slot: u16, found: &Done1, steps: &mut Steps<L>) -> bool
+    ensures { result ≡ is_bad_report queue.now slot found.now }
 {
     if found.pos == 0 || found.pos > queue.last() {
         return true;
@@ -76,7 +71,7 @@ fn is_bad<L: Ledger>(queue: &Queue, session: u16, found: &Done1, steps: &mut Ste
     if found.pos <= queue.commit() {
         return false;
     }
-    if !queue.is_marked(found.pos, session, steps) {
+    if !queue.is_marked(found.pos, slot, steps) {
         return true;
     }
     let shape = queue.shape();

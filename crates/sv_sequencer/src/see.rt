@@ -1,7 +1,6 @@
 //! What is decided is done, where objects are seen.
 ghost use Rattle.std.specs.Prelude.{◌≡◌, List, ◌<◌, true, false, All, IfOk, OnErr};
 ghost use Rattle.sv_world.specs.Faults.{may_be_observed};
-ghost use Rattle.sv_world.specs.Limits.{most_sessions};
 ghost use Rattle.sv_world.specs.Sets.{numbers_of};
 ghost use Rattle.sv_queue.specs.Queue.{IsUncommitted};
 ghost use Rattle.sv_wire.specs.declared.message.ObjectValue.{ObjectValue};
@@ -10,13 +9,14 @@ ghost use Rattle.sv_journal.specs.declared.entry.Logged.TheVariants as logged;
 ghost use Rattle.sv_journal.specs.declared.entry.Entry.{Entry};
 ghost use Rattle.sv_journal.specs.Sessions.{is_end};
 ghost use Rattle.sv_sequencer.specs.declared.decision.Decision.TheVariants as decisions;
-ghost use Rattle.sv_sequencer.specs.Cores.{core_rules, Keeps, CarriedOut, Remained};
+ghost use Rattle.sv_sequencer.specs.Cores.{core_rules, SitsAt, Keeps, CarriedOut, Remained};
 ghost use Rattle.sv_sequencer.specs.Decisions.{IsOld, observed_in};
 ghost use Rattle.sv_sequencer.specs.Relays.{marked_all, given_all};
 
 use crate::answer::Answer;
 use crate::deliver::deliver;
 use crate::relays::{Relayed, Seen, seen_in};
+use crate::seats::Seat;
 use crate::server_core::Core;
 use crate::sessions::note;
 use std::alloc::AllocError;
@@ -64,34 +64,34 @@ fn answer_of(commit: u32, seen: Seen) -> Answer
 }
 
 /// Sends a session what it sees: the answer to its request.
-fn send(queue: &mut Queue, session: u16, seen: Seen) -> Answer
+fn send(queue: &mut Queue, slot: u16, seen: Seen) -> Answer
     requires positions { All (IsUncommitted queue.old) seen.relayed.positions }
     requires objects { All (λ (x : ObjectValue). x.object.0 < queue.old.shape.objects) seen.relayed.head }
-    requires session { session < most_sessions }
-    ensures queue { queue.new ≡ given_all (marked_all queue.old seen.relayed.positions session) seen.relayed.head session }
+    requires slot { slot < queue.old.room }
+    ensures queue { queue.new ≡ given_all (marked_all queue.old seen.relayed.positions slot) seen.relayed.head slot }
     ensures logged { result.logged ≡ logged.Seen seen.last queue.old.commit seen.relayed.head seen.relayed.positions }
     ensures reply { result.reply ≡ replies.Seen seen.last queue.old.commit seen.relayed.sent_head seen.relayed.items }
 {
     let commit = queue.commit();
-    deliver(queue, &seen.relayed, session);
+    deliver(queue, &seen.relayed, slot);
     answer_of(commit, seen)
 }
 
 impl Core {
     /// Shows a session what objects are, at the greatest cut.
-    pub(crate) fn see(&mut self, session: u16, request: &Request) -> Result<Answer, AllocError>
+    pub(crate) fn see(&mut self, seat: Seat, request: &Request) -> Result<Answer, AllocError>
         ghost h: { List Entry }
         requires keeps { Keeps self.old h }
-        requires session { session < (core_rules self.old).sessions }
+        requires seat { SitsAt self.old seat }
         requires more { is_end request.now ≡ false }
-        requires old { IsOld h session request.now }
+        requires old { IsOld h seat.session request.now }
         requires good { may_be_observed (core_rules self.old).world.shape.objects (observed_in request.now) ≡ true }
-        ensures ok { IfOk result (CarriedOut self.old self.new h session request.now decisions.See) }
+        ensures ok { IfOk result (CarriedOut self.old self.new h seat.session request.now decisions.See) }
         ensures err { OnErr result (Remained self.old self.new h) }
     {
-        let seen = seen_in(self.alloc, &self.queue, session, observed_by(request))?;
-        let answer = send(&mut self.queue, session, seen);
-        note(&mut self.sessions, session, request, &answer.logged);
+        let seen = seen_in(self.alloc, &self.queue, seat.slot, observed_by(request))?;
+        let answer = send(&mut self.queue, seat.slot, seen);
+        note(&mut self.sessions, seat.slot, request, &answer.logged);
         Ok(answer)
     }
 }

@@ -1,13 +1,14 @@
 //! The server that takes what each client reports: a core, and the journal of all that it was asked.
-ghost use Rattle.std.specs.Prelude.{◌≡◌, ◌<◌, ◌≤◌, [], slice_index_or, IfOk, IfSome};
+ghost use Rattle.std.specs.Prelude.{◌≡◌, ◌<◌, ◌≤◌, Some, [], slice_index_or, IfOk, IfSome};
 ghost use Rattle.sv_world.specs.Limits.{most_bound, most_reach, most_sessions};
 ghost use Rattle.sv_world.specs.Worlds.{IsGoodWorld};
 ghost use Rattle.sv_journal.specs.History.{commit_of, committed_of};
-ghost use Rattle.sv_journal.specs.Answer.{Legal};
+ghost use Rattle.sv_journal.specs.Answer.{scenario_rules, MayBeSession, Legal};
 ghost use Rattle.sv_journal.specs.Sessions.{is_ended};
 ghost use Rattle.sv_sequencer.specs.Step.{history};
 
 use crate::entering::open_core;
+use crate::seats::Seat;
 use crate::server_core::Core;
 use std::alloc::{AllocError, Global};
 use std::marker::Model;
@@ -55,7 +56,7 @@ impl Sequencer {
         requires reach { IfSome reach (λ far. far ≤ most_reach) }
         requires some { 1 ≤ sessions }
         requires few { sessions ≤ most_sessions }
-        ensures rules { IfOk result (λ s. s.rules ≡ record { world = world; bound = bound; reach = reach; sessions = sessions }) }
+        ensures rules { IfOk result (λ s. s.rules ≡ scenario_rules world bound reach sessions) }
         ensures empty { IfOk result (λ s. s.journal.entries ≡ []) }
     {
         let (core, journal) = open_core(alloc, world, bound, reach, sessions)?;
@@ -96,16 +97,19 @@ impl Sequencer {
 
     /// How many sessions there may be.
     pub fn sessions(&self) -> u16
-        ensures { result ≡ self.now.rules.sessions }
+        ensures { Some result ≡ self.now.rules.sessions }
     {
-        self.core.sessions()
+        self.core.sessions().unwrap()
     }
 
     /// Whether a session had its End.
     pub fn is_ended(&self, session: u16) -> bool
-        requires { session < self.now.rules.sessions }
+        requires { MayBeSession self.now.rules.sessions session }
         ensures { result ≡ is_ended (history self.now) session }
     {
-        self.core.is_ended(session)
+        self.core.is_ended(Seat {
+            slot: session,
+            session: session as u64,
+        })
     }
 }

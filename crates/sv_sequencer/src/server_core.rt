@@ -1,69 +1,65 @@
 //! What any server keeps of what it was asked: a queue, and a row for each session and each client. It has no journal.
 //!
 //! Its contracts speak of a history, which the caller names: that of its journal, or one that its journal gives.
-ghost use Rattle.std.specs.Prelude.{◌≡◌, ℕ, List, suc, ◌+◌, ◌<◌, ◌≤◌, false, Some, [], ◌∷◌, length, slice_index_or, option_map, nat_lt, nat_le, IfOk, IfSome, MatchOption};
+ghost use Rattle.std.specs.Prelude.{◌≡◌, ℕ, List, suc, ◌<◌, ◌≤◌, false, not, Some, [], ◌∷◌, length, slice_index_or, option_map, unwrap_or, nat_le, IfOk, IfSome, MatchOption};
 ghost use Rattle.std.specs.List.{list_any};
 ghost use Rattle.sv_world.specs.Control.{chain_length, influence_distance};
 ghost use Rattle.sv_world.specs.Faults.{IsGoodAction};
-ghost use Rattle.sv_world.specs.Limits.{most_requests, most_sessions};
+ghost use Rattle.sv_world.specs.Limits.{most_positions, most_sessions};
 ghost use Rattle.sv_world.specs.Worlds.{IsGoodWorld};
+ghost use Rattle.sv_queue.specs.Queue.{opening_queue};
 ghost use Rattle.sv_journal.specs.declared.entry.Entry.{Entry};
 ghost use Rattle.sv_journal.specs.History.{Accepted, client_of, accepted, actions_of, next_seq, commit_of, committed_of};
 ghost use Rattle.sv_journal.specs.Sessions.{is_over, asked_in, life_of, kept_outcome, is_ended};
-ghost use Rattle.sv_journal.specs.Answer.{is_bad_result, is_bad_done, is_over_reach, orphans};
-ghost use Rattle.sv_sequencer.specs.Clients.{outcome_value};
-ghost use Rattle.sv_sequencer.specs.Cores.{core_rules, owed_by, queue_of, Keeps, IsKept};
+ghost use Rattle.sv_journal.specs.Answer.{is_bad_result, is_bad_done, is_full, is_spent, orphans};
+ghost use Rattle.sv_clients.specs.Clients.{outcome_value};
+ghost use Rattle.sv_sequencer.specs.Cores.{core_rules, owed_by, open_by, queue_of, session_at, first_seat, SitsAt, Keeps, IsKept};
 
-use crate::clients::{Clients, Outcome};
+use crate::opened::Opened;
 use crate::orphans::first_orphan;
 use crate::reports::are_bad;
-use crate::sessions::{SessionRow, no_sessions};
+use crate::seats::Seat;
+use crate::sessions::{SessionRow, new_sessions};
 use std::alloc::{AllocError, Global};
+use sv_clients::{Clients, Outcome};
 use sv_influence::{Chain, chain};
 use sv_queue::Queue;
 use sv_wire::Done1;
 use sv_world::{Action, ObjectId, Shape, Value, World, copy_values};
 
 /// The core of a server: it puts the actions of all sessions in one order, decides what is done on each request, and does it.
+///
+/// Its sessions sit at slots. A session has one number, which no other session ever has; its slot is another's once it is closed.
 #[derive(Drop)]
 pub struct Core {
     pub(crate) alloc: Global,
-    pub(crate) opening: World,
-    pub(crate) bound: u8,
-    pub(crate) reach: Option<u32>,
+    pub(crate) opened: Opened,
     pub(crate) queue: Queue,
+    /// The session of each slot.
     pub(crate) sessions: Vec<SessionRow>,
     pub(crate) clients: Clients,
-    /// How many sessions have had no End yet.
+    /// How many of the sessions that sit at slots have had no End yet.
     pub(crate) owed: u16,
 }
 
 impl Core {
-    /// Opens a core for so many sessions.
-    ///
-    /// An action is dropped where more than `bound` actions influence it, or, where a reach is given, one that was made farther away.
-    pub fn new(
-        alloc: Global,
-        world: World,
-        bound: u8,
-        reach: Option<u32>,
-        sessions: u16,
-    ) -> Result<Core, AllocError>
-        requires world { IsGoodWorld world }
-        requires few { sessions ≤ most_sessions }
-        ensures rules { IfOk result (λ core. core_rules core ≡ record { world = world; bound = bound; reach = reach; sessions = sessions }) }
-        ensures owed { IfOk result (λ core. owed_by core ≡ sessions) }
+    /// Opens a core. Where there is an end of sessions, each of them sits at the slot of its number from the start; else none does yet.
+    pub fn new(alloc: Global, opened: Opened) -> Result<Core, AllocError>
+        requires world { IsGoodWorld opened.world }
+        requires few { IfSome opened.sessions (λ n. n ≤ most_sessions) }
+        requires positions { opened.positions ≤ most_positions }
+        ensures rules { IfOk result (λ core. core_rules core ≡ opened) }
+        ensures seats { IfOk result (λ core. (s : ℕ) → session_at core s ≡ first_seat opened.sessions s) }
+        ensures owed { IfOk result (λ core. owed_by core ≡ unwrap_or opened.sessions 0) }
+        ensures count { IfOk result (λ core. open_by core ≡ unwrap_or opened.sessions 0) }
         ensures keeps { IfOk result (λ core. Keeps core []) }
     {
-        let shape = world.shape;
-        let values = copy_values(alloc, world.values.as_slice())?;
-        let queue = Queue::new(alloc, World { shape, values })?;
-        let rows = no_sessions(alloc, sessions)?;
+        let sessions = opened.first_sessions();
+        let queue = opening_queue(alloc, opened.world())?;
+        let rows = new_sessions(alloc, opened.requests(), sessions)?;
         Ok(Core {
             alloc,
-            opening: world,
-            bound,
-            reach,
+            opened,
             queue,
             sessions: rows,
             clients: Clients::new(alloc),
@@ -87,20 +83,19 @@ impl Core {
         self.queue.committed(object)
     }
 
-    /// How many sessions there may be.
-    pub fn sessions(&self) -> u16
-        requires { IsKept self.now }
+    /// How many sessions there may be, where there is an end of them.
+    pub fn sessions(&self) -> Option<u16>
         ensures { result ≡ (core_rules self.now).sessions }
     {
-        self.sessions.len() as u16
+        self.opened.sessions()
     }
 
     /// Whether a session had its End.
-    pub fn is_ended(&self, session: u16) -> bool
-        requires { session < (core_rules self.now).sessions }
-        ensures { (h : List Entry) → Keeps self.now h → result ≡ is_ended h session }
+    pub fn is_ended(&self, seat: Seat) -> bool
+        requires { SitsAt self.now seat }
+        ensures { (h : List Entry) → Keeps self.now h → result ≡ is_ended h seat.session }
     {
-        self.sessions[session as usize].ended
+        self.sessions[seat.slot as usize].ended
     }
 
     /// The actions that it has not committed, and what was sent of them.
@@ -118,32 +113,35 @@ impl Core {
     }
 
     /// Whether a session is over.
-    pub(crate) fn is_over(&self, session: u16) -> bool
+    pub(crate) fn is_over(&self, seat: Seat) -> bool
         ghost h: { List Entry }
         requires keeps { Keeps self.now h }
-        requires session { session < (core_rules self.now).sessions }
-        ensures { result ≡ is_over h session }
+        requires seat { SitsAt self.now seat }
+        ensures { result ≡ is_over h seat.session }
     {
-        self.sessions[session as usize].over
+        self.sessions[seat.slot as usize].over
     }
 
     /// Whether a session may make more requests.
-    pub(crate) fn has_more(&self, session: u16) -> bool
+    pub(crate) fn has_more(&self, seat: Seat) -> bool
         ghost h: { List Entry }
         requires keeps { Keeps self.now h }
-        requires session { session < (core_rules self.now).sessions }
-        ensures { result ≡ nat_lt (asked_in h session) most_requests }
+        requires seat { SitsAt self.now seat }
+        ensures { result ≡ not (is_spent (core_rules self.now).requests (asked_in h seat.session)) }
     {
-        self.sessions[session as usize].left > 0
+        match self.sessions[seat.slot as usize].left {
+            Some(left) => left > 0,
+            None => true,
+        }
     }
 
-    pub(crate) fn client_of(&self, session: u16) -> Option<u16>
+    pub(crate) fn client_of(&self, seat: Seat) -> Option<u16>
         ghost h: { List Entry }
         requires keeps { Keeps self.now h }
-        requires session { session < (core_rules self.now).sessions }
-        ensures { result ≡ client_of h session }
+        requires seat { SitsAt self.now seat }
+        ensures { result ≡ client_of h seat.session }
     {
-        self.sessions[session as usize].client
+        self.sessions[seat.slot as usize].client
     }
 
     pub(crate) fn life_of(&self, client: u16) -> u32
@@ -160,7 +158,7 @@ impl Core {
         requires { Keeps self.now h }
         ensures { result ≡ next_seq h client }
     {
-        self.clients.count(client) as u32 + 1
+        self.clients.count(client) + 1
     }
 
     /// What came of a client's action, where it is kept.
@@ -202,30 +200,23 @@ impl Core {
         chain(&self.queue, action)
     }
 
-    /// The greatest chain of influence that an action may have.
-    pub(crate) fn bound(&self) -> u32
-        ensures { result ≡ (core_rules self.now).bound }
+    /// Whether no position is left, or no number for a client's next action.
+    pub(crate) fn is_full(&self, seq: u32) -> bool
+        ghost h: { List Entry }
+        requires { Keeps self.now h }
+        ensures { result ≡ is_full (core_rules self.now) h seq }
     {
-        u32::from(self.bound)
+        self.opened.is_full(self.queue.last(), seq)
     }
 
-    pub(crate) fn is_over_reach(&self, far: u32) -> bool
-        ensures { result ≡ is_over_reach (core_rules self.now).reach far }
-    {
-        match self.reach {
-            Some(reach) => reach < far,
-            None => false,
-        }
-    }
-
-    pub(crate) fn is_bad_done(&self, session: u16, results: &[Done1]) -> bool
+    pub(crate) fn is_bad_done(&self, seat: Seat, results: &[Done1]) -> bool
         ghost h: { List Entry }
         requires keeps { Keeps self.now h }
-        requires session { session < (core_rules self.now).sessions }
-        ensures bad { result ≡ is_bad_done (core_rules self.now) h session results.now }
-        ensures good { result ≡ false → list_any (is_bad_result (core_rules self.now) h session) results.now ≡ false }
+        requires seat { SitsAt self.now seat }
+        ensures bad { result ≡ is_bad_done (core_rules self.now) h seat.session results.now }
+        ensures good { result ≡ false → list_any (is_bad_result (core_rules self.now) h seat.session) results.now ≡ false }
     {
-        are_bad(&self.queue, session, results)
+        are_bad(&self.queue, seat.slot, results)
     }
 
     /// The lowest uncommitted position without a result that was sent to no session that is not over.
@@ -234,6 +225,16 @@ impl Core {
         requires { Keeps self.now h }
         ensures { MatchOption result (orphans h ≡ []) (λ p. (rest : List ℕ) × (orphans h ≡ p ∷ rest)) }
     {
-        first_orphan(&self.queue, &self.sessions)
+        first_orphan(self.alloc, &self.queue, &self.sessions)
     }
+}
+
+/// The queue of a world with no action.
+fn opening_queue(alloc: Global, world: &World) -> Result<Queue, AllocError>
+    requires { IsGoodWorld world.now }
+    ensures { IfOk result (λ queue. queue ≡ opening_queue world.now) }
+{
+    let shape = world.shape;
+    let values = copy_values(alloc, world.values.as_slice())?;
+    Queue::new(alloc, World { shape, values })
 }

@@ -1,128 +1,153 @@
 //! What a core keeps of each session, and what an entry makes of it.
-ghost use Rattle.std.specs.Prelude.{◌≡◌, ℕ, ◌<◌, ◌&&◌, ◌==◌, false, None, length, slice_index_or, replicate, IfOk, if◌then◌else◌};
+ghost use Rattle.std.specs.Prelude.{◌≡◌, ℕ, ◌-◌, ◌<◌, ◌&&◌, nat_eq, false, None, map, option_map, length, IfOk, if◌then◌else◌};
+ghost use Rattle.sv_world.specs.Control.{below};
 ghost use Rattle.sv_journal.specs.History.{either, is_welcome, joining};
 ghost use Rattle.sv_journal.specs.Sessions.{is_last, welcomes};
-ghost use Rattle.sv_sequencer.specs.Rows.{no_session, session_after};
+ghost use Rattle.sv_sequencer.specs.Rows.{no_session, new_session, row_at, session_after};
 ghost use Rattle.sv_sequencer.specs.Step.{entry_of};
 
 use std::alloc::{AllocError, Global};
 use sv_journal::{Logged, is_end};
 use sv_wire::{Refusal, Request};
-use sv_world::MOST_REQUESTS;
 
-/// What a core keeps of a session.
+/// What a core keeps of a session, at the slot where it sits.
 #[derive(Clone, Copy, Drop)]
 pub struct SessionRow {
+    /// The number of the session. None: no session sits there.
+    pub session: Option<u64>,
     /// The number of its client, once it has joined.
     pub client: Option<u16>,
     pub over: bool,
-    /// How many requests it may still make.
-    pub left: u16,
+    /// How many requests it may still make, where there is an end of them.
+    pub left: Option<u16>,
     /// Its End has come.
     pub ended: bool,
 }
 
-/// One row for each session, as none of them has asked anything.
-pub fn no_sessions(alloc: Global, sessions: u16) -> Result<Vec<SessionRow>, AllocError>
-    ensures { IfOk result (λ rows. rows.items ≡ replicate sessions no_session) }
+/// The row of a slot where no session sits.
+pub fn no_session() -> SessionRow
+    ensures { result ≡ no_session }
+{
+    SessionRow {
+        session: None,
+        client: None,
+        over: false,
+        left: None,
+        ended: false,
+    }
+}
+
+/// The row of a session that has asked nothing, and may make so many requests.
+pub fn new_session(requests: Option<u16>, session: u64) -> SessionRow
+    ensures { result ≡ new_session requests session }
+{
+    SessionRow {
+        session: Some(session),
+        client: None,
+        over: false,
+        left: requests,
+        ended: false,
+    }
+}
+
+/// The rows of sessions that have asked nothing, each at the slot of its number.
+pub fn new_sessions(
+    alloc: Global,
+    requests: Option<u16>,
+    sessions: u16,
+) -> Result<Vec<SessionRow>, AllocError>
+    ensures { IfOk result (λ rows. rows.items ≡ map (new_session requests) (below sessions)) }
 {
     let mut rows = Vec::with_capacity(alloc, sessions as usize)?;
-    for _ in 0..sessions {
-        rows.push(SessionRow {
-            client: None,
-            over: false,
-            left: MOST_REQUESTS,
-            ended: false,
-        })?;
+    for session in 0..sessions {
+        rows.push(new_session(requests, u64::from(session)))?;
     }
     Ok(rows)
 }
 
-/// Notes in the rows of the sessions what one of them asked and was replied. Only a Join that is welcomed changes another row than the asker's.
-pub fn note(rows: &mut Vec<SessionRow>, asker: u16, request: &Request, reply: &Logged)
+/// Notes in the rows of the sessions what the one at a slot asked and was replied. Only a Join that is welcomed changes another row than the
+/// asker's.
+pub fn note(rows: &mut Vec<SessionRow>, slot: u16, request: &Request, reply: &Logged)
     requires { length rows.old.items < 65536 }
     ensures count { length rows.new.items ≡ length rows.old.items }
-    ensures rows { (s : ℕ) → s < length rows.old.items → slice_index_or rows.new.items s no_session ≡ session_after (entry_of asker request.now reply.now) s (slice_index_or rows.old.items s no_session) }
+    ensures rows { (i : ℕ) → i < length rows.old.items → row_at rows.new.items i ≡ session_after (nat_eq slot i) (entry_of slot request.now reply.now) (row_at rows.old.items i) }
 {
     if is_welcome(reply) {
-        note_in_all(rows, asker, request, reply);
+        note_in_all(rows, slot, request, reply);
     } else {
-        note_in_own(rows, asker, request, reply);
+        note_in_own(rows, slot, request, reply);
     }
 }
 
-fn note_in_all(rows: &mut Vec<SessionRow>, asker: u16, request: &Request, reply: &Logged)
+fn note_in_all(rows: &mut Vec<SessionRow>, slot: u16, request: &Request, reply: &Logged)
     requires { length rows.old.items < 65536 }
     ensures count { length rows.new.items ≡ length rows.old.items }
-    ensures rows { (s : ℕ) → s < length rows.old.items → slice_index_or rows.new.items s no_session ≡ session_after (entry_of asker request.now reply.now) s (slice_index_or rows.old.items s no_session) }
+    ensures rows { (i : ℕ) → i < length rows.old.items → row_at rows.new.items i ≡ session_after (nat_eq slot i) (entry_of slot request.now reply.now) (row_at rows.old.items i) }
 {
-    for session in 0..rows.len() {
-        rows[session] = session_after(asker, request, reply, session as u16, &rows[session]);
+    for place in 0..rows.len() {
+        rows[place] = session_after(slot as usize == place, request, reply, &rows[place]);
     }
 }
 
 #[tactic(auto, using(crate::proofs::Rows::other_row_stays))]
-fn note_in_own(rows: &mut Vec<SessionRow>, asker: u16, request: &Request, reply: &Logged)
+fn note_in_own(rows: &mut Vec<SessionRow>, slot: u16, request: &Request, reply: &Logged)
     requires { is_welcome reply.now ≡ false }
     ensures count { length rows.new.items ≡ length rows.old.items }
-    ensures rows { (s : ℕ) → s < length rows.old.items → slice_index_or rows.new.items s no_session ≡ session_after (entry_of asker request.now reply.now) s (slice_index_or rows.old.items s no_session) }
+    ensures rows { (i : ℕ) → i < length rows.old.items → row_at rows.new.items i ≡ session_after (nat_eq slot i) (entry_of slot request.now reply.now) (row_at rows.old.items i) }
 {
-    let own = asker as usize;
+    let own = slot as usize;
     if own < rows.len() {
-        rows[own] = session_after(asker, request, reply, asker, &rows[own]);
+        rows[own] = session_after(true, request, reply, &rows[own]);
     }
 }
 
-/// The row of a session after what the asker asked and was replied.
-fn session_after(
-    asker: u16,
-    request: &Request,
-    reply: &Logged,
-    session: u16,
-    row: &SessionRow,
-) -> SessionRow
-    ensures { result ≡ session_after (entry_of asker request.now reply.now) session row.now }
+/// A row after a request, which may be that of its own session, and its reply.
+fn session_after(own: bool, request: &Request, reply: &Logged, row: &SessionRow) -> SessionRow
+    ensures { (asker : ℕ) → result ≡ session_after own (entry_of asker request.now reply.now) row.now }
 {
-    let is_own = asker == session;
     let ends = is_end(request);
-    let left = if is_own && !ends {
-        row.left.saturating_sub(1)
-    } else {
-        row.left
-    };
     SessionRow {
-        client: client_after(request, reply, is_own, row.client),
-        over: row.over || is_over_by(asker, request, reply, session, row.client),
-        left,
-        ended: (is_own && ends) || row.ended,
+        session: row.session,
+        client: client_after(request, reply, own, row.client),
+        over: row.over || is_over_by(request, reply, own, row.client),
+        left: if own && !ends {
+            one_less(row.left)
+        } else {
+            row.left
+        },
+        ended: (own && ends) || row.ended,
+    }
+}
+
+/// One request less, where there is an end of them.
+fn one_less(left: Option<u16>) -> Option<u16>
+    ensures { result ≡ option_map (λ n. n - 1) left }
+{
+    match left {
+        Some(left) => Some(left.saturating_sub(1)),
+        None => None,
     }
 }
 
 /// The client of a session after a request and its reply, which may be its own.
-fn client_after(request: &Request, reply: &Logged, is_own: bool, client: Option<u16>) -> Option<u16>
-    ensures { result ≡ either client (if is_own && is_welcome reply.now then joining request.now else None) }
+fn client_after(request: &Request, reply: &Logged, own: bool, client: Option<u16>) -> Option<u16>
+    ensures { result ≡ either client (if own && is_welcome reply.now then joining request.now else None) }
 {
     if client.is_some() {
         return client;
     }
-    if is_own && is_welcome(reply) {
+    if own && is_welcome(reply) {
         joining(request)
     } else {
         None
     }
 }
 
-/// Whether a session with this client is over by what the asker asked and was replied.
-fn is_over_by(
-    asker: u16,
-    request: &Request,
-    reply: &Logged,
-    session: u16,
-    client: Option<u16>,
-) -> bool
-    ensures { result ≡ (if asker == session then is_last reply.now else welcomes (entry_of asker request.now reply.now) client) }
+/// Whether a session with this client is over by a request, which may be its own, and its reply.
+fn is_over_by(request: &Request, reply: &Logged, own: bool, client: Option<u16>) -> bool
+    ensures { (asker : ℕ) → result ≡ (if own then is_last reply.now else welcomes (entry_of asker request.now reply.now) client) }
 {
-    if asker == session {
+    if own {
         is_last(reply)
     } else {
         welcomes(request, reply, client)

@@ -1,12 +1,13 @@
 //! A step of the sequencer: what its core decides and does goes into its journal.
-ghost use Rattle.std.specs.Prelude.{◌≡◌, List, ◌<◌, true, false, IfOk, IsOk, OnErr};
+ghost use Rattle.std.specs.Prelude.{◌≡◌, List, true, false, IfOk, IsOk, OnErr};
 ghost use Rattle.sv_journal.specs.declared.entry.Entry.{Entry};
 ghost use Rattle.sv_journal.specs.Sessions.{is_end, is_ended};
-ghost use Rattle.sv_journal.specs.Answer.{Legal};
+ghost use Rattle.sv_journal.specs.Answer.{MayBeSession, Legal};
 ghost use Rattle.sv_sequencer.specs.Step.{history, end_entry, GrewByEntry, Answered, Stayed};
 
 use crate::decision::Decided;
 use crate::entering::{enter_end, enter_reply};
+use crate::seats::Seat;
 use crate::sequencer::Sequencer;
 use std::alloc::AllocError;
 use sv_wire::{Reply, Request};
@@ -16,7 +17,7 @@ impl Sequencer {
     ///
     /// After running out of memory everything is as it was, but for room in the journal. An End takes no memory.
     pub fn step(&mut self, session: u16, request: &Request) -> Result<Reply, AllocError>
-        requires session { session < self.old.rules.sessions }
+        requires session { MayBeSession self.old.rules.sessions session }
         requires first { is_end request.now ≡ true → is_ended (history self.old) session ≡ false }
         ensures ok { IfOk result (Answered self.old self.new session request.now) }
         ensures err { OnErr result (Stayed self.old self.new) }
@@ -44,7 +45,7 @@ impl Sequencer {
     fn end(&mut self, session: u16)
         ghost h: { List Entry }
         requires past { h ≡ history self.old }
-        requires session { session < self.old.rules.sessions }
+        requires session { MayBeSession self.old.rules.sessions session }
         requires first { is_ended h session ≡ false }
         ensures { GrewByEntry self.old self.new (end_entry session) }
     {
@@ -55,12 +56,16 @@ impl Sequencer {
     fn answer(&mut self, session: u16, request: &Request) -> Result<Reply, AllocError>
         ghost h: { List Entry }
         requires past { h ≡ history self.old }
-        requires session { session < self.old.rules.sessions }
+        requires session { MayBeSession self.old.rules.sessions session }
         requires more { is_end request.now ≡ false }
         ensures ok { IfOk result (Answered self.old self.new session request.now) }
         ensures err { OnErr result (Stayed self.old self.new) }
     {
-        let decision = self.core.decide(session, request);
+        let seat = Seat {
+            slot: session,
+            session: session as u64,
+        };
+        let decision = self.core.decide(seat, request);
         enter_reply(
             &mut self.core,
             &mut self.journal,

@@ -10,7 +10,7 @@ use Rattle.sv_journal.specs.declared.entry.Entry.{Entry}
 use Rattle.sv_journal.specs.Sessions.{is_end}
 use Rattle.sv_journal.specs.History.{accepted}
 use Rattle.sv_journal.specs.Text.{NamesAccepted}
-use Rattle.sv_journal.specs.Answer.{Rules}
+use Rattle.sv_journal.specs.Answer.{Rules, MayBeSession}
 use Rattle.sv_journal.specs.Laws.{AreWithinLimits, FullRepliesStay}
 use Rattle.sv_lock.specs.Passes.{LockView, session_number}
 use Rattle.sv_lock.proofs.Histories.{prefix_self, prefix_trans}
@@ -52,7 +52,7 @@ may_go_on lock a b x may steps no_end =
     record {
       own = same.lock ∙ may.own;
       session = subst (λ o. IsSome o) (sym same.session) may.session;
-      number = subst (λ o. unwrap_or o 0 < b.base.sessions) (sym same.session) (subst (λ (r : Rules). session_number a < r.sessions) (sym same.base) may.number);
+      number = subst (λ o. MayBeSession b.base.sessions (unwrap_or o 0)) (sym same.session) (subst (λ (r : Rules). MayBeSession r.sessions (session_number a)) (sym same.base) may.number);
       limits = subst AreWithinLimits (sym same.base) may.limits;
       unended = subst (λ (l : List Entry). All (λ (e : Entry). is_end e.request ≡ false) l) (sym steps.mine) (All-append (λ (e : Entry). is_end e.request ≡ false) a.mine x may.unended no_end);
     }

@@ -45,6 +45,7 @@ names_more A more (logged.Relay seq commit head positions) f = λ k d low. let a
 names_more A more (logged.Seen last commit head positions) f = λ k d low. let at = f k d low in (at.0, omega (arith, at.1, length-append A more))
 names_more A more (logged.Welcome commit head) f = tt
 names_more A more (logged.Dropped seq chain far) f = tt
+names_more A more (logged.Denied seq object) f = tt
 names_more A more (logged.Settled seq pos) f = tt
 names_more A more (logged.Noted commit) f = tt
 names_more A more logged.Idle f = tt

@@ -7,16 +7,16 @@ use Rattle.sv_world.specs.declared.check.BadAction.{BadAction}
 use Rattle.sv_world.specs.declared.world.ObjectId.{ObjectId}
 use Rattle.sv_world.specs.Control.{chain_length, influence_distance}
 use Rattle.sv_world.specs.Faults.{first_fault_of_action, may_be_observed}
-use Rattle.sv_world.specs.Limits.{most_requests}
 use Rattle.sv_world.specs.Sets.{numbers_of}
 use Rattle.sv_wire.specs.declared.message.Request.{Request}
 use Rattle.sv_wire.specs.declared.message.Request.TheVariants as requests
+use Rattle.sv_world.specs.Rights.{first_forbidden}
 use Rattle.sv_journal.specs.declared.entry.Entry.{Entry}
 use Rattle.sv_journal.specs.declared.entry.Logged.{Logged}
 use Rattle.sv_journal.specs.declared.entry.Logged.TheVariants as logged
-use Rattle.sv_journal.specs.History.{client_of, Outcome, Accepted, Dropped, actions_of, next_seq, commit_of, either}
+use Rattle.sv_journal.specs.History.{client_of, Outcome, Accepted, Dropped, Denied, actions_of, next_seq, commit_of, either}
 use Rattle.sv_journal.specs.Sessions.{is_over, is_live, is_end, asked_in, life_of, kept_outcome}
-use Rattle.sv_journal.specs.Answer.{Rules, is_over_reach, is_bad_done, is_good_interest, orphans, reply_to, reply_to_request, reply_to_open, reply_to_member, reply_to_client, reply_to_join, reply_to_submit, reply_to_checked, reply_to_poll, reply_to_observe}
+use Rattle.sv_journal.specs.Answer.{Rules, is_above, is_full, is_spent, is_no_next_life, is_bad_done, is_good_interest, orphans, reply_to, reply_to_request, reply_to_open, reply_to_member, reply_to_client, reply_to_join, reply_to_submit, reply_to_checked, reply_by_rights, reply_to_poll, reply_to_observe}
 use Rattle.sv_session.specs.Requests.{stop_of, stop_after}
 use Rattle.sv_session.specs.declared.outcome.SessionOut.{SessionOut}
 use Rattle.sv_session.specs.declared.outcome.SessionOut.TheVariants as outs
@@ -34,20 +34,26 @@ IsOther l = is_bye l ≡ false
 join_other : (r : Rules) (h : List Entry) (s k life : ℕ) (interest : List ℕ) → IsOther (reply_to_join r h s k life interest)
 join_other r h s k life interest =
     cond_both (is_live h s) _ _ IsOther (λ _. refl) (λ _.
-    cond_both (nat_le 32 k) _ _ IsOther (λ _. refl) (λ _.
-    cond_both (nat_le life (life_of h k)) _ _ IsOther (λ _. refl) (λ _.
+    cond_both (nat_le r.clients k) _ _ IsOther (λ _. refl) (λ _.
+    cond_both (is_no_next_life r.leap (life_of h k) life) _ _ IsOther (λ _. refl) (λ _.
     cond_both (is_good_interest r.world.shape.objects interest) _ _ IsOther (λ _. refl) (λ _. refl))))
 
-checked_other : (r : Rules) (h : List Entry) (s seq : ℕ) (a : Action) (cause : Option BadAction) → IsOther (reply_to_checked r h s seq a cause)
-checked_other r h s seq a (Some cause) = refl
-checked_other r h s seq a None =
-    cond_both (nat_lt r.bound (chain_length (actions_of h) (commit_of h) a) || is_over_reach r.reach (influence_distance (actions_of h) (commit_of h) a)) _ _ IsOther (λ _. refl) (λ _. refl)
+by_rights_other : (r : Rules) (h : List Entry) (s seq : ℕ) (a : Action) (object : Option ℕ) → IsOther (reply_by_rights r h s seq a object)
+by_rights_other r h s seq a (Some object) = refl
+by_rights_other r h s seq a None =
+    cond_both (nat_lt r.bound (chain_length (actions_of h) (commit_of h) a) || is_above r.reach (influence_distance (actions_of h) (commit_of h) a)) _ _ IsOther (λ _. refl) (λ _. refl)
+
+checked_other : (r : Rules) (h : List Entry) (s k seq : ℕ) (a : Action) (cause : Option BadAction) → IsOther (reply_to_checked r h s k seq a cause)
+checked_other r h s k seq a (Some cause) = refl
+checked_other r h s k seq a None =
+    cond_both (is_full r h seq) _ _ IsOther (λ _. refl) (λ _. by_rights_other r h s seq a (first_forbidden r.rights k a))
 
 submit_other : (r : Rules) (h : List Entry) (s k seq : ℕ) (a : Action) (o : Option Outcome) → IsOther (reply_to_submit r h s k seq a o)
 submit_other r h s k seq a (Some (Dropped chain far)) = refl
+submit_other r h s k seq a (Some (Denied object)) = refl
 submit_other r h s k seq a (Some (Accepted p)) = cond_both (nat_le p (commit_of h)) _ _ IsOther (λ _. refl) (λ _. refl)
 submit_other r h s k seq a None =
-    cond_both (seq == next_seq h k) _ _ IsOther (λ _. checked_other r h s seq a (first_fault_of_action r.world.shape a)) (λ _. refl)
+    cond_both (seq == next_seq h k) _ _ IsOther (λ _. checked_other r h s k seq a (first_fault_of_action r.world.shape a)) (λ _. refl)
 
 poll_other : (r : Rules) (h : List Entry) (s : ℕ) (ps : List ℕ) → IsOther (reply_to_poll r h s ps)
 poll_other r h s [] = refl
@@ -62,7 +68,7 @@ member_other r h s None request f = refl
 member_other r h s (Some k) request f = f k
 
 over_or_spent : (r : Rules) (h : List Entry) (s : ℕ) (request : Request) → IsOther (reply_to_open r h s request) → IsOther (reply_to_request r h s request)
-over_or_spent r h s request f = cond_both (is_over h s) _ _ IsOther (λ _. refl) (λ _. cond_both (nat_le most_requests (asked_in h s)) _ _ IsOther (λ _. refl) (λ _. f))
+over_or_spent r h s request f = cond_both (is_over h s) _ _ IsOther (λ _. refl) (λ _. cond_both (is_spent r.requests (asked_in h s)) _ _ IsOther (λ _. refl) (λ _. f))
 
 other_reply : (r : Rules) (h : List Entry) (s : ℕ) (request : Request) → request ≢ requests.Leave → is_end request ≡ false → IsOther (reply_to r h s request)
 other_reply r h s (requests.Join client life interest) no_leave no_end =
@@ -103,6 +109,7 @@ left_is_bye : (l : Logged) → stop_of l ≡ Some outs.Left → is_bye l ≡ tru
 left_is_bye (logged.Welcome commit head) e = absurd cc
 left_is_bye (logged.Relay seq commit head positions) e = absurd cc
 left_is_bye (logged.Dropped seq chain far) e = absurd cc
+left_is_bye (logged.Denied seq object) e = absurd cc
 left_is_bye (logged.Seen last commit head positions) e = absurd cc
 left_is_bye (logged.Settled seq pos) e = absurd cc
 left_is_bye (logged.Noted commit) e = absurd cc
@@ -126,7 +133,7 @@ left_by_leave r h s request l is no_end e =
 pub bad_stops : (r : Rules) (h : List Entry) (s : ℕ) (l : Logged) → l ≡ reply_to r h s requests.Bad → IsSome (stop_of l)
 bad_stops r h s l is =
     subst (λ x. IsSome (stop_of x)) (sym is)
-    (cond_both (is_over h s) _ _ (λ x. IsSome (stop_of x)) (λ _. refl) (λ _. cond_both (nat_le most_requests (asked_in h s)) _ _ (λ x. IsSome (stop_of x)) (λ _. refl) (λ _. refl)))
+    (cond_both (is_over h s) _ _ (λ x. IsSome (stop_of x)) (λ _. refl) (λ _. cond_both (is_spent r.requests (asked_in h s)) _ _ (λ x. IsSome (stop_of x)) (λ _. refl) (λ _. refl)))
 
 -- ---- The first stop of several entries
 
@@ -159,6 +166,7 @@ pub each_reason : (P : SessionOut → Type 0) (l : Logged) (out : SessionOut) �
 each_reason P (logged.Welcome commit head) out e left malformed ended spent = absurd cc
 each_reason P (logged.Relay seq commit head positions) out e left malformed ended spent = absurd cc
 each_reason P (logged.Dropped seq chain far) out e left malformed ended spent = absurd cc
+each_reason P (logged.Denied seq object) out e left malformed ended spent = absurd cc
 each_reason P (logged.Seen last commit head positions) out e left malformed ended spent = absurd cc
 each_reason P (logged.Settled seq pos) out e left malformed ended spent = absurd cc
 each_reason P (logged.Noted commit) out e left malformed ended spent = absurd cc

@@ -8,7 +8,7 @@ use Rattle.sv_wire.specs.declared.message.Request.TheVariants as requests
 use Rattle.sv_journal.specs.declared.entry.Entry.{Entry}
 use Rattle.sv_journal.specs.declared.entry.Logged.TheVariants as logged
 use Rattle.sv_journal.specs.Sessions.{is_end}
-use Rattle.sv_journal.specs.Answer.{Rules, Legal}
+use Rattle.sv_journal.specs.Answer.{Rules, MayBeSession, Legal}
 use Rattle.sv_journal.specs.Laws.{AreWithinLimits}
 use Rattle.sv_sequencer.specs.Step.{entry_of}
 use Rattle.sv_lock.specs.Histories.{entries_of}
@@ -26,7 +26,7 @@ SessionPass = PassView Rules Entry
 pub record MayServe (lock : LockView) (pass : SessionPass) : Type 0 where
   pub own : pass.lock ≡ lock.id
   pub session : IsSome pass.session
-  pub number : session_number pass < pass.base.sessions
+  pub number : MayBeSession pass.base.sessions (session_number pass)
   pub limits : AreWithinLimits pass.base
   pub unended : All (λ (e : Entry). is_end e.request ≡ false) pass.mine
 

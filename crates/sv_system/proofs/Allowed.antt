@@ -2,12 +2,14 @@
 use Rattle.std.proofs.Common.{◌≡◌, ℕ, zero, suc, ◌<◌, ◌≤◌, Bool, true, false, not, ◌||◌, ◌==◌, nat_le, nat_lt, inl, inr, List, [], ◌∷◌, ◌++◌, map, reverse, length, ℤ, Option, Some, None, slice_get, refl, sym, ap, ◌∙◌, subst, arith, eq-eqb, true≢false}
 use Rattle.std.specs.Prelude.{if◌then◌else◌, All}
 use Rattle.std.specs.List.{AllByRecursion}
-use Rattle.std.proofs.lemmas.Bool.{cond_both, cond-true, cond-false, or_parts, ne_eqb}
+use Rattle.std.proofs.lemmas.Bool.{cond_both, cond-true, cond-false, or_from, or_parts, ne_eqb, le-ltb, lt-leb}
 use Rattle.std.proofs.lemmas.List.{length-map}
 use Rattle.std.proofs.lemmas.List.Elements.{All-from_recursion}
 use Rattle.std.proofs.lemmas.Option.{none-some, same_Some}
 use Rattle.sv_world.specs.Control.{is_in, action_at, chain_length, influence_distance}
 use Rattle.sv_world.specs.Faults.{first_fault_of_action, is_ascending, may_be_observed, IsGoodAction}
+use Rattle.sv_world.specs.Limits.{most_positions}
+use Rattle.sv_world.specs.Rights.{first_forbidden}
 use Rattle.sv_world.specs.Sets.{numbers_of, read_set}
 use Rattle.sv_world.specs.declared.action.Action.{Action}
 use Rattle.sv_world.specs.declared.world.ObjectId.{ObjectId}
@@ -26,9 +28,9 @@ use Rattle.sv_wire.specs.declared.message.Reply.TheVariants as replies
 use Rattle.sv_journal.specs.declared.entry.Entry.{Entry}
 use Rattle.sv_journal.specs.declared.entry.Logged.{Logged}
 use Rattle.sv_journal.specs.declared.entry.Logged.TheVariants as logged
-use Rattle.sv_journal.specs.History.{Authored, Outcome, Accepted, Dropped, accepted, actions_of, client_of, next_seq, item_at, full_reply, commit_of}
+use Rattle.sv_journal.specs.History.{Authored, Outcome, Accepted, Dropped, Denied, accepted, actions_of, client_of, next_seq, item_at, full_reply, commit_of}
 use Rattle.sv_journal.specs.Sessions.{is_end, kept_outcome, positions_in, sent_to}
-use Rattle.sv_journal.specs.Answer.{Rules, refused, is_over_reach, reply_to_checked, reply_to_submit, is_bad_done, commit_with, orphans, reply_to_poll, reply_to_client, reply_to_member, reply_to_open}
+use Rattle.sv_journal.specs.Answer.{Rules, refused, is_above, is_full, reply_by_rights, reply_to_checked, reply_to_submit, is_bad_done, commit_with, orphans, reply_to_poll, reply_to_client, reply_to_member, reply_to_open}
 use Rattle.sv_journal.specs.Serving.{Keeping, with_last_rows, polled_after, LegalFor, IsKeeping}
 use Rattle.sv_journal.proofs.Kept.{client-kept, next-kept, kept_outcome-kept, accepted-kept, sent-kept}
 use Rattle.sv_client.specs.declared.trace.Event.{Event}
@@ -57,6 +59,7 @@ use Rattle.sv_system.proofs.Opened.{asks, asks-other}
 use Rattle.sv_system.proofs.Begun.{replied, join-welcomed}
 use Rattle.sv_system.proofs.Before.{got-at, welcomed-now}
 use Rattle.sv_system.proofs.Numbering.{numbered-well}
+use Rattle.sv_system.proofs.Window.{submit-most}
 use Rattle.sv_system.proofs.Dones.{sent-now, sent-stays, good-done}
 
 -- ---- What a trace asks
@@ -201,6 +204,7 @@ pub items-logged : (A : List Authored) (reply : Logged) → items_of (full_reply
 items-logged A (logged.Relay seq commit head positions) = refl
 items-logged A (logged.Welcome commit head) = refl
 items-logged A (logged.Dropped seq chain far) = refl
+items-logged A (logged.Denied seq object) = refl
 items-logged A (logged.Seen last commit head positions) = refl
 items-logged A (logged.Settled seq pos) = refl
 items-logged A (logged.Noted commit) = refl
@@ -216,6 +220,7 @@ positions-low K keeps r d h l (logged.Relay seq commit head positions) is =
     )
 positions-low K keeps r d h l (logged.Welcome commit head) is = (refl, λ k m. absurd (true≢false (sym m)))
 positions-low K keeps r d h l (logged.Dropped seq chain far) is = (refl, λ k m. absurd (true≢false (sym m)))
+positions-low K keeps r d h l (logged.Denied seq object) is = (refl, λ k m. absurd (true≢false (sym m)))
 positions-low K keeps r d h l (logged.Seen last commit head positions) is =
     let t = legal-seen K keeps r d h last commit head positions l is in
     let acts = actions_of (d ∷ h) in
@@ -237,8 +242,8 @@ good-reads objects shape_of (a ∷ xs) f h = (f a.action h.0, good-reads objects
 module _ (truthful : Truthful) where
   open truthful.awaited.owner use {keeping as K, rules as r, journal as H, trace as L, served}
   open truthful.awaited.owner.served use {fits as this_one, keeps, legal}
-  open truthful.awaited use {session as s, entry as e, before as g, earlier as b, mine}
-  open truthful use {awaited, count, shaped, bound, serial}
+  open truthful.awaited use {session as s, entry as e, before as g, earlier as b, mine, limits}
+  open truthful use {awaited, count, shaped, bound, room, serial}
 
   abbrev whole : List Event
   whole = reverse L.events
@@ -285,6 +290,16 @@ module _ (truthful : Truthful) where
   abbrev IsAllowed : Request → Logged → Type 0
   IsAllowed q reply = allows q (full_reply A (with_last_rows K r g s q reply)) ≡ true
 
+  -- A position is left for a Submit, and a number for the action.
+  not-full : (n : ℕ) (a : Action) → e.request ≡ requests.Submit n a → is_full r (K.kept g) n ≡ false
+  not-full n a is =
+      let number : n ≤ makes whole = submit-most who L.first whole this_one.proper.events s (length (got whole s)) n a (asking (requests.Submit n a) is refl) in
+      let made : makes whole ≤ most_positions = limits.actions in
+      let grows : length (accepted g) ≤ length A = accepted-grows g H earlier in
+      let same_count : length (accepted (K.kept g)) ≡ length (accepted g) = ap length (accepted-kept K keeps g) in
+      or_from (nat_le r.positions (length (accepted (K.kept g)))) (nat_lt most_positions n)
+      (lt-leb r.positions (length (accepted (K.kept g))) (omega (arith, room))) (le-ltb most_positions n (omega arith))
+
   submit-allowed : (n : ℕ) (a : Action) → e.request ≡ requests.Submit n a → IsAllowed (requests.Submit n a) (reply_to_submit r (K.kept g) s k n a (kept_outcome (K.kept g) k n))
   submit-allowed n a is =
       let w = numbered-well awaited n a is in
@@ -294,12 +309,19 @@ module _ (truthful : Truthful) where
         | inl o ↦ subst (λ (x : Option Outcome). P (reply_to_submit r (K.kept g) s k n a x)) (sym (same_kept ∙ o.1)) (kept-allowed o.0)
         | inr o ↦ subst (λ (x : Option Outcome). P (reply_to_submit r (K.kept g) s k n a x)) (sym (same_kept ∙ o.1))
             (subst P (sym (cond-true (n == next_seq (K.kept g) k) _ (refused 5 (next_seq (K.kept g) k)) (eq-eqb n (next_seq (K.kept g) k) (o.0 ∙ sym (next-kept K keeps g k)))
-            ∙ ap (reply_to_checked r (K.kept g) s n a) (front-checked w.rest (subst (AllByRecursion (λ (j : Numbered). first_fault_of_action r.world.shape j.1 ≡ None)) w.front (pending-checked who L.first whole this_one.proper.events)))))
-            (cond_both (nat_lt r.bound (chain_length (actions_of (K.kept g)) (commit_of (K.kept g)) a) || is_over_reach r.reach (influence_distance (actions_of (K.kept g)) (commit_of (K.kept g)) a)) _ _ P (λ x. refl) (λ x. refl)))
+            ∙ ap (reply_to_checked r (K.kept g) s k n a) (front-checked w.rest (subst (AllByRecursion (λ (j : Numbered). first_fault_of_action r.world.shape j.1 ≡ None)) w.front (pending-checked who L.first whole this_one.proper.events)))))
+            (subst P (sym (cond-false (is_full r (K.kept g) n) (refused 12 0) _ (not-full n a is))) (rights-allowed (first_forbidden r.rights k a))))
       ]
     where
+      rights-allowed : (o : Option ℕ) → IsAllowed (requests.Submit n a) (reply_by_rights r (K.kept g) s n a o)
+      rights-allowed (Some object) = refl
+      rights-allowed None =
+          cond_both (nat_lt r.bound (chain_length (actions_of (K.kept g)) (commit_of (K.kept g)) a) || is_above r.reach (influence_distance (actions_of (K.kept g)) (commit_of (K.kept g)) a)) _ _
+          (IsAllowed (requests.Submit n a)) (λ x. refl) (λ x. refl)
+
       kept-allowed : (o : Outcome) → IsAllowed (requests.Submit n a) (reply_to_submit r (K.kept g) s k n a (Some o))
       kept-allowed (Dropped chain far) = refl
+      kept-allowed (Denied object) = refl
       kept-allowed (Accepted p) = cond_both (nat_le p (commit_of (K.kept g))) _ _ (IsAllowed (requests.Submit n a)) (λ x. refl) (λ x. refl)
 
       front-checked : (ks : List Numbered) → AllByRecursion (λ (j : Numbered). first_fault_of_action r.world.shape j.1 ≡ None) ((n, a) ∷ ks) → first_fault_of_action r.world.shape a ≡ None

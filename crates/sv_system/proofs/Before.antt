@@ -58,6 +58,7 @@ told-most K keeps r A d h g l b (logged.Noted commit) is c e =
     let w : commit ≡ commit_of (K.kept (d ∷ h)) = t.1.1 ∙ noted-commit K keeps d h commit is in
     omega arith
 told-most K keeps r A d h g l b (logged.Dropped seq chain far) is c e = absurd (none-some c e)
+told-most K keeps r A d h g l b (logged.Denied seq object) is c e = absurd (none-some c e)
 told-most K keeps r A d h g l b (logged.Seen last commit head positions) is c e =
     let t : IsSeenReply K r h d.session d.request last commit head positions = subst (λ (y : Logged). TellsFor K r h d.session d.request y) is (served-tells K keeps r d h l) in
     let a : commit_of (K.kept h) ≤ commit_of (K.kept g) = commit-grows (K.kept h) (K.kept g) (earlier-kept K keeps h g (earlier-rest h d g b)) in

@@ -1,7 +1,7 @@
 -- A client's Join is answered Welcome, and what it got in older sessions was answered before its next request.
-use Rattle.std.proofs.Common.{◌≡◌, ℕ, suc, ◌+◌, ◌<◌, ◌≤◌, max, true, false, ◌&&◌, not, nat_le, nat_lt, inl, inr, List, [], ◌∷◌, map, reverse, length, Option, Some, None, is_some, refl, sym, ap, ap₂, ◌∙◌, arith, true≢false, lt-ltb, le-leb, subst}
+use Rattle.std.proofs.Common.{◌≡◌, ℕ, suc, ◌+◌, ◌-◌, ◌<◌, ◌≤◌, max, true, false, ◌&&◌, not, nat_le, nat_lt, inl, inr, List, [], ◌∷◌, map, reverse, length, Option, Some, None, is_some, refl, sym, ap, ap₂, ◌∙◌, arith, true≢false, lt-ltb, le-leb, subst}
 use Rattle.std.specs.List.{list_all, AllByRecursion}
-use Rattle.std.proofs.lemmas.Bool.{cond-true, cond-false, cases_Bool, cases_lt, and_parts, and_from, and_left, lt-leb}
+use Rattle.std.proofs.lemmas.Bool.{cond-true, cond-false, cases_Bool, cases_lt, and_parts, and_from, and_left, or_from, lt-leb}
 use Rattle.std.proofs.lemmas.List.{length-append, length-map}
 use Rattle.std.proofs.lemmas.List.Elements.{recursion_from_All}
 use Rattle.std.proofs.lemmas.Option.{none-some, same_Some, slice_get_within}
@@ -14,20 +14,21 @@ use Rattle.sv_journal.specs.declared.entry.Entry.{Entry}
 use Rattle.sv_journal.specs.declared.entry.Logged.TheVariants as logged
 use Rattle.sv_journal.specs.History.{Authored, accepted, client_of, is_client, is_welcome, joining, full_reply, commit_of}
 use Rattle.sv_journal.specs.Sessions.{is_end, welcomes, is_joined, is_over, is_live, asked_in, life_in, life_of}
-use Rattle.sv_journal.specs.Answer.{Rules, committed_held, is_good_interest, reply_to_join, reply_to_open, reply_to_request, reply_to, refused}
+use Rattle.sv_journal.specs.Answer.{Rules, committed_held, is_above, is_good_interest, is_no_next_life, reply_to_join, reply_to_open, is_spent, reply_to_request, reply_to, refused}
 use Rattle.sv_journal.specs.Serving.{with_last_rows, reply_for}
 use Rattle.sv_journal.proofs.Kept.{over-kept, asked-kept, life-kept, live-kept}
 use Rattle.sv_journal.proofs.Named.{client_is as client_some}
 use Rattle.sv_client.specs.declared.trace.Event.{Event}
 use Rattle.sv_client.specs.Traces.{joins, asked, got}
 use Rattle.sv_client.specs.Proper.{identity_of}
-use Rattle.sv_system.specs.Fits.{requests_in, replies_in}
+use Rattle.sv_system.specs.Fits.{requests_in, replies_in, has_session}
 use Rattle.sv_system.proofs.Awaited.{Awaited}
 use Rattle.sv_system.proofs.Histories.{IsEarlier, same, after, earlier-then, earlier-rest, earlier-served}
 use Rattle.sv_system.proofs.Entered.{is_of, of-parts, of-from, as-many, IsWelcome}
 use Rattle.sv_system.proofs.Asked.{current-last}
 use Rattle.sv_system.proofs.Leaving.{IsJoinAsked, join-asked}
-use Rattle.sv_system.proofs.Opened.{welcome-of, welcomed-by, own-join, asks, asks-other, was-got, not-over}
+use Rattle.sv_system.proofs.Opened.{has, welcome-of, welcomed-by, own-join, asks, asks-other, was-got, not-over}
+use Rattle.sv_system.proofs.Within.{not-above, not-spent, leap-at}
 
 asked-count : (h : List Entry) (s : ℕ) → asked_in h s ≡ length (requests_in h s)
 asked-count [] s = refl
@@ -80,8 +81,8 @@ join-parts requests.Bad k e = absurd (none-some k e)
 join-parts requests.End k e = absurd (none-some k e)
 
 -- A request of an open session that is not spent is answered by what it is.
-pub open-reply : (r : Rules) (g : List Entry) (s : ℕ) (q : Request) → is_end q ≡ false → is_over g s ≡ false → asked_in g s < 1024 → reply_to r g s q ≡ reply_to_open r g s q
-open-reply r g s q f o l = end-apart q f ∙ cond-false (is_over g s) (refused 4 0) _ o ∙ cond-false (nat_le 1024 (asked_in g s)) (refused 9 0) _ (lt-leb 1024 (asked_in g s) l)
+pub open-reply : (r : Rules) (g : List Entry) (s : ℕ) (q : Request) → is_end q ≡ false → is_over g s ≡ false → is_spent r.requests (asked_in g s) ≡ false → reply_to r g s q ≡ reply_to_open r g s q
+open-reply r g s q f o l = end-apart q f ∙ cond-false (is_over g s) (refused 4 0) _ o ∙ cond-false (is_spent r.requests (asked_in g s)) (refused 9 0) _ l
   where
     end-apart : (q : Request) → is_end q ≡ false → reply_to r g s q ≡ reply_to_request r g s q
     end-apart (requests.Join client life interest) f = refl
@@ -96,7 +97,7 @@ open-reply r g s q f o l = end-apart q f ∙ cond-false (is_over g s) (refused 4
 module _ (awaited : Awaited) where
   open awaited.owner use {keeping as K, rules as r, journal as H, trace as L}
   open awaited.owner.served use {fits as this_one, keeps, legal}
-  open awaited use {owner, session as s, current, few, entry as e, before as g, earlier as b, mine, next}
+  open awaited use {owner, session as s, current, limits, entry as e, before as g, earlier as b, mine, next}
 
   abbrev whole : List Event
   whole = reverse L.events
@@ -113,18 +114,18 @@ module _ (awaited : Awaited) where
   earlier : IsEarlier g H
   earlier = earlier-rest g e H b
 
-  pub unspent : asked_in g s < 1024
+  pub unspent : is_spent r.requests (asked_in g s) ≡ false
   unspent =
       let request = asks awaited in
       let a : asked_in g s ≡ length (requests_in g s) = asked-count g s in
       let c : length (replies_in A g s) ≡ length (requests_in g s) = as-many A g s in
       let n : length (got whole s) < length (asked L.client L.interest whole s) = slice_get_within (asked L.client L.interest whole s) (length (got whole s)) request.0 request.1.0 in
-      omega (arith, next, few)
+      not-spent r.requests (asked_in g s) (length (asked L.client L.interest whole s)) (omega (arith, next)) limits.requests
 
   pub replied : e.reply ≡ with_last_rows K r g s e.request (reply_to_open r (K.kept g) s e.request)
   replied =
       let parts = of-parts e s mine in
-      let few_asked : asked_in (K.kept g) s < 1024 = subst (λ (n : ℕ). n < 1024) (sym (asked-kept K keeps g s)) unspent in
+      let few_asked : is_spent r.requests (asked_in (K.kept g) s) ≡ false = ap (is_spent r.requests) (asked-kept K keeps g s) ∙ unspent in
       (earlier-served K r (e ∷ g) H b legal).0 ∙ ap (λ (n : ℕ). reply_for K r g n e.request) parts.0
       ∙ ap (with_last_rows K r g s e.request) (open-reply r (K.kept g) s e.request parts.1 (over-kept K keeps g s ∙ open') few_asked)
 
@@ -170,14 +171,16 @@ module _ (awaited : Awaited) where
       (and_from (nat_le (length xs) 64) (is_ascending xs) (le-leb (length xs) 64 (omega arith)) who.ascending)
       (all-below r.world.shape.objects L.interest (recursion_from_All (λ (o : ObjectId). o.0 < r.world.shape.objects) L.interest who.objects))
 
-  join-reply : (life : ℕ) → client_of g s ≡ None → life_of g k < life →
+  join-reply : (life : ℕ) → client_of g s ≡ None → life_of g k < life → is_above r.leap (life - life_of g k) ≡ false →
       reply_to_join r (K.kept g) s k life (map (λ (o : ObjectId). o.0) L.interest)
       ≡ logged.Welcome (commit_of (K.kept g)) (committed_held r (K.kept g) (map (λ (o : ObjectId). o.0) L.interest))
-  join-reply life fresh later =
+  join-reply life fresh later near =
       let lower : life_of (K.kept g) k < life = subst (λ (n : ℕ). n < life) (sym (life-kept K keeps g k)) later in
       cond-false (is_live (K.kept g) s) (refused 3 0) _ (live-kept K keeps g s ∙ and_left (is_joined g s) (not (is_over g s)) (ap is_some fresh))
-      ∙ cond-false (nat_le 32 k) (refused 10 0) _ (lt-leb 32 k this_one.proper.who.client)
-      ∙ cond-false (nat_le life (life_of (K.kept g) k)) (refused 11 (life_of (K.kept g) k)) _ (lt-leb life (life_of (K.kept g) k) lower)
+      ∙ cond-false (nat_le r.clients k) (refused 10 0) _ (lt-leb r.clients k limits.client)
+      ∙ cond-false (is_no_next_life r.leap (life_of (K.kept g) k) life) (refused 11 (life_of (K.kept g) k)) _
+      (or_from (nat_le life (life_of (K.kept g) k)) (is_above r.leap (life - life_of (K.kept g) k)) (lt-leb life (life_of (K.kept g) k) lower)
+      (ap (λ (n : ℕ). is_above r.leap (life - n)) (life-kept K keeps g k) ∙ near))
       ∙ cond-true (is_good_interest r.world.shape.objects (map (λ (o : ObjectId). o.0) L.interest)) _ (refused 8 0) good-interest
 
   -- A Join that is the next request is answered Welcome, with the interest's committed values.
@@ -188,10 +191,14 @@ module _ (awaited : Awaited) where
       let join = requests.Join client life interest in
       let j = join-asked (identity_of r.world.shape L) L.first whole this_one.proper.events s (length (got whole s)) client life interest
       (asks-other awaited join is refl) in
-      let z : length (got whole s) ≡ 0 = j.place in (
+      let z : length (got whole s) ≡ 0 = j.place in
+      let mine_is : e.session ≡ s = (of-parts e s mine).0 in
+      let near : is_above r.leap (life - life_of g k) ≡ false =
+      ap (λ (q : Request). is_above r.leap (life_in q - life_of g k)) (sym is)
+      ∙ not-above r.leap (life_in e.request - life_of g k) (leap-at r.leap L e g H b limits.lives (ap (has_session L) mine_is ∙ has awaited)) in (
         replied ∙ ap (λ (q : Request). with_last_rows K r g s q (reply_to_open r (K.kept g) s q)) is
             ∙ ap (with_last_rows K r g s join)
             (ap₂ (λ (c : ClientId) (xs : List ObjectId). reply_to_join r (K.kept g) s c.0 life (map (λ (o : ObjectId). o.0) xs)) j.client_is j.interest_is
-            ∙ join-reply life (fresh-client z (client_of g s) refl) (later-life z life j.low j.numbered)),
+            ∙ join-reply life (fresh-client z (client_of g s) refl) (later-life z life j.low j.numbered) near),
         j,
       )

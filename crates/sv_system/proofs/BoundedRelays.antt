@@ -77,6 +77,7 @@ accepted-here K keeps r e h i l low high (logged.Relay seq commit head positions
     ]
 accepted-here K keeps r e h i l low high (logged.Welcome commit head) is = (let n : length (accepted (e ∷ h)) ≡ length (accepted h) = not-relay e h e.reply (ap is_relay is) in absurd (omega arith))
 accepted-here K keeps r e h i l low high (logged.Dropped seq chain far) is = (let n : length (accepted (e ∷ h)) ≡ length (accepted h) = not-relay e h e.reply (ap is_relay is) in absurd (omega arith))
+accepted-here K keeps r e h i l low high (logged.Denied seq object) is = (let n : length (accepted (e ∷ h)) ≡ length (accepted h) = not-relay e h e.reply (ap is_relay is) in absurd (omega arith))
 accepted-here K keeps r e h i l low high (logged.Seen last commit head positions) is = (let n : length (accepted (e ∷ h)) ≡ length (accepted h) = not-relay e h e.reply (ap is_relay is) in absurd (omega arith))
 accepted-here K keeps r e h i l low high (logged.Settled seq pos) is = (let n : length (accepted (e ∷ h)) ≡ length (accepted h) = not-relay e h e.reply (ap is_relay is) in absurd (omega arith))
 accepted-here K keeps r e h i l low high (logged.Noted commit) is = (let n : length (accepted (e ∷ h)) ≡ length (accepted h) = not-relay e h e.reply (ap is_relay is) in absurd (omega arith))
@@ -117,6 +118,7 @@ one-small : (K : Keeping) (keeps : IsKeeping K) (r : Rules) (e : Entry) (h : Lis
 one-small K keeps r e h l (logged.Relay seq commit head positions) is = relay-small K keeps r e h commit head positions l (legal-relay K keeps r e h seq commit head positions l is)
 one-small K keeps r e h l (logged.Welcome commit head) is = omega arith
 one-small K keeps r e h l (logged.Dropped seq chain far) is = omega arith
+one-small K keeps r e h l (logged.Denied seq object) is = omega arith
 one-small K keeps r e h l (logged.Seen last commit head positions) is = (legal-seen K keeps r e h last commit head positions l is).few
 one-small K keeps r e h l (logged.Settled seq pos) is = omega arith
 one-small K keeps r e h l (logged.Noted commit) is = omega arith
@@ -134,6 +136,7 @@ sent-of r (logged.Seen last commit head positions) l = omega arith
 sent-of r (logged.Relay seq commit head positions) l = omega arith
 sent-of r (logged.Welcome commit head) l = omega arith
 sent-of r (logged.Dropped seq chain far) l = omega arith
+sent-of r (logged.Denied seq object) l = omega arith
 sent-of r (logged.Settled seq pos) l = omega arith
 sent-of r (logged.Noted commit) l = omega arith
 sent-of r logged.Idle l = omega arith

@@ -7,7 +7,7 @@ use Rattle.std.proofs.lemmas.Option.{none-some, same_Some}
 use Rattle.sv_journal.specs.declared.entry.Entry.{Entry}
 use Rattle.sv_journal.specs.declared.entry.Logged.{Logged}
 use Rattle.sv_journal.specs.declared.entry.Logged.TheVariants as logged
-use Rattle.sv_journal.specs.History.{Outcome, Accepted, Dropped, client_of, is_client, is_noted, is_submit_of, outcome_in, outcomes_of, accepted, next_seq, result_at, reports, run_length, commit_of, either}
+use Rattle.sv_journal.specs.History.{Outcome, Accepted, Dropped, Denied, client_of, is_client, is_noted, is_submit_of, outcome_in, outcomes_of, accepted, next_seq, result_at, reports, run_length, commit_of, either}
 use Rattle.sv_journal.specs.Sessions.{outcome_at}
 use Rattle.sv_journal.proofs.Commits.{committed_has, run_within, commit_within}
 use Rattle.sv_system.proofs.Histories.{IsEarlier, same, after, accepted-grows}
@@ -88,6 +88,8 @@ one-outcome p (logged.Relay seq commit head positions) zero o e = (refl, ap (λ 
 one-outcome p (logged.Relay seq commit head positions) (suc j) o e = absurd (none-some o e)
 one-outcome p (logged.Dropped seq chain far) zero o e = (refl, ap (λ (x : Outcome). x ∷ []) (sym (same_Some (Dropped chain far) o e)))
 one-outcome p (logged.Dropped seq chain far) (suc j) o e = absurd (none-some o e)
+one-outcome p (logged.Denied seq object) zero o e = (refl, ap (λ (x : Outcome). x ∷ []) (sym (same_Some (Denied object.0) o e)))
+one-outcome p (logged.Denied seq object) (suc j) o e = absurd (none-some o e)
 one-outcome p (logged.Seen last commit head positions) j o e = absurd (none-some o e)
 one-outcome p (logged.Welcome commit head) j o e = absurd (none-some o e)
 one-outcome p (logged.Settled seq pos) j o e = absurd (none-some o e)

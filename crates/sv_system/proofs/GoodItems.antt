@@ -5,6 +5,7 @@ use Rattle.std.proofs.lemmas.Bool.{cond_both, or_from, and_from, ne_eqb, not_fro
 use Rattle.std.proofs.lemmas.List.Elements.{All-from_recursion, recursion_from_All}
 use Rattle.sv_world.specs.Control.{is_in, blank, head_for, with_reading, up_to, chain_length, influence_distance}
 use Rattle.sv_world.specs.Faults.{first_fault_of_action, IsGoodAction}
+use Rattle.sv_world.specs.Rights.{first_forbidden}
 use Rattle.sv_world.specs.Sets.{numbers_of}
 use Rattle.sv_world.specs.declared.action.Action.{Action}
 use Rattle.sv_world.specs.declared.check.BadAction.{BadAction}
@@ -19,9 +20,9 @@ use Rattle.sv_wire.specs.declared.message.Request.TheVariants as requests
 use Rattle.sv_journal.specs.declared.entry.Entry.{Entry}
 use Rattle.sv_journal.specs.declared.entry.Logged.{Logged}
 use Rattle.sv_journal.specs.declared.entry.Logged.TheVariants as logged
-use Rattle.sv_journal.specs.History.{Authored, Outcome, Accepted, Dropped, accepted, actions_of, next_seq, item_at, full_reply, commit_of}
+use Rattle.sv_journal.specs.History.{Authored, Outcome, Accepted, Dropped, Denied, accepted, actions_of, next_seq, item_at, full_reply, commit_of}
 use Rattle.sv_journal.specs.Sessions.{kept_outcome, sent_to, already_given}
-use Rattle.sv_journal.specs.Answer.{Rules, committed_held, is_over_reach, reply_to_checked, reply_to_submit, orphans, reply_to_poll}
+use Rattle.sv_journal.specs.Answer.{Rules, committed_held, is_above, is_full, reply_by_rights, reply_to_checked, reply_to_submit, orphans, reply_to_poll}
 use Rattle.sv_journal.specs.Serving.{Keeping, with_last_rows, LegalFor, IsKeeping}
 use Rattle.sv_client.specs.declared.trace.Event.{Event}
 use Rattle.sv_client.specs.Traces.{pending_of}
@@ -55,13 +56,18 @@ module _ (K : Keeping) (r : Rules) (g : List Entry) (s : ℕ) where
 
   submit-for : (h : List Entry) (k n : ℕ) (a : Action) (o : Option Outcome) → IsForSubmit n a (reply_to_submit r h s k n a o)
   submit-for h k n a (Some (Dropped chain far)) = tt
+  submit-for h k n a (Some (Denied object)) = tt
   submit-for h k n a (Some (Accepted p)) = cond_both (nat_le p (commit_of h)) _ _ (IsForSubmit n a) (λ x. tt) (λ x. refl)
   submit-for h k n a None = cond_both (n == next_seq h k) _ _ (IsForSubmit n a) (λ x. checked-for (first_fault_of_action r.world.shape a)) (λ x. tt)
     where
-      checked-for : (fault : Option BadAction) → IsForSubmit n a (reply_to_checked r h s n a fault)
+      rights-for : (o : Option ℕ) → IsForSubmit n a (reply_by_rights r h s n a o)
+      rights-for (Some object) = tt
+      rights-for None =
+          cond_both (nat_lt r.bound (chain_length (actions_of h) (commit_of h) a) || is_above r.reach (influence_distance (actions_of h) (commit_of h) a)) _ _ (IsForSubmit n a) (λ x. tt) (λ x. refl)
+
+      checked-for : (fault : Option BadAction) → IsForSubmit n a (reply_to_checked r h s k n a fault)
       checked-for (Some cause) = tt
-      checked-for None =
-          cond_both (nat_lt r.bound (chain_length (actions_of h) (commit_of h) a) || is_over_reach r.reach (influence_distance (actions_of h) (commit_of h) a)) _ _ (IsForSubmit n a) (λ x. tt) (λ x. refl)
+      checked-for None = cond_both (is_full r h n) _ _ (IsForSubmit n a) (λ x. tt) (λ x. rights-for (first_forbidden r.rights k a))
 
   poll-for : (h : List Entry) (ps : List ℕ) → IsFor 0 (reply_to_poll r h s ps)
   poll-for h [] = tt
@@ -212,6 +218,8 @@ module _ (truthful : Truthful) where
   no-bad_item (logged.Welcome commit head) is = welcome-head commit head (tells (logged.Welcome commit head) is) is
   no-bad_item (logged.Dropped seq chain far) is =
       let t : AnswersSubmit g e.session e.request seq = tells (logged.Dropped seq chain far) is in settled-good seq t.1.1.0 t.1.1.1.0
+  no-bad_item (logged.Denied seq object) is =
+      let t : AnswersSubmit g e.session e.request seq = tells (logged.Denied seq object) is in settled-good seq t.1.1.0 t.1.1.1.0
   no-bad_item (logged.Seen last commit head positions) is = seen-good last commit head positions is
   no-bad_item (logged.Settled seq pos) is =
       let t : AnswersKept g e.session e.request seq = tells (logged.Settled seq pos) is in settled-good seq t.1.1.0 t.1.1.1.0

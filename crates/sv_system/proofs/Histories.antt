@@ -13,7 +13,7 @@ use Rattle.sv_wire.specs.declared.message.Request.TheVariants as requests
 use Rattle.sv_journal.specs.declared.entry.Entry.{Entry}
 use Rattle.sv_journal.specs.declared.entry.Logged.{Logged}
 use Rattle.sv_journal.specs.declared.entry.Logged.TheVariants as logged
-use Rattle.sv_journal.specs.History.{Authored, Outcome, Accepted, Dropped, client_of, is_client, is_relay, is_submit_of, outcome_in, new_action, outcomes_of, accepted, actions_of, next_seq}
+use Rattle.sv_journal.specs.History.{Authored, Outcome, Accepted, Dropped, Denied, client_of, is_client, is_relay, is_submit_of, outcome_in, new_action, outcomes_of, accepted, actions_of, next_seq}
 use Rattle.sv_journal.specs.Sessions.{outcome_at, kept_count, kept_outcome}
 use Rattle.sv_journal.specs.Answer.{Rules, Legal}
 use Rattle.sv_journal.specs.Serving.{Keeping, LegalFor, with_results, IsKeeping}
@@ -83,10 +83,12 @@ action_at-earlier h g b k l =
 abbrev pub IsOutcomeWithin : ℕ → Outcome → Type 0
 IsOutcomeWithin n (Accepted p) = (0 < p) × (p ≤ n)
 IsOutcomeWithin n (Dropped chain far) = Unit {0}
+IsOutcomeWithin n (Denied object) = Unit {0}
 
 within-more : (m n : ℕ) → m ≤ n → (o : Outcome) → IsOutcomeWithin m o → IsOutcomeWithin n o
 within-more m n l (Accepted p) h = let q : p ≤ m = h.1 in (h.0, omega arith)
 within-more m n l (Dropped chain far) h = h
+within-more m n l (Denied object) h = h
 
 all-within-more : (m n : ℕ) → m ≤ n → (os : List Outcome) → AllByRecursion (IsOutcomeWithin m) os → AllByRecursion (IsOutcomeWithin n) os
 all-within-more m n l [] h = h
@@ -117,6 +119,7 @@ outcome-within h e k (logged.Relay seq commit head positions) c s =
     let all : length (accepted h ++ new) ≡ length (accepted h) + length new = length-append (accepted h) new in
     ((omega arith, omega arith), tt)
 outcome-within h e k (logged.Dropped seq chain far) c s = (tt, tt)
+outcome-within h e k (logged.Denied seq object) c s = (tt, tt)
 outcome-within h e k (logged.Seen last commit head positions) c s = tt
 outcome-within h e k (logged.Welcome commit head) c s = tt
 outcome-within h e k (logged.Settled seq pos) c s = tt

@@ -64,6 +64,7 @@ one-good K keeps r e h (logged.Relay seq commit head positions) t =
     each-good r.world.shape new (each-unmap (λ a. first_fault_of_action r.world.shape a ≡ None) (λ (a : Authored). a.action) new t.checked)
 one-good K keeps r e h (logged.Welcome commit head) t = tt
 one-good K keeps r e h (logged.Dropped seq chain far) t = tt
+one-good K keeps r e h (logged.Denied seq object) t = tt
 one-good K keeps r e h (logged.Seen last commit head positions) t = tt
 one-good K keeps r e h (logged.Settled seq pos) t = tt
 one-good K keeps r e h (logged.Noted commit) t = tt
@@ -143,6 +144,7 @@ module _ (K : Keeping) (keeps : IsKeeping K) (r : Rules) (H : List Entry) (count
   reply-all-held s n (logged.Welcome commit head) ds l = (l.0.serial, l.1)
   reply-all-held s n (logged.Relay seq commit head positions) ds l = (l.0.serial, l.1)
   reply-all-held s n (logged.Dropped seq chain far) ds l = (tt, l)
+  reply-all-held s n (logged.Denied seq object) ds l = (tt, l)
   reply-all-held s n (logged.Seen last commit head positions) ds l = (l.0.serial, l.1)
   reply-all-held s n (logged.Settled seq pos) ds l = (tt, l)
   reply-all-held s n (logged.Noted commit) ds l = (tt, l)

@@ -43,6 +43,7 @@ told-by : (reply : Logged) (t count s : ℕ) (ds : List Delivery) (sent : List �
 told-by (logged.Welcome commit head) t count s ds sent e = ap (λ (l : List ℕ). if t == s then l ++ [] else l) e
 told-by (logged.Relay seq commit head positions) t count s ds sent e = ap (λ (l : List ℕ). if t == s then l ++ positions else l) e
 told-by (logged.Dropped seq chain far) t count s ds sent e = e ∙ sym (no_more (t == s) sent)
+told-by (logged.Denied seq object) t count s ds sent e = e ∙ sym (no_more (t == s) sent)
 told-by (logged.Seen last commit head positions) t count s ds sent e = ap (λ (l : List ℕ). if t == s then l ++ positions else l) e
 told-by (logged.Settled seq pos) t count s ds sent e = e ∙ sym (no_more (t == s) sent)
 told-by (logged.Noted commit) t count s ds sent e = e ∙ sym (no_more (t == s) sent)
@@ -67,6 +68,7 @@ named-by (logged.Welcome commit head) t count s x ds named e =
 named-by (logged.Relay seq commit head positions) t count s x ds named e =
     ap (λ (l : List ℕ). if (t == s) && is_in x (head_objects head) then l ++ commit ∷ [] else l) e ∙ two_tests (t == s) (is_in x (head_objects head)) named (commit ∷ [])
 named-by (logged.Dropped seq chain far) t count s x ds named e = e ∙ sym (no_more (t == s) named)
+named-by (logged.Denied seq object) t count s x ds named e = e ∙ sym (no_more (t == s) named)
 named-by (logged.Seen last commit head positions) t count s x ds named e =
     ap (λ (l : List ℕ). if (t == s) && is_in x (head_objects head) then l ++ commit ∷ [] else l) e ∙ two_tests (t == s) (is_in x (head_objects head)) named (commit ∷ [])
 named-by (logged.Settled seq pos) t count s x ds named e = e ∙ sym (no_more (t == s) named)
@@ -158,6 +160,7 @@ positions-within K keeps r e h l (logged.Relay seq commit head positions) is p m
     omega arith
 positions-within K keeps r e h l (logged.Welcome commit head) is p m = absurd (true≢false (sym m))
 positions-within K keeps r e h l (logged.Dropped seq chain far) is p m = absurd (true≢false (sym m))
+positions-within K keeps r e h l (logged.Denied seq object) is p m = absurd (true≢false (sym m))
 positions-within K keeps r e h l (logged.Seen last commit head positions) is p m =
     let t = legal-seen K keeps r e h last commit head positions l is in
     let within : last ≤ length (accepted (e ∷ h)) = t.accepted_to in
@@ -389,6 +392,7 @@ module _ (K : Keeping) (keeps : IsKeeping K) (r : Rules) (H : List Entry) where
   one-lawful e h b l serial rest (logged.Relay seq commit head positions) is =
       (relay-lawful e h commit head positions b l.1 serial (legal-relay K keeps r e h seq commit head positions l is), rest)
   one-lawful e h b l serial rest (logged.Dropped seq chain far) is = rest
+  one-lawful e h b l serial rest (logged.Denied seq object) is = rest
   one-lawful e h b l serial rest (logged.Seen last commit head positions) is =
       (seen-lawful e h last commit head positions b l.1 serial (legal-seen K keeps r e h last commit head positions l is), rest)
   one-lawful e h b l serial rest (logged.Settled seq pos) is = rest

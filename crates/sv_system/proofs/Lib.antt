@@ -43,9 +43,11 @@ pub mod Replied
 pub mod Replies
 pub mod Reported
 pub mod Resent
+pub mod Rights
 pub mod Serials
 pub mod Taken
 pub mod Tellings
 pub mod Tests
 pub mod Trusted
 pub mod Window
+pub mod Within

@@ -58,6 +58,10 @@ sent-by (d ∷ h) s p m =
 
 -- ---- A client's positions go up with its numbers
 
+abbrev is_accepted : List Outcome → Bool
+is_accepted (Accepted m ∷ os) = true
+is_accepted _ = false
+
 accepted-one : (d : Entry) (h : List Entry) (k n p : ℕ) → is_client (client_of h d.session) k ≡ true → is_submit_of d.request n ≡ true → n ≡ next_seq h k →
     (reply : Logged) → d.reply ≡ reply → Accepted p ∷ [] ≡ outcome_in (suc (length (accepted h))) reply → (p ≡ suc (length (accepted h))) × (length (accepted (d ∷ h)) ≡ suc (length (accepted h)))
 accepted-one d h k n p c q e (logged.Relay seq commit head positions) is told =
@@ -71,10 +75,7 @@ accepted-one d h k n p c q e (logged.Relay seq commit head positions) is told =
     place_of (Accepted m ∷ os) = m
     place_of _ = 0
 accepted-one d h k n p c q e (logged.Dropped seq chain far) is told = absurd (true≢false (ap is_accepted told))
-  where
-    is_accepted : List Outcome → Bool
-    is_accepted (Accepted m ∷ os) = true
-    is_accepted _ = false
+accepted-one d h k n p c q e (logged.Denied seq object) is told = absurd (true≢false (ap is_accepted told))
 accepted-one d h k n p c q e (logged.Welcome commit head) is told = cc
 accepted-one d h k n p c q e (logged.Seen last commit head positions) is told = cc
 accepted-one d h k n p c q e (logged.Settled seq pos) is told = cc
@@ -145,6 +146,7 @@ sends (logged.Relay seq commit head positions) p m = inl (seq, (commit, (head, (
 sends (logged.Seen last commit head positions) p m = inr (last, (commit, (head, (positions, refl))))
 sends (logged.Welcome commit head) p m = absurd (true≢false (sym m))
 sends (logged.Dropped seq chain far) p m = absurd (true≢false (sym m))
+sends (logged.Denied seq object) p m = absurd (true≢false (sym m))
 sends (logged.Settled seq pos) p m = absurd (true≢false (sym m))
 sends (logged.Noted commit) p m = absurd (true≢false (sym m))
 sends logged.Idle p m = absurd (true≢false (sym m))

@@ -15,9 +15,10 @@ use Rattle.sv_journal.specs.Sessions.{is_over, kept_outcome, sent_to}
 use Rattle.sv_journal.specs.Answer.{Rules, Legal}
 use Rattle.sv_journal.specs.Serving.{Keeping, plain}
 use Rattle.sv_client.specs.declared.trace.Trace.{Trace}
-use Rattle.sv_client.specs.Traces.{current_session, requests_of, got}
+use Rattle.sv_client.specs.Traces.{current_session, got}
 use Rattle.sv_system.specs.Fits.{replies_in, Fits}
 use Rattle.sv_system.specs.Served.{OwnsSessions}
+use Rattle.sv_system.specs.Within.{KeepsLimits}
 use Rattle.sv_system.proofs.Awaited.{Awaited}
 use Rattle.sv_system.proofs.Histories.{IsEarlier, earlier-rest, earlier-served, actions-count, kept-is}
 use Rattle.sv_system.proofs.Replies.{TellsFor, IsRelayReply, new_of, served-tells}
@@ -84,6 +85,7 @@ relay-logged A (logged.Relay n c vs ks) seq commit head items e none = (n, (c, (
     nothing (k ∷ ks) f = cc
 relay-logged A (logged.Welcome c vs) seq commit head items e none = cc
 relay-logged A (logged.Dropped n chain far) seq commit head items e none = cc
+relay-logged A (logged.Denied n object) seq commit head items e none = cc
 relay-logged A (logged.Seen last c vs ks) seq commit head items e none = cc
 relay-logged A (logged.Settled n pos) seq commit head items e none = cc
 relay-logged A (logged.Noted c) seq commit head items e none = cc
@@ -92,16 +94,16 @@ relay-logged A (logged.Refused code detail) seq commit head items e none = cc
 relay-logged A logged.Bye seq commit head items e none = cc
 
 pub served-never_empty : (K : Keeping) (r : Rules) (h : List Entry) (L : Trace) (served : IsServed K r h L) (owns : OwnsSessions h L) (s seq commit : ℕ) (head : List Sent) (items : List Item) →
-    current_session (reverse L.events) ≡ Some s → length (requests_of L s) ≤ 1024 →
+    current_session (reverse L.events) ≡ Some s → KeepsLimits r h L s →
     slice_get (replies_in (accepted h) h s) (length (got (reverse L.events) s)) ≡ Some (replies.Relay seq commit head items) → items ≡ [] → ⊥
-served-never_empty K r h L served owns s seq commit head items current few is none =
+served-never_empty K r h L served owns s seq commit head items current limits is none =
     let x = entered (accepted h) h s (length (got (reverse L.events) s)) (replies.Relay seq commit head items) is in
     let y = relay-logged (accepted h) x.entry.reply seq commit head items x.replied none in
     let awaited : Awaited = record {
       owner = record { keeping = K; rules = r; journal = h; trace = L; served = served; owns = owns };
       session = s;
       current = current;
-      few = few;
+      limits = limits;
       entry = x.entry;
       before = x.before;
       earlier = x.earlier;
@@ -111,7 +113,7 @@ served-never_empty K r h L served owns s seq commit head items current few is no
     positions-some awaited y.0 y.1.0 y.1.1.0 y.1.1.1.0 y.1.1.1.1.0 y.1.1.1.1.1
 
 pub never-empty : (r : Rules) (h : List Entry) (Ls : List Trace) (i : ℕ) (L : Trace) (s seq commit : ℕ) (head : List Sent) (items : List Item) → Legal r h → Fits r.world.shape h Ls →
-    slice_get Ls i ≡ Some L → current_session (reverse L.events) ≡ Some s → length (requests_of L s) ≤ 1024 →
+    slice_get Ls i ≡ Some L → current_session (reverse L.events) ≡ Some s → KeepsLimits r h L s →
     slice_get (replies_in (accepted h) h s) (length (got (reverse L.events) s)) ≡ Some (replies.Relay seq commit head items) → items ≡ [] → ⊥
 never-empty r h Ls i L s seq commit head items legal fits member =
     served-never_empty plain r h L (plain-served r h Ls legal fits i L member) (owns-own r.world.shape h Ls fits i L member) s seq commit head items

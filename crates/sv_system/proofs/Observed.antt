@@ -82,6 +82,7 @@ seen-logged A (logged.Seen n c vs ks) last commit head items e =
 seen-logged A (logged.Relay seq c vs ks) last commit head items e = cc
 seen-logged A (logged.Welcome c vs) last commit head items e = cc
 seen-logged A (logged.Dropped seq chain far) last commit head items e = cc
+seen-logged A (logged.Denied seq object) last commit head items e = cc
 seen-logged A (logged.Settled seq pos) last commit head items e = cc
 seen-logged A (logged.Noted c) last commit head items e = cc
 seen-logged A logged.Idle last commit head items e = cc

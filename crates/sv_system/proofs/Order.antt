@@ -51,6 +51,7 @@ welcome-logged A q client life interest e (logged.Welcome commit head) a = (comm
 welcome-logged A q client life interest e (logged.Relay seq commit head positions) a =
     absurd (true≢false (sym a ∙ ap (λ (p : Request). allows p (full_reply A (logged.Relay seq commit head positions))) e))
 welcome-logged A q client life interest e (logged.Dropped seq chain far) a = absurd (true≢false (sym a ∙ ap (λ (p : Request). allows p (replies.Dropped seq chain far)) e))
+welcome-logged A q client life interest e (logged.Denied seq object) a = absurd (true≢false (sym a ∙ ap (λ (p : Request). allows p (replies.Denied seq object)) e))
 welcome-logged A q client life interest e (logged.Seen last commit head positions) a =
     absurd (true≢false (sym a ∙ ap (λ (p : Request). allows p (full_reply A (logged.Seen last commit head positions))) e))
 welcome-logged A q client life interest e (logged.Settled seq pos) a = absurd (true≢false (sym a ∙ ap (λ (p : Request). allows p (replies.Settled seq pos)) e))

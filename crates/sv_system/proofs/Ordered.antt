@@ -198,6 +198,7 @@ module _ (awaited : Awaited) where
       let grows : commit_of (K.kept g) ≤ commit_of (K.kept (e ∷ g)) = commit_grows-kept K keeps e g in
       five-false false false false (goes_back (Some commit) (told whole)) false refl refl refl (not-back commit (omega arith)) refl
   ordered room (logged.Dropped seq chain far) is = refl
+  ordered room (logged.Denied seq object) is = refl
   ordered room (logged.Seen last commit head positions) is = seen-ordered room last commit head positions (legal-seen K keeps r e g last commit head positions legal_here is)
   ordered room (logged.Settled seq pos) is = refl
   ordered room logged.Idle is = refl
@@ -229,6 +230,7 @@ module _ (awaited : Awaited) where
   all-held count serial (logged.Welcome commit head) is = tt
   all-held count serial (logged.Noted commit) is = tt
   all-held count serial (logged.Dropped seq chain far) is = tt
+  all-held count serial (logged.Denied seq object) is = tt
   all-held count serial (logged.Settled seq pos) is = tt
   all-held count serial logged.Idle is = tt
   all-held count serial (logged.Refused code detail) is = tt

@@ -77,6 +77,7 @@ replied-by A (logged.Relay seq commit head positions) n count s ds rs e =
     ap (λ l. if n == s then l ++ telling_in (full_reply A (logged.Relay seq commit head positions)) else l) e
     ∙ sym (flat-if telling_in (n == s) rs (full_reply A (logged.Relay seq commit head positions)))
 replied-by A (logged.Dropped seq chain far) n count s ds rs e = e ∙ sym (flat-if telling_in (n == s) rs (replies.Dropped seq chain far) ∙ no_more (n == s) (flat_map telling_in rs))
+replied-by A (logged.Denied seq object) n count s ds rs e = e ∙ sym (flat-if telling_in (n == s) rs (replies.Denied seq object) ∙ no_more (n == s) (flat_map telling_in rs))
 replied-by A (logged.Seen last commit head positions) n count s ds rs e =
     ap (λ l. if n == s then l ++ telling_in (full_reply A (logged.Seen last commit head positions)) else l) e
     ∙ sym (flat-if telling_in (n == s) rs (full_reply A (logged.Seen last commit head positions)))

@@ -19,7 +19,7 @@ use Rattle.sv_wire.specs.declared.message.Request.TheVariants as requests
 use Rattle.sv_journal.specs.declared.entry.Entry.{Entry}
 use Rattle.sv_journal.specs.declared.entry.Logged.{Logged}
 use Rattle.sv_journal.specs.declared.entry.Logged.TheVariants as logged
-use Rattle.sv_journal.specs.History.{Authored, Outcome, Accepted, Dropped, new_action, outcomes_of, client_of, accepted, actions_of, next_seq, commit_of}
+use Rattle.sv_journal.specs.History.{Authored, Outcome, Accepted, Dropped, Denied, new_action, outcomes_of, client_of, accepted, actions_of, next_seq, commit_of}
 use Rattle.sv_journal.specs.Sessions.{is_over, is_live, is_end, life_of, kept_outcome, sent_to, already_given}
 use Rattle.sv_journal.specs.Answer.{Rules, refused, committed_held, reply_to, Legal}
 use Rattle.sv_journal.specs.Serving.{Keeping, plain, with_last_rows, reply_for, LegalFor, IsKeeping}
@@ -105,6 +105,7 @@ abbrev pub TellsFor : Keeping → Rules → List Entry → ℕ → Request → L
 TellsFor K r h s q (logged.Welcome commit head) = IsWelcomeReply K r h s q commit head
 TellsFor K r h s q (logged.Relay seq commit head positions) = IsRelayReply K r h s q commit head positions
 TellsFor K r h s q (logged.Dropped seq chain far) = AnswersSubmit h s q seq
+TellsFor K r h s q (logged.Denied seq object) = AnswersSubmit h s q seq
 TellsFor K r h s q (logged.Seen last commit head positions) = IsSeenReply K r h s q last commit head positions
 TellsFor K r h s q (logged.Settled seq pos) = AnswersKept h s q seq
 TellsFor K r h s q (logged.Noted commit) = (results : List Done1) × ((q ≡ requests.Done results) × (commit ≡ commit_after K h s q))
@@ -213,10 +214,12 @@ module _ (K : Keeping) (keeps : IsKeeping K) (r : Rules) (h : List Entry) (s : �
       commit_is = refl;
       head_is = refl;
     };
-    dropped = λ k seq a client asked next good. (k, (client, (a, (asked, inr next))));
+    dropped = λ k seq a client asked next good room rightful. (k, (client, (a, (asked, inr next))));
     dropped_again = λ k seq a chain far client asked is. (k, (client, (a, (asked, inl (Dropped chain far, is)))));
+    denied = λ k seq object a client asked next good room forbidden. (k, (client, (a, (asked, inr next))));
+    denied_again = λ k seq object a client asked is. (k, (client, (a, (asked, inl (Denied object, is)))));
     settled = λ k seq p a client asked is. (k, (client, (a, (asked, (Accepted p, is)))));
-    fresh = λ k seq a client asked next good few. new-relay k seq a q client asked next good few;
+    fresh = λ k seq a client asked next good few room rightful. new-relay k seq a q client asked next good few;
     again = λ k seq p a client asked is above.
         old-relay k q p client (ap (new_of h s) asked ∙ old-submit h s k seq a client (kept-below h k seq p is)) (inl (seq, (a, (asked, inl is)))) above (kept-within h k seq p is).1;
     noted = λ results asked good. (results, (asked, refl));

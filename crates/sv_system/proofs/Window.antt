@@ -207,6 +207,20 @@ answered-next K keeps r A d h l n a q (logged.Dropped seq chain far) is s =
         ],
       ),
     )
+answered-next K keeps r A d h l n a q (logged.Denied seq object) is s =
+    let t : AnswersSubmit h d.session d.request seq = subst (λ (y : Logged). TellsFor K r h d.session d.request y) is (served-tells K keeps r d h l) in
+    let k = t.0 in
+    let number : seq ≡ n = ap submit_number (sym t.1.1.1.0 ∙ q) in
+    let grows : next_seq h k ≤ next_seq (d ∷ h) k = next-grows h (d ∷ h) (after d same) k in (
+      k,
+      (
+        t.1.0,
+        elim t.1.1.1.1 [
+          | inl o ↦ (let old : seq < next_seq h k = kept_known h k seq o.0 o.1 in omega arith)
+          | inr fresh ↦ next-new d h k n a t.1.0 q (sym number ∙ fresh) (ap (λ (y : Logged). length (outcome_in (suc (length (accepted h))) y)) is)
+        ],
+      ),
+    )
 answered-next K keeps r A d h l n a q (logged.Settled seq pos) is s =
     let t : AnswersKept h d.session d.request seq = subst (λ (y : Logged). TellsFor K r h d.session d.request y) is (served-tells K keeps r d h l) in
     let k = t.0 in

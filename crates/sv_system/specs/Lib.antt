@@ -6,6 +6,7 @@ pub mod Journals
 pub mod Serial
 pub mod Cuts
 pub mod Served
+pub mod Within
 pub mod Delivery
 pub mod Outcomes
 pub mod Laws

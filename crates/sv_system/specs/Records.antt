@@ -6,7 +6,7 @@ use Rattle.sv_eval.specs.Serial.{serial_world}
 use Rattle.sv_journal.specs.declared.entry.Entry.{Entry}
 use Rattle.sv_journal.specs.History.{actions_of, commit_of, committed_of}
 use Rattle.sv_journal.specs.Sessions.{is_end}
-use Rattle.sv_journal.specs.Answer.{Rules, Legal}
+use Rattle.sv_journal.specs.Answer.{Rules, scenario_rules, Legal}
 use Rattle.sv_client.specs.declared.trace.Trace.{Trace}
 use Rattle.sv_scenario.specs.declared.scenario.Plan.{Plan}
 use Rattle.sv_scenario.specs.declared.scenario.Scenario.{Scenario}
@@ -20,7 +20,7 @@ use Rattle.sv_system.specs.Cuts.{SeenAreCuts}
 
 -- The rules that a scenario's server is opened with.
 abbrev pub rules_of : Scenario → Rules
-rules_of scenario = record { world = scenario.world; bound = scenario.bound; reach = scenario.reach; sessions = session_count scenario }
+rules_of scenario = scenario_rules scenario.world scenario.bound scenario.reach (session_count scenario)
 
 -- ---- Traffic
 

@@ -4,7 +4,6 @@
 use Rattle.std.specs.Prelude.{◌≡◌, ℕ, ℤ, Bool, true, ◌==◌, ◌&&◌, List, [], ◌∷◌, map, length, reverse, All, Some, slice_get}
 use Rattle.std.specs.List.{list_any}
 use Rattle.sv_world.specs.declared.world.Shape.{Shape}
-use Rattle.sv_world.specs.Limits.{most_clients}
 use Rattle.sv_wire.specs.declared.message.Done1.{Done1}
 use Rattle.sv_wire.specs.declared.message.Request.{Request}
 use Rattle.sv_wire.specs.declared.message.Request.TheVariants as requests
@@ -30,9 +29,9 @@ pub record FitsBut (liar : ℕ) (shape : Shape) (h : List Entry) (Ls : List Trac
   pub honest : All (λ (L : Trace). L.client.0 ≡ liar → ⊥) Ls
   pub joined : (s k : ℕ) → client_of h s ≡ Some k → (k ≡ liar → ⊥) → is_session_of Ls k s ≡ true
 
--- No client has this number.
+-- No client has this number: no message can name it.
 abbrev pub no_client : ℕ
-no_client = most_clients
+no_client = 65536
 
 -- Each session that was joined as the trace's client is the trace's own.
 abbrev pub OwnsSessions : List Entry → Trace → Type 0

@@ -17,7 +17,7 @@ pub use outcomes::actions_have_outcomes;
 pub use played::Played;
 pub use records::runs_leave_full_records;
 pub use served::{
-    honest_reports_are_serial, served_clients_are_never_refused,
+    honest_reports_are_serial, served_actions_have_outcomes, served_clients_are_never_refused,
     served_journals_make_lawful_deliveries, served_values_are_serial,
 };
 pub use truth::{committed_world_is_serial, replicas_equal_serial_execution};

@@ -1,8 +1,8 @@
 //! Laws of the journals of any server that goes by some of the results that it is told, as one that wants each result from two clients does.
 //! A server that goes by all of them, and whose clients are all honest, is the case of the other laws of this crate.
-ghost use Rattle.std.specs.Prelude.{◌≡◌, ◌≤◌, ℕ, ℤ, true, List, All, length, reverse, slice_get, None, Some, [], ◌∷◌, ◌++◌};
+ghost use Rattle.std.specs.Prelude.{◌≡◌, ◌<◌, ◌≤◌, ℕ, ℤ, true, List, All, length, reverse, slice_get, None, Some, [], ◌∷◌, ◌++◌};
 ghost use Rattle.sv_world.specs.Faults.{IsGoodAction};
-ghost use Rattle.sv_world.specs.Limits.{most_bound, most_positions, most_requests};
+ghost use Rattle.sv_world.specs.Limits.{most_bound, most_positions};
 ghost use Rattle.sv_eval.specs.Serial.{serial_world};
 ghost use Rattle.sv_wire.specs.declared.message.Done1.{Done1};
 ghost use Rattle.sv_wire.specs.declared.message.ObjectValue.{ObjectValue};
@@ -15,11 +15,14 @@ ghost use Rattle.sv_journal.specs.History.{Authored, accepted, actions_of, commi
 ghost use Rattle.sv_journal.specs.Answer.{Rules};
 ghost use Rattle.sv_journal.specs.Serving.{Keeping, LegalFor, IsKeeping};
 ghost use Rattle.sv_client.specs.declared.trace.Trace.{Trace};
-ghost use Rattle.sv_client.specs.Traces.{current_session, held_of, requests_of, got};
+ghost use Rattle.sv_client.specs.Traces.{current_session, held_of, got};
 ghost use Rattle.sv_client.specs.Taking.{first_fault_of_reply};
 ghost use Rattle.sv_client.specs.Proper.{identity_of};
+ghost use Rattle.sv_script.specs.Following.{is_finished};
 ghost use Rattle.sv_system.specs.Fits.{replies_in, has_session, FitsOne, Fits};
 ghost use Rattle.sv_system.specs.Served.{FitsBut, no_client, OwnsSessions, FitsButValues};
+ghost use Rattle.sv_system.specs.Outcomes.{HaveRightOutcomesFor, HasOutcomes};
+ghost use Rattle.sv_system.specs.Within.{KeepsLimits};
 ghost use Rattle.sv_system.specs.Serial.{AreSerial, AreSufficient, reply_held};
 ghost use Rattle.sv_system.specs.Cuts.{AreCuts};
 ghost use Rattle.sv_system.specs.Delivery.{AreLawful};
@@ -74,22 +77,32 @@ pub fn served_values_are_serial()
 /// trace fits the journal but for the values that it reports, and has each session that was joined as the client; where all clients but one
 /// are honest, each honest one's is such a trace; and where all clients are honest, the one is a client that there is not.
 ///
-/// `k`, `r` and `h` are as above, `L` is the client's trace, at most 1,024 requests are asked in the session `s`, and all accepted actions have
-/// their positions.
+/// `k`, `r` and `h` are as above, `L` is the client's trace, which keeps the limits of the rules in the session `s`, and a position is left.
 pub fn served_clients_are_never_refused()
     ensures faults { (k : Keeping) (r : Rules) (h : List Entry) (L : Trace) (s : ℕ) (reply : Reply) → IsKeeping k →
         length r.world.values ≡ r.world.shape.objects → All (λ (v : List ℤ). length v ≡ r.world.shape.attrs) r.world.values → r.bound ≤ most_bound →
-        length (accepted h) ≤ most_positions → LegalFor k r h → ResultsAreSerial r.world.values (actions_of h) (k.kept h) → FitsButValues r.world.shape h L → OwnsSessions h L →
-        current_session (reverse L.events) ≡ Some s → length (requests_of L s) ≤ most_requests →
+        r.positions ≤ most_positions → length (accepted h) < r.positions → LegalFor k r h → ResultsAreSerial r.world.values (actions_of h) (k.kept h) → FitsButValues r.world.shape h L → OwnsSessions h L →
+        current_session (reverse L.events) ≡ Some s → KeepsLimits r h L s →
         slice_get (replies_in (accepted h) h s) (length (got (reverse L.events) s)) ≡ Some reply →
         first_fault_of_reply (identity_of r.world.shape L) (reverse L.events) reply ≡ None }
     ensures items { (k : Keeping) (r : Rules) (h : List Entry) (L : Trace) (s seq commit : ℕ) (head : List ObjectValue) (items : List Item) → IsKeeping k →
         LegalFor k r h → FitsButValues r.world.shape h L → OwnsSessions h L →
-        current_session (reverse L.events) ≡ Some s → length (requests_of L s) ≤ most_requests →
+        current_session (reverse L.events) ≡ Some s → KeepsLimits r h L s →
         slice_get (replies_in (accepted h) h s) (length (got (reverse L.events) s)) ≡ Some (Relay seq commit head items) → items ≡ [] → ⊥ }
     ensures honest { (liar : ℕ) (r : Rules) (h : List Entry) (Ls : List Trace) (i : ℕ) (L : Trace) → FitsBut liar r.world.shape h Ls →
         slice_get Ls i ≡ Some L → FitsButValues r.world.shape h L }
     ensures sessions { (liar : ℕ) (r : Rules) (h : List Entry) (Ls : List Trace) (i : ℕ) (L : Trace) → FitsBut liar r.world.shape h Ls →
         slice_get Ls i ≡ Some L → OwnsSessions h L }
     ensures all { (r : Rules) (h : List Entry) (Ls : List Trace) → Fits r.world.shape h Ls → FitsBut no_client r.world.shape h Ls }
+{}
+
+/// What comes of actions, whatever results a server goes by: each new action is denied, dropped or accepted for its reason, as for a server that
+/// goes by all of them, where the commit is that of the results that it goes by; and a client that did all and left has one outcome for each of
+/// its actions.
+///
+/// `k`, `r` and `h` are as above, and `L` is the client's trace. No action is accepted twice in any journal.
+pub fn served_actions_have_outcomes()
+    ensures judged { (k : Keeping) (r : Rules) (h : List Entry) → IsKeeping k → LegalFor k r h → HaveRightOutcomesFor k r h }
+    ensures each { (k : Keeping) (r : Rules) (h : List Entry) (L : Trace) → IsKeeping k → LegalFor k r h → FitsButValues r.world.shape h L → OwnsSessions h L →
+        is_finished (reverse L.events) ≡ true → HasOutcomes h L }
 {}

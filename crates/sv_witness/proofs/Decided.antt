@@ -8,7 +8,7 @@ use Rattle.sv_world.specs.declared.check.BadAction.{BadAction}
 use Rattle.sv_world.specs.declared.world.ObjectId.{ObjectId}
 use Rattle.sv_world.specs.Control.{chain_length, influence_distance}
 use Rattle.sv_world.specs.Faults.{first_fault_of_action, may_be_observed}
-use Rattle.sv_world.specs.Limits.{most_requests}
+use Rattle.sv_world.specs.Rights.{first_forbidden}
 use Rattle.sv_world.specs.Sets.{numbers_of}
 use Rattle.sv_wire.specs.declared.message.Done1.{Done1}
 use Rattle.sv_wire.specs.declared.message.Request.{Request}
@@ -17,9 +17,9 @@ use Rattle.sv_wire.specs.declared.refusal.Refusal.TheVariants as refusals
 use Rattle.sv_journal.specs.declared.entry.Entry.{Entry}
 use Rattle.sv_journal.specs.declared.entry.Logged.{Logged}
 use Rattle.sv_journal.specs.declared.entry.Logged.TheVariants as logged
-use Rattle.sv_journal.specs.History.{Authored, is_noted, client_of, is_client, is_submit_of, new_action, Outcome, Accepted, Dropped, actions_of, next_seq, commit_of}
+use Rattle.sv_journal.specs.History.{Authored, is_noted, client_of, is_client, is_submit_of, new_action, Outcome, Accepted, Dropped, Denied, actions_of, next_seq, commit_of}
 use Rattle.sv_journal.specs.Sessions.{is_end, is_over, is_live, asked_in, life_of, kept_outcome}
-use Rattle.sv_journal.specs.Answer.{Rules, refused_as, is_over_reach, is_bad_done, is_good_interest, reply_to_checked, reply_to_submit, reply_to_join, reply_to_client, reply_to_member, reply_to_request, reply_to_poll}
+use Rattle.sv_journal.specs.Answer.{Rules, refused_as, is_above, is_full, is_bad_done, is_good_interest, is_no_next_life, is_spent, reply_by_rights, reply_to_checked, reply_to_submit, reply_to_join, reply_to_client, reply_to_member, reply_to_request, reply_to_poll}
 use Rattle.sv_journal.specs.Serving.{is_poll, with_last_rows, noted_after, polled_after}
 use Rattle.sv_sequencer.specs.declared.decision.Decision.{Decision}
 use Rattle.sv_sequencer.specs.declared.decision.Decision.TheVariants as decisions
@@ -45,16 +45,21 @@ abbrev IsBusy : Logged → Type 0
 IsBusy w = is_idle w ≡ false
 
 module _ (r : Rules) (g : List Entry) (s : ℕ) where
-  checked-busy : (seq : ℕ) (a : Action) (o : Option BadAction) → IsBusy (reply_to_checked r g s seq a o)
-  checked-busy seq a (Some cause) = refl
-  checked-busy seq a None =
-      cond_both (nat_lt r.bound (chain_length (actions_of g) (commit_of g) a) || is_over_reach r.reach (influence_distance (actions_of g) (commit_of g) a)) _ _ IsBusy
+  rights-busy : (seq : ℕ) (a : Action) (o : Option ℕ) → IsBusy (reply_by_rights r g s seq a o)
+  rights-busy seq a (Some object) = refl
+  rights-busy seq a None =
+      cond_both (nat_lt r.bound (chain_length (actions_of g) (commit_of g) a) || is_above r.reach (influence_distance (actions_of g) (commit_of g) a)) _ _ IsBusy
       (λ _. refl) (λ _. refl)
+
+  checked-busy : (k seq : ℕ) (a : Action) (o : Option BadAction) → IsBusy (reply_to_checked r g s k seq a o)
+  checked-busy k seq a (Some cause) = refl
+  checked-busy k seq a None = cond_both (is_full r g seq) _ _ IsBusy (λ _. refl) (λ _. rights-busy seq a (first_forbidden r.rights k a))
 
   submit-busy : (k seq : ℕ) (a : Action) (o : Option Outcome) → IsBusy (reply_to_submit r g s k seq a o)
   submit-busy k seq a (Some (Dropped chain far)) = refl
+  submit-busy k seq a (Some (Denied object)) = refl
   submit-busy k seq a (Some (Accepted p)) = cond_both (nat_le p (commit_of g)) _ _ IsBusy (λ _. refl) (λ _. refl)
-  submit-busy k seq a None = cond_both (seq == next_seq g k) _ _ IsBusy (λ _. checked-busy seq a (first_fault_of_action r.world.shape a)) (λ _. refl)
+  submit-busy k seq a None = cond_both (seq == next_seq g k) _ _ IsBusy (λ _. checked-busy k seq a (first_fault_of_action r.world.shape a)) (λ _. refl)
 
   client-busy : (k : ℕ) (q : Request) → is_poll q ≡ false → IsBusy (reply_to_client r g s k q)
   client-busy k (requests.Submit seq a) unasked = submit-busy k seq a (kept_outcome g k seq)
@@ -73,12 +78,12 @@ module _ (r : Rules) (g : List Entry) (s : ℕ) where
   join-busy : (k life : ℕ) (xs : List ℕ) → IsBusy (reply_to_join r g s k life xs)
   join-busy k life xs =
       cond_both (is_live g s) _ _ IsBusy (λ _. refl) (λ _.
-      cond_both (nat_le 32 k) _ _ IsBusy (λ _. refl) (λ _.
-      cond_both (nat_le life (life_of g k)) _ _ IsBusy (λ _. refl) (λ _.
+      cond_both (nat_le r.clients k) _ _ IsBusy (λ _. refl) (λ _.
+      cond_both (is_no_next_life r.leap (life_of g k) life) _ _ IsBusy (λ _. refl) (λ _.
       cond_both (is_good_interest r.world.shape.objects xs) _ _ IsBusy (λ _. refl) (λ _. refl))))
 
-  open-busy : (w : Logged) → IsBusy w → IsBusy (if is_over g s then refused_as refusals.Over 0 else (if nat_le most_requests (asked_in g s) then refused_as refusals.TooManyRequests 0 else w))
-  open-busy w busy = cond_both (is_over g s) _ _ IsBusy (λ _. refl) (λ _. cond_both (nat_le most_requests (asked_in g s)) _ _ IsBusy (λ _. refl) (λ _. busy))
+  open-busy : (w : Logged) → IsBusy w → IsBusy (if is_over g s then refused_as refusals.Over 0 else (if is_spent r.requests (asked_in g s) then refused_as refusals.TooManyRequests 0 else w))
+  open-busy w busy = cond_both (is_over g s) _ _ IsBusy (λ _. refl) (λ _. cond_both (is_spent r.requests (asked_in g s)) _ _ IsBusy (λ _. refl) (λ _. busy))
 
   request-busy : (q : Request) → is_poll q ≡ false → IsBusy (reply_to_request r g s q)
   request-busy (requests.Join client life interest) unasked = open-busy _ (join-busy client.0 life (map (λ (o : ObjectId). o.0) interest))
@@ -140,7 +145,9 @@ module _ (r : Rules) (h : List Entry) (s : ℕ) (q : Request) (d : Decision) (mo
       go (decisions.Refuse refusal detail) is told = absurd (true≢false (sym is))
       go (decisions.Welcome client life) is told = absurd (true≢false (sym is))
       go (decisions.Drop client seq chain far) is told = absurd (true≢false (sym is))
+      go (decisions.Deny client seq object) is told = absurd (true≢false (sym is))
       go (decisions.Repeat seq chain far) is told = absurd (true≢false (sym is))
+      go (decisions.RepeatDenied seq object) is told = absurd (true≢false (sym is))
       go (decisions.Settle seq pos) is told = absurd (true≢false (sym is))
       go (decisions.Accept client seq) is told = absurd (true≢false (sym is))
       go decisions.Note is told = absurd (true≢false (sym is))
@@ -156,7 +163,9 @@ module _ (r : Rules) (h : List Entry) (s : ℕ) (q : Request) (d : Decision) (mo
       go (decisions.Refuse refusal detail) is = absurd (true≢false (sym is))
       go (decisions.Welcome client life) is = absurd (true≢false (sym is))
       go (decisions.Drop client seq chain far) is = absurd (true≢false (sym is))
+      go (decisions.Deny client seq object) is = absurd (true≢false (sym is))
       go (decisions.Repeat seq chain far) is = absurd (true≢false (sym is))
+      go (decisions.RepeatDenied seq object) is = absurd (true≢false (sym is))
       go (decisions.Settle seq pos) is = absurd (true≢false (sym is))
       go (decisions.Accept client seq) is = absurd (true≢false (sym is))
       go decisions.Note is = absurd (true≢false (sym is))
@@ -173,7 +182,9 @@ is-plain r g s q (decisions.Accept client seq) other unasked holds = ap is_poll 
 is-plain r g s q (decisions.Refuse refusal detail) other unasked holds = tt
 is-plain r g s q (decisions.Welcome client life) other unasked holds = tt
 is-plain r g s q (decisions.Drop client seq chain far) other unasked holds = tt
+is-plain r g s q (decisions.Deny client seq object) other unasked holds = tt
 is-plain r g s q (decisions.Repeat seq chain far) other unasked holds = tt
+is-plain r g s q (decisions.RepeatDenied seq object) other unasked holds = tt
 is-plain r g s q (decisions.Settle seq pos) other unasked holds = tt
 is-plain r g s q decisions.Leave other unasked holds = tt
 is-plain r g s q decisions.See other unasked holds = tt
@@ -199,7 +210,9 @@ done-holds r g s results (decisions.Accept client seq) plain holds = absurd (tru
 done-holds r g s results (decisions.Refuse refusal detail) plain holds = tt
 done-holds r g s results (decisions.Welcome client life) plain holds = record { client = holds.client; number = holds.number; above = holds.above; interest = holds.interest }
 done-holds r g s results (decisions.Drop client seq chain far) plain holds = absurd (true≢false (sym (ap is_submit holds.submit)))
+done-holds r g s results (decisions.Deny client seq object) plain holds = absurd (true≢false (sym (ap is_submit holds.submit)))
 done-holds r g s results (decisions.Repeat seq chain far) plain holds = done-old g s []
+done-holds r g s results (decisions.RepeatDenied seq object) plain holds = done-old g s []
 done-holds r g s results (decisions.Settle seq pos) plain holds = tt
 done-holds r g s results decisions.See plain holds = (done-old g s [], holds.1)
 done-holds r g s results decisions.Leave plain holds = tt
@@ -224,7 +237,9 @@ done-reply r g s results (decisions.Accept client seq) plain = refl
 done-reply r g s results (decisions.Refuse refusal detail) plain = refl
 done-reply r g s results (decisions.Welcome client life) plain = refl
 done-reply r g s results (decisions.Drop client seq chain far) plain = refl
+done-reply r g s results (decisions.Deny client seq object) plain = refl
 done-reply r g s results (decisions.Repeat seq chain far) plain = refl
+done-reply r g s results (decisions.RepeatDenied seq object) plain = refl
 done-reply r g s results (decisions.Settle seq pos) plain = refl
 done-reply r g s results decisions.Leave plain = refl
 done-reply r g s results decisions.See plain = refl
@@ -307,9 +322,9 @@ module _ (r : Rules) (h : List Entry) (s : ℕ) (q : Request) where
   member-joined false false None is served = absurd (true≢false served)
   member-joined false false (Some k) is served = record { client = k; joined = sym is }
 
-  served-joined : is_refused (member_reply (is_over (agreed_history h) s) (nat_le most_requests (asked_in (agreed_history h) s)) (client_of (agreed_history h) s)) ≡ false → HasClient h s
+  served-joined : is_refused (member_reply (is_over (agreed_history h) s) (is_spent r.requests (asked_in (agreed_history h) s)) (client_of (agreed_history h) s)) ≡ false → HasClient h s
   served-joined served =
-      member-joined (is_over (agreed_history h) s) (nat_le most_requests (asked_in (agreed_history h) s)) (client_of (agreed_history h) s) (client-agreed h s) served
+      member-joined (is_over (agreed_history h) s) (is_spent r.requests (asked_in (agreed_history h) s)) (client_of (agreed_history h) s) (client-agreed h s) served
 
 polled-served : (r : Rules) (h : List Entry) (s : ℕ) (ps : List ℕ) → is_refused (reply_to_poll r h s ps) ≡ false
 polled-served r h s [] = refl

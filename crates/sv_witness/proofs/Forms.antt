@@ -45,6 +45,7 @@ done-noted r h s results (logged.Noted commit) e = refl
 done-noted r h s results (logged.Welcome commit head) e = e
 done-noted r h s results (logged.Relay seq commit head positions) e = e
 done-noted r h s results (logged.Dropped seq chain far) e = e
+done-noted r h s results (logged.Denied seq object) e = e
 done-noted r h s results (logged.Seen last commit head positions) e = e
 done-noted r h s results (logged.Settled seq pos) e = e
 done-noted r h s results logged.Idle e = absurd (true≢false (sym e ∙ polled-quiet r (agreed_history h) s (due_to h s)))

@@ -40,6 +40,7 @@ noted-no-relay (logged.Noted commit) n = refl
 noted-no-relay (logged.Welcome commit head) n = cc
 noted-no-relay (logged.Relay seq commit head positions) n = cc
 noted-no-relay (logged.Dropped seq chain far) n = cc
+noted-no-relay (logged.Denied seq object) n = cc
 noted-no-relay (logged.Seen last commit head positions) n = cc
 noted-no-relay (logged.Settled seq pos) n = cc
 noted-no-relay logged.Idle n = cc

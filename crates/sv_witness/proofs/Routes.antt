@@ -1,9 +1,8 @@
 -- What the decisions by the history of what was agreed are to a witnessing server, and which entries that history has of them.
-use Rattle.std.proofs.Common.{◌≡◌, ℕ, suc, ◌<◌, ◌≤◌, Bool, true, false, ◌&&◌, not, nat_eq, nat_lt, nat_le, List, [], ◌∷◌, filter, length, Option, Some, None, is_some, is_none, refl, sym, ap, ◌∙◌, arith, true≢false}
+use Rattle.std.proofs.Common.{◌≡◌, ℕ, suc, ◌<◌, ◌≤◌, Bool, true, false, ◌&&◌, not, nat_eq, nat_lt, List, [], ◌∷◌, filter, length, Option, Some, None, is_some, is_none, refl, sym, ap, ◌∙◌, arith, true≢false}
 use Rattle.std.specs.Prelude.{if◌then◌else◌}
 use Rattle.std.proofs.lemmas.Bool.{cond-false, and_parts, ltb-true, or_left, or_right, eq-eqb}
 use Rattle.sv_world.specs.Control.{is_in, below}
-use Rattle.sv_world.specs.Limits.{most_requests}
 use Rattle.sv_world.proofs.Bases.{below-is_in}
 use Rattle.sv_wire.specs.declared.message.Done1.{Done1}
 use Rattle.sv_wire.specs.declared.message.Request.{Request}
@@ -13,7 +12,7 @@ use Rattle.sv_journal.specs.declared.entry.Entry.{Entry}
 use Rattle.sv_journal.specs.declared.entry.Logged.TheVariants as logged
 use Rattle.sv_journal.specs.History.{is_noted, client_of, accepted, reports}
 use Rattle.sv_journal.specs.Sessions.{is_over, asked_in, sent_to}
-use Rattle.sv_journal.specs.Answer.{Rules, refused_as, is_bad_done, commit_with, reply_to_member, reply_to_request}
+use Rattle.sv_journal.specs.Answer.{Rules, refused_as, is_bad_done, commit_with, reply_to_member, is_spent, reply_to_request}
 use Rattle.sv_sequencer.specs.declared.decision.Decision.{Decision}
 use Rattle.sv_sequencer.specs.declared.decision.Decision.TheVariants as decisions
 use Rattle.sv_sequencer.specs.Decisions.{reply_by}
@@ -36,7 +35,9 @@ IsPlain q (decisions.Accept client seq) = is_poll q ≡ false
 IsPlain q (decisions.Refuse refusal detail) = Unit {0}
 IsPlain q (decisions.Welcome client life) = Unit {0}
 IsPlain q (decisions.Drop client seq chain far) = Unit {0}
+IsPlain q (decisions.Deny client seq object) = Unit {0}
 IsPlain q (decisions.Repeat seq chain far) = Unit {0}
+IsPlain q (decisions.RepeatDenied seq object) = Unit {0}
 IsPlain q (decisions.Settle seq pos) = Unit {0}
 IsPlain q decisions.Leave = Unit {0}
 IsPlain q decisions.See = Unit {0}
@@ -50,7 +51,9 @@ plain-reply r h s q (decisions.Accept client seq) plain = cond-false (is_poll q)
 plain-reply r h s q (decisions.Refuse refusal detail) plain = refl
 plain-reply r h s q (decisions.Welcome client life) plain = refl
 plain-reply r h s q (decisions.Drop client seq chain far) plain = refl
+plain-reply r h s q (decisions.Deny client seq object) plain = refl
 plain-reply r h s q (decisions.Repeat seq chain far) plain = refl
+plain-reply r h s q (decisions.RepeatDenied seq object) plain = refl
 plain-reply r h s q (decisions.Settle seq pos) plain = refl
 plain-reply r h s q decisions.Leave plain = refl
 plain-reply r h s q decisions.See plain = refl
@@ -63,7 +66,9 @@ plain-quiet r h s q (decisions.Accept client seq) plain = refl
 plain-quiet r h s q (decisions.Refuse refusal detail) plain = refl
 plain-quiet r h s q (decisions.Welcome client life) plain = refl
 plain-quiet r h s q (decisions.Drop client seq chain far) plain = refl
+plain-quiet r h s q (decisions.Deny client seq object) plain = refl
 plain-quiet r h s q (decisions.Repeat seq chain far) plain = refl
+plain-quiet r h s q (decisions.RepeatDenied seq object) plain = refl
 plain-quiet r h s q (decisions.Settle seq pos) plain = refl
 plain-quiet r h s q decisions.Leave plain = refl
 plain-quiet r h s q decisions.See plain = refl
@@ -75,7 +80,7 @@ pub record MayReport (r : Rules) (h : List Entry) (s : ℕ) (results : List Done
   pub good : is_bad_done r h s results ≡ false
 
 pub noted-may : (r : Rules) (h : List Entry) (s : ℕ) (results : List Done1) → is_noted (reply_to_request r h s (requests.Done results)) ≡ true → MayReport r h s results
-noted-may r h s results noted = go (is_over h s) (nat_le most_requests (asked_in h s)) (client_of h s) refl noted
+noted-may r h s results noted = go (is_over h s) (is_spent r.requests (asked_in h s)) (client_of h s) refl noted
   where
     done : (k : ℕ) → client_of h s ≡ Some k → (c : Bool) → is_bad_done r h s results ≡ c →
         is_noted (if c then refused_as refusals.BadResults 0 else logged.Noted (commit_with h s results)) ≡ true → MayReport r h s results

@@ -1,6 +1,6 @@
 -- A sound run over a witnessing server: whatever is asked and replied in it is a message, no client refuses its next reply, and what is agreed is
 -- the serial execution.
-use Rattle.std.proofs.Common.{◌≡◌, ℕ, suc, ◌-◌, ◌≤◌, Bool, true, false, inl, inr, List, [], ◌∷◌, map, length, reverse, Option, Some, None, slice_get, ℤ, pos, negsuc, refl, sym, ap, subst, arith, ltb, ltb-true, filter}
+use Rattle.std.proofs.Common.{◌≡◌, ℕ, suc, ◌-◌, ◌<◌, ◌≤◌, Bool, true, false, inl, inr, List, [], ◌∷◌, map, length, reverse, Option, Some, None, slice_get, ℤ, pos, negsuc, refl, sym, ap, subst, arith, ltb, ltb-true, filter}
 use Rattle.std.specs.Prelude.{All, int_lt, ◌+ℤ◌, if◌then◌else◌}
 use Rattle.std.specs.List.{list_any, AllByRecursion}
 use Rattle.std.proofs.lemmas.Bool.{cases_Bool, cond_both}
@@ -33,6 +33,7 @@ use Rattle.sv_system.proofs.Histories.{IsEarlier, same, after, earlier-rest}
 use Rattle.sv_system.proofs.Entered.{is_of, of-from}
 use Rattle.sv_system.proofs.Induction.{whole-well}
 use Rattle.sv_system.proofs.NextReply.{served-no_fault}
+use Rattle.sv_system.proofs.Within.{scenario-keeps}
 use Rattle.sv_asked.specs.Asked.{EventFits, HasNumbers, ServedRequestsFit, ServedRepliesFit}
 use Rattle.sv_asked.specs.Numbers.{ScenarioFits}
 use Rattle.sv_system.proofs.Every.{each-at, each-map, each-more, each-reverse}
@@ -55,7 +56,7 @@ use Rattle.law_schedule.proofs.SoundOwned.{session-owned}
 use Rattle.sv_replay.specs.Players.{asked_by_player}
 use Rattle.sv_replay.specs.Messages.{AsksMessages}
 use Rattle.sv_replay.specs.Playable.{MadeActionsFit}
-use Rattle.sv_replay.proofs.Lengths.{owner_of, history_few}
+use Rattle.sv_replay.proofs.Lengths.{owner_of}
 use Rattle.sv_witness.specs.Lies.{greatest_int, lied, lied_result, lied_value}
 use Rattle.sv_witness.specs.Reports.{agreed_history}
 use Rattle.sv_witness.specs.Witnessed.{agreed, IsWitnessed}
@@ -148,7 +149,7 @@ module _ (scenario : Scenario) (liar : Option ℕ) (run : Run) (good : IsGoodSce
 
   calm-where_none : liar ≡ None → disputes_of H ≡ []
   calm-where_none none =
-      none-disputed r H (filter (is_other no_client) (traces_of run)) good.world.objects legal
+      none-disputed r H (filter (is_other no_client) (traces_of run)) good.world.objects (omega arith) legal
       (subst (λ (n : ℕ). FitsBut n shape H (filter (is_other n) (traces_of run))) (ap liar_of none) but)
 
   pub as-said : run ≡ witnessed_run scenario liar → IsWitnessedRun scenario liar H (traces_of run)
@@ -172,8 +173,8 @@ module _ (scenario : Scenario) (liar : Option ℕ) (run : Run) (good : IsGoodSce
   trace-owns : (k : ℕ) (p : Player) → slice_get run.players k ≡ Some p → OwnsSessions H (trace_of_player p)
   trace-owns k p at s c = any-turned (is_join_of s) p.events (session-owned server (heard-joins r liar) scenario run good sound k p at s c)
 
-  room : length (accepted H) ≤ most_positions
-  room = (let most = served-few agreed r H (session_count scenario) agreed-keeping legal sound.sessions in omega (arith, most, good.sessions))
+  room : length (accepted H) < most_positions
+  room = (let most = served-few agreed r H (session_count scenario) 1024 agreed-keeping refl legal sound.sessions in omega (arith, most, good.sessions))
 
   pub taken : (k : ℕ) (p : Player) (s : ℕ) (reply : Reply) → slice_get run.players k ≡ Some p → current_session p.events ≡ Some s →
       slice_get (replies_in (accepted H) H s) (length (got p.events s)) ≡ Some reply → first_fault_of_reply p.who p.events reply ≡ None
@@ -186,9 +187,10 @@ module _ (scenario : Scenario) (liar : Option ℕ) (run : Run) (good : IsGoodSce
       subst (λ (t : List Event). first_fault_of_reply p.who t reply ≡ None) (same-events p)
       (subst (λ (w : Identity). first_fault_of_reply w (reverse L.events) reply ≡ None) (same-who shape p (ap (λ (w : Identity). w.shape) a.playing.who))
       (served-no_fault agreed r H L (record { keeps = agreed-keeping; legal = legal; fits = trace-fits k p at }) (trace-owns k p at) s reply good.world.objects
-      good.world.attrs good.bound room serial
+      good.world.attrs good.bound (omega arith) room serial
       (subst (λ (t : List Event). current_session t ≡ Some s) back current)
-      (subst (λ (t : List Event). length (asked p.who.client p.who.interest t s) ≤ 1024) back few)
+      (scenario-keeps scenario.world scenario.bound scenario.reach (session_count scenario) shape H L s (trace-fits k p at).proper
+      (subst (λ (t : List Event). length (asked p.who.client p.who.interest t s) ≤ 1024) back few))
       (subst (λ (t : List Event). slice_get (replies_in (accepted H) H s) (length (got t s)) ≡ Some reply) back waits)))
 
   -- ---- What is asked is a message
@@ -238,7 +240,7 @@ module _ (scenario : Scenario) (liar : Option ℕ) (run : Run) (good : IsGoodSce
       objects = objects_few scenario good;
       opening = numbers.values;
       made = All-from_recursion (λ (M : Trace). All EventFits M.events) (trace_of_player p ∷ []) (made-at k p at, tt);
-      positions = (let most = served-few agreed r H (session_count scenario) agreed-keeping legal sound.sessions in omega (arith, most, good.sessions));
+      positions = (let most = served-few agreed r H (session_count scenario) 1024 agreed-keeping refl legal sound.sessions in omega (arith, most, good.sessions));
     }
 
     module _ (asked-fit : ServedRequestsFit) where
@@ -270,8 +272,8 @@ module _ (scenario : Scenario) (liar : Option ℕ) (run : Run) (good : IsGoodSce
 
       pub replied : ServedRepliesFit → All (λ (e : Entry). IsReply (full_reply (accepted H) e.reply)) H
       replied law =
-          let short = history_few server scenario run good sound in
-          law agreed r H agreed-keeping (limits_of scenario good) (objects_few scenario good) numbers.values (All-from_recursion (λ (e : Entry). RequestFits e.request) H (entries-fit H same)) (omega (arith, short)) legal
+          law agreed r H agreed-keeping (limits_of scenario good) (omega arith) (objects_few scenario good) numbers.values
+          (All-from_recursion (λ (e : Entry). RequestFits e.request) H (entries-fit H same)) legal
 
 -- ---- Runs
 

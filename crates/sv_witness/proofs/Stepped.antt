@@ -1,5 +1,5 @@
 -- One step of a witnessing server, put together: what its fields keep once its core did what was decided and the journal has an entry more.
-use Rattle.std.proofs.Common.{◌≡◌, ℕ, ◌<◌, ◌≤◌, false, Some, List, [], ◌∷◌, ◌++◌, sym, ap, ◌∙◌, subst, reverse, refl, Bool, ◌||◌, ◌&&◌, ◌==◌, ap₂, Result, Ok, Err, IfOk, OnErr, arith}
+use Rattle.std.proofs.Common.{◌≡◌, ℕ, ◌<◌, ◌≤◌, false, Some, List, [], ◌∷◌, ◌++◌, sym, ap, ◌∙◌, subst, reverse, refl, Bool, ◌||◌, ◌&&◌, ◌==◌, ap₂, Result, Ok, Err, IfOk, OnErr, IsSome, arith}
 use Rattle.std.proofs.lemmas.List.{reverse-append}
 use Rattle.sv_wire.specs.declared.message.Done1.{Done1}
 use Rattle.sv_wire.specs.declared.message.Reply.{Reply}
@@ -11,12 +11,12 @@ use Rattle.sv_journal.specs.declared.entry.Logged.TheVariants as logged
 use Rattle.sv_journal.specs.History.{is_noted, client_of, accepted, reported, commit_of, full_reply}
 use Rattle.sv_journal.specs.Sessions.{is_ended}
 use Rattle.sv_journal.specs.View.{JournalView}
-use Rattle.sv_journal.specs.Answer.{Rules, is_bad_done}
+use Rattle.sv_journal.specs.Answer.{Rules, MayBeSession, is_bad_done}
 use Rattle.sv_journal.proofs.Kept.{end-same}
 use Rattle.sv_sequencer.specs.declared.decision.Decision.{Decision}
 use Rattle.sv_sequencer.specs.declared.decision.Decision.TheVariants as decisions
 use Rattle.sv_sequencer.specs.declared.server_core.Core.{Core}
-use Rattle.sv_sequencer.specs.Cores.{core_rules, owed_by, queue_of, Keeps}
+use Rattle.sv_sequencer.specs.Cores.{core_rules, session_at, owed_by, queue_of, Keeps, SitByNumber}
 use Rattle.sv_sequencer.specs.Decisions.{reply_by}
 use Rattle.sv_sequencer.specs.Entering.{HasRoomForEnds, EnteredReply, NothingEntered}
 use Rattle.sv_sequencer.specs.Step.{SequencerView, history, entry_of, end_entry}
@@ -34,6 +34,13 @@ use Rattle.sv_witness.proofs.KeptRows.{AreSame}
 use Rattle.sv_witness.proofs.Routes.{quiet-entry}
 use Rattle.sv_witness.proofs.Steps.{quiet-stands, quiet-whole, noted-stands, noted-entry, noted-reply}
 
+-- Sessions sit where they sat.
+pub still-seated : (old new : Core) → core_rules new ≡ core_rules old → ((slot : ℕ) → session_at new slot ≡ session_at old slot) → SitByNumber old → SitByNumber new
+still-seated old new rules seats is = record {
+  count = subst (λ (r : Rules). IsSome r.sessions) (sym rules) is.count;
+  seats = λ s may. seats s ∙ is.seats s (subst (λ (r : Rules). MayBeSession r.sessions s) rules may);
+}
+
 -- A request that is not noted was answered: the core stands where the entry leads, in which a Done has no results.
 pub quiet-replied : (old core : Core) (before after : JournalView) (rows : List RowView) (ds : List Dispute) (h : List Entry) (s : ℕ) (q : Request) (d : Decision) (reply : Reply) →
     Standing old rows ds h → EnteredReply old core before after (agreed_history h) s q (emptied q) d reply →
@@ -43,6 +50,7 @@ quiet-replied old core before after rows ds h s q d reply is done told quiet = r
   rules = done.entered.rules;
   standing = record {
     keeps = subst (Keeps core) (ap (λ (w : Logged). entry_of s (emptied q) w ∷ agreed_history h) told ∙ sym (quiet-entry e h quiet)) done.entered.keeps;
+    seats = still-seated old core done.entered.rules done.entered.seats is.seats;
     stands = subst (λ (r : Rules). KeepsBeside r rows ds (e ∷ h)) (sym done.entered.rules) (quiet-stands (core_rules old) rows ds e h quiet refl is.stands);
   };
   entries = done.entered.entries ∙ ap (λ (w : Logged). before.entries ++ entry_of s q w ∷ []) told;
@@ -85,6 +93,7 @@ module _ (old core : Core) (before after : JournalView) (rows : List RowView) (d
     rules = done.entered.rules;
     standing = record {
       keeps = noted-keeps;
+      seats = still-seated old core done.entered.rules done.entered.seats is.seats;
       stands = subst (λ (r : Rules). KeepsBeside r new made (witnessed_entry (core_rules old) h s (requests.Done results) ∷ h)) (sym done.entered.rules)
           (subst (λ (w : Logged). KeepsBeside (core_rules old) new made (entry_of s (requests.Done results) w ∷ h)) (sym answer)
           (noted-stands (core_rules old) h s k results joined good rows new ds last (sym answer)
@@ -101,18 +110,21 @@ module _ (old core : Core) (before after : JournalView) (rows : List RowView) (d
       made = with_disputes (new_disputes rows k (counted_results (agreed_commit h) rows k results)) ds
 
 -- As a server is opened.
-pub as-opened : (core : Core) (rows : List RowView) (ds : List Dispute) (es : List Entry) → es ≡ [] → rows ≡ [] → ds ≡ [] → Keeps core [] → Standing core rows ds (reverse es)
-as-opened core rows ds es none no_rows no_disputes keeps =
+pub as-opened : (core : Core) (rows : List RowView) (ds : List Dispute) (es : List Entry) → es ≡ [] → rows ≡ [] → ds ≡ [] → Keeps core [] → SitByNumber core →
+    Standing core rows ds (reverse es)
+as-opened core rows ds es none no_rows no_disputes keeps seats =
     subst (λ (l : List Entry). Standing core rows ds (reverse l)) (sym none) (record {
       keeps = keeps;
+      seats = seats;
       stands = record { legal = tt; reports = λ p above. ap (λ (rs : List RowView). kept_at rs p) no_rows; within = λ p above. refl; disputed = no_disputes };
     })
 
 -- Once a session had its End.
 pub after-end : (old core : Core) (rows : List RowView) (ds : List Dispute) (h : List Entry) (s : ℕ) → Standing old rows ds h → core_rules core ≡ core_rules old →
-    Keeps core (end_entry s ∷ agreed_history h) → Standing core rows ds (end_entry s ∷ h)
-after-end old core rows ds h s is same keeps = record {
+    ((slot : ℕ) → session_at core slot ≡ session_at old slot) → Keeps core (end_entry s ∷ agreed_history h) → Standing core rows ds (end_entry s ∷ h)
+after-end old core rows ds h s is same seats keeps = record {
   keeps = subst (Keeps core) (sym (quiet-entry (end_entry s) h refl)) keeps;
+  seats = still-seated old core same seats is.seats;
   stands = subst (λ (r : Rules). KeepsBeside r rows ds (end_entry s ∷ h)) (sym same) (quiet-stands (core_rules old) rows ds (end_entry s) h refl refl is.stands);
 }
 
@@ -136,7 +148,7 @@ same-stands r rows new ds h same is = record {
 -- A server's fields stand for a history that its caller names.
 pub stands-for : (a : Inside) (v : SequencerView) (h : List Entry) → IsWitness a → model_of a ≡ v → h ≡ history v → Standing a.core a.testimony.reports a.testimony.disputes.items h
 stands-for a v h is view past =
-    subst (λ (l : List Entry). Standing a.core a.testimony.reports a.testimony.disputes.items l) (ap history view ∙ sym past) (record { keeps = is.keeps; stands = is.stands })
+    subst (λ (l : List Entry). Standing a.core a.testimony.reports a.testimony.disputes.items l) (ap history view ∙ sym past) (record { keeps = is.keeps; seats = is.seats; stands = is.stands })
 
 -- A request that is not noted was answered, by a server whose history its caller names.
 pub kept-replied : (a : Inside) (core : Core) (j : JournalView) (h : List Entry) (v : SequencerView) (s : ℕ) (q : Request) (d : Decision) (reply : Reply) →
@@ -154,6 +166,7 @@ still : (a b : Inside) → IsWitness a → NothingEntered a.core b.core a.journa
     AreSame a.testimony.reports b.testimony.reports → b.testimony.disputes.items ≡ a.testimony.disputes.items → IsWitness b
 still a b is none rows disputes = record {
   keeps = subst (λ (es : List Entry). Keeps b.core (agreed_history (reverse es))) (sym none.entries) none.core.keeps;
+  seats = still-seated a.core b.core none.core.rules none.core.seats is.seats;
   stands = subst (λ (es : List Entry). KeepsBeside (core_rules b.core) b.testimony.reports b.testimony.disputes.items (reverse es)) (sym none.entries)
       (subst (λ (r : Rules). KeepsBeside r b.testimony.reports b.testimony.disputes.items (reverse a.journal.entries)) (sym none.core.rules)
       (subst (λ (ds : List Dispute). KeepsBeside (core_rules a.core) b.testimony.reports ds (reverse a.journal.entries)) (sym disputes)
@@ -166,6 +179,7 @@ pub grown : (b : Inside) (es : List Entry) (e : Entry) → b.journal.entries ≡
     HasRoomForEnds b.core b.journal → IsWitness b
 grown b es e grew is room = record {
   keeps = subst (λ (l : List Entry). Keeps b.core (agreed_history l)) (sym past) is.keeps;
+  seats = is.seats;
   stands = subst (λ (l : List Entry). KeepsBeside (core_rules b.core) b.testimony.reports b.testimony.disputes.items l) (sym past) is.stands;
   room = room;
 }

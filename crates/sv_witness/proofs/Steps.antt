@@ -12,7 +12,6 @@ use Rattle.sv_journal.specs.declared.entry.Entry.{Entry}
 use Rattle.sv_journal.specs.declared.entry.Logged.{Logged}
 use Rattle.sv_journal.specs.declared.entry.Logged.TheVariants as logged
 use Rattle.sv_journal.specs.History.{Authored, is_noted, client_of, accepted, actions_of, reported, result_at, commit_of, full_reply}
-use Rattle.sv_journal.specs.Sessions.{sent_to, named_to}
 use Rattle.sv_journal.specs.Answer.{Rules, is_bad_result, is_bad_done, commit_with, relay_of, reply_to_poll}
 use Rattle.sv_journal.proofs.Results.{some_good}
 use Rattle.sv_sequencer.specs.Fits.{QueueFits}
@@ -109,15 +108,15 @@ module _ (r : Rules) (h : List Entry) (s k : ℕ) (results : List Done1) (joined
             ∙ sym (disputes-noted rows e h k results refl refl joined is.reports once all-low);
       }
 
-  known : (v : QueueView) → QueueFits r.world (accepted (agreed_history h)) (result_at (agreed_history h)) (sent_to (agreed_history h)) (named_to (agreed_history h)) v →
+  known : {S : ℕ → List ℕ} {N : ℕ → ℕ → List ℕ} (v : QueueView) → QueueFits r.world (accepted (agreed_history h)) (result_at (agreed_history h)) S N v →
       v.commit ≡ agreed_commit h → (ds : List Done1) → AllByRecursion (λ (d : Done1). d.pos ≤ length (accepted (agreed_history h))) ds →
       AllByRecursion (λ (d : Done1). agreed_commit h < d.pos → (entry_at v d.pos).result ≡ agreed_result h d.pos) ds
   known v f at [] low = tt
   known v f at (d ∷ ds) low = ((λ above. (f.entries d.pos (omega (arith, at, above)) low.0).result ∙ results-agreed h d.pos), known v f at ds low.1)
 
   -- The history of what was agreed has of it the results that brought agreement.
-  pub noted-entry : (rows : List RowView) (v : QueueView) (c : ℕ) → KeepsReports rows h →
-      QueueFits r.world (accepted (agreed_history h)) (result_at (agreed_history h)) (sent_to (agreed_history h)) (named_to (agreed_history h)) v → v.commit ≡ agreed_commit h →
+  pub noted-entry : {S : ℕ → List ℕ} {N : ℕ → ℕ → List ℕ} (rows : List RowView) (v : QueueView) (c : ℕ) → KeepsReports rows h →
+      QueueFits r.world (accepted (agreed_history h)) (result_at (agreed_history h)) S N v → v.commit ≡ agreed_commit h →
       agreed_history (entry_of s (requests.Done results) (logged.Noted c) ∷ h)
       ≡ entry_of s (requests.Done (agreed_results v rows (counted_results (agreed_commit h) rows k results))) (logged.Noted c) ∷ agreed_history h
   noted-entry rows v c kept f at =
@@ -125,8 +124,8 @@ module _ (r : Rules) (h : List Entry) (s k : ℕ) (results : List Done1) (joined
       (results-with rows (entry_of s (requests.Done results) (logged.Noted c)) h k results refl refl joined kept v once (known v f at results (accepted-below results none-bad)))
 
   -- So the commit that the core notes is the one that the server notes.
-  pub noted-reply : (rows : List RowView) (v : QueueView) → KeepsReports rows h →
-      QueueFits r.world (accepted (agreed_history h)) (result_at (agreed_history h)) (sent_to (agreed_history h)) (named_to (agreed_history h)) v → v.commit ≡ agreed_commit h →
+  pub noted-reply : {S : ℕ → List ℕ} {N : ℕ → ℕ → List ℕ} (rows : List RowView) (v : QueueView) → KeepsReports rows h →
+      QueueFits r.world (accepted (agreed_history h)) (result_at (agreed_history h)) S N v → v.commit ≡ agreed_commit h →
       logged.Noted (commit_with (agreed_history h) s (agreed_results v rows (counted_results (agreed_commit h) rows k results))) ≡ noted_after agreed h s (requests.Done results)
   noted-reply rows v kept f at = sym (ap (λ (g : List Entry). logged.Noted (commit_of g)) (noted-entry rows v 0 kept f at))
 

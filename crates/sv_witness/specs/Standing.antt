@@ -12,7 +12,7 @@ use Rattle.sv_journal.specs.View.{JournalView}
 use Rattle.sv_sequencer.specs.declared.decision.Decision.{Decision}
 use Rattle.sv_sequencer.specs.declared.decision.Decision.TheVariants as decisions
 use Rattle.sv_sequencer.specs.declared.server_core.Core.{Core}
-use Rattle.sv_sequencer.specs.Cores.{core_rules, Keeps}
+use Rattle.sv_sequencer.specs.Cores.{core_rules, Keeps, SitByNumber}
 use Rattle.sv_sequencer.specs.Entering.{HasRoomForEnds}
 use Rattle.sv_sequencer.specs.Step.{entry_of}
 use Rattle.sv_witness.specs.declared.report.Dispute.{Dispute}
@@ -40,9 +40,11 @@ first_relay (p ∷ ps) = decisions.Relay 0 p
 
 -- ---- What is kept
 
--- Of a journal with these entries the core stands where the history of what was agreed leads, and all that is kept beside it stands.
+-- Of a journal with these entries the core stands where the history of what was agreed leads, with each session at its own slot, and all that is
+-- kept beside it stands.
 pub record Standing (core : Core) (rows : List RowView) (disputes : List Dispute) (h : List Entry) : Type 0 where
   pub keeps : Keeps core (agreed_history h)
+  pub seats : SitByNumber core
   pub stands : KeepsBeside (core_rules core) rows disputes h
 
 -- The entry of a request, with the witnessed reply.

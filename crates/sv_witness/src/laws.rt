@@ -1,7 +1,7 @@
 //! The laws of witnessed journals.
-ghost use Rattle.std.specs.Prelude.{◌≡◌, ◌≤◌, ℕ, ℤ, List, All, length, reverse, slice_get, None, Some, []};
+ghost use Rattle.std.specs.Prelude.{◌≡◌, ◌<◌, ◌≤◌, ℕ, ℤ, List, All, length, reverse, slice_get, None, Some, []};
 ghost use Rattle.sv_world.specs.Control.{action_at};
-ghost use Rattle.sv_world.specs.Limits.{most_bound, most_positions, most_requests};
+ghost use Rattle.sv_world.specs.Limits.{most_bound, most_positions};
 ghost use Rattle.sv_world.specs.Sets.{write_set};
 ghost use Rattle.sv_wire.specs.declared.message.Reply.{Reply};
 ghost use Rattle.sv_journal.specs.declared.entry.Entry.{Entry};
@@ -9,7 +9,7 @@ ghost use Rattle.sv_journal.specs.History.{client_of, outcomes_of, accepted, act
 ghost use Rattle.sv_journal.specs.Sessions.{sent_to};
 ghost use Rattle.sv_journal.specs.Answer.{Rules};
 ghost use Rattle.sv_client.specs.declared.trace.Trace.{Trace};
-ghost use Rattle.sv_client.specs.Traces.{current_session, requests_of, got};
+ghost use Rattle.sv_client.specs.Traces.{current_session, got};
 ghost use Rattle.sv_client.specs.Taking.{first_fault_of_reply};
 ghost use Rattle.sv_client.specs.Proper.{identity_of};
 ghost use Rattle.sv_system.specs.Fits.{replies_in};
@@ -20,6 +20,7 @@ ghost use Rattle.sv_witness.specs.Disputes.{disputes_of, NamesClient};
 ghost use Rattle.sv_witness.specs.Honesty.{IsReported, IsDisputed, AllGiveBut, NoneGiveNone};
 ghost use Rattle.sv_witness.specs.Witnessed.{IsWitnessed};
 ghost use Rattle.sv_system.specs.Served.{FitsBut, no_client, OwnsSessions, FitsButValues};
+ghost use Rattle.sv_system.specs.Within.{KeepsLimits};
 ghost use Rattle.sv_witness.specs.Tolerance.{IsTolerated, IsLiar};
 ghost use Rattle.sv_witness.specs.Examples.{ExamplesAreWitnessed};
 
@@ -77,30 +78,30 @@ pub fn one_lying_client_is_tolerated()
 
 /// Where no client lies, there are no disputes: no two reports of a position differ.
 pub fn honest_clients_have_no_disputes()
-    ensures { (r : Rules) (h : List Entry) (Ls : List Trace) → length r.world.values ≡ r.world.shape.objects → IsWitnessed r h →
+    ensures { (r : Rules) (h : List Entry) (Ls : List Trace) → length r.world.values ≡ r.world.shape.objects → r.clients ≤ no_client → IsWitnessed r h →
         FitsBut no_client r.world.shape h Ls → disputes_of h ≡ [] }
 {}
 
 /// Honest clients are never refused by a witnessing server, and no more is a client that differs from an honest one in the values of its Dones
-/// alone: the next reply of the session that it began last has none of the faults for which a client refuses a reply, where all accepted actions
-/// have their positions. One that tells the lie of the program is such a client.
+/// alone: the next reply of the session that it began last has none of the faults for which a client refuses a reply, where the client keeps the
+/// limits that the rules have for it, and a position is left. One that tells the lie of the program is such a client.
 pub fn clients_of_a_witness_are_never_refused()
     ensures honest { (liar : ℕ) (r : Rules) (h : List Entry) (Ls : List Trace) (i : ℕ) (L : Trace) (s : ℕ) (reply : Reply) →
         length r.world.values ≡ r.world.shape.objects → All (λ (v : List ℤ). length v ≡ r.world.shape.attrs) r.world.values → r.bound ≤ most_bound →
-        length (accepted h) ≤ most_positions → IsWitnessed r h → FitsBut liar r.world.shape h Ls → slice_get Ls i ≡ Some L →
-        current_session (reverse L.events) ≡ Some s → length (requests_of L s) ≤ most_requests →
+        r.positions ≤ most_positions → length (accepted h) < r.positions → IsWitnessed r h → FitsBut liar r.world.shape h Ls → slice_get Ls i ≡ Some L →
+        current_session (reverse L.events) ≡ Some s → KeepsLimits r h L s →
         slice_get (replies_in (accepted h) h s) (length (got (reverse L.events) s)) ≡ Some reply →
         first_fault_of_reply (identity_of r.world.shape L) (reverse L.events) reply ≡ None }
     ensures values { (r : Rules) (h : List Entry) (Ls : List Trace) (L : Trace) (s : ℕ) (reply : Reply) →
         length r.world.values ≡ r.world.shape.objects → All (λ (v : List ℤ). length v ≡ r.world.shape.attrs) r.world.values → r.bound ≤ most_bound →
-        length (accepted h) ≤ most_positions → IsWitnessed r h → FitsBut L.client.0 r.world.shape h Ls → FitsButValues r.world.shape h L → OwnsSessions h L →
-        current_session (reverse L.events) ≡ Some s → length (requests_of L s) ≤ most_requests →
+        r.positions ≤ most_positions → length (accepted h) < r.positions → IsWitnessed r h → FitsBut L.client.0 r.world.shape h Ls → FitsButValues r.world.shape h L → OwnsSessions h L →
+        current_session (reverse L.events) ≡ Some s → KeepsLimits r h L s →
         slice_get (replies_in (accepted h) h s) (length (got (reverse L.events) s)) ≡ Some reply →
         first_fault_of_reply (identity_of r.world.shape L) (reverse L.events) reply ≡ None }
     ensures lying { (r : Rules) (h : List Entry) (Ls : List Trace) (L : Trace) (s : ℕ) (reply : Reply) →
         length r.world.values ≡ r.world.shape.objects → All (λ (v : List ℤ). length v ≡ r.world.shape.attrs) r.world.values → r.bound ≤ most_bound →
-        length (accepted h) ≤ most_positions → IsWitnessed r h → FitsBut L.client.0 r.world.shape h Ls → IsLiar r.world.shape h Ls L →
-        current_session (reverse L.events) ≡ Some s → length (requests_of L s) ≤ most_requests →
+        r.positions ≤ most_positions → length (accepted h) < r.positions → IsWitnessed r h → FitsBut L.client.0 r.world.shape h Ls → IsLiar r.world.shape h Ls L →
+        current_session (reverse L.events) ≡ Some s → KeepsLimits r h L s →
         slice_get (replies_in (accepted h) h s) (length (got (reverse L.events) s)) ≡ Some reply →
         first_fault_of_reply (identity_of r.world.shape L) (reverse L.events) reply ≡ None }
 {}

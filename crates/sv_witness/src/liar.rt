@@ -1,5 +1,6 @@
 //! A witnessing server that hears lies of one client.
-ghost use Rattle.std.specs.Prelude.{◌≡◌, ◌<◌};
+ghost use Rattle.std.specs.Prelude.{◌≡◌};
+ghost use Rattle.sv_journal.specs.Answer.{MayBeSession};
 ghost use Rattle.sv_sequencer.specs.Step.{history};
 ghost use Rattle.sv_witness.specs.Lying.{hears_lies, lying_view, lying_world};
 
@@ -21,7 +22,7 @@ pub(crate) struct Lying {
 impl Lying {
     /// Whether the liar joined a session.
     fn hears_lies(&self, session: u16) -> bool
-        requires { session < self.now.witness.rules.sessions }
+        requires { MayBeSession self.now.witness.rules.sessions session }
         ensures { result ≡ hears_lies self.now.liar (history self.now.witness) session }
     {
         match (self.liar, self.witness.client(session)) {

@@ -2,6 +2,7 @@
 ghost use Rattle.std.specs.Prelude.{◌≡◌, ◌≤◌, [], IfOk, IfSome};
 ghost use Rattle.sv_world.specs.Limits.{most_bound, most_reach, most_sessions};
 ghost use Rattle.sv_world.specs.Worlds.{IsGoodWorld};
+ghost use Rattle.sv_journal.specs.Answer.{scenario_rules};
 
 use crate::reports::Reports;
 use crate::testimony::Testimony;
@@ -27,7 +28,7 @@ impl Witness {
         requires reach { IfSome reach (λ far. far ≤ most_reach) }
         requires some { 1 ≤ sessions }
         requires few { sessions ≤ most_sessions }
-        ensures rules { IfOk result (λ s. s.rules ≡ record { world = world; bound = bound; reach = reach; sessions = sessions }) }
+        ensures rules { IfOk result (λ s. s.rules ≡ scenario_rules world bound reach sessions) }
         ensures empty { IfOk result (λ s. s.journal.entries ≡ []) }
     {
         let (core, journal) = open_core(alloc, world, bound, reach, sessions)?;

@@ -1,33 +1,41 @@
 //! What a witnessing server tells of its sessions and of the order of actions.
-ghost use Rattle.std.specs.Prelude.{◌≡◌, ◌<◌, length};
+ghost use Rattle.std.specs.Prelude.{◌≡◌, Some, length};
 ghost use Rattle.sv_journal.specs.History.{accepted, client_of};
 ghost use Rattle.sv_journal.specs.Sessions.{is_ended};
+ghost use Rattle.sv_journal.specs.Answer.{MayBeSession};
 ghost use Rattle.sv_sequencer.specs.Step.{history};
 
 use crate::witness::Witness;
+use sv_sequencer::Seat;
 
 impl Witness {
     /// How many sessions there may be.
     pub fn sessions(&self) -> u16
-        ensures { result ≡ self.now.rules.sessions }
+        ensures { Some result ≡ self.now.rules.sessions }
     {
-        self.core.sessions()
+        self.core.sessions().unwrap()
     }
 
     /// Whether a session had its End.
     pub fn is_ended(&self, session: u16) -> bool
-        requires { session < self.now.rules.sessions }
+        requires { MayBeSession self.now.rules.sessions session }
         ensures { result ≡ is_ended (history self.now) session }
     {
-        self.core.is_ended(session)
+        self.core.is_ended(Seat {
+            slot: session,
+            session: session as u64,
+        })
     }
 
     /// The client of a session, once it has joined.
     pub fn client(&self, session: u16) -> Option<u16>
-        requires { session < self.now.rules.sessions }
+        requires { MayBeSession self.now.rules.sessions session }
         ensures { result ≡ client_of (history self.now) session }
     {
-        self.core.client(session)
+        self.core.client(Seat {
+            slot: session,
+            session: session as u64,
+        })
     }
 
     /// How many actions were accepted.

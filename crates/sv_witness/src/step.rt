@@ -7,9 +7,9 @@ ghost use Rattle.sv_queue.specs.Queue.{last_position};
 ghost use Rattle.sv_journal.specs.declared.entry.Entry.{Entry};
 ghost use Rattle.sv_journal.specs.History.{client_of, is_noted};
 ghost use Rattle.sv_journal.specs.Sessions.{is_end, is_ended};
-ghost use Rattle.sv_journal.specs.Answer.{is_bad_done};
+ghost use Rattle.sv_journal.specs.Answer.{MayBeSession, is_bad_done};
 ghost use Rattle.sv_journal.specs.Serving.{is_poll, noted_after, polled_after};
-ghost use Rattle.sv_sequencer.specs.Cores.{core_rules, queue_of, Keeps};
+ghost use Rattle.sv_sequencer.specs.Cores.{core_rules, session_at, queue_of, Keeps};
 ghost use Rattle.sv_sequencer.specs.Decisions.{Holds, reply_by, results_in};
 ghost use Rattle.sv_sequencer.specs.Entering.{EnteredReply, NothingEntered};
 ghost use Rattle.sv_sequencer.specs.Step.{history, end_entry, GrewByEntry, Stayed};
@@ -29,7 +29,7 @@ use crate::witness::Witness;
 use std::alloc::{AllocError, Global};
 use sv_journal::Journal;
 use sv_queue::Queue;
-use sv_sequencer::{Core, Decided, Decision, enter_end, enter_reply, reported_by};
+use sv_sequencer::{Core, Decided, Decision, Seat, enter_end, enter_reply, reported_by};
 use sv_wire::{Done1, Reply, Request};
 use sv_world::List;
 
@@ -98,7 +98,7 @@ fn enter_emptied(
 ) -> Result<Reply, AllocError>
     ghost h: { List Entry }
     requires keeps { Keeps core.old h }
-    requires session { decided.session < (core_rules core.old).sessions }
+    requires seat { session_at core.old decided.session ≡ Some decided.session }
     requires more { is_end request.now ≡ false }
     requires holds { Holds (core_rules core.old) h decided.session (emptied request.now) decided.decision }
     ensures ok { IfOk result (EnteredReply core.old core.new journal.old journal.new h decided.session request.now (emptied request.now) decided.decision) }
@@ -127,7 +127,7 @@ fn install(
 ) -> Result<Reply, AllocError>
     ghost h: { List Entry }
     requires standing { Standing core.old testimony.old.reports testimony.old.disputes.items h }
-    requires session { noting.asker.session < (core_rules core.old).sessions }
+    requires seat { session_at core.old noting.asker.session ≡ Some noting.asker.session }
     requires joined { client_of h noting.asker.session ≡ Some noting.asker.client }
     requires done { request.now ≡ requests.Done (results_in request.now) }
     requires good { is_bad_done (core_rules core.old) (agreed_history h) noting.asker.session (results_in request.now) ≡ false }
@@ -181,7 +181,7 @@ impl Witness {
     ///
     /// After running out of memory everything is as it was, but for room. An End takes no memory.
     pub fn step(&mut self, session: u16, request: &Request) -> Result<Reply, AllocError>
-        requires session { session < self.old.rules.sessions }
+        requires session { MayBeSession self.old.rules.sessions session }
         requires first { is_end request.now ≡ true → is_ended (history self.old) session ≡ false }
         ensures ok { IfOk result (Witnesses self.old self.new session request.now) }
         ensures err { OnErr result (Stayed self.old self.new) }
@@ -209,7 +209,7 @@ impl Witness {
     fn end(&mut self, session: u16)
         ghost h: { List Entry }
         requires past { h ≡ history self.old }
-        requires session { session < self.old.rules.sessions }
+        requires session { MayBeSession self.old.rules.sessions session }
         requires first { is_ended h session ≡ false }
         ensures { GrewByEntry self.old self.new (end_entry session) }
     {
@@ -220,12 +220,16 @@ impl Witness {
     fn answer(&mut self, session: u16, request: &Request) -> Result<Reply, AllocError>
         ghost h: { List Entry }
         requires past { h ≡ history self.old }
-        requires session { session < self.old.rules.sessions }
+        requires session { MayBeSession self.old.rules.sessions session }
         requires more { is_end request.now ≡ false }
         ensures ok { IfOk result (Witnesses self.old self.new session request.now) }
         ensures err { OnErr result (Stayed self.old self.new) }
     {
-        let decision = self.core.decide(session, request);
+        let seat = Seat {
+            slot: session,
+            session: session as u64,
+        };
+        let decision = self.core.decide(seat, request);
         if let Decision::Note = decision {
             return self.note_results(session, request);
         }
@@ -244,7 +248,7 @@ impl Witness {
     ) -> Result<Reply, AllocError>
         ghost h: { List Entry }
         requires past { h ≡ history self.old }
-        requires session { session < self.old.rules.sessions }
+        requires session { MayBeSession self.old.rules.sessions session }
         requires more { is_end request.now ≡ false }
         requires holds { Holds self.old.rules (agreed_history h) session (emptied request.now) decision }
         requires reply { reply_by self.old.rules (agreed_history h) session (emptied request.now) decision ≡ witnessed_reply self.old.rules h session request.now }
@@ -265,13 +269,17 @@ impl Witness {
     fn poll(&mut self, session: u16, request: &Request) -> Result<Reply, AllocError>
         ghost h: { List Entry }
         requires past { h ≡ history self.old }
-        requires session { session < self.old.rules.sessions }
+        requires session { MayBeSession self.old.rules.sessions session }
         requires poll { request.now ≡ requests.Poll }
         requires reply { witnessed_reply self.old.rules h session request.now ≡ polled_after agreed self.old.rules h session }
         ensures ok { IfOk result (Witnesses self.old self.new session request.now) }
         ensures err { OnErr result (Stayed self.old self.new) }
     {
-        let Some(client) = self.core.client(session) else {
+        let seat = Seat {
+            slot: session,
+            session: session as u64,
+        };
+        let Some(client) = self.core.client(seat) else {
             unreachable!();
         };
         let asker = Asker { client, session };
@@ -284,14 +292,18 @@ impl Witness {
     fn note_results(&mut self, session: u16, request: &Request) -> Result<Reply, AllocError>
         ghost h: { List Entry }
         requires past { h ≡ history self.old }
-        requires session { session < self.old.rules.sessions }
+        requires session { MayBeSession self.old.rules.sessions session }
         requires done { request.now ≡ requests.Done (results_in request.now) }
         requires good { is_bad_done self.old.rules (agreed_history h) session (results_in request.now) ≡ false }
         requires reply { witnessed_reply self.old.rules h session request.now ≡ noted_after agreed h session request.now }
         ensures ok { IfOk result (Witnesses self.old self.new session request.now) }
         ensures err { OnErr result (Stayed self.old self.new) }
     {
-        let Some(client) = self.core.client(session) else {
+        let seat = Seat {
+            slot: session,
+            session: session as u64,
+        };
+        let Some(client) = self.core.client(seat) else {
             unreachable!();
         };
         let asker = Asker { client, session };

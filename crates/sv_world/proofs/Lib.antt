@@ -2,6 +2,7 @@
 pub mod Ascending
 pub mod Back
 pub mod Bases
+pub mod Forbidden
 pub mod Good
 pub mod Greatest
 pub mod Growing

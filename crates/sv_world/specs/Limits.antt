@@ -3,7 +3,11 @@ use Rattle.std.specs.Prelude.{ℕ}
 
 -- The objects of a world.
 abbrev pub most_objects : ℕ
-most_objects = 4096
+most_objects = 65535
+
+-- The objects of a scenario's world.
+abbrev pub most_scenario_objects : ℕ
+most_scenario_objects = 4096
 
 -- The attributes of an object.
 abbrev pub most_attrs : ℕ
@@ -21,13 +25,17 @@ most_nodes = 64
 abbrev pub most_depth : ℕ
 most_depth = 8
 
--- The clients of a server.
+-- The clients of a scenario.
 abbrev pub most_clients : ℕ
 most_clients = 32
 
--- The sessions of a server, over all clients.
+-- The sessions of a scenario, over all clients.
 abbrev pub most_sessions : ℕ
 most_sessions = 64
+
+-- The sessions of a server that are open at once.
+abbrev pub most_open : ℕ
+most_open = 1024
 
 -- The greatest bound on the actions that influence an action, itself not counted.
 abbrev pub most_bound : ℕ
@@ -41,7 +49,7 @@ most_reach = 2000000
 abbrev pub most_interest : ℕ
 most_interest = 64
 
--- The requests of a session.
+-- The requests of a scenario's session.
 abbrev pub most_requests : ℕ
 most_requests = 1024
 
@@ -49,7 +57,7 @@ most_requests = 1024
 abbrev pub most_items : ℕ
 most_items = 33
 
--- The positions of a world's actions.
+-- The positions of a world's actions; and the numbers of one client's actions.
 abbrev pub most_positions : ℕ
 most_positions = 4294967294
 

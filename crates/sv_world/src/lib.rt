@@ -18,6 +18,7 @@ mod list;
 mod names;
 mod node;
 mod numbers;
+mod rights;
 mod short;
 mod spelling;
 mod text;
@@ -50,14 +51,15 @@ pub use laws::{
 };
 pub use limits::{
     MOST_ATTRS, MOST_BOUND, MOST_CLIENTS, MOST_DEPTH, MOST_INTEREST, MOST_ITEMS, MOST_NODES,
-    MOST_OBJECTS, MOST_OUTSTANDING, MOST_PENDING, MOST_POSITIONS, MOST_REACH, MOST_READS,
-    MOST_REQUESTS, MOST_SESSIONS, MOST_SHOWN, MOST_STEPS, MOST_TURNS,
-    limits_are_those_of_contracts,
+    MOST_OBJECTS, MOST_OPEN, MOST_OUTSTANDING, MOST_PENDING, MOST_POSITIONS, MOST_REACH,
+    MOST_READS, MOST_REQUESTS, MOST_SCENARIO_OBJECTS, MOST_SESSIONS, MOST_SHOWN, MOST_STEPS,
+    MOST_TURNS, limits_are_those_of_contracts,
 };
 pub use list::List;
 pub use names::is_in_mask;
 pub use node::{Comparison, Connective, Node, Operator};
 pub use numbers::{read_object, read_objects};
+pub use rights::{NumberRange, Right, first_forbidden, may_write};
 pub use short::Short;
 pub use spelling::bodies_are_spelled;
 pub use text::Text;

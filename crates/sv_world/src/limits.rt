@@ -1,10 +1,13 @@
 //! The limits of the subject: how many there may be of what. `specs/Limits.antt` has the same numbers for contracts.
 ghost use Rattle.std.specs.Prelude.{◌≡◌};
-ghost use Rattle.sv_world.specs.Limits.{most_objects, most_attrs, most_reads, most_nodes, most_depth, most_clients, most_sessions, most_bound, most_reach};
+ghost use Rattle.sv_world.specs.Limits.{most_objects, most_scenario_objects, most_attrs, most_reads, most_nodes, most_depth, most_clients, most_sessions, most_open, most_bound, most_reach};
 ghost use Rattle.sv_world.specs.Limits.{most_interest, most_requests, most_items, most_positions, most_pending, most_outstanding, most_steps, most_shown, most_turns};
 
 /// The objects of a world.
-pub const MOST_OBJECTS: u16 = 4096;
+pub const MOST_OBJECTS: u16 = 65_535;
+
+/// The objects of a scenario's world.
+pub const MOST_SCENARIO_OBJECTS: u16 = 4096;
 
 /// The attributes of an object.
 pub const MOST_ATTRS: u8 = 4;
@@ -18,11 +21,14 @@ pub const MOST_NODES: u8 = 64;
 /// The levels of an action's body: how deep its nodes are nested.
 pub const MOST_DEPTH: u8 = 8;
 
-/// The clients of a server.
+/// The clients of a scenario.
 pub const MOST_CLIENTS: u16 = 32;
 
-/// The sessions of a server, over all clients.
+/// The sessions of a scenario, over all clients.
 pub const MOST_SESSIONS: u16 = 64;
+
+/// The sessions of a server that are open at once.
+pub const MOST_OPEN: u16 = 1024;
 
 /// The greatest bound on the actions that influence an action, itself not counted.
 pub const MOST_BOUND: u8 = 32;
@@ -33,13 +39,13 @@ pub const MOST_REACH: u32 = 2_000_000;
 /// The objects of a client's interest.
 pub const MOST_INTEREST: usize = 64;
 
-/// The requests of a session.
+/// The requests of a scenario's session.
 pub const MOST_REQUESTS: u16 = 1024;
 
 /// The actions of a relay, which are one and those that influence it; so too the results of a report.
 pub const MOST_ITEMS: usize = 33;
 
-/// The positions of a world's actions.
+/// The positions of a world's actions; and the numbers of one client's actions.
 pub const MOST_POSITIONS: u32 = 4_294_967_294;
 
 /// The actions of a client that are not settled yet.
@@ -59,9 +65,9 @@ pub const MOST_TURNS: usize = 16_384;
 
 /// A law of the limits: these constants are the numbers that contracts speak of.
 pub fn limits_are_those_of_contracts()
-    ensures worlds { (MOST_OBJECTS ≡ most_objects) × (MOST_ATTRS ≡ most_attrs) × (MOST_REACH ≡ most_reach) }
+    ensures worlds { (MOST_OBJECTS ≡ most_objects) × (MOST_SCENARIO_OBJECTS ≡ most_scenario_objects) × (MOST_ATTRS ≡ most_attrs) × (MOST_REACH ≡ most_reach) }
     ensures actions { (MOST_READS ≡ most_reads) × (MOST_NODES ≡ most_nodes) × (MOST_DEPTH ≡ most_depth) }
-    ensures servers { (MOST_CLIENTS ≡ most_clients) × (MOST_SESSIONS ≡ most_sessions) × (MOST_BOUND ≡ most_bound) }
+    ensures servers { (MOST_CLIENTS ≡ most_clients) × (MOST_SESSIONS ≡ most_sessions) × (MOST_OPEN ≡ most_open) × (MOST_BOUND ≡ most_bound) }
     ensures messages { (MOST_INTEREST ≡ most_interest) × (MOST_REQUESTS ≡ most_requests) × (MOST_ITEMS ≡ most_items) }
     ensures positions { MOST_POSITIONS ≡ most_positions }
     ensures clients { (MOST_PENDING ≡ most_pending) × (MOST_OUTSTANDING ≡ most_outstanding) }

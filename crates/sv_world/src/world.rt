@@ -16,7 +16,7 @@ pub type Value = Short<i64, 4>;
 /// The objects that an action reads. Few read more than eight.
 pub type Reads = Short<ObjectId, 8>;
 
-/// How many objects a world has, 1 to 4,096, and how many attributes each of them, 1 to 4.
+/// How many objects a world has, 1 to 65,535, and how many attributes each of them, 1 to 4.
 #[derive(Clone, Copy, Debug, Drop, PartialEq, Eq)]
 pub struct Shape {
     pub objects: u16,

@@ -7,8 +7,8 @@ use std::alloc::{AllocError, Global};
 use std::marker::Brand;
 use std::sync::ledger::{Blank, Ledger};
 use sv_influence::{Chain, Closure, chain, closure};
-use sv_queue::{Queue, Steps};
-use sv_world::{Action, ClientId, List, ObjectId, check_action};
+use sv_queue::{Queue, Slots, Steps};
+use sv_world::{Action, ClientId, List, MOST_OPEN, ObjectId, check_action};
 
 /// What changes a queue. A push answers the position, an install the count, and the others answer 0.
 #[derive(Clone, Copy)]
@@ -30,6 +30,8 @@ pub enum Change {
     /// The positions from the first to below the second, for a session.
     MarkEach(u32, u32, u16),
     Give(u16, u16),
+    MakeRoom(u16),
+    Forget(u16),
     /// The result of a position, where it reads one object and writes it.
     Finish(u32, i64),
     Install,
@@ -46,6 +48,8 @@ pub enum Ask {
     /// The writer that a slot of a position's action reads.
     Source(u32, usize),
     IsMarked(u32, u16),
+    /// Whether a position is marked for one of these slots.
+    IsMarkedForAny(u32, &'static [u16]),
     IsGiven(u16, u16),
     /// Whether a session lacks just these positions and objects of a position's action.
     Lacks(u16, u32, &'static [u32], &'static [ObjectId]),
@@ -124,7 +128,7 @@ fn spread_each(alloc: Global, queue: &mut Queue, first: u16, end: u16) -> Result
 }
 
 pub fn mark(queue: &mut Queue, pos: u32, session: u16) {
-    if queue.commit() < pos && pos <= queue.last() && session < 64 {
+    if queue.commit() < pos && pos <= queue.last() && session < queue.room() {
         queue.mark(pos, session);
     }
 }
@@ -136,9 +140,16 @@ fn mark_each(queue: &mut Queue, first: u32, end: u32, session: u16) {
 }
 
 pub fn give(queue: &mut Queue, object: u16, session: u16) {
-    if object < queue.shape().objects && session < 64 {
+    if object < queue.shape().objects && session < queue.room() {
         queue.set_given(ObjectId(object), session);
     }
+}
+
+fn make_room(queue: &mut Queue, slots: u16) -> Result<(), AllocError> {
+    if slots <= MOST_OPEN {
+        queue.make_room(slots)?;
+    }
+    Ok(())
 }
 
 pub fn pop(queue: &mut Queue) {
@@ -197,6 +208,33 @@ fn source<L: Ledger>(queue: &Queue, pos: u32, slot: usize, steps: &mut Steps<L>)
 
 fn is_marked<L: Ledger>(queue: &Queue, pos: u32, session: u16, steps: &mut Steps<L>) -> bool {
     queue.commit() < pos && pos <= queue.last() && queue.is_marked(pos, session, steps)
+}
+
+/// These slots as a set, those that may be.
+fn set_of(alloc: Global, slots: &[u16]) -> Result<Slots, AllocError> {
+    let mut set = Slots::with_room(alloc, MOST_OPEN)?;
+    for slot in slots {
+        if *slot < MOST_OPEN {
+            set.add(*slot);
+        }
+    }
+    Ok(set)
+}
+
+fn is_marked_for_any<L: Ledger>(
+    alloc: Global,
+    queue: &Queue,
+    pos: u32,
+    slots: &[u16],
+    steps: &mut Steps<L>,
+) -> Result<bool, AllocError> {
+    if pos <= queue.commit() || queue.last() < pos {
+        return Ok(false);
+    }
+    let set = set_of(alloc, slots)?;
+    let is_marked = queue.is_marked_for_any(pos, &set, steps);
+    drop(set);
+    Ok(is_marked)
 }
 
 fn is_given(queue: &Queue, object: u16, session: u16) -> bool {
@@ -282,6 +320,8 @@ fn does<L: Ledger>(
         Change::Mark(pos, session) => mark(queue, pos, session),
         Change::MarkEach(first, end, session) => mark_each(queue, first, end, session),
         Change::Give(object, session) => give(queue, object, session),
+        Change::MakeRoom(slots) => make_room(queue, slots)?,
+        Change::Forget(slot) => queue.forget(slot),
         Change::Finish(pos, number) => finish(alloc, queue, pos, number, steps)?,
     }
     Ok(0)
@@ -299,6 +339,9 @@ fn answers<L: Ledger>(
         Ask::Writer(object, below) => last_writer(queue, object, below, steps),
         Ask::Source(pos, slot) => source(queue, pos, slot, steps),
         Ask::IsMarked(pos, session) => u32::from(is_marked(queue, pos, session, steps)),
+        Ask::IsMarkedForAny(pos, slots) => {
+            u32::from(is_marked_for_any(alloc, queue, pos, slots, steps)?)
+        }
         Ask::IsGiven(object, session) => u32::from(is_given(queue, object, session)),
         Ask::Lacks(session, pos, items, head) => {
             u32::from(has_just(lacking(alloc, queue, session, pos, steps)?, items, head))

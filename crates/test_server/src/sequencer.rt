@@ -1,5 +1,6 @@
 //! Journals that were typed from the rules by hand: a server that is asked what their lines ask answers as they tell.
-ghost use Rattle.std.specs.Prelude.{◌≡◌, ◌<◌, ◌≤◌, [], true, false, IfOk, IfSome};
+ghost use Rattle.std.specs.Prelude.{◌≡◌, ◌<◌, ◌≤◌, [], true, false, IfOk, IfSome, Some};
+ghost use Rattle.sv_journal.specs.Answer.{MayBeSession};
 ghost use Rattle.sv_journal.specs.Sessions.{is_end, is_ended};
 ghost use Rattle.sv_sequencer.specs.Step.{history};
 
@@ -22,7 +23,7 @@ use test_asked::{asked_in, check_lines, world_of};
 fn opened(alloc: Global, numbers: &[i64], bound: u8, reach: Option<u32>) -> Result<Sequencer, Fail>
     requires bound { bound ≤ 32 }
     requires reach { IfSome reach (λ far. far ≤ 2000000) }
-    ensures sessions { IfOk result (λ s. s.rules.sessions ≡ 4) }
+    ensures sessions { IfOk result (λ s. s.rules.sessions ≡ Some 4) }
     ensures empty { IfOk result (λ s. s.journal.entries ≡ []) }
 {
     let world = world_of(alloc, numbers)?;
@@ -31,7 +32,7 @@ fn opened(alloc: Global, numbers: &[i64], bound: u8, reach: Option<u32>) -> Resu
 
 /// A request of a session that there is, but for a second End.
 fn may_ask(sequencer: &Sequencer, session: u16, request: &Request) -> bool
-    ensures { result ≡ true → (session < sequencer.now.rules.sessions) × (is_end request.now ≡ true → is_ended (history sequencer.now) session ≡ false) }
+    ensures { result ≡ true → MayBeSession sequencer.now.rules.sessions session × (is_end request.now ≡ true → is_ended (history sequencer.now) session ≡ false) }
 {
     if session >= sequencer.sessions() {
         return false;

@@ -1,5 +1,5 @@
 //! Journals, with what is in dispute after them, typed from the rules by hand.
-ghost use Rattle.std.specs.Prelude.{◌≡◌, ◌<◌, IfOk};
+ghost use Rattle.std.specs.Prelude.{◌≡◌, ◌<◌, IfOk, Some};
 
 mod rows;
 
@@ -30,7 +30,7 @@ struct Case<'a> {
 
 /// A server for four sessions, with bound 8.
 fn opened(alloc: Global, numbers: &[i64]) -> Result<Witness, Fail>
-    ensures sessions { IfOk result (λ w. w.rules.sessions ≡ 4) }
+    ensures sessions { IfOk result (λ w. w.rules.sessions ≡ Some 4) }
     ensures some { IfOk result (λ w. 0 < w.rules.world.shape.objects) }
 {
     let world = world_of(alloc, numbers)?;
@@ -45,7 +45,7 @@ fn stands_at(witness: &Witness, entries: usize, commit: u32, disputes: usize) ->
 
 /// Asks once more where there was no memory. Then nothing may have changed.
 fn ask(witness: &mut Witness, session: u16, request: &Request) -> Result<(), Fail>
-    requires sessions { witness.old.rules.sessions ≡ 4 }
+    requires sessions { witness.old.rules.sessions ≡ Some 4 }
     ensures same { witness.new.rules ≡ witness.old.rules }
 {
     if session >= SESSIONS {
@@ -73,7 +73,7 @@ fn ask(witness: &mut Witness, session: u16, request: &Request) -> Result<(), Fai
 
 /// Asks what a line asks.
 fn ask_line(alloc: Global, witness: &mut Witness, line: &str) -> Result<(), Fail>
-    requires sessions { witness.old.rules.sessions ≡ 4 }
+    requires sessions { witness.old.rules.sessions ≡ Some 4 }
     ensures same { witness.new.rules ≡ witness.old.rules }
 {
     let asked = asked_in(alloc, line)?;
@@ -84,7 +84,7 @@ fn ask_line(alloc: Global, witness: &mut Witness, line: &str) -> Result<(), Fail
 }
 
 fn play(alloc: Global, witness: &mut Witness, lines: &str) -> Result<(), Fail>
-    requires sessions { witness.old.rules.sessions ≡ 4 }
+    requires sessions { witness.old.rules.sessions ≡ Some 4 }
     ensures same { witness.new.rules ≡ witness.old.rules }
 {
     for line in lines.lines() {
@@ -145,7 +145,7 @@ fn compare_all(alloc: Global, witness: &Witness, case: &Case) -> Result<(), Fail
 }
 
 fn play_and_compare(alloc: Global, witness: &mut Witness, case: &Case) -> Result<(), Fail>
-    requires sessions { witness.old.rules.sessions ≡ 4 }
+    requires sessions { witness.old.rules.sessions ≡ Some 4 }
     requires some { 0 < witness.old.rules.world.shape.objects }
 {
     play(alloc, witness, case.lines)?;

@@ -1,4 +1,6 @@
 //! The reply to a request by its definition, row by row, on the list of the entries before it.
+//!
+//! It is for a scenario's rules alone: under these no action is denied, and no test fills the positions. So it has no row for either.
 use super::scans::{
     Told, accepted, action_at, asked_in, client_of, commit_with, is_given, is_over, is_sent, last,
     last_writer, life_of, names, next_seq, number, outcomes, reads, reported, result_at, writes,

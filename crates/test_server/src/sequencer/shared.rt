@@ -1,5 +1,6 @@
 //! A sequencer that callers share through a lock.
-ghost use Rattle.std.specs.Prelude.{◌≡◌, ◌<◌, [], IsSome};
+ghost use Rattle.std.specs.Prelude.{◌≡◌, ◌<◌, [], IsSome, Some};
+ghost use Rattle.sv_journal.specs.Answer.{MayBeSession};
 ghost use Rattle.sv_lock.specs.Passes.{session_number};
 
 use super::opened;
@@ -21,7 +22,7 @@ pub fn call<R: Wait>(
 ) -> bool
     requires lock { pass.old.lock ≡ lock.now.id }
     requires session { IsSome pass.old.session }
-    requires number { session_number pass.old < pass.old.base.sessions }
+    requires number { MayBeSession pass.old.base.sessions (session_number pass.old) }
     ensures same { (pass.new.lock ≡ pass.old.lock) × (pass.new.session ≡ pass.old.session) × (pass.new.base ≡ pass.old.base) }
 {
     if let Request::End = request {
@@ -40,7 +41,7 @@ fn call_all<R: Wait>(
 ) -> Result<(), Fail>
     requires lock { pass.old.lock ≡ lock.now.id }
     requires session { IsSome pass.old.session }
-    requires number { session_number pass.old < pass.old.base.sessions }
+    requires number { MayBeSession pass.old.base.sessions (session_number pass.old) }
     ensures same { (pass.new.lock ≡ pass.old.lock) × (pass.new.session ≡ pass.old.session) × (pass.new.base ≡ pass.old.base) }
 {
     for line in lines.lines() {
@@ -57,7 +58,7 @@ fn through_a_pass<R: Wait>(
     sequencer: Sequencer,
     lines: &str,
 ) -> Result<Sequencer, Fail>
-    requires sessions { sequencer.rules.sessions ≡ 4 }
+    requires sessions { sequencer.rules.sessions ≡ Some 4 }
     requires empty { sequencer.journal.entries ≡ [] }
 {
     let (lock, mut keeper) = locked(alloc, sequencer)?;

@@ -1,5 +1,6 @@
 //! Two threads that share a sequencer.
 ghost use Rattle.std.specs.Prelude.{◌≡◌, ◌<◌, [], Some, IsSome};
+ghost use Rattle.sv_journal.specs.Answer.{MayBeSession};
 ghost use Rattle.sv_lock.specs.Passes.{session_number};
 
 use super::opened;
@@ -25,7 +26,7 @@ fn visit<R: Wait>(
 ) -> Pass<Sequencer>
     requires lock { pass.lock ≡ lock.now.id }
     requires session { IsSome pass.session }
-    requires number { session_number pass < pass.base.sessions }
+    requires number { MayBeSession pass.base.sessions (session_number pass) }
     ensures same { (result.lock ≡ pass.lock) × (result.session ≡ pass.session) }
 {
     let join = Request::Join {
@@ -47,7 +48,7 @@ fn visit_by_two<R: Threads + Wait + Sync>(
     alloc: Global,
     sequencer: Sequencer,
 ) -> Result<Sequencer, Fail>
-    requires sessions { sequencer.rules.sessions ≡ 4 }
+    requires sessions { sequencer.rules.sessions ≡ Some 4 }
     requires empty { sequencer.journal.entries ≡ [] }
 {
     let (lock, mut keeper) = match SeqLock::new(alloc, sequencer, 2) {
@@ -60,11 +61,11 @@ fn visit_by_two<R: Threads + Wait + Sync>(
     let (one, two) = thread::join(
         rt,
         move || -> Pass<Sequencer>
-            requires { (one.lock ≡ shared.now.id) × (one.session ≡ Some 0) × (one.base.sessions ≡ 4) }
+            requires { (one.lock ≡ shared.now.id) × (one.session ≡ Some 0) × (one.base.sessions ≡ Some 4) }
             ensures { (result.lock ≡ shared.entry.now.id) × (result.session ≡ Some 0) }
         { visit(rt, alloc, shared, one, 5) },
         move || -> Pass<Sequencer>
-            requires { (two.lock ≡ shared.now.id) × (two.session ≡ Some 1) × (two.base.sessions ≡ 4) }
+            requires { (two.lock ≡ shared.now.id) × (two.session ≡ Some 1) × (two.base.sessions ≡ Some 4) }
             ensures { (result.lock ≡ shared.entry.now.id) × (result.session ≡ Some 1) }
         { visit(rt, alloc, shared, two, 6) },
     );

@@ -13,7 +13,7 @@ returns-clause-full c =
     λ scenario journal Ls sessions good run ends.
     c.runs_leave_full_records.ensures scenario (reverse journal) Ls good.good
     (record_of c.full_replies_stay.ensures c.legal_relays_name_accepted.ensures c.replies_are_messages.ensures scenario journal Ls sessions good run)
-    (scripts_are_followed c.full_replies_stay.ensures c.legal_relays_name_accepted.ensures c.replies_are_messages.ensures scenario journal Ls sessions good run c.honest_clients_are_never_refused.ensures.faults ends)
+    (scripts_are_followed c.full_replies_stay.ensures c.legal_relays_name_accepted.ensures c.replies_are_messages.ensures scenario journal Ls sessions good run c.honest_clients_are_never_refused.ensures.scenarios ends)
 
 pub returns-clause-traffic : goal.returns-clause-traffic
 returns-clause-traffic c =

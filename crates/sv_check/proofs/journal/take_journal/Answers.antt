@@ -1,7 +1,7 @@
 -- What is proved by hand of `take_journal`.
-use Rattle.std.proofs.Common.{rules, Bor, List, ◌≡◌, ℕ, ◌<◌, true, false, length, Err, refl, sym, subst}
+use Rattle.std.proofs.Common.{rules, Bor, List, ◌≡◌, ℕ, true, false, length, Err, refl, sym, subst}
 use Rattle.std.proofs.lemmas.Result.{err_from_is_err_and}
-use Rattle.sv_journal.specs.Answer.{Rules}
+use Rattle.sv_journal.specs.Answer.{Rules, MayBeSession}
 use Rattle.sv_check.specs.declared.journal.Served.{Served}
 use Rattle.sv_check.specs.Serving.{entries_of}
 use Rattle.sv_check.specs.Entering.{NoHeader, TextBreaksOff}
@@ -59,4 +59,4 @@ pub returns-clause-whole : goal.returns-clause-whole
 returns-clause-whole c =
     let served = c.serve_all.new.self in
     whole_journal c.args.scenario.now served c.in_ok-whole.ensures.served
-    (λ s l. c.if-not-are_ended.ensures.all refl s (subst (λ (r : Rules). s < r.sessions) (sym c.in_ok-whole.ensures.served.rules) l))
+    (λ s l. c.if-not-are_ended.ensures.all refl s (subst (λ (r : Rules). MayBeSession r.sessions s) (sym c.in_ok-whole.ensures.served.rules) l))

@@ -17,16 +17,16 @@ loop-many-init g c =
     let many = c.last-many.result in
     let fe : few ≡ v.commit = c.commit-few.ensures in
     let me : many ≡ last_position v = c.last-many.ensures in
-    let fails : most_items < length (lacking_to_see v c.args.session xs many) =
-    subst (λ (n : ℕ). most_items < length (lacking_to_see v c.args.session xs n)) (sym me) c.requires.many in
+    let fails : most_items < length (lacking_to_see v c.args.slot xs many) =
+    subst (λ (n : ℕ). most_items < length (lacking_to_see v c.args.slot xs n)) (sym me) c.requires.many in
     record {
       low = omega arith;
       between = elim (cases_lt few many) [
         | inl l ↦ l
-        | inr l ↦ (let none = see-none_at_commit v c.args.session many xs (omega arith) in absurd (omega arith))
+        | inr l ↦ (let none = see-none_at_commit v c.args.slot many xs (omega arith) in absurd (omega arith))
       ];
       high = omega arith;
-      passes = (let none = see-none_at_commit v c.args.session few xs (omega arith) in omega arith);
+      passes = (let none = see-none_at_commit v c.args.slot few xs (omega arith) in omega arith);
       fails = fails;
       ticks = λ b h. (b, (omega arith, omega arith));
     }
@@ -38,8 +38,8 @@ loop-many-preserved g c =
     let i = c.loop-many.invariant in
     let more : 1 < c.loop-many.many - c.loop-many.few = c.loop-many-test.true in
     let half = (c.loop-many.many - c.loop-many.few) / 2 in
-    let fails : most_items < length (lacking_to_see v c.args.session xs (c.loop-many.few + half)) =
-    leb-false (length (lacking_to_see v c.args.session xs (c.loop-many.few + half))) most_items (sym c.in_ok-lacks_few.ensures.few ∙ c.if-branch.false) in
+    let fails : most_items < length (lacking_to_see v c.args.slot xs (c.loop-many.few + half)) =
+    leb-false (length (lacking_to_see v c.args.slot xs (c.loop-many.few + half))) most_items (sym c.in_ok-lacks_few.ensures.few ∙ c.if-branch.false) in
     let high : c.loop-many.many ≤ last_position v = i.high in
     record {
       low = i.low;
@@ -59,8 +59,8 @@ loop-many-preserved-then-branch g c =
     let i = c.loop-many.invariant in
     let more : 1 < c.loop-many.many - c.loop-many.few = c.loop-many-test.true in
     let half = (c.loop-many.many - c.loop-many.few) / 2 in
-    let passes : length (lacking_to_see v c.args.session xs (c.loop-many.few + half)) ≤ most_items =
-    leb-true (length (lacking_to_see v c.args.session xs (c.loop-many.few + half))) most_items (sym c.in_ok-lacks_few.ensures.few ∙ c.if-branch.true) in
+    let passes : length (lacking_to_see v c.args.slot xs (c.loop-many.few + half)) ≤ most_items =
+    leb-true (length (lacking_to_see v c.args.slot xs (c.loop-many.few + half))) most_items (sym c.in_ok-lacks_few.ensures.few ∙ c.if-branch.true) in
     let low : v.commit ≤ c.loop-many.few = i.low in
     record {
       low = omega arith;
@@ -75,5 +75,5 @@ loop-many-preserved-then-branch g c =
 
 pub returns-clause-greatest : goal.returns-clause-greatest
 returns-clause-greatest g c =
-    see-greatest c.args.queue.now c.args.session c.loop-many.few c.loop-many.many (numbers_of c.args.objects.now) c.requires.marks (let t = c.loop-many-test.false in let b = c.loop-many.invariant.between in omega arith)
+    see-greatest c.args.queue.now c.args.slot c.loop-many.few c.loop-many.many (numbers_of c.args.objects.now) c.requires.marks (let t = c.loop-many-test.false in let b = c.loop-many.invariant.between in omega arith)
     c.loop-many.invariant.between c.loop-many.invariant.high c.loop-many.invariant.passes c.loop-many.invariant.fails

@@ -12,8 +12,8 @@ invariant-loop-many g l = record {
   low : l.queue.commit ≤ l.few;
   between : l.few < l.many;
   high : l.many ≤ last_position l.queue;
-  passes : length (lacking_to_see l.queue l.session (numbers_of l.objects) l.few) ≤ most_items;
-  fails : most_items < length (lacking_to_see l.queue l.session (numbers_of l.objects) l.many);
+  passes : length (lacking_to_see l.queue l.slot (numbers_of l.objects) l.few) ≤ most_items;
+  fails : most_items < length (lacking_to_see l.queue l.slot (numbers_of l.objects) l.many);
   ticks : (b : ℕ) → last_position l.queue - l.queue.commit ≤ 2 ^ b → (t : ℕ) × ((l.many - l.few ≤ 2 ^ t) × (l.steps + most_to_see * t ≤ l.fn.steps + most_to_see * b));
 }
 

@@ -12,7 +12,7 @@ use Rattle.sv_influence.proofs.cuts.see.Goals as goal
 pub loop-greatest-init : goal.loop-greatest-init
 loop-greatest-init g c =
     let v = c.args.queue.now in
-    let s = c.args.session in
+    let s = c.args.slot in
     let xs = numbers_of c.args.objects.now in
     let next : c.args.pos + 1 ≡ suc c.args.pos = omega arith in
     let parts = observed-parts v.shape.objects xs c.requires.objects in
@@ -32,7 +32,7 @@ loop-greatest-init g c =
 pub returns-then-len-eq-MOST_ITEMS-clause-many : goal.returns-then-len-eq-MOST_ITEMS-clause-many
 returns-then-len-eq-MOST_ITEMS-clause-many g c =
     let v = c.args.queue.now in
-    let room = next-room v c.args.session c.args.pos c.in-Some.greatest (lacking_to_see v c.args.session (numbers_of c.args.objects.now) c.args.pos) c.loop-greatest.missing.wanted c.pop.new.self c.loop-greatest.items.items
+    let room = next-room v c.args.slot c.args.pos c.in-Some.greatest (lacking_to_see v c.args.slot (numbers_of c.args.objects.now) c.args.pos) c.loop-greatest.missing.wanted c.pop.new.self c.loop-greatest.items.items
     c.loop-greatest.invariant.within c.in-Some.ensures.ascending c.in-Some.ensures.greatest c.loop-greatest.invariant.whole in
     let n = c.len.ensures in
     let e = c.if-len-eq-MOST_ITEMS.true in
@@ -48,7 +48,7 @@ expand-requires g c =
 pub loop-greatest-preserved : goal.loop-greatest-preserved
 loop-greatest-preserved g c =
     let v = c.args.queue.now in
-    let s = c.args.session in
+    let s = c.args.slot in
     let xs = numbers_of c.args.objects.now in
     let next = c.in-Some.greatest in
     let wanted = c.loop-greatest.missing.wanted in
@@ -77,22 +77,22 @@ pub returns-clause-items : goal.returns-clause-items
 returns-clause-items g c =
     let v = c.args.queue.now in
     c.reverse.ensures.items
-    ∙ seen-all v c.args.session c.args.pos (lacking_to_see v c.args.session (numbers_of c.args.objects.now) c.args.pos) c.loop-greatest.missing.wanted c.pop.new.self c.loop-greatest.items.items c.pop.result
+    ∙ seen-all v c.args.slot c.args.pos (lacking_to_see v c.args.slot (numbers_of c.args.objects.now) c.args.pos) c.loop-greatest.missing.wanted c.pop.new.self c.loop-greatest.items.items c.pop.result
     c.in_default.is c.pop.ensures.greatest c.pop.ensures.none c.loop-greatest.invariant.whole
 
 pub returns-clause-bases : goal.returns-clause-bases
 returns-clause-bases g c =
     let v = c.args.queue.now in
-    see-all_bases v c.args.session c.args.pos (numbers_of c.args.objects.now) c.loop-greatest.items.items c.loop-greatest.missing.bases c.requires.pos.0 c.loop-greatest.invariant.bases
-    (seen-all v c.args.session c.args.pos (lacking_to_see v c.args.session (numbers_of c.args.objects.now) c.args.pos) c.loop-greatest.missing.wanted c.pop.new.self c.loop-greatest.items.items c.pop.result
+    see-all_bases v c.args.slot c.args.pos (numbers_of c.args.objects.now) c.loop-greatest.items.items c.loop-greatest.missing.bases c.requires.pos.0 c.loop-greatest.invariant.bases
+    (seen-all v c.args.slot c.args.pos (lacking_to_see v c.args.slot (numbers_of c.args.objects.now) c.args.pos) c.loop-greatest.missing.wanted c.pop.new.self c.loop-greatest.items.items c.pop.result
     c.in_default.is c.pop.ensures.greatest c.pop.ensures.none c.loop-greatest.invariant.whole)
 
 pub returns-clause-few : goal.returns-clause-few
 returns-clause-few g c =
     let v = c.args.queue.now in
-    let all = seen-all v c.args.session c.args.pos (lacking_to_see v c.args.session (numbers_of c.args.objects.now) c.args.pos) c.loop-greatest.missing.wanted c.pop.new.self c.loop-greatest.items.items c.pop.result
+    let all = seen-all v c.args.slot c.args.pos (lacking_to_see v c.args.slot (numbers_of c.args.objects.now) c.args.pos) c.loop-greatest.missing.wanted c.pop.new.self c.loop-greatest.items.items c.pop.result
     c.in_default.is c.pop.ensures.greatest c.pop.ensures.none c.loop-greatest.invariant.whole in
-    let l : length c.loop-greatest.items.items ≡ length (lacking_to_see v c.args.session (numbers_of c.args.objects.now) c.args.pos) =
+    let l : length c.loop-greatest.items.items ≡ length (lacking_to_see v c.args.slot (numbers_of c.args.objects.now) c.args.pos) =
     sym (length-reverse c.loop-greatest.items.items) ∙ ap length all in
     let f = c.loop-greatest.invariant.few in
     omega arith

@@ -12,8 +12,8 @@ use Rattle.sv_influence.proofs.cuts.see.Given as goal
 abbrev pub invariant-loop-greatest : goal.invariant-loop-greatest
 invariant-loop-greatest g l = record {
   within : (j : ℕ) → is_in j l.missing.wanted ≡ true → (l.queue.commit < j) × (j ≤ l.pos);
-  whole : wanted_up_to (queue_actions l.queue) l.queue.commit (sent_positions l.queue l.session) l.pos l.missing.wanted ++ reverse l.items.items ≡ lacking_to_see l.queue l.session (numbers_of l.objects) l.pos;
-  bases : AreSeenBases l.queue l.session (numbers_of l.objects) l.pos l.items.items l.missing.bases;
+  whole : wanted_up_to (queue_actions l.queue) l.queue.commit (sent_positions l.queue l.slot) l.pos l.missing.wanted ++ reverse l.items.items ≡ lacking_to_see l.queue l.slot (numbers_of l.objects) l.pos;
+  bases : AreSeenBases l.queue l.slot (numbers_of l.objects) l.pos l.items.items l.missing.bases;
   few : length l.items.items ≤ most_items;
   ticks : l.steps ≤ l.fn.steps + 2 * length l.objects + most_look_ups * length l.items.items;
 }

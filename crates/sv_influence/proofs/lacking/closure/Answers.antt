@@ -17,7 +17,7 @@ listed-requires g c =
     all-members (λ x. x < 65536) c.in_ok-found.found.bases
     (λ x m.
     let low : x < v.shape.objects =
-    ((head_for-iff v.shape.objects (queue_actions v) v.commit (sent_positions v c.args.session) (given_objects v c.args.session) c.args.pos x).0 (sym (c.in_ok-found.ensures.bases x) ∙ m)).0 in
+    ((head_for-iff v.shape.objects (queue_actions v) v.commit (sent_positions v c.args.slot) (given_objects v c.args.slot) c.args.pos x).0 (sym (c.in_ok-found.ensures.bases x) ∙ m)).0 in
     let same : c.shape-shape.result.objects ≡ v.shape.objects = ap (λ (shape : Shape). shape.objects) is in
     omega arith)
 
@@ -25,6 +25,6 @@ pub returns-clause-head : goal.returns-clause-head
 returns-clause-head g c =
     let v = c.args.queue.now in
     subst (λ (xs : List ℕ). IfOk c.listed.result (λ r. map (λ (o : ObjectId). o.0) r.head ≡ xs))
-    (bases-same v.shape.objects (queue_actions v) v.commit (sent_positions v c.args.session) (given_objects v c.args.session) c.in_ok-found.found.bases c.args.pos
+    (bases-same v.shape.objects (queue_actions v) v.commit (sent_positions v c.args.slot) (given_objects v c.args.slot) c.in_ok-found.found.bases c.args.pos
     c.listed.ensures.ascending c.in_ok-found.ensures.bases)
     c.listed.ensures.head

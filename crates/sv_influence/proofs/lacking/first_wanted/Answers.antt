@@ -4,4 +4,4 @@ use Rattle.sv_influence.proofs.Takes.{start-sent}
 use Rattle.sv_influence.proofs.lacking.first_wanted.Goals as goal
 
 pub returns-then-is_marked-clause-whole : goal.returns-then-is_marked-clause-whole
-returns-then-is_marked-clause-whole g c = start-sent c.args.queue.now c.args.session c.args.pos (sym c.if-is_marked.ensures.marked)
+returns-then-is_marked-clause-whole g c = start-sent c.args.queue.now c.args.slot c.args.pos (sym c.if-is_marked.ensures.marked)

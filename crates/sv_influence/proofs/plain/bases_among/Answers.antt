@@ -17,7 +17,7 @@ loop-number-preserved c =
     let v = c.args.queue.now in
     let n = c.loop-number.number in
     let words = c.args.objects.now.words in
-    let given = given_objects v c.args.session in
+    let given = given_objects v c.args.slot in
     let test = λ (x : ℕ). has_object words x && not (is_in x given) in
     let number = λ (o : ObjectId). o.0 in
     let same : c.shape-shape.result.objects ≡ v.shape.objects = ap (λ (shape : Shape). shape.objects) c.shape-shape.ensures.value in
@@ -30,12 +30,12 @@ loop-number-preserved c =
           ∙ ap (λ (xs : List ℕ). xs ++ n ∷ []) c.loop-number.invariant
           ∙ sym (below-take test n
           (and_from (has_object words n) (not (is_in n given)) (sym c.has.ensures ∙ w.if-has.true)
-          (not_from_false (is_in n given) (given-is v n c.args.session low ∙ sym w.if-not-is_given.ensures))))
+          (not_from_false (is_in n given) (given-is v n c.args.slot low ∙ sym w.if-not-is_given.ensures))))
       | else-has w ↦
           ap (map number) w.bases-is ∙ c.loop-number.invariant
           ∙ sym (below-skip test n (elim w.else-has.branch [
             | else-has-via-then-has+else-not-is_given u ↦
-                and_right (has_object words n) (not (is_in n given)) (not_from_true (is_in n given) (given-is v n c.args.session low ∙ sym u.if-not-is_given.ensures))
+                and_right (has_object words n) (not (is_in n given)) (not_from_true (is_in n given) (given-is v n c.args.slot low ∙ sym u.if-not-is_given.ensures))
             | else-has-via-else-has u ↦ and_left (has_object words n) (not (is_in n given)) (sym c.has.ensures ∙ u.if-has.false)
           ]))
     ]

@@ -8,4 +8,4 @@ use Rattle.sv_influence.proofs.plain.bases_among.Given as goal
 
 abbrev pub invariant-loop-number : goal.invariant-loop-number
 invariant-loop-number l =
-    map (λ (o : ObjectId). o.0) l.bases ≡ filter (λ x. has_object l.objects.words x && not (is_in x (given_objects l.queue l.session))) (below l.number)
+    map (λ (o : ObjectId). o.0) l.bases ≡ filter (λ x. has_object l.objects.words x && not (is_in x (given_objects l.queue l.slot))) (below l.number)

@@ -16,7 +16,7 @@ loop-at-init g c =
     let v = c.args.queue.now in
     let low : v.commit < c.args.pos = c.requires.0 in
     let e = c.commit-commit.ensures in
-    let none = none-had v c.args.session c.args.pos low in
+    let none = none-had v c.args.slot c.args.pos low in
     record {
       commit = e;
       low = omega arith;
@@ -29,7 +29,7 @@ loop-at-init g c =
 pub loop-at-preserved : goal.loop-at-preserved
 loop-at-preserved g c =
     let v = c.args.queue.now in
-    let s = c.args.session in
+    let s = c.args.slot in
     let pos = c.args.pos in
     let at = c.loop-at.at in
     let e = c.loop-at.invariant.commit in
@@ -68,14 +68,14 @@ loop-at-preserved g c =
 pub returns-clause-items : goal.returns-clause-items
 returns-clause-items g c =
     let v = c.args.queue.now in
-    let N = lacking v c.args.session c.args.pos in
+    let N = lacking v c.args.slot c.args.pos in
     let e = c.loop-at.invariant.commit in
     let l = c.loop-at.invariant.low in
     let t = c.loop-at-test.false in
     let low : v.commit < c.args.pos = c.requires.0 in
     let here : c.loop-at.at ≡ v.commit = omega arith in
     c.from_vec.ensures ∙ c.reverse.ensures.items ∙ ap reverse c.loop-at.invariant.items ∙ reverse-reverse (above c.loop-at.at N)
-    ∙ ap (λ (n : ℕ). above n N) here ∙ items-had v c.args.session c.args.pos low
+    ∙ ap (λ (n : ℕ). above n N) here ∙ items-had v c.args.slot c.args.pos low
 
 pub returns-clause-head : goal.returns-clause-head
 returns-clause-head g c =
@@ -86,5 +86,5 @@ returns-clause-head g c =
     let low : v.commit < c.args.pos = c.requires.0 in
     let here : c.loop-at.at ≡ v.commit = omega arith in
     c.in_ok-head.ensures
-    ∙ bases-had v c.args.session c.args.pos (has_object c.loop-at.walk.objects.words) low
-    (subst (λ (n : ℕ). AreToBeHad v c.args.session c.args.pos n (has_object c.loop-at.walk.objects.words)) here c.loop-at.invariant.objects)
+    ∙ bases-had v c.args.slot c.args.pos (has_object c.loop-at.walk.objects.words) low
+    (subst (λ (n : ℕ). AreToBeHad v c.args.slot c.args.pos n (has_object c.loop-at.walk.objects.words)) here c.loop-at.invariant.objects)

@@ -18,4 +18,12 @@ returns c = record {
   repeated_relay = worked.repeated_relay;
   observed = worked.observed;
   seen_counts_as_sent = worked.seen_counts_as_sent;
+  rights = worked.rights;
+  denied_again = worked.denied_again;
+  denied_kept = worked.denied_kept;
+  full = worked.full;
+  leap = worked.leap;
+  scenario_leap = worked.scenario_leap;
+  steward_polls = worked.steward_polls;
+  authority = worked.authority;
 }

@@ -1,5 +1,6 @@
 -- The machine is in step with the opening run.
 use Rattle.std.proofs.Common.{refl, ap, ◌∙◌}
+use Rattle.std.proofs.lemmas.Option.{same_Some}
 use Rattle.sv_journal.specs.Answer.{Rules}
 use Rattle.sv_replay.specs.Machine.{Stage}
 use Rattle.sv_replay.proofs.Opened.{opening_machine}
@@ -14,7 +15,7 @@ returns-clause-machine g c =
       channels = c.in_ok-channels.channels.items;
     } in
     (opening_machine m c.args.scenario.now c.requires.good c.requires.playable refl c.requires.rules c.requires.empty c.in_ok-players.ensures.players c.in_ok-players.ensures.flags
-    (c.in_ok-channels.ensures.count ∙ c.sessions.ensures ∙ ap (λ (r : Rules). r.sessions) c.requires.rules) c.in_ok-channels.ensures.new).1
+    (c.in_ok-channels.ensures.count ∙ same_Some _ _ (c.sessions.ensures ∙ ap (λ (r : Rules). r.sessions) c.requires.rules)) c.in_ok-channels.ensures.new).1
 
 pub returns-clause-run : goal.returns-clause-run
 returns-clause-run g c =
@@ -25,4 +26,4 @@ returns-clause-run g c =
       channels = c.in_ok-channels.channels.items;
     } in
     (opening_machine m c.args.scenario.now c.requires.good c.requires.playable refl c.requires.rules c.requires.empty c.in_ok-players.ensures.players c.in_ok-players.ensures.flags
-    (c.in_ok-channels.ensures.count ∙ c.sessions.ensures ∙ ap (λ (r : Rules). r.sessions) c.requires.rules) c.in_ok-channels.ensures.new).0
+    (c.in_ok-channels.ensures.count ∙ same_Some _ _ (c.sessions.ensures ∙ ap (λ (r : Rules). r.sessions) c.requires.rules)) c.in_ok-channels.ensures.new).0

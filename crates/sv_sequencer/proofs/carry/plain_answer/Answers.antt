@@ -5,4 +5,4 @@ use Rattle.sv_sequencer.proofs.carry.plain_answer.Goals as goal
 pub unreachable-requires : goal.unreachable-requires
 unreachable-requires c =
     let other = c.in_default in
-    some-plain c.args.decision c.requires other.not-Refuse other.not-Repeat other.not-Settle other.not-Idle other.not-Leave
+    some-plain c.args.decision c.requires other.not-Refuse other.not-Repeat other.not-RepeatDenied other.not-Settle other.not-Idle other.not-Leave

@@ -9,6 +9,7 @@ push-requires g c = omega (arith, c.end.ensures.owed, c.requires.1.1.1)
 pub returns : goal.returns
 returns g c = record {
   rules = c.end.ensures.rules;
+  seats = c.end.ensures.seats;
   keeps = c.end.ensures.keeps;
   entries = ap (λ (j : JournalView). j.entries) c.push.ensures;
   room = omega (arith, c.end.ensures.owed, c.requires.1.1.1, ap (λ (j : JournalView). j.spare) c.push.ensures);

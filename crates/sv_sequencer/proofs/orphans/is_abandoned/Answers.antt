@@ -1,27 +1,10 @@
 -- What the check leaves to prove of `is_abandoned`.
-use Rattle.std.proofs.Common.{◌≡◌, ◌<◌, true, ◌||◌, not, length, get_or, inl, inr, sym, ◌∙◌, arith}
-use Rattle.std.proofs.lemmas.Bool.{false_from_ne_true, both_ways, or_cases, not-true}
-use Rattle.sv_world.specs.Control.{is_in}
-use Rattle.sv_queue.specs.Queue.{sent_positions}
-use Rattle.sv_sequencer.specs.Orphans.{is_abandoned_in}
-use Rattle.sv_sequencer.specs.Rows.{no_session}
-use Rattle.sv_sequencer.proofs.Abandoned.{all-below-at, all-below-from}
+use Rattle.std.proofs.Common.{not, sym, ◌∙◌, ap, subst, IfSome}
+use Rattle.sv_sequencer.specs.Orphans.{HasLive}
+use Rattle.sv_sequencer.proofs.Live.{abandoned-by-set}
 use Rattle.sv_sequencer.proofs.orphans.is_abandoned.Goals as goal
 
-pub returns-then-is_marked : goal.returns-then-is_marked
-returns-then-is_marked g c =
-    let v = c.args.queue.now in
-    let rows = c.args.sessions.now in
-    let s = c.loop-session.session in
-    let low : s < length rows = omega arith in
-    let marked : is_in c.args.pos (sent_positions v s) ≡ true = sym c.is_marked.ensures.marked ∙ c.if-is_marked.true in
-    sym (false_from_ne_true (is_abandoned_in v rows c.args.pos) (λ q.
-    elim (or_cases (not (is_in c.args.pos (sent_positions v s))) (get_or rows s no_session).over
-    (all-below-at (λ t. not (is_in c.args.pos (sent_positions v t)) || (get_or rows t no_session).over) (length rows) s q low)) [
-      | inl none ↦ both_ways (is_in c.args.pos (sent_positions v s)) (not-true (is_in c.args.pos (sent_positions v s)) none) marked
-      | inr over ↦ both_ways (get_or rows s no_session).over (sym c.is_over_at.ensures ∙ c.if-not-is_over_at.true) over
-    ]))
-
-pub returns : goal.returns
-returns g c = sym (all-below-from (λ t. not (is_in c.args.pos (sent_positions c.args.queue.now t)) || (get_or c.args.sessions.now t no_session).over) (length c.args.sessions.now)
-    (λ s low. c.loop-session.invariant s (omega arith)))
+pub returns-in-Some : goal.returns-in-Some
+returns-in-Some g c =
+    ap not c.is_marked_for_any.ensures.marked
+    ∙ abandoned-by-set c.args.queue.now c.args.sessions.now c.in-Some.live c.args.pos (subst (λ o. IfSome o (HasLive c.args.sessions.now)) c.in-Some.is c.requires.live)

@@ -7,8 +7,8 @@ use Rattle.sv_sequencer.proofs.relays.counted.Goals as goal
 
 pub relayed_of-requires-clause-positions : goal.relayed_of-requires-clause-positions
 relayed_of-requires-clause-positions g c =
-    subst (All (IsUncommitted c.args.queue.now)) (sym c.in_ok-found.ensures.items) (lacking-within c.args.queue.now c.args.session c.args.pos c.requires.pos)
+    subst (All (IsUncommitted c.args.queue.now)) (sym c.in_ok-found.ensures.items) (lacking-within c.args.queue.now c.args.slot c.args.pos c.requires.pos)
 
 pub relayed_of-requires-clause-objects : goal.relayed_of-requires-clause-objects
 relayed_of-requires-clause-objects g c =
-    bases-low c.args.queue.now c.args.session c.args.pos c.as_slice.result.now (ap (map (λ (o : ObjectId). o.0)) c.as_slice.ensures ∙ c.in_ok-found.ensures.head)
+    bases-low c.args.queue.now c.args.slot c.args.pos c.as_slice.result.now (ap (map (λ (o : ObjectId). o.0)) c.as_slice.ensures ∙ c.in_ok-found.ensures.head)

@@ -10,11 +10,11 @@ use Rattle.sv_sequencer.proofs.relays.seen_counted.Goals as goal
 
 pub relayed_of-requires-clause-positions : goal.relayed_of-requires-clause-positions
 relayed_of-requires-clause-positions g c =
-    subst (All (IsUncommitted c.args.queue.now)) (sym c.in_ok-found.ensures.items) (seen-within c.args.queue.now c.args.session (numbers_of c.args.objects.now))
+    subst (All (IsUncommitted c.args.queue.now)) (sym c.in_ok-found.ensures.items) (seen-within c.args.queue.now c.args.slot (numbers_of c.args.objects.now))
 
 pub relayed_of-requires-clause-objects : goal.relayed_of-requires-clause-objects
 relayed_of-requires-clause-objects g c =
     let v = c.args.queue.now in
     let xs = numbers_of c.args.objects.now in
-    objects-low v.shape.objects c.as_slice.result.now (seen_bases v c.args.session xs) (ap (map (λ (o : ObjectId). o.0)) c.as_slice.ensures ∙ c.in_ok-found.ensures.head)
-    (seen_bases-below v c.args.session xs)
+    objects-low v.shape.objects c.as_slice.result.now (seen_bases v c.args.slot xs) (ap (map (λ (o : ObjectId). o.0)) c.as_slice.ensures ∙ c.in_ok-found.ensures.head)
+    (seen_bases-below v c.args.slot xs)

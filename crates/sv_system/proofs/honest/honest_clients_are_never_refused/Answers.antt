@@ -1,6 +1,7 @@
 -- Honest clients are never refused.
-use Rattle.sv_system.proofs.NextReply.{no-fault}
+use Rattle.sv_system.proofs.NextReply.{no-fault, scenario-no_fault}
 use Rattle.sv_system.proofs.NonEmpty.{never-empty}
+use Rattle.sv_system.proofs.Within.{scenario-keeps}
 use Rattle.sv_system.proofs.honest.honest_clients_are_never_refused.Goals as goal
 
 pub returns-clause-faults : goal.returns-clause-faults
@@ -8,3 +9,9 @@ returns-clause-faults c = no-fault
 
 pub returns-clause-items : goal.returns-clause-items
 returns-clause-items c = never-empty
+
+pub returns-clause-scenarios : goal.returns-clause-scenarios
+returns-clause-scenarios c = scenario-no_fault
+
+pub returns-clause-limits : goal.returns-clause-limits
+returns-clause-limits c = scenario-keeps

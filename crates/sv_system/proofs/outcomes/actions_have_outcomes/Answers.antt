@@ -2,11 +2,12 @@
 use Rattle.std.proofs.Common.{inl, inr, ◌≡◌, ℕ, ◌<◌, List, Option, None, sym, ap, ◌∙◌, true≢false}
 use Rattle.sv_world.specs.declared.action.Action.{Action}
 use Rattle.sv_journal.specs.declared.entry.Entry.{Entry}
-use Rattle.sv_journal.specs.Answer.{Rules, is_over_reach}
+use Rattle.sv_journal.specs.Answer.{Rules, is_above}
 use Rattle.sv_journal.specs.Serving.{plain}
 use Rattle.sv_system.specs.Outcomes.{IsDropped}
 use Rattle.sv_system.proofs.Judged.{are-judged, are-once}
 use Rattle.sv_system.proofs.AllTold.{has-outcomes}
+use Rattle.sv_system.proofs.Rights.{none-denied}
 use Rattle.sv_system.proofs.Owned.{plain-served, owns-own}
 use Rattle.sv_system.proofs.outcomes.actions_have_outcomes.Goals as goal
 
@@ -31,8 +32,11 @@ over-chain : (r : Rules) (h : List Entry) (a : Action) (chain far : ℕ) → r.r
 over-chain r h a chain far none d =
     elim d.over [
       | inl l ↦ l
-      | inr o ↦ absurd (true≢false (sym o ∙ ap (λ (reach : Option ℕ). is_over_reach reach far) none))
+      | inr o ↦ absurd (true≢false (sym o ∙ ap (λ (reach : Option ℕ). is_above reach far) none))
     ]
 
 pub returns-clause-chains : goal.returns-clause-chains
 returns-clause-chains c = over-chain
+
+pub returns-clause-rights : goal.returns-clause-rights
+returns-clause-rights c = none-denied

@@ -4,8 +4,7 @@ use Rattle.std.proofs.lemmas.Bool.{cond_both, cases_eq}
 use Rattle.sv_world.specs.Control.{is_in, action_at, last_writer}
 use Rattle.sv_world.specs.Sets.{read_set}
 use Rattle.sv_world.proofs.Members.{is_in-cons_cases}
-use Rattle.sv_queue.specs.declared.queued.Queued.{Queued}
-use Rattle.sv_queue.specs.Queue.{last_position, queue_actions, sent_positions, marked_above}
+use Rattle.sv_queue.specs.Queue.{Queued, last_position, queue_actions, sent_positions, marked_above}
 use Rattle.test_queue.proofs.shown.has_closed_marks.Goals.{else-is_marked-via-then-is_marked+else-not-reads_marked, else-is_marked-via-else-is_marked}
 use Rattle.test_queue.proofs.shown.has_closed_marks.Goals as goal
 

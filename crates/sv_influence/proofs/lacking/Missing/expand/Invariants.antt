@@ -6,11 +6,11 @@ use Rattle.sv_queue.specs.Queue.{queue_actions}
 use Rattle.sv_influence.specs.Lacking.{lacking_writers, committed_reads, reads_at}
 use Rattle.sv_influence.proofs.lacking.Missing.expand.Given as goal
 
-abbrev pub invariant-loop-slot : goal.invariant-loop-slot
-invariant-loop-slot g l = record {
+abbrev pub invariant-loop-place : goal.invariant-loop-place
+invariant-loop-place g l = record {
   items : l.object-items ≡ (action_at (queue_actions l.queue) l.pos).reads;
   good : IsGoodAction l.queue.shape (action_at (queue_actions l.queue) l.pos);
-  wanted : (j : ℕ) → is_in j (lacking_writers l.queue l.session l.pos (drop l.slot (reads_at l.queue l.pos)) ++ l.self.wanted) ≡ is_in j (lacking_writers l.queue l.session l.pos (reads_at l.queue l.pos) ++ l.fn.self.wanted);
-  bases : (x : ℕ) → is_in x (committed_reads l.queue l.session l.pos (drop l.slot (reads_at l.queue l.pos)) ++ l.self.bases) ≡ is_in x (committed_reads l.queue l.session l.pos (reads_at l.queue l.pos) ++ l.fn.self.bases);
-  ticks : l.steps ≤ l.fn.steps + 1 + 2 * l.slot;
+  wanted : (j : ℕ) → is_in j (lacking_writers l.queue l.slot l.pos (drop l.place (reads_at l.queue l.pos)) ++ l.self.wanted) ≡ is_in j (lacking_writers l.queue l.slot l.pos (reads_at l.queue l.pos) ++ l.fn.self.wanted);
+  bases : (x : ℕ) → is_in x (committed_reads l.queue l.slot l.pos (drop l.place (reads_at l.queue l.pos)) ++ l.self.bases) ≡ is_in x (committed_reads l.queue l.slot l.pos (reads_at l.queue l.pos) ++ l.fn.self.bases);
+  ticks : l.steps ≤ l.fn.steps + 1 + 2 * l.place;
 }

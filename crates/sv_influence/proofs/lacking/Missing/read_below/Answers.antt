@@ -22,7 +22,7 @@ add_writer-requires-clause-writer g c =
 pub loop-object-preserved : goal.loop-object-preserved
 loop-object-preserved g c =
     let v = c.args.queue.now in
-    let s = c.args.session in
+    let s = c.args.slot in
     let k = c.loop-object.object-index in
     let o = (get_or c.args.objects.now k record { 0 = 0 }).0 in
     let xs = numbers_of c.args.objects.now in

@@ -8,7 +8,7 @@ use Rattle.sv_influence.proofs.objects.ObjectSet.add_reads.Goals as goal
 
 pub add-requires : goal.add-requires
 add-requires c =
-    read_low 4096 c.args.action.now c.as_slice-object-items.result.now c.loop-object.object-index record { 0 = 0 } c.loop-object.invariant.items c.requires c.loop-object-test.true
+    read_low 65535 c.args.action.now c.as_slice-object-items.result.now c.loop-object.object-index record { 0 = 0 } c.loop-object.invariant.items c.requires c.loop-object-test.true
 
 pub loop-object-preserved : goal.loop-object-preserved
 loop-object-preserved c =

@@ -7,7 +7,7 @@ use Rattle.sv_influence.proofs.objects.ObjectSet.meets_writes.Goals.{else-action
 
 pub has-requires : goal.has-requires
 has-requires c =
-    read_low 4096 c.args.action.now c.as_slice-object-items.result.now c.loop-slot.slot record { 0 = 0 } c.loop-slot.invariant.items c.requires.low c.loop-slot-test.true
+    read_low 65535 c.args.action.now c.as_slice-object-items.result.now c.loop-slot.slot record { 0 = 0 } c.loop-slot.invariant.items c.requires.low c.loop-slot-test.true
 
 pub returns-then-has : goal.returns-then-has
 returns-then-has c =

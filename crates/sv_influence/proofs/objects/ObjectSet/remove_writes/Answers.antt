@@ -10,7 +10,7 @@ use Rattle.sv_influence.proofs.objects.ObjectSet.remove_writes.Goals.{then-actio
 
 pub remove-requires : goal.remove-requires
 remove-requires c =
-    read_low 4096 c.args.action.now c.as_slice-object-items.result.now c.loop-slot.slot record { 0 = 0 } c.loop-slot.invariant.items c.requires.low c.loop-slot-test.true
+    read_low 65535 c.args.action.now c.as_slice-object-items.result.now c.loop-slot.slot record { 0 = 0 } c.loop-slot.invariant.items c.requires.low c.loop-slot-test.true
 
 pub loop-slot-preserved : goal.loop-slot-preserved
 loop-slot-preserved c =

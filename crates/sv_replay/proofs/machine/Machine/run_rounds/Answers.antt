@@ -1,6 +1,6 @@
 -- A further round of a run that is done changes nothing.
-use Rattle.std.proofs.Common.{◌<◌, ◌-◌, refl, sym, subst, arith}
-use Rattle.sv_journal.specs.Answer.{Rules}
+use Rattle.std.proofs.Common.{◌-◌, refl, sym, subst, arith}
+use Rattle.sv_journal.specs.Answer.{Rules, MayBeSession}
 use Rattle.sv_scenario.specs.Sessions.{session_count}
 use Rattle.law_schedule.specs.Players.{repeated}
 use Rattle.law_schedule.specs.Serving.{Run, round_served}
@@ -32,6 +32,6 @@ returns-then-are_ended g c =
     let now = stage_of g.S.Server.view c.loop.self in
     let done : IsRunDone now.scenario (run_of now) = record {
       closed = c.if-are_closed.ensures refl;
-      ended = λ s l. c.if-are_ended.ensures.all refl s (subst (λ (r : Rules). s < r.sessions) (sym c.loop.invariant.machine.rules) l);
+      ended = λ s l. c.if-are_ended.ensures.all refl s (subst (λ (r : Rules). MayBeSession r.sessions s) (sym c.loop.invariant.machine.rules) l);
     } in
     done_became m now (c.args.rounds - c.loop.counter) _ c.loop.invariant done

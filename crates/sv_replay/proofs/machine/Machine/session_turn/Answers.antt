@@ -1,9 +1,9 @@
 -- A session's turn is the one that is defined.
-use Rattle.std.proofs.Common.{◌≡◌, ◌<◌, ◌+◌, length, refl, sym, subst, arith, get_or}
+use Rattle.std.proofs.Common.{◌≡◌, ◌+◌, length, refl, sym, subst, arith, get_or}
 use Rattle.std.specs.Vec.{with_item}
 use Rattle.std.proofs.lemmas.Result.{on_ok_weaker}
 use Rattle.std.proofs.lemmas.List.{get_or_read}
-use Rattle.sv_journal.specs.Answer.{Rules}
+use Rattle.sv_journal.specs.Answer.{Rules, MayBeSession}
 use Rattle.sv_exchange.specs.View.{ExchangeView, new_exchange}
 use Rattle.sv_replay.specs.Serving.{AnswersMessage, HadTurn, one_if}
 use Rattle.sv_replay.specs.Work.{work_of_session, Found}
@@ -13,7 +13,7 @@ use Rattle.sv_replay.proofs.Sending.{answers, both_told, session_found}
 use Rattle.sv_replay.proofs.machine.Machine.session_turn.Goals as goal
 
 pub serve-requires-clause-session : goal.serve-requires-clause-session
-serve-requires-clause-session g c = subst (λ (r : Rules). c.args.session < r.sessions) (sym c.requires.machine.rules) c.requires.session
+serve-requires-clause-session g c = subst (λ (r : Rules). MayBeSession r.sessions c.args.session) (sym c.requires.machine.rules) c.requires.session
 
 pub serve-requires-clause-message : goal.serve-requires-clause-message
 serve-requires-clause-message g c =

@@ -6,19 +6,19 @@ use Rattle.sv_sequencer.specs.Cores.{core_rules, Keeps}
 use Rattle.sv_sequencer.specs.Decisions.{reply_by}
 use Rattle.sv_sequencer.specs.Entering.{EnteredReply, NothingEntered}
 use Rattle.sv_sequencer.specs.Step.{SequencerView, history}
-use Rattle.sv_sequencer.proofs.Stepped.{reply-open, after-reply}
+use Rattle.sv_sequencer.proofs.Stepped.{sits-by-view, reply-open, after-reply}
 use Rattle.sv_sequencer.proofs.sequencer.Sequencer.answer.Goals as goal
 
 pub decide-decision-requires : goal.decide-decision-requires
 decide-decision-requires g c = (
   subst (Keeps c.self.inside.core) (ap history c.self.view_is ∙ sym c.requires.0) c.self.invariant.keeps,
-  subst (λ (v : SequencerView). c.args.session < v.rules.sessions) (sym c.self.view_is) c.requires.1.0,
+  sits-by-view c.self.inside _ c.args.session c.self.view_is c.self.invariant c.requires.1.0,
 )
 
 pub enter_reply-requires : goal.enter_reply-requires
 enter_reply-requires g c = (
   subst (Keeps c.self.inside.core) (ap history c.self.view_is ∙ sym c.requires.0) c.self.invariant.keeps,
-  (subst (λ (v : SequencerView). c.args.session < v.rules.sessions) (sym c.self.view_is) c.requires.1.0, (c.requires.1.1, c.decide-decision.ensures.holds)),
+  (sits-by-view c.self.inside _ c.args.session c.self.view_is c.self.invariant c.requires.1.0, (c.requires.1.1, c.decide-decision.ensures.holds)),
 )
 
 pub invariant_of-self : goal.invariant_of-self

@@ -4,13 +4,13 @@ use Rattle.sv_journal.specs.declared.entry.Entry.{Entry}
 use Rattle.sv_sequencer.specs.Cores.{Keeps}
 use Rattle.sv_sequencer.specs.Entering.{TookEntry}
 use Rattle.sv_sequencer.specs.Step.{SequencerView, history, end_entry}
-use Rattle.sv_sequencer.proofs.Stepped.{after-entry}
+use Rattle.sv_sequencer.proofs.Stepped.{sits-by-view, after-entry}
 use Rattle.sv_sequencer.proofs.sequencer.Sequencer.end.Goals as goal
 
 pub enter_end-requires : goal.enter_end-requires
 enter_end-requires g c = (
   subst (Keeps c.self.inside.core) (ap history c.self.view_is ∙ sym c.requires.0) c.self.invariant.keeps,
-  (subst (λ (v : SequencerView). c.args.session < v.rules.sessions) (sym c.self.view_is) c.requires.1.0, (c.requires.1.1, c.self.invariant.room)),
+  (sits-by-view c.self.inside _ c.args.session c.self.view_is c.self.invariant c.requires.1.0, (c.requires.1.1, c.self.invariant.room)),
 )
 
 pub invariant_of-self : goal.invariant_of-self

@@ -2,10 +2,11 @@
 use Rattle.std.proofs.Common.{◌≡◌, ◌<◌, reverse, sym, subst}
 use Rattle.sv_journal.specs.Sessions.{is_ended}
 use Rattle.sv_sequencer.specs.Step.{SequencerView, history}
+use Rattle.sv_sequencer.proofs.Stepped.{sits-by-view}
 use Rattle.sv_sequencer.proofs.sequencer.Sequencer.is_ended.Goals as goal
 
 pub is_ended-requires : goal.is_ended-requires
-is_ended-requires c = subst (λ (v : SequencerView). c.args.session < v.rules.sessions) (sym c.self.view_is) c.requires
+is_ended-requires c = sits-by-view c.self.inside _ c.args.session c.self.view_is c.self.invariant c.requires
 
 pub returns : goal.returns
 returns c =

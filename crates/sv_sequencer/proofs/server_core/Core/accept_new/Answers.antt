@@ -18,7 +18,10 @@ accept-requires g c =
             c.requires.1.1.1.0,
             (
               same,
-              good_of_none (core_rules c.args.self.now).world.shape _ (ap (first_fault_of_action (core_rules c.args.self.now).world.shape) same ∙ c.requires.1.1.1.1),
+              (
+                good_of_none (core_rules c.args.self.now).world.shape _ (ap (first_fault_of_action (core_rules c.args.self.now).world.shape) same ∙ c.requires.1.1.1.1.0),
+                c.requires.1.1.1.1.1,
+              ),
             ),
           ),
         ),

@@ -7,6 +7,9 @@ ghost-welcome g a = g.h
 abbrev pub ghost-drop_new : goal.ghost-drop_new
 ghost-drop_new g a = g.h
 
+abbrev pub ghost-deny_new : goal.ghost-deny_new
+ghost-deny_new g a = g.h
+
 abbrev pub ghost-relay : goal.ghost-relay
 ghost-relay g a = g.h
 

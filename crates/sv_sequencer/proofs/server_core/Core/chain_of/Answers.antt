@@ -2,7 +2,7 @@
 use Rattle.std.proofs.Common.{length, ◌∙◌, ap}
 use Rattle.sv_world.specs.Control.{chain_length, influence_distance}
 use Rattle.sv_journal.specs.History.{accepted, actions_of, result_at}
-use Rattle.sv_journal.specs.Sessions.{sent_to, named_to}
+use Rattle.sv_sequencer.proofs.AgreeSteps.{sent_seats, named_seats, sent-within}
 use Rattle.sv_sequencer.proofs.FitRelays.{influence-is, distance-is}
 use Rattle.sv_sequencer.proofs.server_core.Core.chain_of.Goals as goal
 
@@ -11,7 +11,7 @@ returns-clause-count g c =
     let a = c.args.self.now in
     let k = c.requires.0 in
     c.chain.ensures.count
-    ∙ ap length (influence-is a.opening (accepted g.h) (result_at g.h) (sent_to g.h) (named_to g.h) a.queue k.fits k.sound.sent c.args.action.now)
+    ∙ ap length (influence-is a.opened.world (accepted g.h) (result_at g.h) (sent_seats g.h a.sessions.items) (named_seats g.h a.sessions.items) a.queue k.fits (sent-within a.opened g.h a.sessions.items k.sound) c.args.action.now)
     ∙ ap (λ n. chain_length (actions_of g.h) n c.args.action.now) k.commit
 
 pub returns-clause-far : goal.returns-clause-far
@@ -19,5 +19,5 @@ returns-clause-far g c =
     let a = c.args.self.now in
     let k = c.requires.0 in
     c.chain.ensures.far
-    ∙ distance-is a.opening (accepted g.h) (result_at g.h) (sent_to g.h) (named_to g.h) a.queue k.fits k.sound.sent c.args.action.now
+    ∙ distance-is a.opened.world (accepted g.h) (result_at g.h) (sent_seats g.h a.sessions.items) (named_seats g.h a.sessions.items) a.queue k.fits (sent-within a.opened g.h a.sessions.items k.sound) c.args.action.now
     ∙ ap (λ n. influence_distance (actions_of g.h) n c.args.action.now) k.commit

@@ -2,8 +2,8 @@
 use Rattle.std.proofs.Common.{◌<◌, [], slice_index_or, sym, ◌∙◌, ap, subst}
 use Rattle.sv_world.specs.declared.world.Shape.{Shape}
 use Rattle.sv_journal.specs.History.{accepted}
-use Rattle.sv_journal.specs.Sessions.{sent_to, named_to}
 use Rattle.sv_sequencer.specs.Cores.{core_rules}
+use Rattle.sv_sequencer.proofs.AgreeSteps.{sent_seats, named_seats}
 use Rattle.sv_sequencer.proofs.Replies.{committed-is}
 use Rattle.sv_sequencer.proofs.server_core.Core.committed.Goals as goal
 
@@ -14,4 +14,4 @@ pub returns : goal.returns
 returns c = λ h k.
     c.committed.ensures.value
     ∙ ap (λ values. slice_index_or values c.args.object.0 [])
-    (committed-is (core_rules c.args.self.now) h (accepted h) (sent_to h) (named_to h) c.args.self.now.queue k.commit k.fits)
+    (committed-is (core_rules c.args.self.now) h (accepted h) (sent_seats h c.args.self.now.sessions.items) (named_seats h c.args.self.now.sessions.items) c.args.self.now.queue k.commit k.fits)

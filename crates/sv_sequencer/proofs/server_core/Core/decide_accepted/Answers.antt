@@ -8,4 +8,4 @@ use Rattle.sv_sequencer.proofs.server_core.Core.decide_accepted.Goals as goal
 pub returns-else-is_committed-clause-holds : goal.returns-else-is_committed-clause-holds
 returns-else-is_committed-clause-holds g c =
     let low : commit_of g.h < c.args.pos = leb-false c.args.pos (commit_of g.h) (sym c.is_committed.ensures ∙ c.if-is_committed.false) in
-    (old-submit g.h c.args.session c.args.id.client c.args.id.seq c.args.action.now c.requires.1.0 c.requires.1.1.0, (low, c.requires.1.1.1))
+    (old-submit g.h c.args.seat.session c.args.id.client c.args.id.seq c.args.action.now c.requires.1.0 c.requires.1.1.0, (low, c.requires.1.1.1))

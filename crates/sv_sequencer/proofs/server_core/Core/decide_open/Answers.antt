@@ -8,5 +8,5 @@ use Rattle.sv_sequencer.proofs.server_core.Core.decide_open.Goals as goal
 
 pub returns-in-Join-clause-reply : goal.returns-in-Join-clause-reply
 returns-in-Join-clause-reply g c =
-    subst (λ (q : Request). reply_by (core_rules c.args.self.now) g.h c.args.session q c.decide_join.result
-    ≡ reply_to_open (core_rules c.args.self.now) g.h c.args.session q) (sym c.in-Join.is) c.decide_join.ensures.reply
+    subst (λ (q : Request). reply_by (core_rules c.args.self.now) g.h c.args.seat.session q c.decide_join.result
+    ≡ reply_to_open (core_rules c.args.self.now) g.h c.args.seat.session q) (sym c.in-Join.is) c.decide_join.ensures.reply

@@ -5,4 +5,4 @@ use Rattle.sv_sequencer.proofs.server_core.Core.decide_poll.Goals as goal
 
 pub returns-in-Some-clause-holds : goal.returns-in-Some-clause-holds
 returns-in-Some-clause-holds g c =
-    (old-poll g.h c.args.session, orphan-within g.h c.in-Some.pos c.in-Some.ensures.0 c.in-Some.ensures.1)
+    (old-poll g.h c.args.seat.session, orphan-within g.h c.in-Some.pos c.in-Some.ensures.0 c.in-Some.ensures.1)

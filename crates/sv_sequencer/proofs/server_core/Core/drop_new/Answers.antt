@@ -1,18 +1,31 @@
 -- What the check leaves to prove of `Core::drop_new`.
-use Rattle.std.proofs.Common.{refl, ap}
+use Rattle.std.proofs.Common.{refl, arith}
 use Rattle.sv_journal.specs.declared.entry.Logged.TheVariants as logged
+use Rattle.sv_journal.specs.History.{Dropped}
 use Rattle.sv_sequencer.specs.declared.decision.Decision.TheVariants as decisions
 use Rattle.sv_sequencer.specs.Cores.{core_rules}
-use Rattle.sv_sequencer.proofs.AgreeNext.{agree-drop}
-use Rattle.sv_sequencer.proofs.Entered.{rules_with, carried}
+use Rattle.sv_sequencer.proofs.AgreeNext.{dropped-settles, agree-settled}
+use Rattle.sv_sequencer.proofs.Entered.{carried}
+use Rattle.sv_sequencer.specs.Step.{entry_of}
+use Rattle.sv_sequencer.proofs.Seating.{AreAfter}
 use Rattle.sv_sequencer.proofs.server_core.Core.drop_new.Goals as goal
+
+pub settle-requires : goal.settle-requires
+settle-requires g c =
+    let next = c.requires.1.1.1 in
+    omega (arith, next.next, next.few, (c.requires.0.client_rows c.args.id.client).outcomes.count)
 
 pub returns-clause-ok : goal.returns-clause-ok
 returns-clause-ok g c =
     let a = c.args.self.now in
-    let s = c.args.session in
+    let slot = c.args.seat.slot in
+    let s = c.args.seat.session in
     let q = c.args.request.now in
-    carried a _ g.h s q (decisions.Drop c.args.id.client c.args.id.seq c.args.found.count c.args.found.far) _ (logged.Dropped c.args.id.seq c.args.found.count c.args.found.far)
-    (ap (rules_with a.opening a.bound a.reach) c.note.ensures.count) refl refl refl
-    (agree-drop (core_rules a) g.h a.queue a.sessions.items c.note.new.rows.items a.clients c.settle.new.self a.owed s q c.args.id.client c.args.id.seq c.args.found.count c.args.found.far _ refl
-    c.requires.0 refl c.requires.1.0 c.requires.1.1.1 c.requires.1.1.0 c.note.ensures.rows c.in_ok-settle.ensures.ok) refl
+    let k = c.args.id.client in
+    let seq = c.args.id.seq in
+    let l = logged.Dropped seq c.args.found.count c.args.found.far in
+    let rows : AreAfter slot (entry_of s q l) a.sessions.items c.note.new.rows.items = record { count = c.note.ensures.count; rows = c.note.ensures.rows } in
+    carried a _ g.h slot s q (decisions.Drop k seq c.args.found.count c.args.found.far) _ l refl refl rows refl refl
+    (agree-settled (core_rules a) g.h a.queue a.sessions.items c.note.new.rows.items a.clients c.settle.new.self a.owed slot s q l k seq (Dropped c.args.found.count c.args.found.far)
+    (dropped-settles seq c.args.found.count c.args.found.far) c.requires.0 c.requires.1.0 c.requires.1.1.1 c.requires.1.1.0 rows c.in_ok-settle.ensures.ok)
+    refl

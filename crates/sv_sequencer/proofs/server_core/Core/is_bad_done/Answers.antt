@@ -1,18 +1,22 @@
 -- What the check leaves to prove of `Core::is_bad_done`.
-use Rattle.std.proofs.Common.{◌<◌, sym, ◌∙◌, arith}
+use Rattle.std.proofs.Common.{◌<◌, sym, ◌∙◌, ap, arith}
+use Rattle.sv_sequencer.specs.Agreement.{sent_at}
 use Rattle.sv_sequencer.specs.Cores.{core_rules}
+use Rattle.sv_sequencer.proofs.AgreeSteps.{sent_seats, named_seats, sent-within}
 use Rattle.sv_sequencer.proofs.Dones.{bad-done, no-bad}
+use Rattle.sv_sequencer.proofs.Seating.{seat-low}
 use Rattle.sv_sequencer.proofs.server_core.Core.is_bad_done.Goals as goal
 
 pub returns-clause-bad : goal.returns-clause-bad
 returns-clause-bad g c =
+    let a = c.args.self.now in
+    let slot = c.args.seat.slot in
+    let s = c.args.seat.session in
+    let rows = a.sessions.items in
     let k = c.requires.0 in
-    let small : c.args.session < 64 = omega (arith, c.requires.1, k.few_sessions) in
-    c.are_bad.ensures ∙ bad-done (core_rules c.args.self.now) g.h c.args.self.now.queue c.args.session c.args.results.now small k.commit k.sound.sent k.fits
+    let small : slot < 1024 = omega (arith, seat-low rows slot s c.requires.1, k.few) in
+    c.are_bad.ensures ∙ bad-done (core_rules a) g.h a.queue (sent_seats g.h rows) (named_seats g.h rows) slot s c.args.results.now
+    (ap (sent_at g.h) c.requires.1) small k.commit (sent-within (core_rules a) g.h rows k.sound) k.fits
 
 pub returns-clause-good : goal.returns-clause-good
-returns-clause-good g c = λ q.
-    (let k = c.requires.0 in
-    let small : c.args.session < 64 = omega (arith, c.requires.1, k.few_sessions) in
-    no-bad (core_rules c.args.self.now) g.h c.args.session c.args.results.now
-    (sym (c.are_bad.ensures ∙ bad-done (core_rules c.args.self.now) g.h c.args.self.now.queue c.args.session c.args.results.now small k.commit k.sound.sent k.fits) ∙ q))
+returns-clause-good g c = λ q. no-bad (core_rules c.args.self.now) g.h c.args.seat.session c.args.results.now (sym (returns-clause-bad g c) ∙ q)

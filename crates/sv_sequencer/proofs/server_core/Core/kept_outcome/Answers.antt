@@ -1,13 +1,10 @@
 -- What the check leaves to prove of `Core::kept_outcome`.
-use Rattle.std.proofs.Common.{◌∙◌}
-use Rattle.sv_journal.specs.History.{Accepted}
-use Rattle.sv_sequencer.specs.Clients.{client_row}
-use Rattle.sv_sequencer.proofs.Kept.{kept-is, kept-at}
+use Rattle.sv_journal.specs.History.{Accepted, outcomes_of}
+use Rattle.sv_sequencer.proofs.Kept.{kept-at}
 use Rattle.sv_sequencer.proofs.server_core.Core.kept_outcome.Goals as goal
 
 pub returns-clause-kept : goal.returns-clause-kept
-returns-clause-kept g c =
-    c.kept.ensures ∙ kept-is g.h c.args.client c.args.seq (client_row c.args.self.now.clients c.args.client) (c.requires.client_rows c.args.client)
+returns-clause-kept g c = c.kept.ensures (outcomes_of g.h c.args.client) (c.requires.client_rows c.args.client).outcomes
 
 pub returns-clause-placed : goal.returns-clause-placed
 returns-clause-placed g c = λ p q.

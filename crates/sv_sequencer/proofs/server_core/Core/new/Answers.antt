@@ -1,24 +1,31 @@
 -- What the check leaves to prove of `Core::new`.
-use Rattle.std.proofs.Common.{◌≡◌, ℤ, List, [], length, replicate, sym, ◌∙◌, ap, subst, arith}
-use Rattle.std.proofs.lemmas.List.{length-replicate}
+use Rattle.std.proofs.Common.{◌≡◌, ◌≤◌, [], Option, None, Some, IfSome, unwrap_or, refl, sym, ◌∙◌, ap, subst, arith}
 use Rattle.sv_queue.specs.Queue.{QueueView, opening_queue}
 use Rattle.sv_sequencer.specs.Agreement.{Agrees}
-use Rattle.sv_sequencer.specs.Rows.{no_session}
-use Rattle.sv_sequencer.proofs.Entered.{rules_with}
-use Rattle.sv_sequencer.proofs.Opening.{agree-opening}
+use Rattle.sv_sequencer.specs.Rows.{seat_in, is_seated, count_rows}
+use Rattle.sv_sequencer.proofs.Opening.{first_rows, first-seats, rows-count, few-first, agree-opening}
 use Rattle.sv_sequencer.proofs.server_core.Core.new.Goals as goal
 
-pub returns-clause-rules : goal.returns-clause-rules
-returns-clause-rules c =
-    ap (rules_with c.args.world c.args.bound c.args.reach) (ap length c.in_ok-rows.ensures ∙ length-replicate c.args.sessions no_session)
+pub returns-clause-seats : goal.returns-clause-seats
+returns-clause-seats c = λ s.
+    (let r = c.args.opened in
+    let are : c.in_ok-rows.rows.items ≡ first_rows r.requests (unwrap_or r.sessions 0) =
+    c.in_ok-rows.ensures ∙ ap (λ o. first_rows o c.first_sessions-sessions.result) c.requests.ensures ∙ ap (first_rows r.requests) c.first_sessions-sessions.ensures in
+    ap (λ rows. seat_in rows s) are ∙ first-seats r.requests r.sessions s)
+
+pub returns-clause-count : goal.returns-clause-count
+returns-clause-count c =
+    let r = c.args.opened in
+    let are : c.in_ok-rows.rows.items ≡ first_rows r.requests (unwrap_or r.sessions 0) =
+    c.in_ok-rows.ensures ∙ ap (λ o. first_rows o c.first_sessions-sessions.result) c.requests.ensures ∙ ap (first_rows r.requests) c.first_sessions-sessions.ensures in
+    ap (count_rows is_seated) are ∙ rows-count is_seated r.requests (unwrap_or r.sessions 0) (λ i. refl)
 
 pub returns-clause-keeps : goal.returns-clause-keeps
 returns-clause-keeps c =
+    let r = c.args.opened in
     let rows = c.in_ok-rows.rows.items in
-    let n = c.args.sessions in
-    let r = rules_with c.args.world c.args.bound c.args.reach (length rows) in
-    let count : length rows ≡ n = ap length c.in_ok-rows.ensures ∙ length-replicate n no_session in
-    let queue : c.in_ok-queue.queue ≡ opening_queue c.args.world =
-    c.in_ok-queue.ensures ∙ ap (λ (vs : List (List ℤ)). opening_queue (record { shape = c.args.world.shape; values = vs })) (c.in_ok-values.ensures ∙ c.as_slice.ensures) in
-    subst (λ (v : QueueView). Agrees r [] v rows c.new-2.result n) (sym queue)
-    (agree-opening r rows c.new-2.result n (omega (arith, count, c.requires.few)) (c.in_ok-rows.ensures ∙ ap (λ m. replicate m no_session) (sym count)) c.new-2.ensures (sym count))
+    let n = unwrap_or r.sessions 0 in
+    let are : rows ≡ first_rows r.requests n =
+    c.in_ok-rows.ensures ∙ ap (λ o. first_rows o c.first_sessions-sessions.result) c.requests.ensures ∙ ap (first_rows r.requests) c.first_sessions-sessions.ensures in
+    subst (λ (v : QueueView). Agrees r [] v rows c.new.result c.first_sessions-sessions.result) (sym (c.in_ok-queue.ensures ∙ ap opening_queue c.world.ensures))
+    (agree-opening r n rows c.new.result c.first_sessions-sessions.result c.requires.positions (few-first r.sessions c.requires.few) are c.new.ensures c.first_sessions-sessions.ensures)

@@ -12,9 +12,12 @@ use Rattle.sv_sequencer.specs.Cores.{core_rules}
 use Rattle.sv_sequencer.specs.Decisions.{results_in}
 use Rattle.sv_sequencer.specs.Relays.{is_missing, with_reports, CanReport}
 use Rattle.sv_sequencer.specs.Step.{entry_of}
-use Rattle.sv_sequencer.proofs.AgreeNoted.{noted, agree-noted}
+use Rattle.sv_sequencer.specs.Agreement.{sent_at}
+use Rattle.sv_sequencer.proofs.AgreeNoted.{noted, named-seats-low, agree-noted}
+use Rattle.sv_sequencer.proofs.AgreeSteps.{sent_seats, named_seats, sent-within}
+use Rattle.sv_sequencer.proofs.Seating.{seat-low}
 use Rattle.sv_sequencer.proofs.Dones.{can_report_done}
-use Rattle.sv_sequencer.proofs.Entered.{rules_with, carried}
+use Rattle.sv_sequencer.proofs.Entered.{carried}
 use Rattle.sv_sequencer.proofs.FitMissing.{reports-missing}
 use Rattle.sv_sequencer.proofs.server_core.Core.note_results.Goals as goal
 
@@ -22,18 +25,22 @@ pub copy_missing-requires : goal.copy_missing-requires
 copy_missing-requires g c =
     let a = c.args.self.now in
     let k = c.requires.0 in
-    let small : c.args.session < 64 = omega (arith, c.requires.1.0, k.few_sessions) in
+    let slot = c.args.seat.slot in
+    let small : slot < 1024 = omega (arith, seat-low a.sessions.items slot c.args.seat.session c.requires.1.0, k.few) in
     subst (All (CanReport a.queue)) (sym c.reported_by.ensures)
-    (can_report_done (core_rules a) g.h a.queue c.args.session (results_in c.args.request.now) small k.commit k.sound.sent k.fits c.requires.1.1.1)
+    (can_report_done (core_rules a) g.h a.queue (sent_seats g.h a.sessions.items) (named_seats g.h a.sessions.items) slot c.args.seat.session (results_in c.args.request.now)
+    (ap (sent_at g.h) c.requires.1.0) small k.commit (sent-within (core_rules a) g.h a.sessions.items k.sound) k.fits c.requires.1.1.1)
 
 pub set_reports-requires : goal.set_reports-requires
 set_reports-requires g c =
     let a = c.args.self.now in
     let k = c.requires.0 in
-    let small : c.args.session < 64 = omega (arith, c.requires.1.0, k.few_sessions) in
+    let slot = c.args.seat.slot in
+    let small : slot < 1024 = omega (arith, seat-low a.sessions.items slot c.args.seat.session c.requires.1.0, k.few) in
     let can : All (CanReport a.queue) c.reported_by.result.now =
     subst (All (CanReport a.queue)) (sym c.reported_by.ensures)
-    (can_report_done (core_rules a) g.h a.queue c.args.session (results_in c.args.request.now) small k.commit k.sound.sent k.fits c.requires.1.1.1) in
+    (can_report_done (core_rules a) g.h a.queue (sent_seats g.h a.sessions.items) (named_seats g.h a.sessions.items) slot c.args.seat.session (results_in c.args.request.now)
+    (ap (sent_at g.h) c.requires.1.0) small k.commit (sent-within (core_rules a) g.h a.sessions.items k.sound) k.fits c.requires.1.1.1) in
     subst (All (CanReport a.queue)) (sym c.in_ok-results.ensures) (All-filter (λ (d : Done1). is_missing a.queue d.pos) (CanReport a.queue) c.reported_by.result.now can)
 
 pub returns-clause-ok : goal.returns-clause-ok
@@ -41,22 +48,28 @@ returns-clause-ok g c =
     let a = c.args.self.now in
     let v = a.queue in
     let h = g.h in
-    let s = c.args.session in
+    let slot = c.args.seat.slot in
+    let s = c.args.seat.session in
     let q = c.args.request.now in
     let ds = results_in q in
     let n = c.commit-commit.result in
     let k = c.requires.0 in
     let next = c.note.new.rows.items in
-    let small : s < 64 = omega (arith, c.requires.1.0, k.few_sessions) in
-    let can = can_report_done (core_rules a) h v s ds small k.commit k.sound.sent k.fits c.requires.1.1.1 in
+    let at = c.requires.1.0 in
+    let small : slot < 1024 = omega (arith, seat-low a.sessions.items slot s at, k.few) in
+    let S = sent_seats h a.sessions.items in
+    let N = named_seats h a.sessions.items in
+    let early = sent-within a.opened h a.sessions.items k.sound in
+    let can = can_report_done (core_rules a) h v S N slot s ds (ap (sent_at h) at) small k.commit early k.fits c.requires.1.1.1 in
+    let named = named-seats-low (core_rules a) h a.sessions.items k.sound in
     let within : All (λ (d : Done1). d.pos ≤ last_position v) ds = λ i d l. (can i d l).last in
     let queue : c.install.new.self ≡ ready_installed (with_reports v ds) =
     c.install.ensures.installed
     ∙ ap ready_installed (c.set_reports.ensures ∙ ap (with_reports v) c.in_ok-results.ensures ∙ reports-missing v c.reported_by.result.now ∙ ap (with_reports v) c.reported_by.ensures) in
-    let at : n ≡ (ready_installed (with_reports v ds)).commit = c.commit-commit.ensures ∙ ap (λ (w : QueueView). w.commit) queue in
-    let told = noted (core_rules a) h v (entry_of s (requests.Done ds) (logged.Noted 0)) 0 ds refl refl within k.commit k.sound k.fits in
-    let said : logged.Noted n ≡ logged.Noted (commit_with h s ds) = ap logged.Noted (at ∙ told.1.0) in
-    carried a _ h s q decisions.Note _ (logged.Noted n) (ap (rules_with a.opening a.bound a.reach) c.note.ensures.count) refl refl said
+    let there : n ≡ (ready_installed (with_reports v ds)).commit = c.commit-commit.ensures ∙ ap (λ (w : QueueView). w.commit) queue in
+    let told = noted (core_rules a) h v S N slot (entry_of s (requests.Done ds) (logged.Noted 0)) 0 ds refl refl within k.commit named k.fits in
+    let said : logged.Noted n ≡ logged.Noted (commit_with h s ds) = ap logged.Noted (there ∙ told.1.0) in
+    carried a _ h slot s q decisions.Note _ (logged.Noted n) refl refl (record { count = c.note.ensures.count; rows = c.note.ensures.rows }) refl said
     (subst (λ (w : QueueView). Agrees (core_rules a) (entry_of s q (logged.Noted n) ∷ h) w next a.clients a.owed) (sym queue)
-    (agree-noted (core_rules a) h v a.sessions.items next a.clients a.owed s q n ds at c.requires.1.1.0 within k refl c.requires.1.0 c.note.ensures.rows))
+    (agree-noted (core_rules a) h v a.sessions.items next a.clients a.owed slot s q n ds c.requires.1.1.0 within k at (record { count = c.note.ensures.count; rows = c.note.ensures.rows })))
     refl

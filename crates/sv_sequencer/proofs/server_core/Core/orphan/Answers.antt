@@ -1,5 +1,5 @@
 -- What the check leaves to prove of `Core::orphan`.
-use Rattle.std.proofs.Common.{◌≡◌, ℕ, List, [], ◌∷◌, refl, MatchOption, ◌∙◌, ap, subst}
+use Rattle.std.proofs.Common.{◌≡◌, ℕ, List, [], ◌∷◌, MatchOption, ◌∙◌, ap, subst}
 use Rattle.sv_sequencer.specs.Cores.{core_rules}
 use Rattle.sv_sequencer.specs.Orphans.{orphans_in}
 use Rattle.sv_sequencer.proofs.Abandoned.{orphans-are}
@@ -8,7 +8,5 @@ use Rattle.sv_sequencer.proofs.server_core.Core.orphan.Goals as goal
 pub returns : goal.returns
 returns g c =
     let a = c.args.self.now in
-    let k = c.requires in
-    let same = ap (orphans_in a.queue) c.deref.ensures.value
-    ∙ orphans-are (core_rules a) g.h a.queue a.sessions.items k.few_sessions refl k.commit k.sound.sent k.fits k.session_rows k.sound.sessions in
+    let same = ap (orphans_in a.queue) c.deref.ensures.value ∙ orphans-are (core_rules a) g.h a.queue a.sessions.items a.clients a.owed c.requires in
     subst (λ (os : List ℕ). MatchOption c.first_orphan.result (os ≡ []) (λ p. (rest : List ℕ) × (os ≡ p ∷ rest))) same c.first_orphan.ensures

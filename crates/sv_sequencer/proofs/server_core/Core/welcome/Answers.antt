@@ -1,10 +1,9 @@
 -- What the check leaves to prove of `Core::welcome`.
-use Rattle.std.proofs.Common.{◌≡◌, ◌<◌, ℕ, List, ◌∷◌, All, refl, sym, ◌∙◌, ap, subst}
+use Rattle.std.proofs.Common.{◌≡◌, ◌<◌, ℕ, List, ◌∷◌, All, refl, sym, ◌∙◌, ap, subst, arith}
 use Rattle.sv_wire.specs.declared.message.ObjectValue.{ObjectValue}
 use Rattle.sv_wire.specs.declared.message.Reply.TheVariants as replies
 use Rattle.sv_journal.specs.declared.entry.Logged.TheVariants as logged
 use Rattle.sv_journal.specs.History.{accepted, commit_of}
-use Rattle.sv_journal.specs.Sessions.{sent_to, named_to}
 use Rattle.sv_journal.specs.Answer.{committed_held}
 use Rattle.sv_queue.specs.Queue.{QueueView}
 use Rattle.sv_sequencer.specs.declared.decision.Decision.TheVariants as decisions
@@ -14,7 +13,9 @@ use Rattle.sv_sequencer.specs.Decisions.{interest_in}
 use Rattle.sv_sequencer.specs.Relays.{held_in, given_all}
 use Rattle.sv_sequencer.specs.Step.{entry_of}
 use Rattle.sv_sequencer.proofs.AgreeSends.{agree-welcome}
-use Rattle.sv_sequencer.proofs.Entered.{rules_with, carried}
+use Rattle.sv_sequencer.proofs.Entered.{carried}
+use Rattle.sv_sequencer.proofs.AgreeSteps.{sent_seats, named_seats}
+use Rattle.sv_sequencer.proofs.Seating.{AreAfter, seat-low}
 use Rattle.sv_sequencer.proofs.Relayed.{held-low, objects-low}
 use Rattle.sv_sequencer.proofs.Replies.{committed-is, held-is}
 use Rattle.sv_sequencer.proofs.server_core.Core.welcome.Goals as goal
@@ -34,24 +35,29 @@ give_all-requires-clause-objects g c =
     let head : c.as_slice-2.result.now ≡ held_in v (interest_in c.args.request.now) = c.as_slice-2.ensures ∙ c.in_ok-head.ensures ∙ ap (held_in v) c.interest_of.ensures in
     subst (λ (xs : List ObjectValue). All (λ (x : ObjectValue). x.object.0 < v.shape.objects) xs) (sym head) (held-low v v.shape.objects (interest_in c.args.request.now) low)
 
+pub give_all-requires-clause-slot : goal.give_all-requires-clause-slot
+give_all-requires-clause-slot g c = omega (arith, seat-low c.args.self.now.sessions.items c.args.seat.slot c.args.seat.session c.requires.1.0, c.requires.0.room)
+
 pub returns-clause-ok : goal.returns-clause-ok
 returns-clause-ok g c =
     let a = c.args.self.now in
     let v = a.queue in
     let h = g.h in
-    let s = c.args.session in
+    let slot = c.args.seat.slot in
+    let s = c.args.seat.session in
     let q = c.args.request.now in
     let n = c.commit-commit.result in
     let head = c.in_ok-head.head in
     let k = c.requires.0 in
     let next = c.note.new.rows.items in
+    let rows : AreAfter slot (entry_of s q (logged.Welcome n head)) a.sessions.items next = record { count = c.note.ensures.count; rows = c.note.ensures.rows } in
     let said : logged.Welcome n head ≡ logged.Welcome (commit_of h) (committed_held (core_rules a) h (interest_in q)) =
     ap (λ m. logged.Welcome m head) (c.commit-commit.ensures ∙ k.commit)
     ∙ ap (logged.Welcome (commit_of h)) (c.in_ok-head.ensures ∙ ap (held_in v) c.interest_of.ensures
-    ∙ held-is (core_rules a) h v (interest_in q) (committed-is (core_rules a) h (accepted h) (sent_to h) (named_to h) v k.commit k.fits)) in
-    carried a _ h s q (decisions.Welcome c.args.client c.args.life) _ (logged.Welcome n head) (ap (rules_with a.opening a.bound a.reach) c.note.ensures.count) refl refl said
+    ∙ held-is (core_rules a) h v (interest_in q) (committed-is (core_rules a) h (accepted h) (sent_seats h a.sessions.items) (named_seats h a.sessions.items) v k.commit k.fits)) in
+    carried a _ h slot s q (decisions.Welcome c.args.client c.args.life) _ (logged.Welcome n head) refl refl rows refl said
     (subst (λ (w : QueueView). Agrees (core_rules a) (entry_of s q (logged.Welcome n head) ∷ h) w next c.join.new.self a.owed)
-    (sym (c.give_all.ensures ∙ ap (λ xs. given_all v xs s) c.as_slice-2.ensures))
-    (agree-welcome (core_rules a) h v a.sessions.items next a.clients c.join.new.self a.owed s q c.args.client c.args.life n head c.commit-commit.ensures k refl c.requires.1.0
-    c.requires.1.1.1 c.requires.1.1.0 c.note.ensures.rows c.in_ok-join.ensures.ok))
+    (sym (c.give_all.ensures ∙ ap (λ xs. given_all v xs slot) c.as_slice-2.ensures))
+    (agree-welcome (core_rules a) h v a.sessions.items next a.clients c.join.new.self a.owed slot s q c.args.client c.args.life n head c.commit-commit.ensures k c.requires.1.0
+    c.requires.1.1.1 c.requires.1.1.0 rows c.in_ok-join.ensures.ok))
     (ap (replies.Welcome n) (c.in_ok-sent.ensures ∙ c.as_slice.ensures))

@@ -1,7 +1,7 @@
 -- What the check leaves to prove of `Witness::answer`.
-use Rattle.std.proofs.Common.{◌≡◌, ◌<◌, List, sym, ◌∙◌, ap, subst}
+use Rattle.std.proofs.Common.{◌≡◌, List, sym, ◌∙◌, ap, subst}
 use Rattle.sv_journal.specs.declared.entry.Entry.{Entry}
-use Rattle.sv_journal.specs.Answer.{reply_to_request}
+use Rattle.sv_journal.specs.Answer.{MayBeSession, reply_to_request}
 use Rattle.sv_sequencer.specs.Cores.{Keeps}
 use Rattle.sv_sequencer.specs.Decisions.{reply_by, Holds}
 use Rattle.sv_sequencer.specs.Step.{SequencerView, history}
@@ -12,7 +12,7 @@ use Rattle.sv_witness.proofs.witness.Witness.answer.Goals as goal
 pub decide-decision-requires : goal.decide-decision-requires
 decide-decision-requires g c = (
   subst (λ (h : List Entry). Keeps c.self.inside.core (agreed_history h)) (ap history c.self.view_is ∙ sym c.requires.0) c.self.invariant.keeps,
-  subst (λ (v : SequencerView). c.args.session < v.rules.sessions) (sym c.self.view_is) c.requires.1.0,
+  c.self.invariant.seats.seats c.args.session (subst (λ (v : SequencerView). MayBeSession v.rules.sessions c.args.session) (sym c.self.view_is) c.requires.1.0),
 )
 
 pub note_results-requires : goal.note_results-requires

@@ -1,5 +1,6 @@
 -- What the check leaves to prove of `Witness::is_ended`.
-use Rattle.std.proofs.Common.{◌≡◌, ◌<◌, reverse, sym, subst, ◌∙◌}
+use Rattle.std.proofs.Common.{◌≡◌, reverse, sym, subst, ◌∙◌}
+use Rattle.sv_journal.specs.Answer.{MayBeSession}
 use Rattle.sv_journal.specs.Sessions.{is_ended}
 use Rattle.sv_sequencer.specs.Step.{SequencerView, history}
 use Rattle.sv_witness.specs.Reports.{agreed_history}
@@ -7,7 +8,7 @@ use Rattle.sv_witness.proofs.Stepped.{ended-agreed}
 use Rattle.sv_witness.proofs.witness.Witness.is_ended.Goals as goal
 
 pub is_ended-requires : goal.is_ended-requires
-is_ended-requires c = subst (λ (v : SequencerView). c.args.session < v.rules.sessions) (sym c.self.view_is) c.requires
+is_ended-requires c = c.self.invariant.seats.seats c.args.session (subst (λ (v : SequencerView). MayBeSession v.rules.sessions c.args.session) (sym c.self.view_is) c.requires)
 
 pub returns : goal.returns
 returns c =

@@ -1,6 +1,7 @@
 -- What the check leaves to prove of `Witness::keep`.
-use Rattle.std.proofs.Common.{◌<◌, List, OnErr, refl, sym, ◌∙◌, ap, subst}
+use Rattle.std.proofs.Common.{List, OnErr, refl, sym, ◌∙◌, ap, subst}
 use Rattle.std.proofs.lemmas.Result.{IfOk-weaker, on_err_weaker}
+use Rattle.sv_journal.specs.Answer.{MayBeSession}
 use Rattle.sv_journal.specs.declared.entry.Entry.{Entry}
 use Rattle.sv_sequencer.specs.Cores.{Keeps}
 use Rattle.sv_sequencer.specs.Decisions.{Holds}
@@ -15,7 +16,7 @@ pub enter_emptied-requires : goal.enter_emptied-requires
 enter_emptied-requires g c = (
   subst (λ (h : List Entry). Keeps c.self.inside.core (agreed_history h)) (ap history c.self.view_is ∙ sym c.requires.0) c.self.invariant.keeps,
   (
-    subst (λ (v : SequencerView). c.args.session < v.rules.sessions) (sym c.self.view_is) c.requires.1.0,
+    c.self.invariant.seats.seats c.args.session (subst (λ (v : SequencerView). MayBeSession v.rules.sessions c.args.session) (sym c.self.view_is) c.requires.1.0),
     (
       c.requires.1.1.0,
       subst (λ (v : SequencerView). Holds v.rules (agreed_history g.h) c.args.session (emptied c.args.request.now) c.args.decision) (sym c.self.view_is) c.requires.1.1.1.0,

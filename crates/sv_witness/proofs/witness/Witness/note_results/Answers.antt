@@ -1,13 +1,13 @@
 -- What the check leaves to prove of `Witness::note_results`.
-use Rattle.std.proofs.Common.{◌≡◌, ◌<◌, ◌≤◌, false, All, List, Some, IfOk, OnErr, sym, ◌∙◌, ap, subst}
+use Rattle.std.proofs.Common.{◌≡◌, ◌≤◌, false, All, List, Some, IfOk, OnErr, sym, ◌∙◌, ap, subst}
 use Rattle.std.proofs.lemmas.Result.{IfOk-weaker, on_err_weaker}
 use Rattle.sv_wire.specs.declared.message.Done1.{Done1}
 use Rattle.sv_queue.specs.Queue.{QueueView, last_position}
 use Rattle.sv_journal.specs.declared.entry.Entry.{Entry}
 use Rattle.sv_journal.specs.History.{client_of}
-use Rattle.sv_journal.specs.Answer.{is_bad_done}
+use Rattle.sv_journal.specs.Answer.{MayBeSession, is_bad_done}
 use Rattle.sv_journal.specs.Serving.{noted_after}
-use Rattle.sv_sequencer.specs.Cores.{core_rules, queue_of}
+use Rattle.sv_sequencer.specs.Cores.{core_rules, session_at, queue_of}
 use Rattle.sv_sequencer.specs.Decisions.{results_in}
 use Rattle.sv_sequencer.specs.Entering.{NothingEntered}
 use Rattle.sv_sequencer.specs.Step.{SequencerView, history}
@@ -26,7 +26,7 @@ use Rattle.sv_witness.proofs.Steps.{reported-low}
 use Rattle.sv_witness.proofs.witness.Witness.note_results.Goals as goal
 
 pub client-requires : goal.client-requires
-client-requires g c = subst (λ (v : SequencerView). c.args.session < v.rules.sessions) (sym c.self.view_is) c.requires.1.0
+client-requires g c = c.self.invariant.seats.seats c.args.session (subst (λ (v : SequencerView). MayBeSession v.rules.sessions c.args.session) (sym c.self.view_is) c.requires.1.0)
 
 -- a session without a client would have been refused
 pub unreachable-requires : goal.unreachable-requires
@@ -66,7 +66,7 @@ install-requires g c =
     let joined = sym (client-agreed h s) ∙ sym (c.client.ensures (agreed_history h) is.keeps) ∙ c.in-Some.is in
     let good = subst (λ (w : SequencerView). is_bad_done w.rules (agreed_history h) s (results_in q) ≡ false) (sym c.self.view_is) c.requires.1.1.1.0 in
     let reply = subst (λ (w : SequencerView). witnessed_reply w.rules h s q ≡ noted_after agreed h s q) (sym c.self.view_is) c.requires.1.1.1.1 in
-    let low = subst (λ (w : SequencerView). s < w.rules.sessions) (sym c.self.view_is) c.requires.1.0 in
+    let sits = c.self.invariant.seats.seats s (subst (λ (w : SequencerView). MayBeSession w.rules.sessions s) (sym c.self.view_is) c.requires.1.0) in
     let stands = subst (λ (ds : List Dispute). KeepsBeside (core_rules a.core) new ds h) (sym c.note_ahead.ensures.disputes)
     (same-stands (core_rules a.core) rows new a.testimony.disputes.items h same is.stands) in
     let named = sym (ap (λ (asker : Asker). asker.client) said.asker) in
@@ -77,9 +77,9 @@ install-requires g c =
     ∙ sym (same-agreed rows new same v noting.counted.items) in
     let made = said.made ∙ ap (new_disputes rows k) (sym said.counted) ∙ sym (same-disputes rows new same k noting.counted.items)
     ∙ ap (λ n. new_disputes new n noting.counted.items) named in (
-      record { keeps = is.keeps; stands = stands },
+      record { keeps = is.keeps; seats = is.seats; stands = stands },
       (
-        subst (λ n. n < (core_rules a.core).sessions) at low,
+        subst (λ n. session_at a.core n ≡ Some n) at sits,
         (
           ap (client_of h) (sym at) ∙ joined ∙ ap Some named,
           (

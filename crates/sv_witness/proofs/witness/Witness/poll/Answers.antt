@@ -1,5 +1,6 @@
 -- What the check leaves to prove of `Witness::poll`.
-use Rattle.std.proofs.Common.{◌≡◌, ◌<◌, sym, ◌∙◌, ap, subst, arith}
+use Rattle.std.proofs.Common.{◌≡◌, sym, ◌∙◌, ap, subst}
+use Rattle.sv_journal.specs.Answer.{MayBeSession}
 use Rattle.sv_journal.specs.Sessions.{is_end}
 use Rattle.sv_sequencer.specs.Cores.{core_rules, queue_of}
 use Rattle.sv_sequencer.specs.Step.{SequencerView}
@@ -12,7 +13,7 @@ use Rattle.sv_witness.proofs.Stepped.{stands-for}
 use Rattle.sv_witness.proofs.witness.Witness.poll.Goals as goal
 
 pub client-requires : goal.client-requires
-client-requires g c = subst (λ (v : SequencerView). c.args.session < v.rules.sessions) (sym c.self.view_is) c.requires.1.0
+client-requires g c = c.self.invariant.seats.seats c.args.session (subst (λ (v : SequencerView). MayBeSession v.rules.sessions c.args.session) (sym c.self.view_is) c.requires.1.0)
 
 -- a session without a client would have been refused
 pub unreachable-requires : goal.unreachable-requires
@@ -33,11 +34,11 @@ keep-requires g c =
     let q = c.args.request.now in
     let d = c.due_decision-decision.result in
     let is = stands-for a c.args.self.now h c.self.invariant c.self.view_is c.requires.0 in
-    let low : s < (core_rules a.core).sessions = subst (λ (v : SequencerView). s < v.rules.sessions) (sym c.self.view_is) c.requires.1.0 in
+    let sits = c.self.invariant.seats.seats s (subst (λ (v : SequencerView). MayBeSession v.rules.sessions s) (sym c.self.view_is) c.requires.1.0) in
     let joined = sym (client-agreed h s) ∙ sym (c.client.ensures (agreed_history h) is.keeps) ∙ c.in-Some.is in
     let due : d ≡ first_relay (due_to h s) =
     c.due_decision-decision.ensures
-    ∙ ap first_relay (due-are (core_rules a.core) h (queue_of a.core) a.testimony.reports k s (omega (arith, low, is.keeps.few_sessions)) joined is.stands.reports is.keeps.commit is.keeps.sound.sent is.keeps.fits) in
+    ∙ ap first_relay (due-are (core_rules a.core) h (queue_of a.core) a.testimony.reports a.core.sessions.items k s is.keeps.few sits joined is.stands.reports is.keeps.commit is.keeps.sound.sent is.keeps.fits) in
     let asked = c.requires.1.1.0 in
     let reply = c.requires.1.1.1 in (
       c.requires.0,

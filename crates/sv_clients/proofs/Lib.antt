@@ -1,0 +1,2 @@
+-- The lemmas on what is kept of a client.
+pub mod Rows

@@ -1,0 +1,2 @@
+-- The definitions of what a server keeps of each client.
+pub mod Clients

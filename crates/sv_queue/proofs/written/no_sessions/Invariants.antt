@@ -1,6 +1,0 @@
--- The loop invariant of `no_sessions`.
-use Rattle.std.proofs.Common.{◌≡◌, [], replicate}
-use Rattle.sv_queue.proofs.written.no_sessions.Given as goal
-
-abbrev pub invariant-loop : goal.invariant-loop
-invariant-loop l = l.rows.items ≡ replicate l.counter []

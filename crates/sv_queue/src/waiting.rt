@@ -1,0 +1,15 @@
+//! An action in the queue.
+use crate::slots::Slots;
+use sv_world::{Action, ClientId, List, Value};
+
+/// An accepted action that is not committed yet.
+#[derive(Debug, Drop)]
+pub struct Waiting {
+    pub author: ClientId,
+    pub seq: u32,
+    pub action: Action,
+    /// One value for each written object.
+    pub result: Option<List<Value>>,
+    /// The slots that the action was sent to.
+    pub marks: Slots,
+}
