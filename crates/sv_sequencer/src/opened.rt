@@ -81,6 +81,15 @@ impl Opened {
         }
     }
 
+    /// The same with an end after so many accepted actions: for tests, and for a world that is to end early.
+    pub fn with_positions(self, positions: u32) -> Opened
+        ensures { result ≡ record self { positions = positions } }
+    {
+        let mut opened = self;
+        opened.positions = positions;
+        opened
+    }
+
     /// The world as it was at first.
     pub fn world(&self) -> &World
         ensures { result.now ≡ self.now.world }
