@@ -15,10 +15,10 @@ use Rattle.sv_sequencer.proofs.Sent.{sequencer-sends, lock-row, pass-row, lock-s
 use Rattle.test_session.proofs.Sent.{gate-syncs, six-send}
 use Rattle.test_session.proofs.threads.serve_two.Given.{Over}
 use Rattle.test_session.proofs.threads.serve_two.Goals as goal
-use Rattle.test_session.proofs.threads.serve_two.Lts.{arg-21-1}
+use Rattle.test_session.proofs.threads.serve_two.Lts.{arg-22-1}
 
 -- The first closure, which captures a handle, the heap, the lock, a pass, an end and a gate, may go to another thread.
-session-sends : (g : Over) (κs : Lfts 12) → IsSync (param 0 g.row.R) → IsSend (param 1 g.row.E) → IsSend (arg-21-1 g.row.R g.row.E g.R.laws g.E.laws g.R.Threads-dict g.R.Wait-dict g.E.End-dict g.E.Destruct-dict κs)
+session-sends : (g : Over) (κs : Lfts 12) → IsSync (param 0 g.row.R) → IsSend (param 1 g.row.E) → IsSend (arg-22-1 g.row.R g.row.E g.R.laws g.E.laws g.R.Threads-dict g.R.Wait-dict g.E.End-dict g.E.Destruct-dict κs)
 session-sends g κs y e =
     let a : IsSend (ShrRef (named 6) κs.1.1.1.1.1.1.0 (param 0 g.row.R)) = shr_send (named 6) κs.1.1.1.1.1.1.0 (param 0 g.row.R) y in
     let c : IsSend (ShrRef (named 7) κs.1.1.1.1.1.1.1.0 lock-row) = shr_send (named 7) κs.1.1.1.1.1.1.1.0 lock-row lock-syncs in

@@ -13,10 +13,10 @@ use Rattle.sv_lock.proofs.pass.Pass.TheSendSync as passes
 use Rattle.sv_sequencer.proofs.Sent.{sequencer-sends, lock-row, pass-row, lock-syncs, pass-sends, four-send}
 use Rattle.test_server.proofs.sequencer.threads.visit_by_two.Given.{Over}
 use Rattle.test_server.proofs.sequencer.threads.visit_by_two.Goals as goal
-use Rattle.test_server.proofs.sequencer.threads.visit_by_two.Lts.{arg-17-1}
+use Rattle.test_server.proofs.sequencer.threads.visit_by_two.Lts.{arg-18-1}
 
 -- The first closure, which captures a handle, the heap, the lock and a pass, may go to another thread.
-visit-sends : (g : Over) (κs : Lfts 10) → IsSync (param 0 g.row.R) → IsSend (arg-17-1 g.row.R g.R.laws g.R.Threads-dict g.R.Wait-dict κs)
+visit-sends : (g : Over) (κs : Lfts 10) → IsSync (param 0 g.row.R) → IsSend (arg-18-1 g.row.R g.R.laws g.R.Threads-dict g.R.Wait-dict κs)
 visit-sends g κs y =
     let a : IsSend (ShrRef (named 6) κs.1.1.1.1.1.1.0 (param 0 g.row.R)) = shr_send (named 6) κs.1.1.1.1.1.1.0 (param 0 g.row.R) y in
     let c : IsSend (ShrRef (named 7) κs.1.1.1.1.1.1.1.0 lock-row) = shr_send (named 7) κs.1.1.1.1.1.1.1.0 lock-row lock-syncs in
