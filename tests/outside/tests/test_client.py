@@ -970,6 +970,56 @@ def test_saved(count):
             count.same(serial.value(0, history.commit), (9,), f"{name}: the world")
 
 
+# Two processes of one client: the first one keeps all behind each call, and is killed.
+KEEPS = """
+import json, socket, sys, time
+sys.path.insert(0, {clients!r})
+from dimboetu import Client
+client = Client(0, 2, 1, [0])
+client.join(socket.create_connection(("127.0.0.1", {port})))
+client.finish()
+for _ in range(3):
+    client.make({act!r})
+    with open({kept!r}, "w") as file:
+        json.dump(client.saved(), file)
+print("kept", flush=True)
+time.sleep({longest})
+"""
+GOES_ON = """
+import json, socket, sys
+sys.path.insert(0, {clients!r})
+from dimboetu import Client
+with open({kept!r}) as file:
+    client = Client.from_saved(json.load(file))
+print(client.life, client.made, len(client.pending), client.view(0))
+client.join(socket.create_connection(("127.0.0.1", {port})))
+client.make({act!r})
+client.leave()
+print(client.life, client.made, len(client.pending), client.view(0))
+"""
+
+
+def test_processes(count):
+    """A process that is killed behind three actions, and another one that takes up its place."""
+    plan = {"attrs": 1, "objects": [[5], [7]], "bound": 8, "clients": [{"interest": [0], "steps": ["cut"]}]}
+    with tempfile.TemporaryDirectory() as room:
+        path, kept = os.path.join(room, "world.json"), os.path.join(room, "kept.json")
+        with open(path, "w", encoding="ascii") as file:
+            json.dump(plan, file)
+        server = subprocess.Popen([sys.executable, STAND_IN, path, "0", "--at-once"], stdout=subprocess.PIPE, text=True)
+        names = {"clients": CLIENTS, "port": int(server.stdout.readline().split()[1]), "kept": kept, "act": ADD_ONE, "longest": LONGEST}
+        first = subprocess.Popen([sys.executable, "-c", KEEPS.format(**names)], stdout=subprocess.PIPE, text=True)
+        count.same(first.stdout.readline(), "kept\n", "the first process")
+        first.kill()
+        first.communicate()
+        second = subprocess.run([sys.executable, "-c", GOES_ON.format(**names)], capture_output=True, text=True, timeout=LONGEST, check=False)
+        count.same((second.returncode, second.stdout), (0, "1 3 3 (8,)\n2 4 0 (9,)\n"), f"the second process: {second.stderr}")
+        journal, commit = server.communicate(timeout=LONGEST)[0].rsplit("commit ", 1)
+        history, serial = history_of(scenario_of(json.dumps(plan).encode("ascii")), journal)
+        count.same([one.number for one in history.accepted], [1, 2, 3, 4], "each action of both processes counts once")
+        count.same((int(commit), serial.value(0, 4)), (4, (9,)), "the world of both processes")
+
+
 def watching(plan, server, number=0, **more):
     """A client that joined, with connections of its own for further sessions."""
     client = Observer(number, len(plan.opening), plan.attributes, plan.plans[number].interest, connect=lambda: link_to(server), **more)
@@ -1184,6 +1234,16 @@ def test_programs(count):
             done = subprocess.run([sys.executable, example, *words, port], capture_output=True, text=True, check=False)
             count.same((done.returncode, done.stdout), (1, ""), f"example {words}")
             count.expect(done.stderr.startswith(line) and done.stderr.count("\n") == 1, f"example {words}: {done.stderr}")
+        server = subprocess.Popen([sys.executable, STAND_IN, path, "0", "--at-once"], stdout=subprocess.PIPE, text=True)
+        port = int(server.stdout.readline().split()[1])
+        other = Client(1, 3, 2)
+        other.life = 6
+        other.join(socket.create_connection(("127.0.0.1", port)))
+        other.finish()
+        done = subprocess.run([sys.executable, example, path, "1", str(port)], capture_output=True, text=True, check=False)
+        count.same((done.returncode, done.stderr), (1, "stopped: wrongkind: refused 11 7, old life\n"), "a number that is taken")
+        other.leave()
+        server.communicate(timeout=LONGEST)
     size = sum(1 for _ in open(os.path.join(CLIENTS, "dimboetu.py"), encoding="utf-8"))
     count.expect(size <= 620, f"the client has {size} lines")
     count.expect(dimboetu.__doc__.count("\n") > 3, "the client says how it is used")
@@ -1218,7 +1278,7 @@ def main():
     count = Compared()
     for test in (test_vectors, test_refused_payloads, test_streams, test_actions, test_builder, test_texts, test_beside_players,
                  test_two_at_once, test_rejoin, test_dropped, test_interest, test_limits, test_random_runs, test_malformed, test_lies,
-                 test_refusals, test_saved, test_watch, test_late_items, test_observe, test_programs, test_mine):
+                 test_refusals, test_saved, test_processes, test_watch, test_late_items, test_observe, test_programs, test_mine):
         test(count)
     return count.close()
 

@@ -146,6 +146,9 @@ def test_lines(script):
         script.same(script.run("explain", *line.split()), (code, out, err), f"explain {line}, in words")
     for line, heading in (("link", "link of serve"), ("wrongkind", "reply: wrongkind"), ("json", "scenario: json"), ("text 3 4", "scenario: text"),
                           ("refused 9 0", "Refusals of the server"), ("dropped 1 chain 1 far 0", "An action was dropped"), ("9", "status 9 "), ("stopped: spent", "no request left"),
+                          ("stopped: wrongkind", "reply: wrongkind"), ("stopped: wrongkind: refused 11 7, old life", "| 11 | old life |"), ("stopped: missing 3 4", "reply: missing"),
+                          ("stopped: [Errno 111] Connection refused", "nobody listened"), ("stopped: action 4", "| 4 | The world has no object"), ("stopped: text 3 1", "| 1 | No piece"),
+                          ("stopped: list index out of range", "no client NUMBER"), ("stopped: full", "Nothing was done"),
                           ("spent", "no request left"), ("the build stopped", "was not proved")):
         script.expect(heading in script.run("explain", line)[1].decode(), f"explain {line} has {heading}")
     script.expect("behind 'reads'" in script.run("explain", "scenario: /a: text 3 4")[1].decode(), "the row of a cause")
