@@ -5,12 +5,16 @@
 
 The reports are those beside the examples, and one of a made-up market (5,000 actions with --large,
 else 300). What the page's data says is counted again from each report, by the tests' own reader of
-reports. Where Chromium is installed (Debian's package chromium), it loads the pages without a
-window, and what they show is compared too; --shots has it take pictures of two pages. Each way to
+reports, and the world that the actions give is the one that the report prints. Of a journal of `serve`,
+which was executed by hand, all that the page says is typed. Where node is installed, a stand-in for a
+browser (page.js) runs the pages' script, and what they show is compared too; and where Chromium is
+(Debian's package chromium), it loads the pages; --shots has it take pictures of two pages. Each way to
 end without a page is tried, too.
 Closes with `N passed, M failed`.
 """
 
+import collections
+import html
 import json
 import os
 import random
@@ -24,13 +28,64 @@ import time
 sys.path.insert(0, os.path.dirname(os.path.dirname(os.path.abspath(__file__))))
 
 from rules import simulate
-from rules.report import read_report
+from rules.report import read_report, value_text
 from rules.scenario import read_scenario, scenario_of
+from rules.served import Served
 from tests.counting import OUTSIDE, ROOT, Count
 
 PICTURE = os.path.join(ROOT, "tools", "picture")
 EXAMPLES = ("first", "conflict", "trade", "bound", "reach", "retry", "orphan", "looks", "observe", "marketplace")
+WORDS = "words: tools/picture REPORT [SCENARIO] > PAGE\n"
+BROWSER = os.path.join(OUTSIDE, "doubles", "page.js")
 SHOTS = (("trade", "#action=c1.2", "1120,860"), ("marketplace", "#action=c3.9", "1120,1040"))
+
+
+# A journal of `serve`. Client 0 sleeps behind its first action; meanwhile two results of client 1 wait, and its third action is
+# dropped. It observes without news, and looks. The division by 0 at last changes nothing, and nobody reports it.
+WORLD = """{"attrs": 1, "objects": [[10], [20], [30]], "bound": 1,
+    "clients": [{"interest": [0], "steps": []}, {"interest": [1], "steps": []}]}"""
+SERVED = """journal 16
+1 s0 join c0 1 [0] -> welcome 0 [0=(10)]
+2 s1 join c1 1 [1] -> welcome 0 [1=(20)]
+3 s0 submit 1 reads 0 writes 0 { set @0.0 (@0.0 + 1); } -> relay 1 at 0 [] [1:c0.1]
+4 s1 submit 1 reads 1 writes 1 { set @1.0 (@1.0 * 2); } -> relay 1 at 0 [] [2:c1.1]
+5 s1 done [2:(40)] -> noted 0
+6 s1 submit 2 reads 1 writes 1 { set @1.0 (@1.0 - 5); } -> relay 2 at 0 [] [3:c1.2]
+7 s1 done [3:(35)] -> noted 0
+8 s1 submit 3 reads 1 writes 1 { set @1.0 (@1.0 / 2); } -> dropped 3 chain 2 far 0
+9 s1 observe 0 [1] -> seen 3 at 0 [] []
+10 s0 done [1:(11)] -> noted 3
+11 s1 submit 4 reads 0 1 writes { } -> relay 4 at 3 [0=(11)] [4:c1.4]
+12 s1 done [4:] -> noted 4
+13 s0 submit 2 reads 0 1 writes 0 1 { set @0.0 (@0.0 / (@1.0 - 35)); set @1.0 99; } -> relay 2 at 4 [1=(35)] [5:c0.2]
+14 s1 leave -> bye
+15 s1 end -> bye
+16 s0 end -> bye
+commit 4
+"""
+# The world after each position, from 0 on.
+STEPS = (("(10)", "(20)"), ("(11)", "(20)"), ("(11)", "(40)"), ("(11)", "(35)"), ("(11)", "(35)"), ("(11)", "(35)"))
+WAITS = [{"p": 1, "from": 3, "to": 10, "who": [[0, 3, 10, 3, 10]], "w": [2, 3], "d": [[1, 3]]},
+         {"p": 5, "from": 13, "to": 17, "who": [[0, 13, 16, 13, 16]], "w": [], "d": []}]
+# Changes of that journal, and what the actions give then, by position.
+OTHERWISE = (
+    ((), {1: ["(11)"], 2: ["(40)"], 3: ["(35)"], 4: [], 5: ["(11)", "(35)"]}),
+    # A lie, and the client goes on from it: the texts give the same as before.
+    ((("[2:(40)]", "[2:(41)]"), ("[3:(35)]", "[3:(36)]")), {1: ["(11)"], 2: ["(40)"], 3: ["(35)"], 4: [], 5: ["(11)", "(35)"]}),
+    # Object 1 is not told before it is written: what was reported is taken.
+    ((("c1 1 [1] -> welcome 0 [1=(20)]", "c1 1 [] -> welcome 0 []"),), {1: ["(11)"], 2: ["(40)"], 3: ["(35)"], 4: [], 5: ["(11)", "(35)"]}),
+    # Object 0 is never told, and its action was never reported.
+    ((("c0 1 [0] -> welcome 0 [0=(10)]", "c0 1 [] -> welcome 0 []"), ("10 s0 done [1:(11)] -> noted 3", "10 s0 poll -> idle"),
+      ("[0=(11)] [4", "[] [4")), {1: ["?"], 2: ["(40)"], 3: ["(35)"], 4: [], 5: ["?", "?"]}))
+# What stands on the page where action c1.2 is chosen, with the scenario. Marks of HTML are left out.
+SAYS = {
+    "counts": ("6 made", "5 accepted", "1 dropped", "1 looks", "4 finished", "1 observed"),
+    "said": ("its result waited for c0.1 at 1 (client 0, silent meanwhile), from entry 7 to 10",),
+    "objects": ("after c1.2 at 3: finished", "0 (11) c0.1 at 1", "1 (35) c1.2 at 3", "2 (30)"),
+    "waited": ("client 0 was waited for, in all for 7 entries; it slept for 7",
+               "c0.1 at 1 3 to 10 client 0, silent meanwhile; the results of c1.1 at 2, c1.2 at 3 waited, and c1.3 was dropped",
+               "c0.2 at 5 13 to the end client 0, silent meanwhile, until its session was over at 16; then nobody who was sent it is there: "
+               "a client that polls is sent it; nothing waited for it")}
 
 
 def market(actions, clients):
@@ -106,8 +161,37 @@ class Browser:
         return subprocess.run(command, capture_output=True, text=True, timeout=240, check=False).stdout
 
 
+class Node:
+    """The stand-in for a browser, where node is installed."""
+
+    def __init__(self):
+        self.path = shutil.which("node")
+
+    def shown(self, page, mark):
+        """What the page shows in each element, what its body says, and how often each call of the canvas is made."""
+        found = json.loads(subprocess.run([self.path, BROWSER, page, mark], capture_output=True, text=True, timeout=240, check=True).stdout)
+        return found["shown"], found["body"], collections.Counter(stroke[0] for stroke in found["strokes"])
+
+
+def plain(text):
+    """The words of a piece of HTML; what is no word by itself, as a link, parts none."""
+    return " ".join(html.unescape(re.sub(r"<[^>]*>", " ", re.sub(r"</?(?:a|b|code|span)\b[^>]*>", "", text))).split())
+
+
+def world_of(data, place):
+    """The values of all known objects after a position, in order, by what the page's data says that the actions give."""
+    held = {int(target): value for target, value in data["opening"].items()}
+    for action in sorted((each for each in data["actions"] if 0 < each["p"] <= place), key=lambda each: each["p"]):
+        held.update(zip(action["w"], action["u"]))
+    return [held[target] for target in sorted(held)]
+
+
 class Checker(Count):
     """Tries things, and counts what held."""
+
+    def __init__(self):
+        super().__init__()
+        self.node = Node()
 
     def check_page(self, name, text, scenario, browser, folder):
         """The page of one report. Its path."""
@@ -127,9 +211,62 @@ class Checker(Count):
         for key, number in expected.items():
             self.expect(data["counts"][key] == number, f"{name}: {key}: {data['counts'][key]}, not {number}")
         self.check_chains(name, data)
+        self.same(world_of(data, data["counts"]["commit"]), list(map(value_text, report.world)), f"{name}: the world that the actions give")
+        if self.node.path:
+            shown, body, _ = self.node.shown(path, "#object=0")
+            marks = "".join(f' data-{key}="{value}"' for key, value in body.items())
+            self.check_shown(name, f"<body{marks}>" + "".join(shown.values()), expected, writes)
         if browser.path:
-            self.check_shown(name, path, expected, writes, browser)
+            start = time.monotonic()
+            self.check_shown(name, browser.run(path, "#object=0", ["--dump-dom"]), expected, writes)
+            if expected["made"] >= 1000:
+                print(f"{name}: {expected['made']} actions loaded and drawn in {time.monotonic() - start:.1f} s")
         return path
+
+    def page_of(self, folder, journal, *scenario):
+        """The page of a journal, and its data."""
+        source, path = os.path.join(folder, "served.report"), os.path.join(folder, "served.html")
+        with open(source, "w", encoding="utf-8") as file:
+            file.write(journal)
+        with open(path, "wb") as page:
+            made = subprocess.run([sys.executable, PICTURE, source, *scenario], stdout=page, stderr=subprocess.PIPE, check=False)
+        self.expect((made.returncode, made.stderr) == (0, b""), f"served: {made}")
+        with open(path, encoding="utf-8") as page:
+            return path, json.loads(re.search(r'id="data">(.*?)</script>', page.read(), re.S)[1])
+
+    def check_served(self, folder):
+        """A journal of `serve`: the world after each action, what is quiet, and who was waited for."""
+        Served(scenario_of(WORLD.encode()), SERVED)
+        _, data = self.page_of(folder, SERVED)
+        self.same((data["waits"], data["quiet"], data["world"]), (WAITS, [9, 11, 12], []), "served: waits and quiet entries")
+        self.same([world_of(data, place) for place in range(6)], list(map(list, STEPS)), "served: the world after each position")
+        for changes, computed in OTHERWISE:
+            journal = SERVED
+            for old, new in changes:
+                self.expect(old in journal, f"served: {old}")
+                journal = journal.replace(old, new)
+            _, data = self.page_of(folder, journal)
+            found = {each["p"]: each["u"] for each in data["actions"] if each["p"]}
+            self.same(found, computed, f"served, with {changes}")
+        _, data = self.page_of(folder, SERVED.replace("dropped 3 chain 2 far 0", "denied 3 1"))
+        self.same((data["counts"]["denied"], data["counts"]["dropped"], [each["z"] for each in data["actions"] if each["n"] == 3]),
+                  (1, 0, [1]), "served: a denied action")
+        world = os.path.join(folder, "world.json")
+        with open(world, "w", encoding="utf-8") as file:
+            file.write(WORLD)
+        path, data = self.page_of(folder, SERVED, world)
+        self.same([world_of(data, place) for place in range(6)], [[*step, "(30)"] for step in STEPS], "served: the same with the scenario")
+        if self.node.path:
+            self.check_said(path)
+
+    def check_said(self, path):
+        """What the page of that journal says, and how it draws it."""
+        shown, body, strokes = self.node.shown(path, "#action=c1.2")
+        for part, lines in SAYS.items():
+            said = plain(shown[part])
+            for line in lines:
+                self.expect(line in said, f"served: {part}: no {line!r} in {said!r}")
+        self.same((body, strokes["fillRect"]), ({"drawn": 6, "ready": "1"}, 4), "served: drawn: one field where client 0 slept, and the results of three actions")
 
     def check_endings(self):
         """What is no report, no file or no word, and an output that fails."""
@@ -143,9 +280,13 @@ class Checker(Count):
                 (["-"], b"journal 0\nclient 0\n", (3, "report: line 3 is missing\n")),
                 (["-"], b"journal 0\nclient 0\ngot s0 #7\nworld 0\n", (3, "report: its lines are no report\n")),
                 (["-"], b"\xff\xfe", (3, "report: its lines are no report\n")),
-                ([], b"", (2, "words: tools/picture REPORT > PAGE\n")),
-                (["--large"], b"", (2, "words: tools/picture REPORT > PAGE\n")),
-                ([good, good], b"", (2, "words: tools/picture REPORT > PAGE\n")),
+                ([], b"", (2, WORDS)),
+                (["--large"], b"", (2, WORDS)),
+                ([good, "-"], b"", (2, WORDS)),
+                ([good, good, good], b"", (2, WORDS)),
+                ([good, good], b"", (3, f"scenario: {good} is none\n")),
+                ([good, "/dev/null"], b"", (3, "scenario: /dev/null is none\n")),
+                (["-", missing], b"", (4, f"file: {missing}: No such file or directory\n")),
                 ([missing], b"", (4, f"file: {missing}: No such file or directory\n")),
                 ([OUTSIDE], b"", (4, f"file: {OUTSIDE}: Is a directory\n"))):
             found = subprocess.run([sys.executable, PICTURE, *words], input=text, capture_output=True, check=False)
@@ -173,11 +314,8 @@ class Checker(Count):
                     left += [each for _, each in accepted[place]["f"]]
             self.expect(len(found) == action["d"][0], f"{name}: c{action['c']}.{action['n']}: chain {len(found)}")
 
-    def check_shown(self, name, path, expected, writes, browser):
-        """What the page shows in a browser."""
-        start = time.monotonic()
-        shown = browser.run(path, "#object=0", ["--dump-dom"])
-        seconds = time.monotonic() - start
+    def check_shown(self, name, shown, expected, writes):
+        """What the page shows."""
         for key, number in expected.items():
             found = re.search(rf'id="count-{key}">([0-9]+)<', shown)
             absent = found is None and number == 0
@@ -190,8 +328,6 @@ class Checker(Count):
         self.expect(f"Object 0 was written {count} times" in shown, f"{name}: the history of object 0")
         rows = len(re.findall(r'data-why="[0-9]+"', shown))
         self.expect(rows == min(count, 500), f"{name}: {rows} rows of object 0")
-        if expected["made"] >= 1000:
-            print(f"{name}: {expected['made']} actions loaded and drawn in {seconds:.1f} s")
 
 
 def main(words):
@@ -201,15 +337,16 @@ def main(words):
     with tempfile.TemporaryDirectory() as folder:
         browser = Browser(folder)
         if not browser.path:
-            print("no Chromium here: the pages are not loaded")
+            print("no Chromium here: the pages are not loaded" + ("" if checker.node.path else ", nor is their script run, for want of node"))
         pages = {}
         for name in EXAMPLES:
             with open(os.path.join(ROOT, "examples", f"{name}.out"), encoding="utf-8") as file:
                 text = file.read()
             scenario = read_scenario(os.path.join(ROOT, "examples", f"{name}.json"))
             pages[name] = checker.check_page(name, text, scenario, browser, folder)
-        scenario = market(5000 if large else 300, 25 if large else 6)
+        scenario = market(5000 if large else 300, 32 if large else 6)
         pages["market"] = checker.check_page("market", simulate.replay(scenario), scenario, browser, folder)
+        checker.check_served(folder)
         checker.check_endings()
         if "--shots" in words and browser.path:
             target = os.path.abspath(words[words.index("--shots") + 1])
