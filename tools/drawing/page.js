@@ -197,7 +197,7 @@ function paintStays() {
   for (const [time, client, kind] of data.marks) {
     if (!tops.has(client) || xOf(time) < GUTTER - 20 || xOf(time) > width) continue;
     const x = xOf(time) + (kind === "join" ? 2 : kind === "cut" ? -2 : 0), top = tops.get(client), low = top + depth.get(client) * PITCH + 20;
-    if (kind === "cut" || kind === "quit") { line(x, top, x, low, "#d02b3b", 1.5); if (scale >= 14) label(kind, x - 3, low - 6, "#d02b3b", "10px system-ui, sans-serif", "right"); }
+    if (kind === "cut" || kind === "quit" || kind === "gone") { line(x, top, x, low, "#d02b3b", 1.5); if (scale >= 14) label(kind, x - 3, low - 6, "#d02b3b", "10px system-ui, sans-serif", "right"); }
     else if (kind === "join" && time > 1) line(x, top, x, low, "#12805c", 1.5);
     else if (kind === "refused") cross(x, low - 6, 3, "#98a1b0");
     else if (kind === "adopt" && scale >= 14) label("poll", x - 8, low - 6, "#667085", "10px system-ui, sans-serif");

@@ -318,6 +318,8 @@ class Model:
 
     def finish(self):
         """Fills what only the whole tells."""
+        if not self.clients:
+            self.mark_stays()
         self.clients = sorted(set(self.clients) | set(self.owner.values()))
         for action in self.actions.values():
             if action.made is None:
@@ -330,6 +332,14 @@ class Model:
                 self.opening.setdefault(each, value)
         execute(self.accepted, self.opening, self.heard)
         self.waits = waits_of(self)
+
+    def mark_stays(self):
+        """Where the report has no traces: where clients joined again, and where a connection ended with no leave."""
+        for stay in self.sessions:
+            if stay["life"] > 1:
+                self.marks.append([stay["from"], stay["client"], "join", f"s{stay['session']}"])
+            if stay["how"] == "end":
+                self.marks.append([stay["to"], stay["client"], "gone", ""])
 
     def counts(self):
         """The numbers at the head of the page."""

@@ -239,6 +239,7 @@ class Checker(Count):
         Served(scenario_of(WORLD.encode()), SERVED)
         _, data = self.page_of(folder, SERVED)
         self.same((data["waits"], data["quiet"], data["world"]), (WAITS, [9, 11, 12], []), "served: waits and quiet entries")
+        self.same(data["marks"], [[9, 1, "same", "3"], [16, 0, "gone", ""]], "served: an observe without news, and a connection that ended")
         self.same([world_of(data, place) for place in range(6)], list(map(list, STEPS)), "served: the world after each position")
         for changes, computed in OTHERWISE:
             journal = SERVED
