@@ -1,5 +1,5 @@
-//! The counter of `sv_lock_bench` under the mutex of Rust's standard library: `lock THREADS CALLS`. It prints what
-//! `sv_lock_bench mutex` prints.
+//! The counter of `bench_lock` under the mutex of Rust's standard library: `lock THREADS CALLS`. It prints what
+//! `bench_lock mutex` prints.
 use std::env;
 use std::sync::Mutex;
 use std::thread;

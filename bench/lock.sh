@@ -9,7 +9,7 @@ rounds=${1:-5}
 calls=${2:-100000}
 work=$(mktemp -d)
 trap 'rm -rf "$work"' EXIT
-program=$("$here/build.sh" sv_lock_bench)
+program=$("$here/build.sh" bench_lock)
 rustc -C opt-level=3 -o "$work/rust" "$here/lock.rs"
 for _ in $(seq "$rounds"); do
     for threads in 1 2 4 8 64; do

@@ -2,7 +2,7 @@
 
 python3 bench/observe.py [ROUNDS]
 
-It steps a server of `sv_bench` through requests that this file makes, and tells nanoseconds a request, by the best and the median of the
+It steps a server of `bench_libraries` through requests that this file makes, and tells nanoseconds a request, by the best and the median of the
 rounds: an Observe of four objects that finds nothing, beside a Poll that finds nothing; and an Observe that brings one item, with its
 Done, beside a Submit whose relay has one item, with its Done. What both sides have in common is stepped through alone and taken off.
 """
@@ -92,7 +92,7 @@ WORKS = {"joins": joins, "polls": polls, "observes": idle_observes,
 
 
 def main():
-    program = subprocess.run([os.path.join(HERE, "build.sh"), "sv_bench"], stdout=subprocess.PIPE, check=True).stdout.decode().strip()
+    program = subprocess.run([os.path.join(HERE, "build.sh"), "bench_libraries"], stdout=subprocess.PIPE, check=True).stdout.decode().strip()
     times = {name: [] for name in WORKS}
     with tempfile.TemporaryDirectory() as room:
         for name, make in WORKS.items():

@@ -1,4 +1,4 @@
-"""Times the reading of one scenario file: sv_read_bench, serde_json of Rust, and Python's json, in turn."""
+"""Times the reading of one scenario file: bench_read, serde_json of Rust, and Python's json, in turn."""
 
 import json
 import os

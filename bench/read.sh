@@ -5,5 +5,5 @@
 #   bench/read.sh [ROUNDS]
 set -eu
 here=$(cd "$(dirname "$0")" && pwd)
-program=$("$here/build.sh" sv_read_bench)
+program=$("$here/build.sh" bench_read)
 exec python3 "$here/read.py" "$program" "${1:-15}"

@@ -1,4 +1,4 @@
-//! A client in plain Rust that takes the replies that `sv_bench take` takes: `take ITEMS TURNS`. It prints what `sv_bench` prints.
+//! A client in plain Rust that takes the replies that `bench_libraries take` takes: `take ITEMS TURNS`. It prints what `bench_libraries` prints.
 //! It checks a reply as the proved client does, evaluates each item on the values below its position, can take back what it
 //! put, keeps each reply in its trace, and drops what the commit told makes old. No client here has an action of its own.
 use std::collections::VecDeque;

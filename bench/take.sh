@@ -8,7 +8,7 @@ here=$(cd "$(dirname "$0")" && pwd)
 rounds=${1:-15}
 work=$(mktemp -d)
 trap 'rm -rf "$work"' EXIT
-program=$("$here/build.sh" sv_bench)
+program=$("$here/build.sh" bench_libraries)
 rustc -C opt-level=3 -o "$work/rust" "$here/take.rs"
 for _ in $(seq "$rounds"); do
     for work_of in "1 20000" "33 1000"; do

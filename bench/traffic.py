@@ -2,7 +2,7 @@
 
     python3 bench/traffic.py PROGRAM [play|replay]
 
-A broadcast sends each accepted action once to each client, as an item without a frame. The report is read by tests/outside/report.py.
+A broadcast sends each accepted action once to each client, as an item without a frame. The report is read by tests/outside/rules/report.py.
 """
 
 import os
@@ -13,7 +13,7 @@ import tempfile
 here = os.path.dirname(os.path.abspath(__file__))
 sys.path[:0] = [here, os.path.join(os.path.dirname(here), "tests", "outside")]
 
-from report import read_report  # noqa: E402
+from rules.report import read_report  # noqa: E402
 from loads import SIZES, write_load  # noqa: E402
 
 FRAME = 4

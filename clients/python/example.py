@@ -25,6 +25,12 @@ def connect(port, tries=100):
     return socket.create_connection(("127.0.0.1", port))
 
 
+def last_words(fault):
+    """What a program says that ends by this fault: also what the server refused, where it did so."""
+    refused = getattr(fault, "code", None)
+    return f"stopped: {fault}" + (f": refused {refused} {fault.detail}, {fault.name}" if refused else "")
+
+
 def play(path, number, port, count=6):
     """One session. A line is printed for each change of a view: what the client expects, until it sees the outcome."""
     with open(path, encoding="utf-8") as file:
@@ -56,4 +62,4 @@ if __name__ == "__main__":
     try:
         play(sys.argv[1], *map(int, sys.argv[2:]))
     except (Fault, OSError, ValueError, LookupError) as fault:
-        sys.exit(f"stopped: {fault}")
+        sys.exit(last_words(fault))

@@ -11,7 +11,7 @@ import random
 import sys
 
 from dimboetu import Client, Fault, action, obj, when
-from example import connect
+from example import connect, last_words
 
 MINE = obj(0)
 
@@ -47,4 +47,4 @@ if __name__ == "__main__":
     try:
         play(int(sys.argv[1]), int(sys.argv[2]))
     except (Fault, OSError) as fault:
-        sys.exit(f"stopped: {fault}")
+        sys.exit(last_words(fault))

@@ -2,13 +2,16 @@
 
 The report is that of `replay` and `play`, with told lines or without them, or what `serve` prints:
 the journal and its commit. `docs/REPORT.md` has the lines. Nothing is judged here: whether a report
-is right is for a checker.
+is right is for a checker. executed.py does the actions anew, waits.py finds who was waited for.
 
 Time is counted in entries of the journal. An entry stands at its number. What a client does has no
 time in the report, so it stands as early as it may: right behind the reply that it took last.
 """
 
 import re
+
+from executed import execute, is_look
+from waits import waits_of
 
 ENTRY = re.compile(r"([0-9]+) s([0-9]+) (.*) -> (.*)")
 JOIN = re.compile(r"join c([0-9]+) ([0-9]+) \[(.*)\]")
@@ -18,6 +21,7 @@ WELCOME = re.compile(r"welcome ([0-9]+) \[(.*)\]")
 RELAY = re.compile(r"relay ([0-9]+) at ([0-9]+) \[(.*)\] \[(.*)\]")
 SEEN = re.compile(r"seen ([0-9]+) at ([0-9]+) \[(.*)\] \[(.*)\]")
 DROPPED = re.compile(r"dropped ([0-9]+) chain ([0-9]+) far ([0-9]+)")
+DENIED = re.compile(r"denied ([0-9]+) ([0-9]+)")
 SETTLED = re.compile(r"settled ([0-9]+) at ([0-9]+)")
 NOTED = re.compile(r"noted ([0-9]+)")
 ACTION = re.compile(r"reads ([0-9 ]+?) writes ([0-9 ]*?)(?: at (-?[0-9]+) (-?[0-9]+))? ?\{.*\}")
@@ -58,7 +62,8 @@ class Action:
         self.answered = None    # the entry that accepted or dropped it
         self.session = None     # the session of that entry
         self.position = 0       # 0 where it is not accepted
-        self.chain = self.far = None    # of a dropped one
+        self.chain = self.far = None    # of one that was dropped for its chain or its distance
+        self.denied = None      # the object that its client may not write
         self.commit = 0         # the commit before that entry
         self.sources = []       # what it reads: the object, and the position of its last writer or 0
         self.sent = []          # the positions that its relay brought
@@ -68,6 +73,7 @@ class Action:
         self.done_by = None     # the client that reported it
         self.committed = None   # the entry from which on it is in the world
         self.result = None      # the values of what it writes, as texts
+        self.computed = None    # the same, by doing the action anew
 
     def is_corrected(self):
         """Whether its client expected something else than what came out."""
@@ -93,6 +99,12 @@ class Model:
         self.commit = 0
         self.told = 0
         self.opening = {}       # values of objects before any action wrote them
+        self.heard = {}         # for each commit, values that replies told of it
+        self.sent = {}          # for each position, the entries and sessions that were sent it
+        self.asked_by = {}      # for each session, its entries
+        self.over = {}          # for each session, the entry that ended it
+        self.quiet = []         # entries that brought nothing: observes without news, polls of nothing, and looks
+        self.waits = []
         self.commit_at = 0
 
     def action(self, client, number):
@@ -111,19 +123,25 @@ class Model:
             self.owner[session] = int(joined[1])
             self.sessions.append({"session": session, "client": int(joined[1]), "from": entry,
                                   "to": None, "life": int(joined[2]), "how": ""})
+        self.asked_by.setdefault(session, []).append(entry)
         submitted, done = SUBMIT.fullmatch(request), DONE.fullmatch(request)
         relayed, seen = RELAY.fullmatch(reply), SEEN.fullmatch(reply)
+        for item in (relayed or seen)[4].split() if relayed or seen else ():
+            self.sent.setdefault(int(item.split(":")[0]), []).append((entry, session))
         if submitted and session in self.owner:
             self.take_submit(entry, session, int(submitted[1]), submitted[2], reply)
         elif request == "poll" and session in self.owner and relayed:
             self.marks.append([entry, self.owner[session], "adopt", relayed[4]])
         elif seen and session in self.owner:
             self.marks.append([entry, self.owner[session], "news" if seen[3] or seen[4] else "same", seen[1]])
+        if reply == "idle" or seen and not (seen[3] or seen[4]):
+            self.quiet.append(entry)
         if done and NOTED.fullmatch(reply):
             self.take_done(entry, session, done[1])
         if reply.startswith("refused"):
             self.marks.append([entry, self.owner.get(session, -1), "refused", f"{request} -> {reply}"])
         if request in ("leave", "end"):
+            self.over.setdefault(session, entry)
             self.close_session(entry, session, request)
         self.take_values(reply)
         noted = NOTED.fullmatch(reply)
@@ -133,8 +151,8 @@ class Model:
     def take_submit(self, entry, session, number, text, reply):
         """A request for an action, and what it was answered."""
         action = self.action(self.owner[session], number)
-        relayed, dropped = RELAY.fullmatch(reply), DROPPED.fullmatch(reply)
-        if not (relayed or dropped or SETTLED.fullmatch(reply)):
+        relayed, dropped, denied = RELAY.fullmatch(reply), DROPPED.fullmatch(reply), DENIED.fullmatch(reply)
+        if not (relayed or dropped or denied or SETTLED.fullmatch(reply)):
             action.repeats.append(entry)
             return
         if action.answered is not None:
@@ -151,6 +169,10 @@ class Model:
                 self.writers.setdefault(each, []).append(action.position)
         elif dropped:
             action.chain, action.far = int(dropped[2]), int(dropped[3])
+        elif denied:
+            action.denied = int(denied[2])
+        if is_look(action):
+            self.quiet.append(entry)
 
     @staticmethod
     def read_text(action, text):
@@ -164,12 +186,19 @@ class Model:
 
     def take_done(self, entry, session, results):
         """Results that were taken: the first one of each position counts."""
-        for position, values in RESULT.findall(results):
+        found = RESULT.findall(results)
+        if found and all(self.looks_at(int(position)) for position, _ in found):
+            self.quiet.append(entry)
+        for position, values in found:
             if 0 < int(position) <= len(self.accepted):
                 action = self.accepted[int(position) - 1]
                 if action.done is None:
                     action.done, action.done_by = entry, self.owner.get(session)
                     action.result = re.findall(r"\([^)]*\)", values)
+
+    def looks_at(self, position):
+        """Whether the action at this position is a look."""
+        return 0 < position <= len(self.accepted) and is_look(self.accepted[position - 1])
 
     def take_values(self, reply):
         """Opening values, which stand in replies before any action wrote their objects."""
@@ -177,6 +206,7 @@ class Model:
         if found:
             commit, head = (found[1], found[2]) if len(found.groups()) == 2 else (found[2], found[3])
             for each, value in held_in(head):
+                self.heard.setdefault(int(commit), []).append((each, value))
                 if not any(place <= int(commit) for place in self.writers.get(each, [])[:1]):
                     self.opening.setdefault(each, value)
 
@@ -288,6 +318,8 @@ class Model:
 
     def finish(self):
         """Fills what only the whole tells."""
+        if not self.clients:
+            self.mark_stays()
         self.clients = sorted(set(self.clients) | set(self.owner.values()))
         for action in self.actions.values():
             if action.made is None:
@@ -295,6 +327,19 @@ class Model:
         for stay in self.sessions:
             if stay["to"] is None:
                 stay["to"] = self.entries + 1
+        for each, value in enumerate(self.world):
+            if each not in self.writers:
+                self.opening.setdefault(each, value)
+        execute(self.accepted, self.opening, self.heard)
+        self.waits = waits_of(self)
+
+    def mark_stays(self):
+        """Where the report has no traces: where clients joined again, and where a connection ended with no leave."""
+        for stay in self.sessions:
+            if stay["life"] > 1:
+                self.marks.append([stay["from"], stay["client"], "join", f"s{stay['session']}"])
+            if stay["how"] == "end":
+                self.marks.append([stay["to"], stay["client"], "gone", ""])
 
     def counts(self):
         """The numbers at the head of the page."""
@@ -306,6 +351,8 @@ class Model:
             "clients": len(self.clients), "sessions": len(self.owner), "entries": self.entries,
             "made": len(actions), "accepted": len(self.accepted),
             "dropped": sum(1 for each in actions if each.chain is not None),
+            "denied": sum(1 for each in actions if each.denied is not None),
+            "looks": sum(1 for each in actions if is_look(each)),
             "commit": self.commit,
             "corrected": sum(1 for each in actions if each.is_corrected()),
             "unguessed": sum(1 for each in actions if each.kept == "none"),
@@ -333,7 +380,8 @@ class Model:
                 "c": action.client, "n": action.number, "t": texts.setdefault(action.text, len(texts)),
                 "w": action.writes, "f": action.sources, "m": round(action.made, 4), "k": action.kept,
                 "a": action.answered, "p": action.position, "s": action.session,
-                "d": None if action.chain is None else [action.chain, action.far],
+                "d": None if action.chain is None else [action.chain, action.far], "z": action.denied,
+                "l": is_look(action), "u": action.computed,
                 "b": action.commit, "x": action.sent,
                 "g": None if action.took is None else round(action.took, 4),
                 "o": action.done, "y": action.done_by, "e": action.committed, "v": action.result,
@@ -343,13 +391,15 @@ class Model:
             "counts": self.counts(), "clients": self.clients, "texts": list(texts), "actions": rows,
             "commits": self.commits, "sessions": self.sessions,
             "marks": [[round(mark[0], 4)] + mark[1:] for mark in self.marks],
-            "world": self.world, "opening": self.opening,
+            "world": self.world, "opening": self.opening, "quiet": self.quiet,
+            "waits": [each.as_data() for each in self.waits],
         }
 
 
-def model_of(text):
-    """The model of a report's text."""
+def model_of(text, opening=None):
+    """The model of a report's text, with the opening values of its scenario where they are given."""
     model = Model()
+    model.opening = dict(opening or {})
     lines = text.split("\n")
     model.take_lines(lines[:-1] if lines[-1] == "" else lines)
     return model

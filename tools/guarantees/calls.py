@@ -180,12 +180,20 @@ def columns(owner, function, front, result, clauses, waiting):
 
 
 def line_of(answers, calls):
-    """The line of the calls with these answers: what is as a rule so is left out. It is wrapped, but never inside a name."""
+    """The line of the calls with these answers: what is as a rule so is left out, and a clause that says both stands once. It is
+    wrapped, but never inside a name."""
     ends, refusals, state = answers
-    said = ["may wait"] if ends == "may wait" else []
+    said = ["waits"] if ends == "may wait" else []
     unsaid, _, more = refusals.partition("no refusal; ")
-    said += [more or f"refuses: {unsaid}"] if refusals != "no refusal" else []
-    said += [f"leaves: {state}"] if state != "nothing is changed" else []
+    unsaid = unsaid.replace("memory alone: ", "memory, ").replace("memory alone", "memory")
+    both = [one for one in unsaid.split(", ") if one.startswith("`") and one in state.split(", ")]
+    refused, left = (", ".join(one for one in text.split(", ") if one not in both) for text in (unsaid, state))
+    if more or refusals == "no refusal":
+        said += [more] if more else []
+    elif refused:
+        said += [refused if refused.startswith("memory") else f"refuses: {refused}"]
+    said += [f"both: {', '.join(both)}"] if both else []
+    said += [f"leaves: {left}"] if left and state != "nothing is changed" else []
     line = f"- {', '.join(calls)}" + (f": {'; '.join(said)}" if said else "")
     return "\n".join(textwrap.wrap(line, WIDTH, subsequent_indent="  ", break_long_words=False, break_on_hyphens=False))
 

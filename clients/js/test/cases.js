@@ -1,5 +1,5 @@
 /**
- * Tries the client on the cases of tests/outside/js_cases.py:
+ * Tries the client on the cases of tests/outside/tests/js_cases.py:
  *
  *     node clients/js/test/cases.js CASES.json
  *

@@ -5,7 +5,7 @@
  *
  * The plan has the server's port, and for each client its shape, its interest, the texts of its actions and how often
  * its connection breaks. A relay in between cuts it, anywhere in a frame. At last a line of JSON says what each client
- * keeps and was told; tests/outside/test_js.py judges it by the server's journal.
+ * keeps and was told; tests/outside/tests/test_js.py judges it by the server's journal.
  */
 
 import { connect, createServer } from "node:net";

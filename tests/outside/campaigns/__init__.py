@@ -1,0 +1,1 @@
+"""Trials of many runs, which are begun by hand."""

@@ -1,0 +1,1 @@
+"""The rules, written a second time from the documents alone."""

@@ -1,0 +1,1 @@
+"""The tests that .ci/run runs, and what they share."""

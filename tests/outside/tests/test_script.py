@@ -1,0 +1,204 @@
+#!/usr/bin/env python3
+"""Tests of the script ./dimboetu around a stand-in for the program, with no program of the product and no toolchain.
+
+    python3 tests/outside/tests/test_script.py
+
+The script runs in a copy of the few files that it reads. Input, output, statuses and the program's line must pass as they are; a second
+line says what it means; signals end the program. Each line that the program can print has its entry, which `explain` prints. Closes with
+`N passed, M failed`.
+"""
+
+import json
+import os
+import re
+import shutil
+import signal
+import subprocess
+import sys
+import tempfile
+import time
+
+sys.path.insert(0, os.path.dirname(os.path.dirname(os.path.abspath(__file__))))
+
+from tests.counting import ROOT, Count
+from tests.test_documents import error_texts, marks_of, text_of
+
+# What the stand-in does: say STATUS LINE; echo; wait FILE; print a report; else as the program says what words it has.
+PROGRAM = r"""#!/bin/bash
+case "$1" in
+  say) printf '%b' "$3" >&2; exit "$2" ;;
+  echo) cat; exit 0 ;;
+  wait) echo $$ >"$2"; exec sleep 30 ;;
+  out) echo text || exit 5; exit 0 ;;
+  replay | serve) printf '%s\n' "$3" >&2; exit "$4" ;;
+esac
+echo "words: play FILE [--brief | --watch] | replay FILE | load N" >&2
+exit 2
+"""
+RT = "#!/bin/bash\necho rt 0\n"
+FILES = ("dimboetu", "crates.txt", "HANDLES", "docs/ERRORS.md", "crates/sv_main/src/help.rt")
+SECONDS = 20
+
+
+class Script(Count):
+    """The script in a room of its own."""
+
+    def __init__(self, room):
+        super().__init__()
+        self.room = room
+        for name in FILES:
+            os.makedirs(os.path.dirname(self.path(name)), exist_ok=True)
+            shutil.copy(os.path.join(ROOT, name), self.path(name))
+        for name, text in (("crates/sv_main/out/sv_main", PROGRAM), ("bin/rt", RT)):
+            os.makedirs(os.path.dirname(self.path(name)), exist_ok=True)
+            with open(self.path(name), "w", encoding="utf-8") as file:
+                file.write(text)
+            os.chmod(self.path(name), 0o755)
+        self.words = {"env": {**os.environ, "PATH": self.path("bin") + ":" + os.environ["PATH"]}}
+        self.same(self.run("build")[0], 0, "the stand-in counts as built")
+
+    def path(self, name):
+        """A file of the room."""
+        return os.path.join(self.room, name)
+
+    def run(self, *words, **kinds):
+        """The status and the outputs of a call."""
+        options = {"stdin": subprocess.DEVNULL, "stdout": subprocess.PIPE, "stderr": subprocess.PIPE, "timeout": SECONDS, **kinds}
+        done = subprocess.run([self.path("dimboetu"), *words], check=False, **self.words, **options)
+        return done.returncode, done.stdout, done.stderr
+
+    def says(self, line, status, *words):
+        """What the script writes behind this line of the program."""
+        code, out, err = self.run(*(words or ("say", str(status), line + r"\n")))
+        first = (line + "\n").encode()
+        self.same((code, out, err[:len(first)]), (status, b"", first), f"the status and the line: {line}")
+        return err[len(first):].decode()
+
+
+def test_passing(script):
+    """Input, output and statuses pass as they are, and a run that ends with 0 says no more."""
+    data = bytes(range(256)) * 999
+    script.same(script.run("echo", input=data, stdin=None), (0, data, b""), "input and output")
+    with tempfile.TemporaryFile() as file:
+        file.write(b"not this: the rest")
+        file.seek(10)
+        script.same(script.run("echo", stdin=file), (0, b"the rest", b""), "a file from its place on")
+    script.same(script.run("say", "0", "seen\\n"), (0, b"", b"seen\n"), "status 0 has no second line")
+    for status in (1, 13, 77):
+        script.same(script.run("say", str(status), "odd\\n"), (status, b"", b"odd\n"), f"status {status} is none of the program's")
+    script.same(script.run("say", "8", ""), (8, b"", b""), "no line, and no second one")
+    long = "file: " + "x" * 100_000
+    script.expect(script.says(long, 4).startswith("dimboetu: the file can't be read"), "a long line")
+    code, _, err = script.run("say", "4", "file: \\xff\\xfe\\n")
+    script.same((code, err[:9]), (4, b"file: \xff\xfe\n"), "a line that is no text")
+    for closed in (0, 1, 2):
+        code, out, err = script.run("say", "6", "link\\n", preexec_fn=lambda: os.close(closed))
+        script.same((code, out, err[:5]), (6, b"", b"" if closed == 2 else b"link\n"), f"file {closed} is closed")
+    script.same(script.run("out", preexec_fn=lambda: os.close(1))[0], 5, "a closed output is the program's matter")
+    with open("/dev/full", "wb") as full:
+        script.same(script.run("out", stdout=full)[0], 5, "a full output is the program's matter")
+        script.same(script.run("say", "3", "scenario: : json\\n", stderr=full)[:2], (3, b""), "a full error output")
+    
+
+
+def is_there(number):
+    """Whether a process lives."""
+    try:
+        with open(f"/proc/{number}/stat", encoding="ascii") as file:
+            return file.read().split(") ")[-1][0] != "Z"
+    except FileNotFoundError:
+        return False
+
+
+def test_signals(script):
+    """A signal to the script, or to all of its group as by Ctrl-C, ends the program, and then the script."""
+    for to_group in (False, True):
+        for number in (signal.SIGINT, signal.SIGTERM, signal.SIGHUP):
+            path = script.path("waiting")
+            run = subprocess.Popen([script.path("dimboetu"), "wait", path], stdout=subprocess.PIPE, stderr=subprocess.PIPE,
+                                   start_new_session=True, **script.words)
+            until = time.monotonic() + SECONDS
+            while not (os.path.exists(path) and os.path.getsize(path)) and time.monotonic() < until:
+                time.sleep(0.01)
+            with open(path, encoding="ascii") as file:
+                child = int(file.read())
+            (os.killpg if to_group else os.kill)(run.pid, number)
+            outputs = run.communicate(timeout=SECONDS)
+            script.same((run.returncode, *outputs), (-number, b"", b""), f"signal {number}, to all {to_group}")
+            script.expect(not is_there(child), f"signal {number}, to all {to_group}: the program is gone")
+            os.unlink(path)
+
+
+def test_lines(script):
+    """Each line has a second one, which names a heading of docs/ERRORS.md, and an entry that `explain` prints."""
+    statuses = {"closed": 12, "file:": 4, "link": 6, "memory": 8, "out": 5, "range": 10, "start": 7, "wrong line": 9}
+    lines = [(f"{text} 3" if text == "wrong line" else text, statuses.get(text, 11)) for text in error_texts() if "words" not in text]
+    causes = re.findall(r'format!\(in alloc; "([a-z]+)', text_of("crates/sv_scenario/src/line.rt"))
+    lines += [(f"scenario: /a: {cause}" + {"text": " 15 4", "action": " 7"}.get(cause, ""), 3) for cause in causes if cause != "scenario"]
+    script.expect(len(lines) > 20, f"lines: {lines}")
+    marks = marks_of(text_of("docs/ERRORS.md"))
+    for line, status in lines:
+        if line != "range":
+            found = re.fullmatch(r"dimboetu: ([a-z'\"].{15,250}); see docs/ERRORS\.md#([a-z-]+)\n", script.says(line, status))
+            script.expect(found and found[2] in marks and "`" not in found[1], f"the second line of {line}")
+        code, out, err = script.run("explain", line)
+        script.expect((code, err) == (0, b"") and len(out) > 60, f"explain {line}: {out} {err}")
+        script.same(script.run("explain", *line.split()), (code, out, err), f"explain {line}, in words")
+    for line, heading in (("link", "link of serve"), ("wrongkind", "reply: wrongkind"), ("json", "scenario: json"), ("text 3 4", "scenario: text"),
+                          ("refused 9 0", "Refusals of the server"), ("dropped 1 chain 1 far 0", "An action was dropped"), ("9", "status 9 "), ("stopped: spent", "no request left"),
+                          ("stopped: wrongkind", "reply: wrongkind"), ("stopped: wrongkind: refused 11 7, old life", "| 11 | old life |"), ("stopped: missing 3 4", "reply: missing"),
+                          ("stopped: [Errno 111] Connection refused", "nobody listened"), ("stopped: action 4", "| 4 | The world has no object"), ("stopped: text 3 1", "| 1 | No piece"),
+                          ("stopped: list index out of range", "no client NUMBER"), ("stopped: full", "Nothing was done"),
+                          ("spent", "no request left"), ("the build stopped", "was not proved")):
+        script.expect(heading in script.run("explain", line)[1].decode(), f"explain {line} has {heading}")
+    script.expect("behind 'reads'" in script.run("explain", "scenario: /a: text 3 4")[1].decode(), "the row of a cause")
+    script.same(script.run("explain", "nothing"), (2, b"", b"dimboetu: docs/ERRORS.md has no such line\n"), "explain nothing")
+    for words, text in ((("serve", "x", "link", "6"), "the port is in use"), (("replay", "x", "scenario: /a: text 1 4", "3"), "not among the reads"),
+                        (("replay", "x", "wrong line 2", "9"), "another scenario"), (("replay", "x", "wrong line 9", "9"), "first wrong line")):
+        script.expect(text in script.says(words[2], int(words[3]), *words), f"{words}: {text}")
+
+
+def test_words(script):
+    """The command that a mistyped one is nearest to, and how a command is written."""
+    line = b"words: play FILE [--brief | --watch] | replay FILE | load N\n"
+    for words, text in (((), "'./dimboetu --help' has all commands"), (("plya", "x"), "no command 'plya', but 'play'"),
+                        (("chek",), "but 'check'"), (("xyzzy",), "no command 'xyzzy'."), (("play",), "write ./dimboetu play FILE, or "),
+                        (("load", "x"), "write ./dimboetu load N;"), (("explain",), "write ./dimboetu explain LINE;"), (("biuld",), "but 'build'")):
+        code, out, err = script.run(*words)
+        script.same((code, out, err[:len(line)]), (2, b"", line), f"{words}")
+        script.expect(text in err[len(line):].decode() and err.endswith(b"; see docs/ERRORS.md#words\n"), f"{words}: {err}")
+
+
+def test_places(script):
+    """The text of a faulty act with a mark under its place."""
+    acts = [("reads 0 writes 1 { }", 15), ('reads 0\twrites "\\ 0', 15), ("reads 0 writes 0 { " + "set @0.0 1; " * 20 + "x", 259)]
+    for text, place in acts:
+        world = {"objects": [[5], {"act": "no"}], "clients": [{"steps": ["sync", {"show": [1, 2]}]},
+                                                               {"interest": [], "steps": [{"act": "{[\"}"}, "cut", {"act": text}]}]}
+        for indent in (None, 2):
+            path = script.path("world.json")
+            with open(path, "w", encoding="utf-8") as file:
+                json.dump(world, file, indent=indent)
+            told = script.says(f"scenario: /clients/1/steps/2/act: text {place} 4", 3, "replay", path,
+                               f"scenario: /clients/1/steps/2/act: text {place} 4", "3").split("\n")
+            script.expect(len(told) == 4 and told[2].endswith("^"), f"{text}: {told}")
+            if len(told) < 4:
+                continue
+            shown, column = told[1], len(told[2]) - 1
+            script.same(shown[column:], text[place:].replace("\t", " "), f"{text}: the mark")
+    for path in (script.path("missing"), script.room, "/dev/null"):
+        told = script.says("scenario: /clients/0/steps/0/act: text 1 3", 3, "replay", path, "scenario: /clients/0/steps/0/act: text 1 3", "3")
+        script.same(told.count("\n"), 1, f"{path}: no text")
+
+
+def main():
+    """The status of all tests."""
+    with tempfile.TemporaryDirectory() as room:
+        script = Script(room)
+        for test in (test_passing, test_signals, test_lines, test_words, test_places):
+            test(script)
+        return script.close()
+
+
+if __name__ == "__main__":
+    sys.exit(main())
