@@ -18,6 +18,10 @@ returns-in-Err-clause-raises g c =
     λ k. rw c.ending_of_fault.ensures
     (fault_raises SequencerView _ _ _ _ _ _ k c.in-Err.fault (ap (λ (x : Counts). x.files) (c.in_ok-scenario.ensures.raises (counts 0 0 0 0))) c.in-Err.ensures.cause)
 
+pub returns-in_err-hosted_text-clause-made : goal.returns-in_err-hosted_text-clause-made
+returns-in_err-hosted_text-clause-made g c =
+    rw (came c.from_residual-in_err-hosted_text.result endings.Memory c.from_residual-in_err-hosted_text.ensures.1) tt
+
 pub returns-in_err-hosted_text-clause-raises : goal.returns-in_err-hosted_text-clause-raises
 returns-in_err-hosted_text-clause-raises g c =
     λ k. raised_by c.from_residual-in_err-hosted_text.result endings.Memory c.from_residual-in_err-hosted_text.ensures.1 _ _
