@@ -225,7 +225,7 @@ export declare class Client {
     /** The position of the abandoned action that is completed now, or null. */
     poll(): Promise<number | null>;
     observe(objects: readonly number[], wait?: number): Promise<{ last: number; values: Map<number, Value> }>;
-    /** Calls back with the views of all these objects and the list of those that changed: as soon as all are known, and at each change. */
+    /** Calls back with the views of all these objects, and those that changed: once all are known, and at each change. */
     watch(objects: readonly number[], callback: (values: Map<number, Value | null>, changed: number[]) => void): { stop(): void };
     leave(): Promise<void>;
     close(): void;

@@ -673,7 +673,7 @@ export class Client {
         return this.request({ kind: "observe", objects: [...objects], wait });
     }
 
-    /** Calls back with the views of all these objects and the list of those that changed: as soon as all are known, and at each change. */
+    /** Calls back with the views of all these objects, and those that changed: once all are known, and at each change. */
     watch(objects, callback) {
         const watcher = { objects: ascending(objects), callback, told: null };
         this.needObjects(watcher.objects);

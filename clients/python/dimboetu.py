@@ -417,12 +417,13 @@ class Client:
     def saved(self):
         """What another process needs to go on in this one's place, as plain data, for JSON. Keep it anew after each call."""
         return {"number": self.number, "shape": [*self.shape], "interest": [*self.seen], "life": self.life, "made": self.made,
-                "knows": self.knows, "told": self.told, "versions": [[target, [*held.items()]] for target, held in self.versions.items()],
+                "knows": self.knows, "told": self.told,
+                "versions": [[target, [*held.items()]] for target, held in self.versions.items()],
                 "pending": [[number, text_of(act), kept] for number, act, kept in self.pending]}
 
     @classmethod
     def from_saved(cls, data, **more):
-        """The client that was saved, with `on_change` and the like. It is in no session; its join asks again for what is pending."""
+        """The client that was saved, with `on_change` and the like. It is in no session; its join asks for what is pending."""
         client = cls(data["number"], *data["shape"], data["interest"], **more)
         client.life, client.made, client.told, client.knows = data["life"], data["made"], data["told"], data["knows"]
         client.versions = {target: {place: tuple(value) for place, value in held} for target, held in data["versions"]}
@@ -532,8 +533,15 @@ class Client:
 
     def poll(self):
         """Asks for an abandoned action."""
+        self.request("poll")
+
+    def request(self, *request):
+        """Sends a request where there is room."""
         self.need_room()
-        self.ask("poll")
+        try:
+            self.ask(*request)
+        except OSError as fault:
+            self.mend(fault)
 
     def observe(self, objects, wait=0):
         """Asks what 1 to 16 objects, ascending, are at one position; the reply's `seen` has the value of each then. A
@@ -541,8 +549,7 @@ class Client:
         is_short = 1 <= len(objects) <= MOST_OBSERVED
         if not is_short or sorted(set(objects)) != [*objects] or not 0 <= objects[0] <= objects[-1] < self.shape[0]:
             raise Fault("objects")
-        self.need_room()
-        self.ask("observe", tuple(objects), wait)
+        self.request("observe", tuple(objects), wait)
 
     def watch(self, objects, callback):
         """Calls back with a dict of the views of all these objects and the list of those that changed: as soon as all are known,
@@ -671,7 +678,8 @@ class Client:
 
     def is_due(self):
         """Whether an outcome or a reply is due, other than that of an Observe for what is watched."""
-        return bool(self.connect and self.pending) or any(request[0] != "observe" or not request[3:] for request in self.outstanding)
+        is_asked = any(request[0] != "observe" or not request[3:] for request in self.outstanding)
+        return is_asked or bool(self.connect and self.pending)
 
     def finish(self):
         """Takes replies until none is due."""
