@@ -600,7 +600,7 @@ export class Client {
         Object.assign(this, { knowledge, seen, connect, key, onChange, onStatus, pause, wait, requests, patience,
             retry: { first: 200, longest: 10_000, tries: Infinity, ...retry }, status: "new", knows: false, isLeaving: false,
             isTelling: false, link: null, entry: null, left: null, asked: 0, submitted: 0, tries: 0, queue: [], answers: new Set(),
-            outcomes: new Map(), watchers: new Set(), looked: null, holds: false });
+            outcomes: new Map(), watchers: new Set(), looked: null, holds: true });
     }
 
     /** A client that goes on where another program's stood when it called `saved()`. */
@@ -945,7 +945,7 @@ export class Client {
     lookAnew() {
         this.queue = this.queue.filter(each => !each.isWatch);
         for (const each of this.knowledge.outstanding) delete each.isWatch;
-        Object.assign(this, { looked: null, holds: false });
+        Object.assign(this, { looked: null, holds: true });
     }
 
     /** Keeps one Observe open for all that is watched, as long as nothing else is asked. */
@@ -953,8 +953,8 @@ export class Client {
         const { outstanding } = this.knowledge, isUnderWay = [...outstanding, ...this.queue].some(each => each.isWatch);
         clearTimeout(this.clock);
         if (!this.watchers.size || isUnderWay || !this.link || !this.knows || this.isLeaving) return;
-        const { at, end } = this.looked ?? { at: -Infinity, end: -Infinity };
-        const due = Math.max(at + (this.holds ? this.pause / 10 : this.pause), end + (outstanding.length ? this.pause : 0));
+        const { at, end } = this.looked ?? { at: -Infinity, end: -Infinity }, isBusy = outstanding.some(each => each.kind !== "done");
+        const due = Math.max(at + (this.holds ? this.pause / 10 : this.pause), end + (isBusy ? this.pause : 0));
         const left = due - performance.now();
         if (left > 0) {
             this.clock = setTimeout(() => this.lookOut(), left);
@@ -973,7 +973,7 @@ export class Client {
             ({ kind: "observe", objects: part, wait: place + 1 < parts.length ? 0 : wait, isWatch: true }));
     }
 
-    /** Whether the server holds an Observe until there is news: then the next one may follow soon. */
+    /** Whether the server holds an Observe until there is news: as long as it seems so, the next one may follow soon. */
     learn({ wait }, { head, items }) {
         const { at, asked } = this.looked, end = performance.now(), isEmpty = !head.length && !items.length;
         this.looked.end = end;

@@ -591,10 +591,11 @@ class Client:
                 return self.next_session("spent")
             held = self.outstanding[0][2] / 1000 if self.outstanding and self.outstanding[0][0] == "observe" else 0
             silent = self.heard + self.patience + held - time.monotonic() if self.outstanding else math.inf
-            if silent > 0 or self.came:
-                return self.take(min(left, max(silent, 0))) is not None
-            self.drop(TimeoutError("silence"))
-            raise self.fault
+            reply = self.take(min(left, max(silent, 0)))
+            if not reply and silent <= left:
+                self.drop(TimeoutError("silence"))
+                raise self.fault
+            return reply is not None
         except OSError as fault:
             self.mend(fault)
         return False
@@ -637,14 +638,15 @@ class Client:
     def look_anew(self):
         """What is watched is asked for at once. An Observe for it that is under way counts as one of the others."""
         self.round += 1
-        self.parts, self.looked, self.seen_at, self.asked_then, self.holds = [], -math.inf, -math.inf, 0, False
+        self.parts, self.looked, self.seen_at, self.asked_then, self.holds = [], -math.inf, -math.inf, 0, True
 
     def look_out(self):
         """Keeps one Observe open for all that is watched, as long as nothing else is asked; answers for how long it can wait."""
         if not self.parts:
             if not self.watchers or not self.knows or any(request[3:] == (self.round,) for request in self.outstanding):
                 return math.inf
-            due = max(self.looked + self.pause / (10 if self.holds else 1), self.seen_at + self.pause * bool(self.outstanding))
+            is_busy = any(request[0] != "done" for request in self.outstanding)
+            due = max(self.looked + self.pause / (10 if self.holds else 1), self.seen_at + self.pause * is_busy)
             if due > time.monotonic():
                 return due - time.monotonic()
             objects = sorted({target for watcher in self.watchers for target in watcher.objects})
@@ -657,7 +659,7 @@ class Client:
         return math.inf
 
     def learn(self, reply, wait):
-        """Whether the server holds an Observe until there is news: then the next one may follow soon."""
+        """Whether the server holds an Observe until there is news: as long as it seems so, the next one may follow soon."""
         self.seen_at = time.monotonic()
         if wait and wait >= 1000 * self.pause and self.seen_at - self.looked >= self.pause:
             self.holds = True
@@ -694,9 +696,9 @@ class Client:
         self.look_anew()
         self.finish()
         try:
-            if self.outstanding:            # an Observe that the server holds is answered when another request comes
+            if self.link and self.outstanding:      # an Observe that the server holds is answered when another request comes
                 self.ask("observe", self.outstanding[-1][1], 0)
-            while self.outstanding:
+            while self.link and self.outstanding:
                 self.take()
             if self.link or not self.connect:
                 self.ask("leave")

@@ -457,6 +457,18 @@ def test_refused(count):
     with socket.create_server(("127.0.0.1", 0)) as silent:
         player = Player(SimpleNamespace(port=silent.getsockname()[1]), 0, patience=0.05, **few)
         count.same(fault_of(player.client.join), "TimeoutError", "nobody answers")
+    server = Holding(scenario([[0], [0]], 8, (0,)))
+    player = Player(server, 0, patience=0.2, wait=0.5)
+    player.client.join()
+    player.client.poll()
+    time.sleep(0.3)
+    player.watch((0,))
+    player.client.run(0.6)
+    count.same(player.statuses, ["joining", "joined"], "what waits to be taken is no silence, nor an Observe that is held")
+    server.close(server.connections[0])
+    player.client.leave()
+    count.same((player.client.status, player.client.life), ("left", 1), "leaving over a connection that broke")
+    server.stop()
     client, pauses = Client(0, 1, 1, connect=refuse, retry=(0.2, 2, 8)), []
     client.status = "lost"
     for most in (0.2, 0.4, 0.8, 1.6, 2, 2, 2):

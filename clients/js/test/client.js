@@ -350,9 +350,9 @@ async function tryWatching() {
     count.same(said(), ["07030000000100021388"], "one more watcher: one Observe for both, at once");
     seen(1);
     say({ kind: "seen", last: 1, commit: 1, head: [[2, [4n]]] });
+    handle.stop();
     await pause(5);
     count.same([news(), more], [[], ["2,4"]], "each is told of its own");
-    handle.stop();
     await pause(30);
     count.same(said(), ["070100021388"], "who stopped is not asked for");
     const left = client.leave();
@@ -371,13 +371,13 @@ async function tryWatching() {
 
 /** Each row: after how many milliseconds what comes, and when after that the next Observe is sent. The pause is 20. */
 const PACES = [
-    ["an empty answer at once", 0, "seen", 20], ["news at once", 0, "news", 20], ["an empty answer soon", 7, "seen", 13],
+    ["news at once, of a server that may wait", 0, "news", 2], ["news soon", 1, "news", 1], ["an empty answer at once", 0, "seen", 20], ["news at once", 0, "news", 20], ["an empty answer soon", 7, "seen", 13],
     ["news, after more than a pause: this server waits", 50, "news", 0], ["news soon, over such a server", 1, "news", 1],
     ["and again", 0, "news", 2], ["an empty answer after its wait", 5000, "seen", 0],
     ["an empty answer soon: it does not wait", 3, "seen", 17], ["news soon", 1, "news", 19]];
 
 async function tryPaces() {
-    const { client, said, seen, link } = await watching([0, 1]);
+    const { client, say, said, seen, link } = await watching([0, 1]);
     said();
     let last = 0;
     for (const [name, after, what, next] of PACES) {
@@ -391,6 +391,10 @@ async function tryPaces() {
         }
         count.same(waits(said()), [5000], `${name}: nor too late`);
     }
+    await pause(50);
+    say({ kind: "seen", last: last + 1, commit: last, items: [{ position: last + 1, client: 2, number: 1, action: parseAction(ADD_ONE) }] });
+    count.same(said().map(each => each.slice(0, 2)), ["03", "07"], "a result is reported, and the next one follows at once");
+    say({ kind: "noted", commit: last += 1 });
     client.poll();
     seen(last);
     for (let place = 0; place < 8; place += 1) client.act("reads 0 writes { }");
