@@ -2,8 +2,8 @@
 
 Its world goes on for ever: a connection is a session from its first whole request on, and another one may come at any
 time. It holds an Observe with a wait while its answer would have no value and no item: until there is news, or the wait
-is over, or another whole request of the session has come; an empty answer has no entry. It knows keys. A test has it
-break connections at chosen moments, and refuse a request as it likes.
+is over, or another whole request of the session has come; an empty answer has no entry. It knows keys, and speaks over
+a WebSocket to who begins so. A test has it break connections at chosen moments, and refuse a request as it likes.
 
 One thread does it all. Requests are stepped in the order in which they came, and time is looked at between them.
 """
@@ -15,6 +15,7 @@ import time
 from collections import deque
 from types import SimpleNamespace
 
+import websocket
 import wire
 from report import Reply, Request
 from stand_in import LAST_WORDS, StandIn, WireServer
@@ -60,7 +61,7 @@ class Connection:
 
     def __init__(self, link, place):
         self.link, self.place, self.session = link, place, None
-        self.frames, self.payloads, self.held, self.is_open = wire.Frames(), deque(), None, True
+        self.frames, self.wrap, self.payloads, self.held, self.is_open = None, wire.frame, deque(), None, True
         self.key, self.has_said, self.requests, self.replies, self.client = None, False, 0, 0, None
 
 
@@ -126,9 +127,19 @@ class Holding:
             with self.lock:
                 self.close(connection)
             return
+        if not connection.frames and piece[:1] == b"G":
+            connection.frames, connection.wrap = websocket.Messages(), websocket.message
+        connection.frames = connection.frames or wire.Frames()
         connection.frames.feed(piece)
-        while (payload := connection.frames.next()) is not None:
-            connection.payloads.append(payload)
+        if connection.wrap is websocket.message and connection.frames.owed:
+            self.send(connection, connection.frames.owed)
+            connection.frames.owed, connection.key = b"", connection.frames.key
+        try:
+            while (payload := connection.frames.next()) is not None:
+                connection.payloads.append(payload)
+        except websocket.Closed:
+            with self.lock:
+                self.close(connection)
 
     def close(self, connection, is_reset=False):
         """A connection ends, and its session with it."""
@@ -198,7 +209,7 @@ class Holding:
             reply = Reply("seen", last=self.server.cut(connection.session, request.objects), commit=self.server.commit)
         else:
             reply = self.server.step(connection.session, request)
-        payload = wire.frame(wire.reply_bytes(reply, lambda position: self.server.queue[position - 1].action))
+        payload = connection.wrap(wire.reply_bytes(reply, lambda position: self.server.queue[position - 1].action))
         connection.replies += 1
         if self.breaks(connection, "reset", connection.replies) or self.breaks(connection, "half", connection.replies, payload):
             return

@@ -2,8 +2,10 @@
  * Players over servers that hold Observes, and whose connections break; tests/outside/test_living.py judges them.
  *
  *     node clients/js/test/living.js broken PORT..      two players at each port; the connection of the first one breaks
- *     node clients/js/test/living.js places PORT        programs of one number, one after the other
+ *     node clients/js/test/living.js places PORT PORT   programs of one number, one after the other; and some with keys
  *     node clients/js/test/living.js many PORT FIRST    eight players at once, who move numbers from object to object
+ *
+ * With a switch of node, --experimental-websocket, some of the players use WebSockets.
  *
  * Prints what they were told, as JSON. `many` prints `ready` before, when all has its outcome, and goes on at a line.
  */
@@ -11,7 +13,7 @@
 import { createInterface } from "node:readline";
 import { once } from "node:events";
 import { setTimeout as pause } from "node:timers/promises";
-import { Client, action, obj } from "../dimboetu.js";
+import { Client, action, obj, webSocketLink } from "../dimboetu.js";
 import { nodeLink } from "../node-link.js";
 import { until } from "./count.js";
 
@@ -26,6 +28,21 @@ function playerOf(port, number, more = {}, saved = null) {
     player.client = saved ? Client.from(saved, options) : new Client({ number, objects: 2, attributes: 1, ...options });
     player.watch = objects => player.client.watch(objects, (values, changed) => player.calls.push([numbersOf(values), changed]));
     return player;
+}
+
+const overWebSocket = port => ({ connect: key => webSocketLink(`ws://127.0.0.1:${port}/world`, globalThis.WebSocket, key) });
+
+/** Who may join, with which key and over what. */
+async function keys(port) {
+    const [own, other] = [16, 64].map(length => Uint8Array.from({ length }, (_, one) => one)), found = [];
+    for (const key of [own, other, null, new Uint8Array(17)]) {
+        for (const link of [{}, overWebSocket(port)]) {
+            const { client } = playerOf(port, 0, { ...link, key, retry: { first: 5, longest: 5, tries: 2 } });
+            await client.join().then(() => client.leave(), () => {});
+            found.push(client.status);
+        }
+    }
+    return found;
 }
 
 /** Two players act in turn, while the first one watches. */
@@ -74,7 +91,7 @@ async function places(port) {
 async function move(player, random) {
     const { client } = player, all = Array.from({ length: 8 }, (_, object) => object), outcomes = [];
     player.watch(all);
-    for (let made = 0; made < 12; made += 1) {
+    for (let made = 0; made < 8; made += 1) {
         const from = Math.floor(random() * 8), to = (from + 1 + Math.floor(random() * 7)) % 8, size = 1 + Math.floor(random() * 9);
         const [source, target] = [obj(from).attr(0), obj(to).attr(0)];
         outcomes.push(client.act(action([source.set(source.minus(size)), target.set(target.plus(size))])));
@@ -86,7 +103,9 @@ async function move(player, random) {
 }
 
 async function many(port, first) {
-    const players = Array.from({ length: 8 }, (_, place) => ({ ...playerOf(port, first + place, { objects: 8 }), cuts: [] }));
+    const linkOf = place => place % 2 ? overWebSocket(port) : {};
+    const players = Array.from({ length: 8 }, (_, place) =>
+        ({ ...playerOf(port, first + place, { objects: 8, ...linkOf(place) }), cuts: [] }));
     await Promise.all(players.map(({ client }) => client.join()));
     await Promise.all(players.map(player => move(player, Math.random)));
     console.log("ready");
@@ -100,6 +119,6 @@ async function many(port, first) {
 }
 
 const [what, ...ports] = process.argv.slice(2);
-const found = await { broken: () => Promise.all(ports.map(port => broken(Number(port)))), places: () => places(Number(ports[0])),
+const found = await { broken: () => Promise.all(ports.map(port => broken(Number(port)))), places: async () => [await places(Number(ports[0])), await keys(Number(ports[1]))],
     many: () => many(Number(ports[0]), Number(ports[1])) }[what]();
 console.log(JSON.stringify(found));
