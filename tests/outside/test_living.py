@@ -418,11 +418,50 @@ def judge_places(count, name, server, found):
         count.expect(line in journal, f"places, {name}: the journal has {line}")
 
 
+TAKEN_UP = [(moment, number) for moment in MOMENTS for number in range(1, 4)]
+
+
+def taken_before(moment, number):
+    """A server at which client 0 made three actions and left; the next connection breaks at this moment."""
+    server = Holding(scenario([[0], [0]], 32, (0,)))
+    player = Player(server, 0)
+    player.client.join()
+    for _ in range(3):
+        player.client.make(ADD[0])
+    player.client.leave()
+    server.cuts.append((moment, number))
+    return server
+
+
+def judge_taken_up(count, name, server, life, made):
+    """The place was taken up, though the connection broke; the next action counts once."""
+    server.stop()
+    history, _ = judge(count, name, server, [(0,), (0,)])
+    count.same([one.number for one in history.accepted], [1, 2, 3, 4], f"{name}: each action once")
+    count.same((len(server.cut), made), (1, 4), f"{name}: the next number")
+    count.expect(2 <= life <= 4, f"{name}: life {life}")
+
+
+def test_taken_up(count):
+    """Connections that break at each message of a program that takes up a place."""
+    for moment, number in TAKEN_UP:
+        server = taken_before(moment, number)
+        client = Player(server, 0).client
+        client.join()
+        client.make(ADD[0])
+        client.finish()
+        client.leave()
+        judge_taken_up(count, f"taken up, {moment} {number}", server, client.life, client.made)
+
+
 def test_places_js(count):
     """The same with the JavaScript client, and keys, over frames and over WebSockets."""
     server, keeper = Holding(scenario([[0], [0]], 32, (0,))), Holding(scenario([[0], [0]], 8, (0,)), keys=KEYS)
-    found, entered = node(count, "places", server.port, keeper.port) or (None, None)
+    others = [taken_before(*each) for each in TAKEN_UP]
+    found, entered, taken = node(count, "places", server.port, keeper.port, *(each.port for each in others)) or (None, None, [])
     keeper.stop()
+    for each, other, numbers in zip(TAKEN_UP, others, taken):
+        judge_taken_up(count, f"taken up, JavaScript, {each}", other, *numbers)
     if found:
         count.same((entered, keeper.came), (["left"] * 2 + ["closed"] * 6, 14), "keys, JavaScript: who may join")
         count.same(found["refused"], {"code": 11, "detail": 3, "name": "old life"}, "places, JavaScript: the refusal")
@@ -598,7 +637,7 @@ def main():
     for test in (test_double, test_told, test_asked):
         test(count)
     with ThreadPoolExecutor(3) as crew:
-        tests = (test_broken_js, test_places_js, test_broken, test_places, test_refused)[0 if has_node else 2:]
+        tests = (test_broken_js, test_places_js, test_broken, test_places, test_taken_up, test_refused)[0 if has_node else 2:]
         list(crew.map(lambda test: test(count), tests))
     test_many(count, has_node)
     return count.close()

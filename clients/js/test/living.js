@@ -2,7 +2,9 @@
  * Players over servers that hold Observes, and whose connections break; tests/outside/test_living.py judges them.
  *
  *     node clients/js/test/living.js broken PORT..      two players at each port; the connection of the first one breaks
- *     node clients/js/test/living.js places PORT PORT   programs of one number, one after the other; and some with keys
+ *     node clients/js/test/living.js places PORT PORT PORT..
+ *                                                       programs of one number, one after the other; some with keys; and
+ *                                                       one at each further port that takes up the place of another one
  *     node clients/js/test/living.js many PORT FIRST    eight players at once, who move numbers from object to object
  *
  * With a switch of node, --experimental-websocket, some of the players use WebSockets.
@@ -31,6 +33,15 @@ function playerOf(port, number, more = {}, saved = null) {
 }
 
 const overWebSocket = port => ({ connect: key => webSocketLink(`ws://127.0.0.1:${port}/world`, globalThis.WebSocket, key) });
+
+/** A program that takes up the place of another one, and makes one more action. */
+async function taking(port) {
+    const { client } = playerOf(port, 0);
+    await client.join();
+    await client.act(ADD[0]);
+    await client.leave();
+    return [client.life, client.made];
+}
 
 /** Who may join, with which key and over what. */
 async function keys(port) {
@@ -119,6 +130,7 @@ async function many(port, first) {
 }
 
 const [what, ...ports] = process.argv.slice(2);
-const found = await { broken: () => Promise.all(ports.map(port => broken(Number(port)))), places: async () => [await places(Number(ports[0])), await keys(Number(ports[1]))],
+const found = await { broken: () => Promise.all(ports.map(port => broken(Number(port)))), places: async () => [await places(Number(ports[0])), await keys(Number(ports[1])),
+        await Promise.all(ports.slice(2).map(port => taking(Number(port))))],
     many: () => many(Number(ports[0]), Number(ports[1])) }[what]();
 console.log(JSON.stringify(found));
