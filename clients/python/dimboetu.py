@@ -394,19 +394,20 @@ def first_payload(came):
 
 
 class Client:
-    """A client of a world of this shape. `on_change` gets each changed view of its interest: object, old, new; `on_status`
-    each new `status`, and the fault behind it or None. With `connect`, which gives a connected socket for each session or
+    """A client of a world of this shape. `on_change` gets each changed view of its interest: object, old, new; `on_reply` each
+    reply that is taken; `on_status` each new `status`, and the fault behind it or None. With `connect`, which gives a connected socket for each session or
     None where there is none, the client joins again by itself. `retry`: the first pause before that, the longest one, and
     how many tries in a row. `key`: 16 to 64 bytes, for a server that asks for them. `pause`: the time between two Observes
     of what is watched (a tenth of it over a server that waits for news); `wait`: for how long a server may hold one;
     `patience`: after how long without a due reply the connection counts as broken. All times are seconds."""
     def __init__(self, number, objects, attributes, interest=(), on_change=lambda target, old, new: None, connect=None, *,
-                 on_status=lambda status, fault: None, retry=(0.2, 10, math.inf), key=None, pause=0.1, wait=25,
-                 patience=math.inf):
+                 on_reply=lambda reply: None, on_status=lambda status, fault: None, retry=(0.2, 10, math.inf), key=None,
+                 pause=0.1, wait=25, patience=math.inf):
         if key is not None and not 16 <= len(key) <= 64:
             raise ValueError("a key has 16 to 64 bytes")
         self.number, self.shape, self.on_change, self.connect = number, (objects, attributes), on_change, connect
-        self.on_status, self.retry, self.key, self.pause, self.wait, self.patience = on_status, retry, key, pause, wait, patience
+        self.on_reply, self.on_status, self.retry, self.key = on_reply, on_status, retry, key
+        self.pause, self.wait, self.patience = pause, wait, patience
         self.life = self.made = self.told = self.asked = self.submitted = self.tries = self.again = self.heard = 0
         self.versions, self.pending, self.outstanding = {}, [], deque()
         self.link, self.came, self.seen = None, bytearray(), dict.fromkeys(sorted(interest))
@@ -814,6 +815,7 @@ class Client:
         if request[3:] == (self.round,):
             self.learn(reply, request[2])
         self.tell()
+        self.on_reply(reply)
         return reply
 
     def take_up(self, reply):

@@ -148,9 +148,10 @@ class Player:
     """A Python client, with what it was told."""
 
     def __init__(self, server, number, objects=2, interest=(), saved=None, kind=Client, **more):
-        self.statuses, self.calls = [], []
+        self.statuses, self.calls, self.replies = [], [], []
         more = {"connect": lambda: socket.create_connection(("127.0.0.1", server.port)), "retry": (0.01, 0.05, 200),
-                "on_status": lambda status, fault: self.statuses.append(status), "pause": 0.05, "wait": 5, **more}
+                "on_status": lambda status, fault: self.statuses.append(status), "on_reply": self.replies.append,
+                "pause": 0.05, "wait": 5, **more}
         self.client = again_of(saved, **more) if saved else kind(number, objects, 1, interest, **more)
 
     def watch(self, objects):
@@ -390,6 +391,8 @@ def test_places(count):
     third.client.run(0.05)
     count.same(fault_of(old.client.join), ("wrongkind", 11, 3), "places: what was saved is too old")
     third.client.leave()
+    count.same([each.kind for each in first.replies if each.kind != "seen"], ["welcome", *["relay", "noted"] * 3],
+               "places: each reply is told")
     found = {"tookUp": [2, 3], "outcome": {"number": 4, "kind": "accepted", "position": 4}, "saved": len(saved["pending"]),
              "third": [third.client.life, third.client.made], "calls": [each.calls for each in (first, second, third)],
              "statuses": [each.statuses for each in (first, second, third, old)], "refused": None}
