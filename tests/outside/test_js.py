@@ -35,7 +35,7 @@ from scenario import scenario_of
 from stand_in import StandIn
 from test_client import CLIENTS, judge, scenario
 
-LONGEST = 60
+LONGEST = 120
 RUNS, ACTS = 10, 12
 REPLAYS, REPLAYED = 20, 50
 PROGRAM = sys.argv[1] if len(sys.argv) > 1 else BUILT

@@ -29,7 +29,7 @@ from holding import MOMENTS, Holding
 from report import Fault as Wrong, Reply, reply_text
 from test_client import Client, Compared, Fault, Lied, Payload, action, history_of, obj, printed, reply, request_bytes, scenario
 
-LONGEST = 60
+LONGEST = 100
 ADD = ["reads {0} writes {0} {{ set @{0}.0 (@{0}.0 + 1); }}".format(target) for target in range(2)]
 KEYS = {bytes(range(16)): 0, bytes(range(64)): 1}
 NODE = ["node", "--no-warnings", "--experimental-websocket"]
