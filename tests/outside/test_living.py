@@ -10,6 +10,7 @@ alone. Closes with `N passed, M failed`.
 """
 
 import json
+import math
 import os
 import random
 import select
@@ -273,6 +274,13 @@ TOLD = (
     ("make", ADD[1], [(None, [1])]), ("settled 4 at 3", None, [(18, [0])]), ("settled 5 at 3", None, [(18, [1])]))
 
 
+# An Observe is sent while nothing else is asked, but results.
+ASKED_BESIDE = (
+    ("make", ADD[0], ["submit", "observe"]), ("relay 1 at 0 [] [1:c0.1]", ADD[0], ["observe", "done"]),
+    ("seen 1 at 0 [] []", None, ["done", "observe"]), ("noted 1", None, ["observe"]), ("make", ADD[0], ["observe", "submit"]),
+    ("seen 1 at 1 [] []", None, ["submit"]), ("settled 2 at 2", None, ["observe"]))
+
+
 def test_told(count):
     """Guesses are told at once and put right; each change once."""
     client, calls = Lied(), []
@@ -291,6 +299,15 @@ def test_told(count):
     watcher.stop()
     client.make(NINE)
     count.same((len(calls), client.view(0)), (1, (9,)), "told: nothing to who stopped")
+    client = Lied()
+    client.say(reply("welcome 0 [0=(5) 1=(7)]"))
+    client.pause = 60
+    client.watch((0,), lambda values, changed: None)
+    for what, text, wanted in ASKED_BESIDE:
+        client.make(text) if what == "make" else client.say(reply(what, *filter(None, [text])))
+        client.looked = -math.inf
+        client.run(0)
+        count.same([request[0] for request in client.outstanding], wanted, f"told: what is asked after {what}")
     chain = []
 
     def act(values, changed):
@@ -301,7 +318,7 @@ def test_told(count):
 
     client.watch((1,), act)
     client.run(0)
-    count.same((chain, client.watchers), ([7, 8, 9, 10, 11], []), "told: what a callback does, when it is done; and its end")
+    count.same((chain, client.watchers[1:]), ([7, 8, 9, 10, 11], []), "told: what a callback does, when it is done; and its end")
 
 
 # Each row: whether the server holds; how often somebody acts, in milliseconds; how often is asked at most in half a second,
