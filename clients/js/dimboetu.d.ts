@@ -95,6 +95,7 @@ export declare function parseAction(text: string): Action;
 /** The bytes of an action. */
 export declare function actionBytes(act: Action): Uint8Array;
 
+/** A message to the server. */
 export type Request = { kind: "join"; client: number; life: number; interest: readonly number[] }
     | { kind: "submit"; number: number; action: Action }
     | { kind: "done"; results: readonly { position: number; values: readonly Value[] }[] }
@@ -152,6 +153,8 @@ export interface Link {
     onClose(fault: Error): void;
     /** False as long as nothing can have been sent. A link may leave it out. */
     wasOpen?: boolean;
+    /** True where the link shows the key by itself. Else the client says it first. */
+    hasKey?: boolean;
 }
 
 /** The world's shape, and the player's place in it. */
@@ -167,13 +170,13 @@ export interface World {
 export type Status = "new" | "joining" | "joined" | "lost" | "left" | "closed" | "pushed out" | "refused";
 
 export interface Options {
-    /** Gives a new link for each session. Null ends it: there is no further one. */
-    connect: () => Link | null | undefined;
+    /** Gives a new link for each session; it is given the key. Null ends it: there is no further one. */
+    connect: (key: Uint8Array | null) => Link | null | undefined;
     /** 16 to 64 bytes, which are shown to the server first. */
     key?: Uint8Array | null;
     onChange?: (object: number, old: Value | null, now: Value | null) => void;
     onStatus?: (status: Status, fault: Error | null) => void;
-    /** The least time between two Observes of what is watched, in milliseconds: 100. */
+    /** The time between two Observes of what is watched, in milliseconds: 100; a tenth of it over a server that waits for news. */
     pause?: number;
     /** For how many milliseconds the server may hold such an Observe: 25,000. */
     wait?: number;
@@ -222,10 +225,23 @@ export declare class Client {
     /** The position of the abandoned action that is completed now, or null. */
     poll(): Promise<number | null>;
     observe(objects: readonly number[], wait?: number): Promise<{ last: number; values: Map<number, Value> }>;
-    watch(objects: readonly number[], callback: (values: Map<number, Value>, last: number) => void): { stop(): void };
+    /** Calls back with the views of all these objects, and those that changed: once all are known, and at each change. */
+    watch(objects: readonly number[], callback: (values: Map<number, Value | null>, changed: number[]) => void): { stop(): void };
     leave(): Promise<void>;
     close(): void;
 }
 
-/** A link over a WebSocket. */
-export declare function webSocketLink(address: string, WebSocketClass?: new (address: string) => unknown): Link;
+/** What a link needs of a WebSocket. That of a browser will do. */
+export interface Socket {
+    binaryType: string;
+    onopen: ((event: any) => void) | null;
+    onmessage: ((event: any) => void) | null;
+    onerror: ((event: any) => void) | null;
+    onclose: ((event: any) => void) | null;
+    send(bytes: Uint8Array): void;
+    close(): void;
+}
+
+/** A link over a WebSocket of this class, or of the browser's own. A key is put into the address. */
+export declare function webSocketLink(address: string, WebSocketClass?: new (address: string) => Socket,
+    key?: Uint8Array | null): Link;

@@ -361,6 +361,7 @@ class TextReader {
 
 // Messages.
 
+const hex = byte => byte.toString(16).padStart(2, "0");
 /** A number in so many bytes. */
 const big = (size, value) =>
     Array.from({ length: size }, (_, place) => Number(BigInt(value) >> BigInt(8 * (size - 1 - place)) & 255n));
@@ -598,8 +599,8 @@ export class Client {
         const knowledge = new Knowledge(world), seen = new Map(knowledge.interest.map(object => [object, null]));
         Object.assign(this, { knowledge, seen, connect, key, onChange, onStatus, pause, wait, requests, patience,
             retry: { first: 200, longest: 10_000, tries: Infinity, ...retry }, status: "new", knows: false, isLeaving: false,
-            link: null, entry: null, left: null, asked: 0, submitted: 0, tries: 0, turn: 0, queue: [], answers: new Set(),
-            outcomes: new Map(), watchers: new Set() });
+            isTelling: false, link: null, entry: null, left: null, asked: 0, submitted: 0, tries: 0, queue: [], answers: new Set(),
+            outcomes: new Map(), watchers: new Set(), looked: null, holds: true });
     }
 
     /** A client that goes on where another program's stood when it called `saved()`. */
@@ -672,13 +673,15 @@ export class Client {
         return this.request({ kind: "observe", objects: [...objects], wait });
     }
 
-    /** Calls back with the values of all these objects, at first and whenever one is another. */
+    /** Calls back with the views of all these objects, and those that changed: once all are known, and at each change. */
     watch(objects, callback) {
         const watcher = { objects: ascending(objects), callback, told: null };
         this.needObjects(watcher.objects);
         this.needWorld();
         this.watchers.add(watcher);
-        this.keepWatching();
+        this.lookAnew();
+        this.pump();
+        queueMicrotask(() => this.tell());
         return { stop: () => { this.watchers.delete(watcher); } };
     }
 
@@ -689,7 +692,7 @@ export class Client {
         this.isLeaving = true;
         this.left = this.promised();
         const { promise } = this.left, held = this.knowledge.outstanding.findLast(each => each.wait > 0);
-        if (held) this.queue.push({ ...held, wait: 0, answer: null });
+        if (held) this.queue.push({ kind: "observe", objects: held.objects, wait: 0 });
         if (this.link || this.isDue()) this.pump();
         else this.finish("left");
         return promise;
@@ -735,10 +738,11 @@ export class Client {
     /** Begins the next session: a Join, a Submit for each pending action, and again what was not answered. */
     begin() {
         this.giveUp();
+        this.lookAnew();
         this.queue.unshift(...this.knowledge.outstanding.splice(0).filter(each => each.answer));
         Object.assign(this, { asked: 0, submitted: 0 });
         try {
-            this.link = this.connect();
+            this.link = this.connect(this.key);
         } catch (fault) {
             return this.finish("closed", fault);
         }
@@ -746,7 +750,7 @@ export class Client {
         if (!link) return this.finish("closed", new Fault("closed"));
         link.onMessage = bytes => { if (link === this.link) this.receive(bytes); };
         link.onClose = fault => { if (link === this.link) this.lost(fault); };
-        if (this.key) link.send(encodeRequest({ kind: "hello", key: this.key }));
+        if (this.key && !link.hasKey) link.send(encodeRequest({ kind: "hello", key: this.key }));
         this.askToJoin(this.life + 1);
         this.say("joining");
         return this.pump();
@@ -772,7 +776,7 @@ export class Client {
             this.ask(due ? { kind: "submit", number: due.number, action: due.action } : this.queue.shift());
         }
         if (this.isLeaving && this.link && this.knows && !outstanding.length) this.ask({ kind: "leave" });
-        return undefined;
+        return this.lookOut();
     }
 
     /** Whether there is no room for one more request, for the Dones that may be due then, and for a Leave. */
@@ -784,6 +788,7 @@ export class Client {
     ask(request) {
         this.knowledge.outstanding.push(request);
         this.asked += 1;
+        if (request.isWatch) this.looked = { at: performance.now(), asked: this.asked };
         this.link.send(encodeRequest(request.kind === "number" ? NUMBER_ASKED : request));
         if (this.knowledge.outstanding.length === 1) this.expect();
     }
@@ -832,9 +837,10 @@ export class Client {
         if (request.kind === "submit") this.tellOutcome(reply, results);
         if (request.kind === "poll") answer.resolve(results.at(-1)?.position ?? null);
         if (request.kind === "observe") answer?.resolve({ last: reply.last, values: seen });
+        if (request.isWatch) this.learn(request, reply);
         if (request.kind === "leave") this.finish("left");
-        this.pump();
         this.tell();
+        this.pump();
     }
 
     /** Says what became of the front pending action. */
@@ -855,13 +861,29 @@ export class Client {
         this.pump();
     }
 
-    /** Tells each change of a view of the interest. */
+    /** Tells each change of a view: of the interest, and of what is watched. */
     tell() {
         for (const object of this.seen.keys()) {
             const old = this.seen.get(object), now = this.view(object);
             this.seen.set(object, now);
             if (String(old) !== String(now)) call(this.onChange, object, old, now);
         }
+        if (this.isTelling) return;
+        this.isTelling = true;
+        while ([...this.watchers].some(watcher => this.tellWatcher(watcher)));
+        this.isTelling = false;
+    }
+
+    /** Calls a watcher back where it has to be told of something; answers whether it had. What it does there is told afterwards. */
+    tellWatcher(watcher) {
+        const { objects, callback, told } = watcher, { versions } = this.knowledge;
+        if (!this.watchers.has(watcher) || (!told && !objects.every(object => versions.has(object)))) return false;
+        const views = new Map(objects.map(object => [object, this.view(object)]));
+        const changed = objects.filter(object => !told || String(told.get(object)) !== String(views.get(object)));
+        if (!changed.length) return false;
+        watcher.told = views;
+        call(callback, new Map(views), changed);
+        return true;
     }
 
     say(status, fault = null) {
@@ -869,10 +891,14 @@ export class Client {
         call(this.onStatus, status, fault);
     }
 
-    /** A reply is refused: the session is given up, and none follows by itself. */
+    /** A reply is refused: the session is given up, and none follows by itself, but where its life is too far above the last one. */
     refuse(fault) {
-        const { code, detail } = fault.refused ?? {};
-        this.finish(code === 4 || (this.knows && code === 11 && detail >= this.life) ? "pushed out" : "refused", fault);
+        const { code, detail } = fault.refused ?? {}, isOld = code === 11 && this.knowledge.outstanding[0]?.kind === "join";
+        if (isOld && detail + 1 < this.life) {
+            this.knowledge.life = detail;
+            return this.lost(new Error(fault.refused.name));
+        }
+        return this.finish(code === 4 || (this.knows && isOld && detail >= this.life) ? "pushed out" : "refused", fault);
     }
 
     /** The connection broke: the next session begins after a pause, which grows from try to try. */
@@ -894,6 +920,7 @@ export class Client {
         this.link = null;
         clearTimeout(this.timer);
         clearTimeout(this.alarm);
+        clearTimeout(this.clock);
         link?.close();
     }
 
@@ -910,49 +937,57 @@ export class Client {
     }
 
     stopWatching() {
-        this.turn += 1;
         this.watchers.clear();
+        this.lookAnew();
     }
 
-    /** Keeps one Observe open for all that is watched. Called again, it takes the place of the one that runs. */
-    async keepWatching() {
-        this.turn += 1;
-        const { turn } = this;
-        try {
-            while (turn === this.turn && this.watchers.size) {
-                const next = performance.now() + this.pause, shown = await this.observeWatched();
-                if (turn === this.turn) this.show(shown);
-                await new Promise(done => { setTimeout(done, Math.max(0, next - performance.now())); });
-            }
-        } catch (fault) {
-            if (turn === this.turn) throw fault;
+    /** What is watched is asked for at once. An Observe for it that is under way counts as one of the others. */
+    lookAnew() {
+        this.queue = this.queue.filter(each => !each.isWatch);
+        for (const each of this.knowledge.outstanding) delete each.isWatch;
+        Object.assign(this, { looked: null, holds: true });
+    }
+
+    /** Keeps one Observe open for all that is watched, as long as nothing else is asked. */
+    lookOut() {
+        const { outstanding } = this.knowledge, isUnderWay = [...outstanding, ...this.queue].some(each => each.isWatch);
+        clearTimeout(this.clock);
+        if (!this.watchers.size || isUnderWay || !this.link || !this.knows || this.isLeaving) return;
+        const { at, end } = this.looked ?? { at: -Infinity, end: -Infinity }, isBusy = outstanding.some(each => each.kind !== "done");
+        const due = Math.max(at + (this.holds ? this.pause / 10 : this.pause), end + (isBusy ? this.pause : 0));
+        const left = due - performance.now();
+        if (left > 0) {
+            this.clock = setTimeout(() => this.lookOut(), left);
+        } else {
+            this.queue.push(...this.watchRequests());
+            this.pump();
         }
     }
 
-    /** The answers for all that is watched: of 16 objects one Observe, which may be held for long; of more several. */
-    observeWatched() {
+    /** The Observes for all that is watched: of 16 objects one, which may be held for long; of more several. */
+    watchRequests() {
         const objects = ascending([...this.watchers].flatMap(each => each.objects)), parts = [];
         while (objects.length) parts.push(objects.splice(0, MOST.observed));
         const wait = parts.length > 1 ? Math.min(Math.round(this.pause), MOST.wait) : this.wait;
-        return Promise.all(parts.map((part, place) => this.observe(part, place + 1 < parts.length ? 0 : wait)));
+        return parts.map((part, place) =>
+            ({ kind: "observe", objects: part, wait: place + 1 < parts.length ? 0 : wait, isWatch: true }));
     }
 
-    /** Calls each watcher back for whom something changed. */
-    show(shown) {
-        const all = new Map(shown.flatMap(({ values }) => [...values])), last = Math.min(...shown.map(each => each.last));
-        for (const watcher of this.watchers) {
-            const values = new Map(watcher.objects.map(object => [object, all.get(object)]));
-            const told = [...values.values()].join(";");
-            if (told !== watcher.told) call(watcher.callback, values, last);
-            watcher.told = told;
-        }
+    /** Whether the server holds an Observe until there is news: as long as it seems so, the next one may follow soon. */
+    learn({ wait }, { head, items }) {
+        const { at, asked } = this.looked, end = performance.now(), isEmpty = !head.length && !items.length;
+        this.looked.end = end;
+        if (wait === 0) return;
+        if (wait >= this.pause && end - at >= this.pause) this.holds = true;
+        else if (isEmpty && asked === this.asked) this.holds = false;
     }
 }
 
-/** A link over a WebSocket: each message of the wire is one binary message. */
-export function webSocketLink(address, WebSocketClass = globalThis.WebSocket) {
-    const socket = new WebSocketClass(address), waiting = [];
-    const link = { wasOpen: false, onMessage() {}, onClose() {}, close: () => socket.close(),
+/** A link over a WebSocket: each message of the wire is one binary message. A key stands in the address. */
+export function webSocketLink(address, WebSocketClass = globalThis.WebSocket, key = null) {
+    const shown = key ? `${address.includes("?") ? "&" : "?"}key=${Array.from(key, one => hex(one)).join("")}` : "";
+    const socket = new WebSocketClass(address + shown), waiting = [];
+    const link = { wasOpen: false, hasKey: key !== null, onMessage() {}, onClose() {}, close: () => socket.close(),
         send: bytes => link.wasOpen ? socket.send(bytes) : waiting.push(bytes) };
     socket.binaryType = "arraybuffer";
     socket.onopen = () => {

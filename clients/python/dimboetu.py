@@ -1,12 +1,14 @@
 """A client of a Dimboetu server: one file, the standard library, each rule from docs/WIRE.md. One thread uses it:
 
-    client = Client(number=0, objects=4, attributes=2, interest=(0, 3), on_change=print)
-    client.join(socket.create_connection(("127.0.0.1", 4000)))
+    client = Client(number=0, objects=4, attributes=2, interest=(0, 3), on_change=print,
+                    connect=lambda: socket.create_connection(("127.0.0.1", 4000)))
+    client.join()
     gold = obj(3).attr(0)
     client.make(action(gold.set(gold + 1), when(gold > 9, [obj(0).attr(1).set(gold * 2)])))
     client.leave()
 """
 
+import math
 import random
 import re
 import select
@@ -42,8 +44,9 @@ REPLIES = {
     0x85: ("noted", ("commit",)), 0x86: ("idle", ()), 0x87: ("refused", ("code", "detail")), 0x88: ("bye", ())}
 REFUSALS = ("malformed", "not joined", "already joined", "over", "wrong sequence", "bad action", "bad results", "bad interest",
             "too many requests", "no such client", "old life", "full")
-FITS = {"join": "welcome", "submit": "relay dropped denied settled", "done": "noted", "poll": "relay idle",
+FITS = {"join": "welcome", "submit": "relay dropped denied settled", "number": "", "done": "noted", "poll": "relay idle",
         "observe": "seen", "leave": "bye"}
+ACTIVE = ("joining", "joined", "lost")
 
 
 class Fault(Exception):
@@ -315,6 +318,10 @@ def request_bytes(kind, *fields):
         return struct.pack(">BB", 3, len(values)) + b"".join(values)
     if kind == "observe":
         return struct.pack(f">BB{len(fields[0])}HH", 7, len(fields[0]), *fields[0], fields[1])
+    if kind == "number":                    # by an action of number 0 a client asks for its next number
+        return request_bytes("submit", 0, Action((0,), 0, (0, 0), ()))
+    if kind == "hello":
+        return bytes([8, len(fields[0]), *fields[0]])
     return b"\x04" if kind == "poll" else b"\x05"
 
 
@@ -387,25 +394,39 @@ def first_payload(came):
 
 
 class Client:
-    """A client of a world of this shape. `on_change` gets each changed view of its interest: object, old, new. `connect`
-    gives `watch` a connected socket for each further session, or None where there is none."""
-    def __init__(self, number, objects, attributes, interest=(), on_change=lambda target, old, new: None, connect=None):
+    """A client of a world of this shape. `on_change` gets each changed view of its interest: object, old, new; `on_reply` each
+    reply that is taken; `on_status` each new `status`, and the fault behind it or None. With `connect`, which gives a connected socket for each session or
+    None where there is none, the client joins again by itself. `retry`: the first pause before that, the longest one, and
+    how many tries in a row. `key`: 16 to 64 bytes, for a server that asks for them. `pause`: the time between two Observes
+    of what is watched (a tenth of it over a server that waits for news); `wait`: for how long a server may hold one;
+    `patience`: after how long without a due reply the connection counts as broken. All times are seconds."""
+    def __init__(self, number, objects, attributes, interest=(), on_change=lambda target, old, new: None, connect=None, *,
+                 on_reply=lambda reply: None, on_status=lambda status, fault: None, retry=(0.2, 10, math.inf), key=None,
+                 pause=0.1, wait=25, patience=math.inf):
+        if key is not None and not 16 <= len(key) <= 64:
+            raise ValueError("a key has 16 to 64 bytes")
         self.number, self.shape, self.on_change, self.connect = number, (objects, attributes), on_change, connect
-        self.life = self.made = self.told = self.asked = 0
+        self.on_reply, self.on_status, self.retry, self.key = on_reply, on_status, retry, key
+        self.pause, self.wait, self.patience = pause, wait, patience
+        self.life = self.made = self.told = self.asked = self.submitted = self.tries = self.again = self.heard = 0
         self.versions, self.pending, self.outstanding = {}, [], deque()
         self.link, self.came, self.seen = None, bytearray(), dict.fromkeys(sorted(interest))
+        self.status, self.fault, self.knows, self.is_telling = "new", None, False, False
+        self.watchers, self.round = [], 0
+        self.look_anew()
 
     def saved(self):
         """What another process needs to go on in this one's place, as plain data, for JSON. Keep it anew after each call."""
         return {"number": self.number, "shape": [*self.shape], "interest": [*self.seen], "life": self.life, "made": self.made,
-                "told": self.told, "versions": [[target, [*held.items()]] for target, held in self.versions.items()],
+                "knows": self.knows, "told": self.told,
+                "versions": [[target, [*held.items()]] for target, held in self.versions.items()],
                 "pending": [[number, text_of(act), kept] for number, act, kept in self.pending]}
 
     @classmethod
     def from_saved(cls, data, **more):
-        """The client that was saved, with `on_change` and `connect`. It is in no session; its join asks again for what is pending."""
+        """The client that was saved, with `on_change` and the like. It is in no session; its join asks for what is pending."""
         client = cls(data["number"], *data["shape"], data["interest"], **more)
-        client.life, client.made, client.told = data["life"], data["made"], data["told"]
+        client.life, client.made, client.told, client.knows = data["life"], data["made"], data["told"], data["knows"]
         client.versions = {target: {place: tuple(value) for place, value in held} for target, held in data["versions"]}
         client.pending = [(number, action_of(text), kept and tuple(map(tuple, kept))) for number, text, kept in data["pending"]]
         return client
@@ -424,19 +445,67 @@ class Client:
         self.pending.append((number, act, None if None in views else act.result(views)))
 
     def tell(self):
-        """Tells each change of a view of the interest."""
+        """Tells each change of a view: of the interest, and of what is watched."""
         for target, old in self.seen.items():
             self.seen[target] = self.view(target)
             if self.seen[target] != old:
                 self.on_change(target, old, self.seen[target])
+        if not self.is_telling:
+            self.is_telling = True
+            try:
+                while any(self.tell_watcher(watcher) for watcher in self.watchers):
+                    pass
+            finally:
+                self.is_telling = False
 
-    def join(self, link):
-        """Begins the next session, over a connected socket, and submits what is pending. An older one is over."""
+    def tell_watcher(self, watcher):
+        """Calls a watcher back where it has to be told of something; answers whether it had. What it does there is told
+        afterwards."""
+        told, is_known = watcher.told, all(target in self.versions for target in watcher.objects)
+        if not any(each is watcher for each in self.watchers) or not (told or is_known):
+            return False
+        views = {target: self.view(target) for target in watcher.objects}
+        changed = [target for target in watcher.objects if not told or told[target] != views[target]]
+        if changed:
+            watcher.told = dict(views)
+            if watcher.callback(views, changed):
+                watcher.stop()
+        return bool(changed)
+
+    def become(self, status, fault=None):
+        """A new status."""
+        self.status = status
+        self.on_status(status, fault)
+
+    def join(self, link=None):
+        """Begins the next session; an older one is over. Without a socket it connects by itself and comes back when the client
+        is in the world; one that has no memory of its number takes up its place. With a socket it only sends: its Join, and
+        what is pending; an earlier client of this number is none then."""
+        if link is not None:
+            self.knows = True
+            self.start(link)
+            return self.pump()
+        if not self.connect:
+            raise Fault("outside")
         self.give_up()
-        self.link, self.life, self.asked, self.outstanding = link, self.life + 1, 0, deque()
-        self.ask("join", self.number, self.life, tuple(self.seen))
-        for number, act, _ in list(self.pending):
-            self.ask("submit", number, act)
+        self.status, self.tries, self.again = "joining", 0, 0
+        while self.status != "joined":
+            self.go_on(math.inf)
+
+    def start(self, link):
+        """Begins the next session over a connected socket."""
+        self.give_up()
+        self.look_anew()
+        self.link, self.asked, self.submitted, self.outstanding = link, 0, 0, deque()
+        if self.key is not None:
+            self.send(request_bytes("hello", self.key))
+        self.ask_to_join(self.life + 1)
+        self.become("joining")
+
+    def ask_to_join(self, life):
+        """Asks to join with this life."""
+        self.life = life
+        self.ask("join", self.number, life, tuple(self.seen))
 
     def make(self, act):
         """Makes an action, given as one or as a text; its number is `made` then."""
@@ -444,16 +513,36 @@ class Client:
         cause = act.fault(*self.shape)
         if cause or len(self.pending) == MOST_PENDING:
             raise Fault(f"action {cause}" if cause else "full", cause=cause)
-        self.need_room()
+        if not self.connect:
+            self.need_room()
+        elif self.status not in ACTIVE or not self.knows:
+            raise Fault("outside")
         self.made += 1
         self.add(self.made, act)
-        self.ask("submit", self.made, act)
+        try:
+            self.pump()
+        except OSError as fault:
+            self.mend(fault)
         self.tell()
+
+    def pump(self):
+        """Submits what is pending and was not yet, as far as there is room."""
+        while self.knows and self.submitted < len(self.pending) and not self.lack():
+            number, act, _ = self.pending[self.submitted]
+            self.submitted += 1
+            self.ask("submit", number, act)
 
     def poll(self):
         """Asks for an abandoned action."""
+        self.request("poll")
+
+    def request(self, *request):
+        """Sends a request where there is room."""
         self.need_room()
-        self.ask("poll")
+        try:
+            self.ask(*request)
+        except OSError as fault:
+            self.mend(fault)
 
     def observe(self, objects, wait=0):
         """Asks what 1 to 16 objects, ascending, are at one position; the reply's `seen` has the value of each then. A
@@ -461,69 +550,171 @@ class Client:
         is_short = 1 <= len(objects) <= MOST_OBSERVED
         if not is_short or sorted(set(objects)) != [*objects] or not 0 <= objects[0] <= objects[-1] < self.shape[0]:
             raise Fault("objects")
-        self.need_room()
-        self.ask("observe", tuple(objects), wait)
+        self.request("observe", tuple(objects), wait)
 
-    def watch(self, objects, callback, pause=0.1, wait=25_000):
-        """Observes objects, again and again, and calls back with their values and a position: at first, and whenever one is
-        another; until the callback answers what is true. (More than 16 are asked for in parts, each of one moment.) Where
-        the connection breaks, or the requests of a session are spent, it joins again over `connect()`."""
-        objects, told = sorted(set(objects)), None
-        parts = [objects[place:place + MOST_OBSERVED] for place in range(0, len(objects), MOST_OBSERVED)] or [()]
-        while True:
-            try:
-                values, places = {}, []
-                for part in parts:
-                    self.finish()
-                    self.observe(part, wait if len(parts) == 1 else 0)
-                    reply = self.take()
-                    values.update(reply.seen)
-                    places.append(reply.last)
-                if values != told:
-                    told = dict(values)
-                    if callback(values, min(places)):
-                        return
-                self.finish()
-            except (Fault, OSError) as fault:
-                self.join_again(fault)
-            time.sleep(pause)
+    def watch(self, objects, callback):
+        """Calls back with a dict of the views of all these objects and the list of those that changed: as soon as all are known,
+        and at each change, while `run` goes on; until the callback answers what is true, or `stop()` of what it gives back
+        is called. One Observe is kept open for all that is watched (of more than 16 objects several, of one moment each)."""
+        watcher = SimpleNamespace(objects=sorted(set(objects)), callback=callback, told=None)
+        if not watcher.objects or not 0 <= watcher.objects[0] <= watcher.objects[-1] < self.shape[0]:
+            raise Fault("objects")
+        if self.status not in ACTIVE:
+            raise Fault("outside")
 
-    def join_again(self, fault):
-        """Joins with the next life where the connection broke, or a session is spent; raises any other fault, and this one
-        where no connection is given. The pauses before it grow from try to try."""
-        pause = 0 if str(fault) == "spent" else 0.2
-        if not self.connect or (pause and (self.link or not isinstance(fault, OSError))):
+        def stop():
+            self.watchers = [each for each in self.watchers if each is not watcher]
+
+        watcher.stop, self.watchers = stop, [*self.watchers, watcher]
+        self.look_anew()
+        return watcher
+
+    def run(self, seconds=math.inf):
+        """Goes on for so many seconds: takes what comes, calls back, and joins again where the connection broke. Without a time
+        it goes on until nothing is watched any more, and nothing is due."""
+        end = time.monotonic() + seconds
+        self.tell()
+        while self.watchers or self.is_due() or seconds < math.inf:
+            left = max(end - time.monotonic(), 0)
+            if not self.go_on(left) and not left:
+                break
+
+    def go_on(self, seconds):
+        """Sends what is due, and takes one reply, or waits for so many seconds at most; answers whether one came."""
+        if self.status not in ACTIVE:
+            raise Fault("outside")
+        try:
+            if not self.link and self.connect:
+                return self.join_again(seconds)
+            self.pump()
+            left = min(seconds, self.look_out())
+            if not self.outstanding and (self.parts or self.submitted < len(self.pending)):
+                return self.next_session("spent")
+            held = self.outstanding[0][2] / 1000 if self.outstanding and self.outstanding[0][0] == "observe" else 0
+            silent = self.heard + self.patience + held - time.monotonic() if self.outstanding else math.inf
+            reply = self.take(min(left, max(silent, 0)))
+            if not reply and silent <= left:
+                self.drop(TimeoutError("silence"))
+                raise self.fault
+            return reply is not None
+        except OSError as fault:
+            self.mend(fault)
+        return False
+
+    def join_again(self, seconds):
+        """Begins the next session when its time has come, or waits for so many seconds."""
+        pause = max(self.again - time.monotonic(), 0)
+        time.sleep(min(pause, seconds))
+        return pause <= seconds and self.next_session("closed")
+
+    def next_session(self, word):
+        """Begins the next session, over a connection of its own; else raises what broke the last one, or a fault of this word."""
+        if not self.connect:
+            raise Fault(word)
+        self.give_up()
+        try:
+            link = self.connect()
+        except OSError as fault:
+            self.drop(fault)
+            raise
+        if not link:
+            self.become("closed")
+            raise self.fault or Fault(word)
+        self.start(link)
+        self.pump()
+        return True
+
+    def mend(self, fault):
+        """The next session follows after a pause, which grows from try to try. Raises the fault where it is no connection's, or
+        no try is left."""
+        if fault is not self.fault or not self.connect:
             raise fault
-        while True:
-            time.sleep(pause * random.uniform(0.5, 1))
-            pause = min(2 * pause or 0.2, 10)
-            try:
-                if not (link := self.connect()):
-                    break
-                self.join(link)
-                return self.finish()
-            except OSError as again:
-                fault = again
-        raise fault
+        first, longest, most = self.retry
+        self.tries += 1
+        if self.tries >= most:
+            self.become("closed", fault)
+            raise fault
+        self.again = time.monotonic() + min(first * 2 ** min(self.tries - 1, 30), longest) * random.uniform(0.5, 1)
+
+    def look_anew(self):
+        """What is watched is asked for at once. An Observe for it that is under way counts as one of the others."""
+        self.round += 1
+        self.parts, self.looked, self.seen_at, self.asked_then, self.holds = [], -math.inf, -math.inf, 0, True
+
+    def look_out(self):
+        """Keeps one Observe open for all that is watched, as long as nothing else is asked; answers for how long it can wait."""
+        if not self.parts:
+            if not self.watchers or not self.knows or any(request[3:] == (self.round,) for request in self.outstanding):
+                return math.inf
+            is_busy = any(request[0] != "done" for request in self.outstanding)
+            due = max(self.looked + self.pause / (10 if self.holds else 1), self.seen_at + self.pause * is_busy)
+            if due > time.monotonic():
+                return due - time.monotonic()
+            objects = sorted({target for watcher in self.watchers for target in watcher.objects})
+            self.parts = [objects[place:place + MOST_OBSERVED] for place in range(0, len(objects), MOST_OBSERVED)]
+            self.last_wait = min(round(1000 * (self.wait if len(self.parts) == 1 else self.pause)), 65_535)
+        while self.parts and not self.lack(5):
+            part = self.parts.pop(0)
+            self.looked, self.asked_then = time.monotonic(), self.asked + 1
+            self.ask("observe", tuple(part), 0 if self.parts else self.last_wait, self.round)
+        return math.inf
+
+    def learn(self, reply, wait):
+        """Whether the server holds an Observe until there is news: as long as it seems so, the next one may follow soon."""
+        self.seen_at = time.monotonic()
+        if wait and wait >= 1000 * self.pause and self.seen_at - self.looked >= self.pause:
+            self.holds = True
+        elif wait and self.asked == self.asked_then and not reply.head and not reply.items:
+            self.holds = False
+
+    def lack(self, more=3):
+        """Why one more request can't be sent, or None; there has to be room for the Dones that may be due then, and a Leave."""
+        owed = sum(request[0] in ("submit", "poll", "observe") for request in self.outstanding)
+        if not self.link or len(self.outstanding) == MOST_OUTSTANDING:
+            return "busy" if self.link else "outside"
+        return "spent" if self.asked + owed + more > MOST_REQUESTS else None
 
     def need_room(self):
-        """Room for one more request, for the Dones that may be due then, and for a Leave."""
-        owed = sum(request[0] in ("submit", "poll", "observe") for request in self.outstanding)
-        is_busy = len(self.outstanding) == MOST_OUTSTANDING
-        if not self.link or is_busy or self.asked + owed + 3 > MOST_REQUESTS:
-            raise Fault("outside" if not self.link else "busy" if is_busy else "spent")
+        """Raises where one more request can't be sent."""
+        if lack := self.lack():
+            raise Fault(lack)
 
-    def leave(self):
-        """Takes what is outstanding, leaves, and takes the Bye."""
-        self.finish()
-        self.ask("leave")
-        self.take()
-        self.give_up()
+    def is_due(self):
+        """Whether an outcome or a reply is due, other than that of an Observe for what is watched."""
+        is_asked = any(request[0] != "observe" or not request[3:] for request in self.outstanding)
+        return is_asked or bool(self.connect and self.pending)
 
     def finish(self):
-        """Takes replies until nothing is outstanding."""
-        while self.outstanding:
-            self.take()
+        """Takes replies until none is due."""
+        while self.is_due():
+            self.go_on(math.inf) if self.connect else self.take()
+
+    def leave(self):
+        """Takes what is due, leaves, and takes the Bye. Nothing is watched any more."""
+        if self.connect and self.status not in ACTIVE:
+            raise Fault("outside")
+        self.watchers = []
+        self.look_anew()
+        self.finish()
+        try:
+            if self.link and self.outstanding:      # an Observe that the server holds is answered when another request comes
+                self.ask("observe", self.outstanding[-1][1], 0)
+            while self.link and self.outstanding:
+                self.take()
+            if self.link or not self.connect:
+                self.ask("leave")
+                self.take()
+        except OSError:
+            if not self.connect:
+                raise
+        self.give_up()
+        self.become("left")
+
+    def close(self):
+        """Gives all up at once. What is pending stays so: `join` goes on with it."""
+        self.watchers = []
+        self.give_up()
+        self.become("closed")
 
     def give_up(self):
         """Closes the connection. What is pending stays so."""
@@ -531,34 +722,62 @@ class Client:
             self.link.close()
         self.link, self.came = None, bytearray()
 
+    def drop(self, fault):
+        """The connection broke."""
+        self.give_up()
+        self.fault = fault
+        self.become("lost", fault)
+
     def ask(self, *request):
         """Sends a request. After an OSError, here or in `take`, the session is over, and the client may join anew."""
         if not self.link:
             raise Fault("outside")
-        payload = request_bytes(*request)
+        if not self.outstanding:
+            self.heard = time.monotonic()
         self.outstanding.append(request)
         self.asked += 1
+        self.send(request_bytes(*request))
+
+    def send(self, payload):
+        """Sends a payload."""
         try:
             self.link.sendall(struct.pack(">I", len(payload)) + payload)
-        except OSError:
-            self.give_up()
+        except OSError as fault:
+            self.drop(fault)
             raise
 
     def take(self, seconds=None):
-        """Takes the next reply and answers it, or None where none came in time. Any exception ends the session."""
+        """Takes the next reply and answers it, or None where none came in time. A fault of the reply or of the connection ends
+        the session."""
+        if not self.link:
+            raise Fault("outside")
         try:
             while (payload := first_payload(self.came)) is None:
-                if not self.link:
-                    raise Fault("outside")
-                if not select.select([self.link], [], [], seconds)[0]:
+                if not select.select([self.link], [], [], None if seconds == math.inf else seconds)[0]:
                     return None
                 if not (piece := self.link.recv(65_536)):
                     raise ConnectionError("closed")
                 self.came += piece
-            return self.accept(Payload(payload).reply())
-        except (OSError, Fault):
-            self.give_up()
+            reply = Payload(payload).reply()
+        except OSError as fault:
+            self.drop(fault)
             raise
+        except Fault as fault:
+            self.refuse(fault)
+        self.heard = time.monotonic()
+        return self.accept(reply)
+
+    def refuse(self, fault):
+        """A reply is refused: the session is over, and none follows by itself, but where its life is too far above the last one."""
+        self.give_up()
+        is_old = fault.code == 11 and bool(self.outstanding) and self.outstanding[0][0] == "join"
+        if is_old and self.connect and fault.detail + 1 < self.life:
+            self.life = fault.detail
+            self.drop(ConnectionError(fault.name))
+            raise self.fault
+        is_pushed = fault.code == 4 or (is_old and self.knows and fault.detail >= self.life)
+        self.become("pushed out" if is_pushed else "refused", fault)
+        raise fault
 
     def look_at(self, reply):
         """Raises the first fault of a reply, but for missing values."""
@@ -581,6 +800,47 @@ class Client:
 
     def accept(self, reply):
         """Takes a reply to the oldest outstanding request; where it is refused nothing changes."""
+        if self.take_up(reply):
+            return reply
+        try:
+            request, results = self.install(reply)
+        except Fault as fault:
+            self.refuse(fault)
+        if results:
+            self.ask("done", tuple(results))
+        if request[0] == "join" and not self.knows and self.life > 1:
+            self.ask("number")
+        elif request[0] == "join":
+            self.enter()
+        if request[3:] == (self.round,):
+            self.learn(reply, request[2])
+        self.tell()
+        self.on_reply(reply)
+        return reply
+
+    def take_up(self, reply):
+        """Without memory of its number a client learns its life, and then its next number, from two refusals."""
+        asked = self.outstanding[0][0] if self.outstanding else None
+        if self.knows or reply.kind != "refused":
+            return False
+        if asked == "join" and reply.code == 11 and self.life <= reply.detail < 2 ** 32 - 1:
+            self.outstanding.popleft()
+            self.ask_to_join(reply.detail + 1)
+        elif asked == "number" and reply.code == 5 and reply.detail > 0:
+            self.outstanding.popleft()
+            self.made = reply.detail - 1
+            self.enter()
+        else:
+            return False
+        return True
+
+    def enter(self):
+        """The client is in the world, and knows its numbers."""
+        self.knows, self.tries, self.fault = True, 0, None
+        self.become("joined")
+
+    def install(self, reply):
+        """Takes a reply into what the client keeps; answers its request, and the results of its items."""
         self.look_at(reply)
         versions, results = {target: dict(held) for target, held in self.versions.items()}, []
 
@@ -597,7 +857,7 @@ class Client:
             results.append((item.position, item.action.result(values)))
             for target, value in zip(item.action.writes, results[-1][1]):
                 versions.setdefault(target, {})[item.position] = value
-        kind, *fields = self.outstanding[0]
+        kind, *fields = request = self.outstanding[0]
         if kind == "observe":
             reply.seen = {target: below(reply.last + 1, target) for target in fields[0]}
         self.told = self.told if reply.commit is None else reply.commit
@@ -608,12 +868,10 @@ class Client:
         is_news = kind == "observe" and bool(reply.head or results)
         if kind == "submit":
             (_, _, kept), *self.pending = self.pending
+            self.submitted -= 1
             is_news = not results or kept != results[-1][1]
         if is_news:
             remaining, self.pending = self.pending, []
             for number, act, _ in remaining:
                 self.add(number, act)
-        if results:
-            self.ask("done", tuple(results))
-        self.tell()
-        return reply
+        return request, results

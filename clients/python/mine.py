@@ -27,17 +27,18 @@ def digging(me, nuggets):
 
 def play(me, port):
     """Player 0 knows the trick; player 1 takes what comes to mind."""
-    client = Client(number=me, objects=3, attributes=2, interest=(0, 1, 2),
+    client = Client(number=me, objects=3, attributes=2, interest=(0, 1, 2), pause=0.2,
                     on_change=lambda target, old, new: print(f"player {me} sees object {target}: {new}", flush=True))
     client.join(connect(port))
 
-    def look(values, position):
+    def look(values, changed):
         left, turn = values[0]
         if left > 0 and turn == me:
             client.make(digging(me, (left % 4 or 1) if me == 0 else random.randint(1, min(3, left))))
         return left == 0
 
-    client.watch((0, 1, 2), look, pause=0.2)
+    client.watch((0, 1, 2), look)
+    client.run()
     client.leave()
 
 

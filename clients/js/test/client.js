@@ -315,36 +315,44 @@ async function tryObserving() {
 /** How many Observes stand in what was said, and their waits. */
 const waits = said => said.filter(each => each.startsWith("07")).map(each => parseInt(each.slice(-4), 16));
 
+/** A client that watches, what it was told, and a Seen of values of the objects from 0 on. */
+async function watching(objects, more = {}) {
+    const found = await joined(more), shown = [];
+    const seen = (last, ...values) => found.say({ ...welcome(last, ...values), kind: "seen", last });
+    const callback = (values, changed) => shown.push(`${[...values].map(([one, value]) => `${one}:${value}`).join(" ")} / ${changed}`);
+    const handle = found.client.watch(objects, callback);
+    return { ...found, shown, seen, handle, news: () => shown.splice(0) };
+}
+
 async function tryWatching() {
-    const { client, say, said, statuses } = await joined(), shown = [];
-    const seen = (last, ...values) => say({ ...welcome(last, ...values), kind: "seen", last });
+    const { client, say, said, statuses, handle, seen, news } = await watching([1, 0, 1]);
     count.refuses(() => client.watch([40], () => {}), "objects", "no such object");
-    const watching = client.watch([1, 0, 1], (values, last) => shown.push([...values, last].join(" ")));
-    count.same(said(), ["0702000000011388"], "one Observe with a wait");
+    count.refuses(() => client.watch([], () => {}), "objects", "nothing to watch");
+    count.same([said(), news()], [["0702000000011388"], ["0:5 1:7 / 0,1"]], "one Observe with a wait; called at once, as all is known");
     seen(0);
     await pause(5);
-    count.same([shown, said()], [["0,5 1,7 0"], []], "called at first; a pause follows");
+    count.same([news(), said()], [[], []], "an answer without news; a pause follows");
     await pause(30);
     count.same(waits(said()), [5000], "then the next one");
     await pause(40);
     count.same(said(), [], "none while one is held");
     client.act(ADD_ONE);
-    count.same(said().length, 1, "an action is sent meanwhile");
-    seen(1, 6);
+    count.same([said().length, news()], [1, ["0:6 1:7 / 0"]], "an action is sent meanwhile, and its guess told at once");
+    seen(1, 9);
     await pause(2);
-    count.same(waits(said()), [5000], "where it was held for longer than the pause, the next one follows at once");
-    count.same(shown.slice(1), ["0,6 1,7 1"], "called for a change");
+    count.same([waits(said()), news()], [[], ["0:10 1:7 / 0"]], "the guess is put right; nothing is observed while something is asked");
     say({ kind: "settled", number: 1, position: 1 });
+    count.same([waits(said()), news()], [[5000], ["0:9 1:7 / 0"]], "nothing is asked any more: the next one follows");
     seen(1);
     await pause(30);
-    count.same([shown.length, waits(said())], [2, [5000]], "not called where nothing changed");
+    count.same([news(), waits(said())], [[], [5000]], "not called where nothing changed");
     const more = [], all = client.watch([2], values => more.push([...values].join(" ")));
     count.same(said(), ["07030000000100021388"], "one more watcher: one Observe for both, at once");
     seen(1);
     say({ kind: "seen", last: 1, commit: 1, head: [[2, [4n]]] });
+    handle.stop();
     await pause(5);
-    count.same([shown.length, more], [2, ["2,4"]], "each is told of its own");
-    watching.stop();
+    count.same([news(), more], [[], ["2,4"]], "each is told of its own");
     await pause(30);
     count.same(said(), ["070100021388"], "who stopped is not asked for");
     const left = client.leave();
@@ -361,31 +369,120 @@ async function tryWatching() {
     count.refuses(() => client.watch([0], () => {}), "outside", "nor after that");
 }
 
-async function tryWatchingMore() {
-    const { client, say, said, link } = await joined(), shown = [], objects = Array.from({ length: 20 }, (_, one) => one);
-    client.watch(objects, values => shown.push([...values].length));
-    const asked = said();
-    count.same([asked.length, waits(asked)], [2, [0, 20]], "of more than 16 objects several Observes");
-    say({ kind: "seen", last: 0, commit: 0, head: objects.slice(2, 16).map(object => [object, [1n]]) });
-    say({ kind: "seen", last: 0, commit: 0, head: objects.slice(16).map(object => [object, [1n]]) });
+/** Each row: after how many milliseconds what comes, and when after that the next Observe is sent. The pause is 20. */
+const PACES = [
+    ["news at once, of a server that may wait", 0, "news", 2], ["news soon", 1, "news", 1], ["an empty answer at once", 0, "seen", 20], ["news at once", 0, "news", 20], ["an empty answer soon", 7, "seen", 13],
+    ["news, after more than a pause: this server waits", 50, "news", 0], ["news soon, over such a server", 1, "news", 1],
+    ["and again", 0, "news", 2], ["an empty answer after its wait", 5000, "seen", 0],
+    ["an empty answer soon: it does not wait", 3, "seen", 17], ["news soon", 1, "news", 19]];
+
+async function tryPaces() {
+    const { client, say, said, seen, link } = await watching([0, 1]);
+    said();
+    let last = 0;
+    for (const [name, after, what, next] of PACES) {
+        await pause(after);
+        last += what === "news" ? 1 : 0;
+        seen(last, ...(what === "news" ? [last] : []));
+        if (next > 0) {
+            await pause(next - 0.5);
+            count.same(said(), [], `${name}: the next one is not too early`);
+            await pause(0.5);
+        }
+        count.same(waits(said()), [5000], `${name}: nor too late`);
+    }
+    await pause(50);
+    say({ kind: "seen", last: last + 1, commit: last, items: [{ position: last + 1, client: 2, number: 1, action: parseAction(ADD_ONE) }] });
+    count.same(said().map(each => each.slice(0, 2)), ["03", "07"], "a result is reported, and the next one follows at once");
+    say({ kind: "noted", commit: last += 1 });
+    client.poll();
+    seen(last);
+    for (let place = 0; place < 8; place += 1) client.act("reads 0 writes { }");
+    said();
+    await pause(19);
+    count.same(said(), [], "who asks much is given time");
     await pause(2);
-    count.same(shown, [20], "all are told together");
+    count.same(waits(said()), [5000], "but is shown something in the end");
+    seen(last);
+    link.onClose(new Error("broken"));
+    client.close();
+    await pause(100);
+    count.same(said(), [], "nothing is observed over a broken line");
+}
+
+async function tryCallbacks() {
+    const found = await joined(), { client, say } = found, shown = [];
+    const handle = client.watch([0], (values, changed) => {
+        const [gold] = values.get(0) ?? [null];
+        shown.push(gold);
+        values.clear();
+        changed.length = 0;
+        if (gold !== null && gold < 8n) client.act(ADD_ONE);
+        if (gold === 8n) handle.stop();
+    });
+    count.same(shown, [], "not before it has its handle");
+    await pause(0);
+    count.same(shown, [5n, 6n, 7n, 8n], "what a callback does is told when it is done, in order");
+    client.act(ADD_ONE);
+    count.same(shown.length, 4, "who stopped is not called");
+    const unknown = [];
+    client.watch([1, 2], values => unknown.push([...values].join(" ")));
+    client.act("reads 1 writes 1 { set @1.0 1; }");
+    await pause(0);
+    count.same(unknown, [], "not as long as one of them is unknown");
+    say({ kind: "seen", last: 0, commit: 0, head: [[2, [4n]]] });
+    count.same(unknown.splice(0), ["1,1 2,4"], "then with the guess");
+    client.act("reads 1 3 writes 1 { set @1.0 @3.0; }");
+    count.same(unknown, ["1, 2,4"], "an outcome that it can't guess");
+    client.close();
+    await pause(50);
+    count.same(unknown.length, 1, "closed");
+}
+
+async function tryWatchingMore() {
+    const objects = Array.from({ length: 20 }, (_, one) => one);
+    const { client, say, said, link, shown, news } = await watching(objects), asked = said();
+    const heads = (from, to, value) => objects.slice(from, to).map(object => [object, [value]]);
+    count.same([asked.length, waits(asked)], [2, [0, 20]], "of more than 16 objects several Observes");
+    say({ kind: "seen", last: 0, commit: 0, head: heads(2, 16, 1n) });
+    count.same(shown, [], "not before all are known");
+    say({ kind: "seen", last: 0, commit: 0, head: heads(16, 20, 1n) });
+    await pause(2);
+    count.same(news().map(each => each.split(" / ")[1]), [objects.join(",")], "all are told together");
     await pause(30);
     count.same(said().length, 2, "and again");
     link.onClose(new Error("broken"));
     await pause(20);
     count.same(client.status, "joining", "a line breaks");
+    count.same(waits(said()), [0, 20], "watching goes on in the next session");
     say(welcome(0, 5, 7));
-    say({ kind: "seen", last: 1, commit: 0, head: objects.slice(2, 16).map(object => [object, [2n]]) });
-    say({ kind: "seen", last: 1, commit: 0, head: objects.slice(16).map(object => [object, [2n]]) });
-    await pause(2);
-    count.same(shown, [20, 20], "watching goes on in the next session");
+    say({ kind: "seen", last: 1, commit: 0, head: heads(2, 16, 2n) });
+    say({ kind: "seen", last: 1, commit: 0, head: heads(16, 20, 2n) });
+    count.same(news().map(each => each.split(" / ")[1]), [objects.slice(2, 16).join(","), objects.slice(16).join(",")],
+        "what changed is told once");
     client.close();
     count.same(client.status, "closed", "closed");
 }
 
+async function tryFarLives() {
+    const found = await joined();
+    for (let tries = 0; tries < 4; tries += 1) {
+        found.link.onClose(new Error("broken"));
+        await pause(20);
+    }
+    count.same([found.client.life, found.links.length], [5, 5], "each try has a life");
+    found.say({ kind: "refused", code: 11, detail: 1 });
+    count.same([found.client.status, found.link.isClosed], ["lost", true], "its life is too far above the greatest one");
+    await pause(20);
+    count.same([found.client.life, found.client.status, found.said()], [2, "joining", ["010003000000020200000001"]],
+        "the next one is one above it");
+    found.say({ kind: "refused", code: 11, detail: 1 });
+    count.same(found.client.status, "refused", "which is not too far");
+}
+
 async function tryKeys() {
-    const key = Uint8Array.from({ length: 16 }, (_, one) => one), found = clientOf({ key });
+    const given = [], key = Uint8Array.from({ length: 16 }, (_, one) => one);
+    let found = clientOf({ key });
     const hello = "0810000102030405060708090a0b0c0d0e0f";
     found.client.join();
     count.same(found.said(), [hello, "010003000000010200000001"], "a Hello comes first");
@@ -394,6 +491,11 @@ async function tryKeys() {
     found.link.onClose(new Error("broken"));
     await pause(20);
     count.same(found.said()[0], hello, "over each connection");
+    found.client.close();
+    found = clientOf({ key, connect: ({ link }) => Object.assign(link, { hasKey: true }) });
+    found.client.connect = (connect => shown => given.push(shown) && connect(shown))(found.client.connect);
+    found.client.join();
+    count.same([found.said(), given], [["010003000000010200000001"], [key]], "a link that is given the key may show it by itself");
     found.client.close();
     for (const length of [15, 64, 65]) {
         const isWrong = isTypeError(() => clientOf({ key: new Uint8Array(length) }));
@@ -518,6 +620,6 @@ function tryBuilder() {
 }
 
 const tests = [tryTakingUp, tryPushedOut, tryJoiningAgain, tryPauses, tryLimits, tryOutcomes, tryLeaving, tryObserving, tryWatching,
-    tryWatchingMore, tryKeys, trySaving, tryFaultyCallbacks, tryPatience, tryLargeAndDeep, tryBuilder];
+    tryPaces, tryCallbacks, tryWatchingMore, tryFarLives, tryKeys, trySaving, tryFaultyCallbacks, tryPatience, tryLargeAndDeep, tryBuilder];
 for (const each of tests) await each();
 count.close();

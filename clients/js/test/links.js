@@ -71,6 +71,15 @@ async function tryWebSocket() {
     globalThis.WebSocket = TestSocket;
     webSocketLink("ws://there/").close();
     count.same([last().address, last().readyState], ["ws://there/", 2], "the class of the browser, if none is given");
+    const key = Uint8Array.from({ length: 16 }, (_, one) => 17 * one);
+    for (const [address, shown] of [["ws://here/", "ws://here/?key=00112233445566778899aabbccddeeff"],
+        ["ws://here/?room=1", "ws://here/?room=1&key=00112233445566778899aabbccddeeff"]]) {
+        const keyed = new Client({ ...WORLD, key, connect: given => webSocketLink(address, TestSocket, given) });
+        keyed.join();
+        last().open();
+        count.same([last().address, last().sent], [shown, ["01000300000001010000"]], "a key stands in the address, and is not said");
+        keyed.close();
+    }
 }
 
 /** A server of one connection after the other, each of which a test has. */

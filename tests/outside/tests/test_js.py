@@ -36,7 +36,7 @@ from tests.counting import BUILT, CLIENTS, ROOT, STAND_IN as STAND_IN_FILE, Coun
 from tests.random_scenario import Maker
 from tests.test_client import judge, scenario
 
-LONGEST = 60
+LONGEST = 120
 RUNS, ACTS = 10, 12
 REPLAYS, REPLAYED = 20, 50
 PROGRAM = sys.argv[1] if len(sys.argv) > 1 else BUILT
@@ -228,8 +228,8 @@ PAGE = """reads 0 3 writes 0 3 { if [0 < @3.1] { set @0.1 (@0.1 + @3.1); set @3.
 happens at position 1
 at 1: 1,35 and 4,0
 action 4 action 4
-draws 0,1,35 3,4,0 at 1
-draws 0,1,35 3,4,9 at 2
+draws 0,1,35 3,4,0, of which 0,3 changed
+draws 0,1,35 3,4,9, of which 3 changed
 life 2, 2 actions made, sees 4,9
 """
 
@@ -268,12 +268,43 @@ def test_mine(count, server, programs):
             count.same([each[-1] for each in seen], wanted, f"what player {number} sees at last")
 
 
+MEMBERS = """
+const all = await import("./dimboetu.js"), world = { number: 0, objects: 1, attributes: 1 };
+const made = { Client: new all.Client({ ...world, connect: () => null }), Knowledge: new all.Knowledge(world),
+    Term: all.obj(0).attr(0), Action: all.parseAction("reads 0 writes { }") };
+const names = one => [...Object.getOwnPropertyNames(one), ...Object.getOwnPropertyNames(Object.getPrototypeOf(one))];
+console.log(JSON.stringify({ exported: Object.keys(all),
+    members: Object.fromEntries(Object.entries(made).map(([name, one]) => [name, names(one)])) }));
+"""
+WITHIN = {"Client": {"from"}, "Term": {"constructor"}, "Action": {"constructor"}, "Knowledge": {"constructor"}}
+
+
+def members_of(block):
+    """The names that a class or an interface of the types has."""
+    return set(re.findall(r"^    (?:static )?(?:readonly )?(\w+)\??(?=[:(])", block, re.M))
+
+
 def test_types(count):
-    """The types name what the module exports."""
+    """The types name what the module exports, with the members of its classes, its options and its links."""
     with open(os.path.join(JS, "dimboetu.d.ts"), encoding="utf-8") as file:
-        named = set(re.findall(r"^export declare (?:class|function|const) (\w+)", file.read(), re.M))
-    done = node("--input-type=module", "-e", "console.log(Object.keys(await import('./dimboetu.js')).join(' '))", cwd=JS)
-    count.same(named, set(done.stdout.split()), "the types of dimboetu.d.ts")
+        types = file.read()
+    with open(os.path.join(JS, "dimboetu.js"), encoding="utf-8") as file:
+        source = file.read()
+    done = node("--input-type=module", "-e", MEMBERS, cwd=JS)
+    count.same(done.stderr, "", "what the module exports")
+    found = json.loads(done.stdout)
+    named = set(re.findall(r"^export declare (?:class|function|const) (\w+)", types, re.M))
+    count.same(named, set(found["exported"]), "the types of dimboetu.d.ts")
+    blocks = dict(re.findall(r"^export (?:declare class|interface) (\w+)[^{]*\{\n(.*?)^\}", types, re.M | re.S))
+    for name, members in found["members"].items():
+        count.same(members_of(blocks[name]) - WITHIN[name] - set(members), set(), f"{name} has what its type has")
+    term = {name for name in found["members"]["Term"] if not name.startswith("Symbol")}
+    count.same(members_of(blocks["Term"]), term, "the type of Term is whole")
+    options = re.search(r"constructor\(\{ (connect.*?), \.\.\.world \}\)", source, re.S)[1]
+    options = set(re.findall(r"(\w+)(?= = |,|$)", re.sub(r"\(.*?\) => \{\}|\{.*?\}", "x", options))) - {"x", "null", "Infinity"}
+    count.same(members_of(blocks["Options"]), {name for name in options if not name[0].isdigit()}, "the options of a client")
+    link = re.search(r"const link = \{(.*?)\n    \};|const link = \{(.*?)\};", source[source.index("function webSocketLink"):], re.S)
+    count.same(members_of(blocks["Link"]), set(re.findall(r"(\w+)(?=: |\(\) \{)", link[1] or link[2])), "what a link is")
 
 
 def test_pip(count, room):
