@@ -1,6 +1,7 @@
 -- The lemmas on living worlds.
 pub mod Deciding
 pub mod Heeding
+pub mod Pasts
 pub mod Seats
-pub mod Turns
 pub mod Standing
+pub mod Turns

@@ -23,13 +23,14 @@ use Rattle.sv_sequencer.specs.Cores.{core_rules, open_by, owed_by, session_at, f
 use Rattle.sv_sequencer.specs.Decisions.{reply_by}
 use Rattle.sv_sequencer.specs.Rows.{has_entry}
 use Rattle.sv_sequencer.specs.Step.{entry_of, end_entry}
-use Rattle.sv_living.specs.declared.living.LivingCore.{LivingCore}
+use Rattle.sv_living.specs.declared.live.Live.{Live}
 use Rattle.sv_living.specs.Deciding.{IsDecided, is_report}
-use Rattle.sv_living.specs.Keeping.{rules_at, stewardship_at, is_open, AreOpen, KeepsLiving, heard, living_entry, CarriedOn, Began, Left, Stepped, StoodStill}
+use Rattle.sv_living.specs.Keeping.{rules_at, stewardship_at, AreOpen, KeepsLiving, heard, living_entry, CarriedOn, Began, Left, Moved, StoodStill}
+use Rattle.sv_living.specs.Sessions.{is_open, next_session, may_begin, may_ask, AreInOrder}
 use Rattle.sv_living.specs.Table.{ends_below}
 use Rattle.sv_living.proofs.Heeding.{accepted_heeded, heeded_next, heard_none}
 use Rattle.sv_living.proofs.Seats.{others, others-push}
-use Rattle.sv_living.proofs.Turns.{unended, open-parts, open-still, open-answered, open-unused, open-less, open-more, next-below, next-free}
+use Rattle.sv_living.proofs.Turns.{unended, open-parts, open-still, open-answered, open-unused, open-less, open-more, next-below, next-free, begin-is, next-same, next-more}
 
 -- ---- What is heard of sessions
 
@@ -140,7 +141,7 @@ sits old new' h seat seated = seated.seats seat.slot ∙ ap (λ (b : Bool). cond
 
 -- ---- The whole
 
-pub opened-living : (c : LivingCore) (r : Rules) → core_rules c.core ≡ r → r.sessions ≡ None → ((s : ℕ) → session_at c.core s ≡ first_seat r.sessions s) → open_by c.core ≡ unwrap_or r.sessions 0
+pub opened-living : (c : Live) (r : Rules) → core_rules c.core ≡ r → r.sessions ≡ None → ((s : ℕ) → session_at c.core s ≡ first_seat r.sessions s) → open_by c.core ≡ unwrap_or r.sessions 0
     → Keeps c.core [] → c.table ≡ [] → c.next ≡ 0 → KeepsLiving c []
 opened-living c r rules endless seats count keeps table next = record {
   keeps = keeps;
@@ -153,32 +154,40 @@ opened-living c r rules endless seats count keeps table next = record {
     count = count ∙ ap (λ (o : Option ℕ). unwrap_or o 0) endless;
     entries = λ s. sym (le-ltb s 0 (omega arith));
   }));
+  next = next;
+  order = tt;
   legal = tt;
 }
   where
     nobody : (s : ℕ) → ◌≡◌ {A = Option ℕ} None (Some s) → ⊥
     nobody s is = cc
 
-module _ (c : LivingCore) (h : List Entry) (was : KeepsLiving c h) where
-  abbrev w : Stewardship
-  w = stewardship_at c
+-- A session may make a request where it is open, and where it is the next one and may begin.
+pub may-open : (h : List Entry) (s : ℕ) → is_open h s ≡ true → may_ask h s ≡ true
+may-open h s is = ap (λ (b : Bool). b || (nat_eq s (next_session h) && may_begin h)) is
 
-  abbrev r : Rules
-  r = rules_at c
+pub may-next : (h : List Entry) (s : ℕ) → s ≡ next_session h → may_begin h ≡ true → may_ask h s ≡ true
+may-next h s is begins = ap₂ (λ (a b : Bool). is_open h s || (a && b)) (eq-eqb s (next_session h) is) begins ∙ any (is_open h s)
+  where
+    any : (b : Bool) → (b || true) ≡ true
+    any true = refl
+    any false = refl
 
+module _ (c : Live) (h : List Entry) (was : KeepsLiving c h) where
   pub unseated-next : (s : ℕ) → s ≡ c.next → IsUnseated c.core s
   unseated-next s is slot at = let clash : false ≡ true = sym (next-free c.core c.core h c.table c.next was.table s is) ∙ (open-parts h s (was.table.only slot s at)).0 in cc
 
+  -- The same with another core, where it stands where it stood.
   pub stood-still : (core : Core) → Remained c.core core (heeded (stewardship_at c) h) → StoodStill c (record c { core = core }) h
   stood-still core still = record {
     rules = still.rules;
     stewards = refl;
-    next = refl;
-    table = refl;
     keeps = record {
       keeps = still.keeps;
       endless = ap (λ (x : Rules). x.sessions) still.rules ∙ was.endless;
       table = open-still c.core core h c.table c.next was.table still.seats still.count;
+      next = was.next;
+      order = was.order;
       legal = subst (λ (x : Rules). LegalFor (living (stewardship_at c)) x h) (sym still.rules) was.legal;
     };
   }
@@ -186,7 +195,15 @@ module _ (c : LivingCore) (h : List Entry) (was : KeepsLiving c h) where
   legal-next : (core : Core) (s : ℕ) (q : Request) → core_rules core ≡ core_rules c.core → LegalFor (living (stewardship_at c)) (core_rules core) (living_entry (stewardship_at c) (rules_at c) h s q ∷ h)
   legal-next core s q rules = subst (λ (x : Rules). LegalFor (living (stewardship_at c)) x (living_entry (stewardship_at c) (rules_at c) h s q ∷ h)) (sym rules) (refl, was.legal)
 
-  pub stepped-open : (core : Core) (s : ℕ) (q : Request) (a : Answer) → CarriedOn c.core core (stewardship_at c) h s q a → is_end q ≡ false → is_open h s ≡ true → Stepped c (record c { core = core }) h s q a
+  number-same : (s : ℕ) (q : Request) → is_open h s ≡ true → c.next ≡ next_session (living_entry (stewardship_at c) (rules_at c) h s q ∷ h)
+  number-same s q here = was.next ∙ sym (next-same h s q (reply_for (living (stewardship_at c)) (rules_at c) h s q) (open-parts h s here).0)
+
+  number-more : (s : ℕ) (q : Request) → s ≡ c.next → c.next + 1 ≡ next_session (living_entry (stewardship_at c) (rules_at c) h s q ∷ h)
+  number-more s q is =
+      ap (λ (n : ℕ). n + 1) was.next
+      ∙ sym (next-more h s q (reply_for (living (stewardship_at c)) (rules_at c) h s q) (next-free c.core c.core h c.table c.next was.table s is))
+
+  pub stepped-open : (core : Core) (s : ℕ) (q : Request) (a : Answer) → CarriedOn c.core core (stewardship_at c) h s q a → is_end q ≡ false → is_open h s ≡ true → Moved c (record c { core = core }) h s q a
   stepped-open core s q a on more here = record {
     rules = on.rules;
     stewards = refl;
@@ -194,6 +211,8 @@ module _ (c : LivingCore) (h : List Entry) (was : KeepsLiving c h) where
       keeps = on.keeps;
       endless = ap (λ (x : Rules). x.sessions) on.rules ∙ was.endless;
       table = open-answered c.core core h c.table c.next was.table s q (reply_for (living (stewardship_at c)) (rules_at c) h s q) on.seats on.count more here;
+      next = number-same s q here;
+      order = (may-open h s here, was.order);
       legal = legal-next core s q on.rules;
     };
     logged = on.logged;
@@ -201,7 +220,7 @@ module _ (c : LivingCore) (h : List Entry) (was : KeepsLiving c h) where
   }
 
   pub stepped-end : (core : Core) (seat : Seat) (a : Answer) → Left c.core core (stewardship_at c) h seat → SitsAt c.core seat → is_open h seat.session ≡ true → a.logged ≡ logged.Bye → a.reply ≡ replies.Bye
-      → Stepped c (record c { core = core; table = others seat.session c.table }) h seat.session requests.End a
+      → Moved c (record c { core = core; table = others seat.session c.table }) h seat.session requests.End a
   stepped-end core seat a left at here logged' reply = record {
     rules = left.rules;
     stewards = refl;
@@ -209,15 +228,17 @@ module _ (c : LivingCore) (h : List Entry) (was : KeepsLiving c h) where
       keeps = left.keeps;
       endless = ap (λ (x : Rules). x.sessions) left.rules ∙ was.endless;
       table = open-less c.core core h c.table c.next was.table seat at was.keeps.seats.once left.seats left.count here;
+      next = number-same seat.session requests.End here;
+      order = (may-open h seat.session here, was.order);
       legal = legal-next core seat.session requests.End left.rules;
     };
     logged = logged';
     whole = reply;
   }
 
-  pub stepped-first : (core : Core) (table : List Seat) (s : ℕ) (q : Request) (a : Answer) → Began c.core core c.table table (stewardship_at c) h s q a → is_end q ≡ false → s ≡ c.next
-      → Stepped c (record c { core = core; table = table; next = c.next + 1 }) h s q a
-  stepped-first core table s q a began more is = record {
+  pub stepped-first : (core : Core) (table : List Seat) (s : ℕ) (q : Request) (a : Answer) → Began c.core core c.table table (stewardship_at c) h s q a → is_end q ≡ false → s ≡ c.next → may_begin h ≡ true
+      → Moved c (record c { core = core; table = table; next = c.next + 1 }) h s q a
+  stepped-first core table s q a began more is begins = record {
     rules = on.rules ∙ seated.rules;
     stewards = refl;
     keeps = record {
@@ -227,6 +248,8 @@ module _ (c : LivingCore) (h : List Entry) (was : KeepsLiving c h) where
           (subst (λ (n : ℕ). AreOpen core (entry_of n q (reply_for (living (stewardship_at c)) (rules_at c) h s q) ∷ h) (c.table ++ began.seat ∷ []) (c.next + 1)) began.number
           (open-more c.core core h c.table c.next was.table began.seat q (reply_for (living (stewardship_at c)) (rules_at c) h s q) seated.free
           (λ slot. on.seats slot ∙ seated.seats slot) (on.count ∙ seated.count) more (began.number ∙ is) (next-free c.core core h c.table c.next was.table began.seat.session (began.number ∙ is))));
+      next = number-more s q is;
+      order = (may-next h s (is ∙ was.next) begins, was.order);
       legal = legal-next core s q (on.rules ∙ seated.rules);
     };
     logged = subst (λ (x : Rules). a.logged ≡ reply_for (living (stewardship_at c)) x h s q) seated.rules on.logged;
@@ -240,9 +263,9 @@ module _ (c : LivingCore) (h : List Entry) (was : KeepsLiving c h) where
       on = began.seated.1.1
 
   -- The next session made no request but its End.
-  pub stepped-unused : (mid core : Core) (seat : Seat) (s : ℕ) (a : Answer) → WasSeated c.core mid (heeded (stewardship_at c) h) seat → Left mid core (stewardship_at c) h seat → seat.session ≡ s → s ≡ c.next
-      → a.logged ≡ logged.Bye → a.reply ≡ replies.Bye → Stepped c (record c { core = core; next = c.next + 1 }) h s requests.End a
-  stepped-unused mid core seat s a seated left number is logged' reply = record {
+  pub stepped-unused : (mid core : Core) (seat : Seat) (s : ℕ) (a : Answer) → WasSeated c.core mid (heeded (stewardship_at c) h) seat → Left mid core (stewardship_at c) h seat → seat.session ≡ s → s ≡ c.next → may_begin h ≡ true
+      → a.logged ≡ logged.Bye → a.reply ≡ replies.Bye → Moved c (record c { core = core; next = c.next + 1 }) h s requests.End a
+  stepped-unused mid core seat s a seated left number is begins logged' reply = record {
     rules = left.rules ∙ seated.rules;
     stewards = refl;
     keeps = record {
@@ -250,6 +273,8 @@ module _ (c : LivingCore) (h : List Entry) (was : KeepsLiving c h) where
       endless = ap (λ (x : Rules). x.sessions) (left.rules ∙ seated.rules) ∙ was.endless;
       table = open-unused c.core core h c.table c.next was.table s (λ slot. left.seats slot ∙ ap (λ (o : Option ℕ). cond (nat_eq seat.slot slot) None o) (seated.seats slot) ∙ freed slot)
           (let a : open_by mid ≡ open_by c.core + 1 = seated.count in let b : open_by core + 1 ≡ open_by mid = left.count in omega (arith, a, b)) is (next-free c.core core h c.table c.next was.table s is);
+      next = number-more s requests.End is;
+      order = (may-next h s (is ∙ was.next) begins, was.order);
       legal = legal-next core s requests.End (left.rules ∙ seated.rules);
     };
     logged = logged';

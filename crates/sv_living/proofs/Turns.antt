@@ -1,9 +1,13 @@
 -- Which sessions are open, entry by entry.
 use Rattle.std.proofs.Common.{◌≡◌, ℕ, zero, suc, ◌+◌, ◌<◌, inl, inr, Bool, true, false, ◌&&◌, ◌||◌, not, cond, All, List, [], ◌∷◌, ◌++◌, length, get_or, nat_eq, nat_lt, Option, Some, None, refl, sym, ◌∙◌, ap, ap₂, subst, arith, eq-eqb, ne_eqb, ltb-true}
 use Rattle.std.proofs.lemmas.Bool.{cases_lt, cases_eq, and_parts, and_from, eqb-true, or_parts, not-true, lt-ltb, le-ltb}
-use Rattle.std.proofs.lemmas.List.{length-append}
+use Rattle.std.proofs.lemmas.List.{length-append, length-map}
 use Rattle.std.proofs.lemmas.List.Elements.{All-weaker, All-append}
-use Rattle.sv_world.specs.Control.{is_in}
+use Rattle.sv_world.specs.Control.{is_in, below}
+use Rattle.sv_world.specs.Limits.{most_open}
+use Rattle.sv_world.proofs.Ascending.{ascending-filter, ascending_same}
+use Rattle.sv_world.proofs.Bases.{is_in-below, below-ascending}
+use Rattle.sv_world.proofs.Members.{is_in-filter, is_in-filter_parts}
 use Rattle.sv_wire.specs.declared.message.Request.{Request}
 use Rattle.sv_wire.specs.declared.message.Request.TheVariants as requests
 use Rattle.sv_journal.specs.declared.entry.Entry.{Entry}
@@ -14,7 +18,8 @@ use Rattle.sv_sequencer.specs.declared.server_core.Core.{Core}
 use Rattle.sv_sequencer.specs.Cores.{open_by, session_at, SitsAt}
 use Rattle.sv_sequencer.specs.Rows.{has_entry}
 use Rattle.sv_sequencer.specs.Step.{entry_of, end_entry}
-use Rattle.sv_living.specs.Keeping.{is_open, AreOpen}
+use Rattle.sv_living.specs.Keeping.{AreOpen}
+use Rattle.sv_living.specs.Sessions.{is_open, next_session, open_sessions, most_session, may_begin}
 use Rattle.sv_living.specs.Table.{numbers_in, ends_below}
 use Rattle.sv_living.proofs.Seats.{others, others-ascending, others-length, others-numbers, all-others, below-all, push-ascending, push-numbers}
 
@@ -188,3 +193,32 @@ module _ (old new' : Core) (h : List Entry) (seats : List Seat) (next : ℕ) (wa
       alone : All (SitsAt new') (seat ∷ [])
       alone zero d low = taken seat.slot ∙ ap (λ (b : Bool). cond b (Some seat.session) (session_at old seat.slot)) (eq-eqb seat.slot seat.slot refl)
       alone (suc k) d low = absurd (omega (arith, low))
+
+-- ---- What the table says of all sessions
+
+module _ (core : Core) (h : List Entry) (seats : List Seat) (next : ℕ) (was : AreOpen core h seats next) (is : next ≡ next_session h) where
+  -- Its sessions are the open ones.
+  pub numbers-are : numbers_in seats ≡ open_sessions h
+  numbers-are = ascending_same (numbers_in seats) (open_sessions h) was.order (ascending-filter (is_open h) (below (next_session h)) (below-ascending (next_session h))) into from
+    where
+      into : (j : ℕ) → is_in j (numbers_in seats) ≡ true → is_in j (open_sessions h) ≡ true
+      into j m =
+          let here : is_open h j ≡ true = sym (was.numbers j) ∙ m in
+          let low : j < next = ltb-true j next (sym (was.entries j) ∙ (open-parts h j here).0) in
+          is_in-filter (is_open h) j (below (next_session h)) (is_in-below (next_session h) j (subst (λ (n : ℕ). j < n) is low)) here
+
+      from : (j : ℕ) → is_in j (open_sessions h) ≡ true → is_in j (numbers_in seats) ≡ true
+      from j m = was.numbers j ∙ (is_in-filter_parts (is_open h) j (below (next_session h)) m).1
+
+  pub count-is : length seats ≡ length (open_sessions h)
+  count-is = sym (length-map seats (λ (seat : Seat). seat.session)) ∙ ap length numbers-are
+
+  pub begin-is : (nat_lt (length seats) most_open && nat_lt next most_session) ≡ may_begin h
+  begin-is = ap₂ (λ (m n : ℕ). nat_lt m most_open && nat_lt n most_session) count-is is
+
+-- The number of the next session, with one more entry.
+pub next-same : (h : List Entry) (s : ℕ) (q : Request) (reply : Logged) → has_entry h s ≡ true → next_session (entry_of s q reply ∷ h) ≡ next_session h
+next-same h s q reply here = ap (λ (b : Bool). cond b (next_session h) (suc (next_session h))) here
+
+pub next-more : (h : List Entry) (s : ℕ) (q : Request) (reply : Logged) → has_entry h s ≡ false → next_session (entry_of s q reply ∷ h) ≡ next_session h + 1
+next-more h s q reply none = ap (λ (b : Bool). cond b (next_session h) (suc (next_session h))) none ∙ omega arith

@@ -1,13 +1,10 @@
--- What a living world's core keeps of a history, and what a step makes of both.
--- A history is the list of entries with the latest first. The core has none of them: a caller names the history that it keeps.
-use Rattle.std.specs.Prelude.{◌≡◌, ℕ, ◌+◌, ◌<◌, Bool, true, false, ◌&&◌, not, ◌⊎◌, ◌==◌, nat_lt, List, [], ◌∷◌, ◌++◌, length, Option, Some, None, All, if◌then◌else◌}
+-- What is live of a world without end, by a history of all entries, and what a step makes of both.
+-- A history is the list of entries with the latest first. What is live has none of them: the contracts name the one that it keeps.
+use Rattle.std.specs.Prelude.{◌≡◌, ℕ, ◌+◌, Bool, true, false, ◌==◌, nat_lt, List, [], ◌∷◌, ◌++◌, length, Option, Some, None, All, if◌then◌else◌}
 use Rattle.sv_world.specs.Control.{is_in}
-use Rattle.sv_world.specs.Limits.{most_open}
 use Rattle.sv_wire.specs.declared.message.Request.{Request}
 use Rattle.sv_journal.specs.declared.entry.Entry.{Entry}
-use Rattle.sv_journal.specs.declared.entry.Logged.{Logged}
 use Rattle.sv_journal.specs.History.{accepted, full_reply}
-use Rattle.sv_journal.specs.Sessions.{is_ended}
 use Rattle.sv_journal.specs.Answer.{Rules}
 use Rattle.sv_journal.specs.Serving.{with_results, reply_for, LegalFor}
 use Rattle.sv_journal.specs.Living.{Stewardship, counts, heeded, living}
@@ -17,28 +14,25 @@ use Rattle.sv_sequencer.specs.declared.server_core.Core.{Core}
 use Rattle.sv_sequencer.specs.Cores.{core_rules, open_by, session_at, SitsAt, Keeps, WasSeated}
 use Rattle.sv_sequencer.specs.Rows.{has_entry}
 use Rattle.sv_sequencer.specs.Step.{entry_of, end_entry}
-use Rattle.sv_living.specs.declared.living.LivingCore.{LivingCore}
-use Rattle.sv_living.specs.declared.living.Stewards.{Stewards}
+use Rattle.sv_living.specs.declared.live.Live.{Live}
+use Rattle.sv_living.specs.declared.stewards.Stewards.{Stewards}
+use Rattle.sv_living.specs.Sessions.{is_open, next_session, AreInOrder}
 use Rattle.sv_living.specs.Table.{numbers_in, IsByNumber}
 
--- What the core was opened with, and its stewardship.
-abbrev pub rules_at : LivingCore → Rules
+-- What the core was opened with, and the stewardship.
+abbrev pub rules_at : Live → Rules
 rules_at c = core_rules c.core
 
 abbrev pub stewardship_of : Stewards → Stewardship
 stewardship_of stewards = record { steward = stewards.steward; authority = stewards.authority }
 
-abbrev pub stewardship_at : LivingCore → Stewardship
+abbrev pub stewardship_at : Live → Stewardship
 stewardship_at c = stewardship_of c.stewards
 
 -- A history of all entries, and by whose reports a server goes.
 pub record Course : Type 0 where
   pub w : Stewardship
   pub h : List Entry
-
--- A session is open: it has an entry, and had no End.
-abbrev pub is_open : List Entry → ℕ → Bool
-is_open h s = has_entry h s && not (is_ended h s)
 
 -- The open sessions are those of the table, at the slots where they sit; and those below a number are the ones that have an entry.
 pub record AreOpen (core : Core) (h : List Entry) (seats : List Seat) (next : ℕ) : Type 0 where
@@ -49,20 +43,15 @@ pub record AreOpen (core : Core) (h : List Entry) (seats : List Seat) (next : �
   pub count : open_by core ≡ length seats
   pub entries : (s : ℕ) → has_entry h s ≡ nat_lt s next
 
--- The core stands where a history of all entries leads: its core where the results that count lead. The history is legal.
-pub record KeepsLiving (c : LivingCore) (h : List Entry) : Type 0 where
+-- What is live stands where a history of all entries leads: its core where the results that count lead. The history is legal, and its sessions
+-- began in order.
+pub record KeepsLiving (c : Live) (h : List Entry) : Type 0 where
   pub keeps : Keeps c.core (heeded (stewardship_at c) h)
   pub endless : (rules_at c).sessions ≡ None
   pub table : AreOpen c.core h c.table c.next
+  pub next : c.next ≡ next_session h
+  pub order : AreInOrder h
   pub legal : LegalFor (living (stewardship_at c)) (rules_at c) h
-
--- The numbers of sessions are below this one.
-abbrev pub most_session : ℕ
-most_session = 18446744073709551615
-
--- A session may make a request: it is open, or it is the next one, and few enough are open.
-abbrev pub MayStep : LivingCore → List Entry → ℕ → Type 0
-MayStep c h s = (is_open h s ≡ true) ⊎ ((s ≡ c.next) × ((length c.table < most_open) × (s < most_session)))
 
 -- A request with those of its results alone that count.
 abbrev pub heard : Stewardship → List Entry → ℕ → Request → Request
@@ -96,8 +85,8 @@ pub record Left (old new : Core) (w : Stewardship) (h : List Entry) (seat : Seat
   pub count : open_by new + 1 ≡ open_by old
   pub keeps : Keeps new (heeded w (end_entry seat.session ∷ h))
 
--- A request was answered by the reply that the history gives, as it is kept and in full, and the core stands where its entry leads.
-pub record Stepped (old new : LivingCore) (h : List Entry) (s : ℕ) (request : Request) (answer : Answer) : Type 0 where
+-- A request was answered by the reply that the history gives, as it is kept and in full, and what is live stands where its entry leads.
+pub record Moved (old new : Live) (h : List Entry) (s : ℕ) (request : Request) (answer : Answer) : Type 0 where
   pub rules : rules_at new ≡ rules_at old
   pub stewards : stewardship_at new ≡ stewardship_at old
   pub keeps : KeepsLiving new (living_entry (stewardship_at old) (rules_at old) h s request ∷ h)
@@ -105,10 +94,8 @@ pub record Stepped (old new : LivingCore) (h : List Entry) (s : ℕ) (request : 
   pub whole : answer.reply
       ≡ full_reply (accepted (living_entry (stewardship_at old) (rules_at old) h s request ∷ h)) (reply_for (living (stewardship_at old)) (rules_at old) h s request)
 
--- The core stands where it stood.
-pub record StoodStill (old new : LivingCore) (h : List Entry) : Type 0 where
+-- What is live stands where it stood.
+pub record StoodStill (old new : Live) (h : List Entry) : Type 0 where
   pub rules : rules_at new ≡ rules_at old
   pub stewards : stewardship_at new ≡ stewardship_at old
-  pub next : new.next ≡ old.next
-  pub table : new.table ≡ old.table
   pub keeps : KeepsLiving new h

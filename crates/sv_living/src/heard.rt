@@ -8,7 +8,7 @@ ghost use Rattle.sv_sequencer.specs.Cores.{SitsAt, Keeps};
 ghost use Rattle.sv_living.specs.Deciding.{answers_poll, is_report};
 ghost use Rattle.sv_living.specs.Keeping.{Course, stewardship_of};
 
-use crate::living::Stewards;
+use crate::stewards::Stewards;
 use sv_sequencer::{Core, Decision, Seat};
 use sv_wire::Request;
 

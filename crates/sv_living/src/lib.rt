@@ -2,12 +2,17 @@
 #![tactic(auto)]
 
 mod due;
+mod fault;
 mod heard;
 mod laws;
+mod live;
 mod living;
+mod past;
 mod step;
+mod stewards;
 mod table;
 
+pub use fault::StepFault;
 pub use laws::decisions_are_by_what_counts;
-pub use living::{LivingCore, Stewards};
-pub use table::OpenSessions;
+pub use living::LivingCore;
+pub use stewards::Stewards;

@@ -1,113 +1,137 @@
 //! A living world's core, and what it tells.
-ghost use Rattle.std.specs.Prelude.{◌≡◌, ◌<◌, ◌≤◌, List, true, [], None, length, slice_index_or, All, IfOk};
+ghost use Rattle.std.specs.Prelude.{◌≡◌, ◌<◌, ◌≤◌, true, [], None, length, slice_index_or, All, IfOk, IfErr, IsOk, MatchResult};
 ghost use Rattle.sv_world.specs.Limits.{most_positions};
 ghost use Rattle.sv_world.specs.Worlds.{IsGoodWorld};
-ghost use Rattle.sv_journal.specs.declared.entry.Entry.{Entry};
 ghost use Rattle.sv_journal.specs.History.{accepted, commit_of, committed_of};
 ghost use Rattle.sv_journal.specs.Laws.{IsRightful};
-ghost use Rattle.sv_journal.specs.Living.{heeded};
-ghost use Rattle.sv_sequencer.specs.Cores.{IsKept};
-ghost use Rattle.sv_living.specs.Keeping.{rules_at, stewardship_of, stewardship_at, is_open, KeepsLiving, MayStep};
+ghost use Rattle.sv_journal.specs.Sessions.{is_end};
+ghost use Rattle.sv_journal.specs.Serving.{LegalFor};
+ghost use Rattle.sv_journal.specs.Living.{living};
+ghost use Rattle.sv_living.specs.Keeping.{stewardship_of};
+ghost use Rattle.sv_living.specs.Sessions.{is_open, next_session, open_sessions, may_begin, may_ask, AreInOrder};
+ghost use Rattle.sv_living.specs.World.{heeded_in, Answered, IsStepFault};
 
-use crate::table::OpenSessions;
+use crate::fault::StepFault;
+use crate::live::Live;
+use crate::past::Past;
+use crate::stewards::Stewards;
 use std::alloc::{AllocError, Global};
-use sv_sequencer::{Core, Opened};
-use sv_world::{MOST_OPEN, ObjectId, Value};
-
-/// Which client is the steward, where there is one, and whether its reports alone bring results.
-#[derive(Clone, Copy, Debug, Drop, PartialEq, Eq)]
-pub struct Stewards {
-    pub steward: Option<u16>,
-    pub authority: bool,
-}
+use std::marker::Model;
+use sv_sequencer::{Answer, Opened};
+use sv_wire::Request;
+use sv_world::{ObjectId, Value};
 
 /// The core of a living world's server: it answers the requests of sessions without end, and keeps just what is live.
 ///
-/// It has no history. Its contracts speak of one, which the caller names: that of all entries so far.
+/// Contracts see it with the history of all entries so far, which takes no memory. Its sessions are numbered 0, 1, 2, .. in the order of
+/// their first requests, and at most 1,024 are open at once.
 #[derive(Drop)]
 pub struct LivingCore {
-    pub(crate) alloc: Global,
-    /// It goes by the results that count.
-    pub(crate) core: Core,
-    pub(crate) stewards: Stewards,
-    /// The sessions that have an entry and had no End.
-    pub(crate) table: OpenSessions,
-    /// The least number that no session has had.
-    pub(crate) next: u64,
+    pub(crate) live: Live,
+    pub(crate) past: Past,
+}
+
+impl Model for LivingCore {
+    ghost use Rattle.std.specs.Coded.{codes};
+    ghost use Rattle.sv_journal.specs.contracts.entry.Entry as entry;
+    ghost use Rattle.sv_living.specs.World.{WorldView};
+
+    ghost Value = { WorldView };
+
+    ghost coded = { Prim.hlevel (codes, entry.the_row.coded) };
+
+    ghost use Rattle.sv_living.specs.Invariant.{world_of, IsLiving};
+
+    ghost view = { world_of };
+
+    ghost invariant = { IsLiving };
 }
 
 impl LivingCore {
-    /// Opens a living world.
+    /// Opens a living world in which nobody has asked anything.
     pub fn new(alloc: Global, opened: Opened, stewards: Stewards) -> Result<LivingCore, AllocError>
         requires world { IsGoodWorld opened.world }
         requires endless { opened.sessions ≡ None }
         requires positions { opened.positions ≤ most_positions }
-        ensures rules { IfOk result (λ c. rules_at c ≡ opened) }
-        ensures stewards { IfOk result (λ c. stewardship_at c ≡ stewardship_of stewards) }
-        ensures next { IfOk result (λ c. c.next ≡ 0) }
-        ensures keeps { IfOk result (λ c. KeepsLiving c []) }
+        ensures { IfOk result (λ c. c ≡ record { rules = opened; stewardship = stewardship_of stewards; history = [] }) }
     {
         Ok(LivingCore {
-            alloc,
-            core: Core::new(alloc, opened)?,
-            stewards,
-            table: OpenSessions::new(alloc),
-            next: 0,
+            live: Live::new(alloc, opened, stewards)?,
+            past: Past::new(),
         })
+    }
+
+    /// Answers a request of a session that is open, or of the next one, which begins by it. The reply is the one of the answer table.
+    ///
+    /// Where it is not answered everything is as it was, but for room. The End of an open session takes no memory.
+    pub fn step(&mut self, session: u64, request: &Request) -> Result<Answer, StepFault>
+        ensures ok { IfOk result (Answered self.old self.new session request.now) }
+        ensures err { IfErr result (λ _. self.new ≡ self.old) }
+        ensures cause { MatchResult result (λ _. may_ask self.old.history session ≡ true) (IsStepFault self.old.history session) }
+        ensures end { is_end request.now ≡ true → is_open self.old.history session ≡ true → IsOk result }
+    {
+        let answer = self.live.step(session, request)?;
+        self.past.enter(session, request, &answer.logged);
+        Ok(answer)
     }
 
     /// The number of the next session: the least one without an entry.
     pub fn next(&self) -> u64
-        ensures { result ≡ self.now.next }
+        ensures { result ≡ next_session self.now.history }
     {
-        self.next
+        self.live.next
     }
 
     /// How many sessions are open.
     pub fn open_count(&self) -> usize
-        ensures { result ≡ length self.now.table }
+        ensures { result ≡ length (open_sessions self.now.history) }
     {
-        self.table.len()
+        self.live.open_count()
     }
 
-    /// Whether a session is open.
+    /// Whether a session is open: it has an entry, and had no End.
     pub fn is_open(&self, session: u64) -> bool
-        ensures { (h : List Entry) → KeepsLiving self.now h → result ≡ is_open h session }
+        ensures { result ≡ is_open self.now.history session }
     {
-        self.table.seat_of(session).is_some()
+        self.live.is_open(session)
     }
 
-    /// Whether a session may make a request: it is open, or it is the next one and few enough are open.
-    pub fn may_step(&self, session: u64) -> bool
-        ensures { (h : List Entry) → KeepsLiving self.now h → result ≡ true → MayStep self.now h session }
+    /// Whether one more session may begin.
+    pub fn may_begin(&self) -> bool
+        ensures { result ≡ may_begin self.now.history }
     {
-        if self.is_open(session) {
-            return true;
-        }
-        session == self.next && self.table.len() < MOST_OPEN as usize && session < u64::MAX
+        self.live.may_begin()
+    }
+
+    /// The last accepted position.
+    pub fn last(&self) -> u32
+        ensures { result ≡ length (accepted self.now.history) }
+    {
+        self.live.core.last()
     }
 
     /// The greatest position up to which all results that count are installed.
     pub fn commit(&self) -> u32
-        ensures { (h : List Entry) → KeepsLiving self.now h → result ≡ commit_of (heeded (stewardship_at self.now) h) }
+        ensures { result ≡ commit_of (heeded_in self.now) }
     {
-        self.core.commit()
+        self.live.core.commit()
     }
 
     /// The value of an object at the commit.
     pub fn committed(&self, object: ObjectId) -> &Value
-        requires kept { IsKept self.now.core }
-        requires object { object.0 < (rules_at self.now).world.shape.objects }
-        ensures { (h : List Entry) → KeepsLiving self.now h →
-            result.now ≡ slice_index_or (committed_of (rules_at self.now).world.values (heeded (stewardship_at self.now) h)) object.0 [] }
+        requires { object.0 < self.now.rules.world.shape.objects }
+        ensures { result.now ≡ slice_index_or (committed_of self.now.rules.world.values (heeded_in self.now)) object.0 [] }
     {
-        self.core.committed(object)
+        self.live.core.committed(object)
     }
 
-    /// A law: every accepted action writes only what its author may write.
-    pub fn accepted_actions_are_rightful(&self)
-        ensures { (h : List Entry) → KeepsLiving self.now h → All (IsRightful (rules_at self.now)) (accepted h) }
+    /// A law: at any time each reply is the one of the answer table, sessions began in the order of their numbers with at most 1,024 open,
+    /// and every accepted action writes only what its author may write.
+    pub fn is_lawful(&self)
+        ensures legal { LegalFor (living self.now.stewardship) self.now.rules self.now.history }
+        ensures order { AreInOrder self.now.history }
+        ensures rightful { All (IsRightful self.now.rules) (accepted self.now.history) }
     {
-        let _ = &self.core;
+        let _ = &self.live;
     }
 }

@@ -1,5 +1,5 @@
-//! A step of a living world's core. Its core decides by the history of the results that count, but for what the steward polls.
-ghost use Rattle.std.specs.Prelude.{◌≡◌, ◌&&◌, List, ◌<◌, true, false, None, length, IfOk, IsOk, OnErr};
+//! A step of what is live. Its core decides by the history of the results that count, but for what the steward polls.
+ghost use Rattle.std.specs.Prelude.{◌≡◌, ◌&&◌, List, ◌<◌, true, false, None, length, IfOk, IfErr, IsOk, OnErr, MatchResult};
 ghost use Rattle.sv_world.specs.Limits.{most_open};
 ghost use Rattle.sv_wire.specs.declared.message.Request.TheVariants as requests;
 ghost use Rattle.sv_wire.specs.declared.message.Reply.TheVariants as replies;
@@ -10,12 +10,16 @@ ghost use Rattle.sv_journal.specs.Living.{is_stewards, heeded};
 ghost use Rattle.sv_sequencer.specs.Cores.{core_rules, open_by, SitsAt, Keeps, IsUnseated, Remained};
 ghost use Rattle.sv_sequencer.specs.Rows.{has_entry};
 ghost use Rattle.sv_living.specs.Deciding.{answers_poll, IsDecided};
-ghost use Rattle.sv_living.specs.Keeping.{Course, stewardship_of, stewardship_at, is_open, most_session, KeepsLiving, MayStep, Stepped, StoodStill, CarriedOn, Began, Left};
+ghost use Rattle.sv_living.specs.Keeping.{Course, stewardship_of, stewardship_at, KeepsLiving, Moved, StoodStill, CarriedOn, Began, Left};
+ghost use Rattle.sv_living.specs.Sessions.{is_open, most_session, may_begin, may_ask};
 ghost use Rattle.sv_living.specs.Table.{ends_below};
+ghost use Rattle.sv_living.specs.World.{IsStepFault};
 
 use crate::due::due_decision;
+use crate::fault::StepFault;
 use crate::heard::{answers_poll, is_silent, is_stewards};
-use crate::living::{LivingCore, Stewards};
+use crate::live::Live;
+use crate::stewards::Stewards;
 use crate::table::OpenSessions;
 use std::alloc::{AllocError, Global};
 use sv_journal::Logged;
@@ -147,22 +151,28 @@ fn begin(
     }
 }
 
-impl LivingCore {
-    /// Answers a request of a session that is open, or is the next one. `h` is the history of all entries so far.
+impl Live {
+    /// Answers a request of a session that is open, or of the next one. `h` is the history of all entries so far.
     ///
-    /// After running out of memory everything is as it was, but for room. The End of an open session takes no memory.
-    pub fn step(&mut self, session: u64, request: &Request) -> Result<Answer, AllocError>
+    /// Where it is not answered everything is as it was, but for room.
+    pub fn step(&mut self, session: u64, request: &Request) -> Result<Answer, StepFault>
         ghost h: { List Entry }
-        requires keeps { KeepsLiving self.old h }
-        requires may { MayStep self.old h session }
-        ensures ok { IfOk result (Stepped self.old self.new h session request.now) }
-        ensures err { OnErr result (StoodStill self.old self.new h) }
+        requires { KeepsLiving self.old h }
+        ensures ok { IfOk result (Moved self.old self.new h session request.now) }
+        ensures err { IfErr result (λ _. StoodStill self.old self.new h) }
+        ensures cause { MatchResult result (λ _. may_ask h session ≡ true) (IsStepFault h session) }
         ensures end { is_end request.now ≡ true → is_open h session ≡ true → IsOk result }
     {
-        match self.table.seat_of(session) {
-            Some(seat) => self.step_open(seat, request),
-            None => self.step_first(session, request),
+        if let Some(seat) = self.table.seat_of(session) {
+            return Ok(self.step_open(seat, request)?);
         }
+        if session != self.next {
+            return Err(StepFault::NotOpen);
+        }
+        if !self.may_begin() {
+            return Err(StepFault::NoRoom);
+        }
+        Ok(self.step_first(session, request)?)
     }
 
     /// Answers a request of a session that is open.
@@ -172,7 +182,7 @@ impl LivingCore {
         requires stewards { g.w ≡ stewardship_at self.old }
         requires seat { SitsAt self.old.core seat }
         requires open { is_open g.h seat.session ≡ true }
-        ensures ok { IfOk result (Stepped self.old self.new g.h seat.session request.now) }
+        ensures ok { IfOk result (Moved self.old self.new g.h seat.session request.now) }
         ensures err { OnErr result (StoodStill self.old self.new g.h) }
         ensures end { is_end request.now ≡ true → IsOk result }
     {
@@ -190,9 +200,10 @@ impl LivingCore {
         requires keeps { KeepsLiving self.old g.h }
         requires stewards { g.w ≡ stewardship_at self.old }
         requires next { session ≡ self.old.next }
+        requires begin { may_begin g.h ≡ true }
         requires room { length self.old.table < most_open }
         requires last { session < most_session }
-        ensures ok { IfOk result (Stepped self.old self.new g.h session request.now) }
+        ensures ok { IfOk result (Moved self.old self.new g.h session request.now) }
         ensures err { OnErr result (StoodStill self.old self.new g.h) }
     {
         if let Request::End = request {
@@ -216,9 +227,10 @@ impl LivingCore {
         requires keeps { KeepsLiving self.old g.h }
         requires stewards { g.w ≡ stewardship_at self.old }
         requires next { session ≡ self.old.next }
+        requires begin { may_begin g.h ≡ true }
         requires room { length self.old.table < most_open }
         requires last { session < most_session }
-        ensures ok { IfOk result (Stepped self.old self.new g.h session requests.End) }
+        ensures ok { IfOk result (Moved self.old self.new g.h session requests.End) }
         ensures err { OnErr result (StoodStill self.old self.new g.h) }
     {
         let seat = self.core.open(session)?;

@@ -1,20 +1,18 @@
 //! Journals of living worlds, typed from the rules by hand: a living world's core that is asked what their lines ask answers as they tell.
 #![tactic(auto)]
 
-ghost use Rattle.std.specs.Prelude.{◌≡◌, None, IfOk, OnOk, OnErr};
-ghost use Rattle.sv_journal.specs.declared.entry.Entry.{Entry};
-ghost use Rattle.sv_living.specs.Keeping.{KeepsLiving};
-
 mod outcomes;
 mod rights;
+mod room;
 mod sessions;
 mod stewards;
 
 use std::alloc::Global;
 use std::test::Fail;
 use sv_journal::{Entry as Line, Journal};
+use sv_lines::Asked;
 use sv_living::{LivingCore, Stewards};
-use sv_sequencer::Opened;
+use sv_sequencer::{Answer, Opened};
 use sv_wire::Request;
 use sv_world::{List, NumberRange, Right};
 use test_asked::{asked_in, check_lines, world_of};
@@ -64,45 +62,69 @@ fn opened(alloc: Global, setting: Setting) -> Result<LivingCore, Fail> {
     Ok(LivingCore::new(alloc, opened, setting.stewards)?)
 }
 
-/// Asks a request of a session that may make one, and tells the reply as a journal keeps it.
-fn ask(core: &mut LivingCore, session: u64, request: &Request) -> Result<sv_journal::Logged, Fail> {
-    if !core.may_step(session) {
-        return Err(Fail::new("no such session may ask"));
-    }
-    let answer = core.step(session, request)?;
-    Ok(answer.logged)
-}
-
-/// Asks what lines ask, each session by its number behind `before` earlier ones.
-fn play(
+/// Asks what a line asks, of its session by its number behind `before` earlier ones, and notes the reply.
+fn ask_line(
     alloc: Global,
     core: &mut LivingCore,
     journal: &mut Journal,
     before: u64,
-    lines: &str,
+    line: &str,
 ) -> Result<(), Fail> {
-    for line in lines.lines() {
-        let asked = asked_in(alloc, line)?;
-        let reply = ask(core, before + u64::from(asked.session), &asked.request)?;
-        journal.reserve(1)?;
-        journal.push(Line {
-            session: asked.session,
-            request: asked.request,
-            reply,
-        });
+    let asked = asked_in(alloc, line)?;
+    let session = before.saturating_add(u64::from(asked.session));
+    match core.step(session, &asked.request) {
+        Ok(answer) => note(journal, asked, answer),
+        Err(fault) => {
+            // At the end of its scope it would make a long proof; a call that takes it makes none.
+            drop(asked);
+            Err(Fail::from(fault))
+        }
+    }
+}
+
+fn note(journal: &mut Journal, asked: Asked, answer: Answer) -> Result<(), Fail> {
+    let Asked { session, request } = asked;
+    let Answer { logged, reply } = answer;
+    drop(reply);
+    let entry = Line {
+        session,
+        request,
+        reply: logged,
+    };
+    if let Err(error) = journal.reserve(1) {
+        drop(entry);
+        return Err(Fail::from(error));
+    }
+    journal.push(entry);
+    Ok(())
+}
+
+/// So many sessions come and go.
+fn pass_sessions(core: &mut LivingCore, count: u64) -> Result<(), Fail> {
+    for session in 0..count {
+        let answer = core.step(session, &Request::End)?;
+        drop(answer);
     }
     Ok(())
 }
 
+/// Asks what lines ask, and checks what they tell.
+fn check_on(alloc: Global, core: &mut LivingCore, setting: Setting, lines: &str) -> Result<(), Fail> {
+    pass_sessions(core, setting.before)?;
+    let mut journal = Journal::new(alloc);
+    for line in lines.lines() {
+        ask_line(alloc, core, &mut journal, setting.before, line)?;
+    }
+    let objects = u16::try_from(setting.numbers.len()).unwrap_or(u16::MAX);
+    let told = check_lines(alloc, &journal, objects, 0, lines);
+    drop(journal);
+    told
+}
+
 /// A new living world answers each line as it tells.
 fn check(rt: &HostRuntime, setting: Setting, lines: &str) -> Result<(), Fail> {
-    let alloc = rt.alloc();
-    let mut core = opened(alloc, setting)?;
-    for session in 0..setting.before {
-        let _ = ask(&mut core, session, &Request::End)?;
-    }
-    let mut journal = Journal::new(alloc);
-    play(alloc, &mut core, &mut journal, setting.before, lines)?;
-    let objects = u16::try_from(setting.numbers.len()).unwrap_or(u16::MAX);
-    check_lines(alloc, &journal, objects, 0, lines)
+    let mut core = opened(rt.alloc(), setting)?;
+    let told = check_on(rt.alloc(), &mut core, setting, lines);
+    drop(core);
+    told
 }

@@ -1,5 +1,5 @@
 -- The same history.
-use Rattle.sv_living.proofs.step.LivingCore.step_open.Given as goal
+use Rattle.sv_living.proofs.live.Live.step_open.Given as goal
 
 abbrev pub ghost-leave : goal.ghost-leave
 ghost-leave g a = g.g
