@@ -4,4 +4,6 @@ pub mod Heeding
 pub mod Pasts
 pub mod Seats
 pub mod Standing
+pub mod Told
 pub mod Turns
+pub mod Viewed

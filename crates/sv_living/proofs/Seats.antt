@@ -67,6 +67,18 @@ seat-at s (x ∷ xs) (suc i) d up low is =
     cond-false (nat_eq s x.session) (Some x) (seat_of s xs) (ne_eqb s x.session (λ same. omega (arith, above, is, same)))
     ∙ seat-at s xs i d (ascending-tail x.session (numbers_in xs) up) (omega arith) is
 
+pub seat-all : (P : Seat → Type 0) (s : ℕ) (x : Seat) (xs : List Seat) → All P xs → seat_of s xs ≡ Some x → P x × (x.session ≡ s)
+seat-all P s x [] all is = cc
+seat-all P s x (y ∷ ys) all is = elim (cases_eq s y.session) [
+  | inl same ↦ (
+      let one : y ≡ x = some-same y x (sym (cond-true (nat_eq s y.session) (Some y) (seat_of s ys) (eq-eqb s y.session same)) ∙ is) in
+      subst (λ (z : Seat). P z × (z.session ≡ s)) one (all 0 y (omega arith), sym same))
+  | inr other ↦ seat-all P s x ys (λ k d low. all (suc k) d (omega (arith, low))) (sym (cond-false (nat_eq s y.session) (Some y) (seat_of s ys) (ne_eqb s y.session other)) ∙ is)
+]
+  where
+    some-same : (a b : Seat) → ◌≡◌ {A = Option Seat} (Some a) (Some b) → a ≡ b
+    some-same a b e = cc
+
 -- Where those below it end, a session is or it is nowhere.
 pub point-none : (s : ℕ) (xs : List Seat) (i : ℕ) (d : Seat) → is_ascending (numbers_in xs) ≡ true → IsPartitionPoint (λ (x : Seat). nat_lt x.session s ≡ true) (λ (x : Seat). nat_lt x.session s ≡ false) xs i
     → (i < length xs → (get_or xs i d).session ≡ s → ⊥) → is_in s (numbers_in xs) ≡ false

@@ -1,7 +1,8 @@
 -- Where a living world's core stands, step by step.
-use Rattle.std.proofs.Common.{◌≡◌, ℕ, suc, ◌+◌, ◌-◌, ◌<◌, inl, inr, Bool, true, false, ◌&&◌, ◌||◌, not, cond, List, [], ◌∷◌, ◌++◌, length, nat_eq, nat_lt, Option, Some, None, unwrap_or, refl, sym, ◌∙◌, ap, ap₂, subst, arith, eq-eqb, ne_eqb, ltb-true}
+use Rattle.std.proofs.Common.{◌≡◌, ℕ, suc, ◌+◌, ◌-◌, ◌<◌, inl, inr, Bool, true, false, ◌&&◌, ◌||◌, not, cond, List, [], ◌∷◌, ◌++◌, length, nat_eq, nat_lt, Option, Some, None, is_some, unwrap_or, refl, sym, ◌∙◌, ap, ap₂, subst, arith, eq-eqb, ne_eqb, ltb-true}
 use Rattle.std.proofs.lemmas.Bool.{cases_eq, le-ltb}
 use Rattle.sv_world.specs.Control.{is_in}
+use Rattle.sv_world.specs.Limits.{most_open}
 use Rattle.sv_wire.specs.declared.message.Reply.{Reply}
 use Rattle.sv_wire.specs.declared.message.Request.{Request}
 use Rattle.sv_wire.specs.declared.message.Request.TheVariants as requests
@@ -26,10 +27,10 @@ use Rattle.sv_sequencer.specs.Step.{entry_of, end_entry}
 use Rattle.sv_living.specs.declared.live.Live.{Live}
 use Rattle.sv_living.specs.Deciding.{IsDecided, is_report}
 use Rattle.sv_living.specs.Keeping.{rules_at, stewardship_at, AreOpen, KeepsLiving, heard, living_entry, CarriedOn, Began, Left, Moved, StoodStill}
-use Rattle.sv_living.specs.Sessions.{is_open, next_session, may_begin, may_ask, AreInOrder}
-use Rattle.sv_living.specs.Table.{ends_below}
+use Rattle.sv_living.specs.Sessions.{is_open, next_session, most_session, may_begin, may_ask, AreInOrder}
+use Rattle.sv_living.specs.Table.{seat_of, ends_below}
 use Rattle.sv_living.proofs.Heeding.{accepted_heeded, heeded_next, heard_none}
-use Rattle.sv_living.proofs.Seats.{others, others-push}
+use Rattle.sv_living.proofs.Seats.{others, others-push, seat-some, seat-all}
 use Rattle.sv_living.proofs.Turns.{unended, open-parts, open-still, open-answered, open-unused, open-less, open-more, next-below, next-free, begin-is, next-same, next-more}
 
 -- ---- What is heard of sessions
@@ -70,19 +71,23 @@ heard-silent w h s requests.Leave report uncounted = cc
 heard-silent w h s requests.Bad report uncounted = cc
 heard-silent w h s requests.End report uncounted = cc
 
+whole-anyway : (b : Bool) (q : Request) → cond b q q ≡ q
+whole-anyway true q = refl
+whole-anyway false q = refl
+
 pub heard-whole : (w : Stewardship) (h : List Entry) (s : ℕ) (q : Request) → (is_report q && not (counts w h s)) ≡ false → heard w h s q ≡ q
 heard-whole w h s (requests.Done results) is = go (counts w h s) is
   where
     go : (b : Bool) → (true && not b) ≡ false → cond b (requests.Done results) (with_results (λ d. false) (requests.Done results)) ≡ requests.Done results
     go true is = refl
     go false is = cc
-heard-whole w h s (requests.Join client life interest) is = same (counts w h s) (requests.Join client life interest)
-heard-whole w h s (requests.Submit seq a) is = same (counts w h s) (requests.Submit seq a)
-heard-whole w h s requests.Poll is = same (counts w h s) requests.Poll
-heard-whole w h s (requests.Observe objects wait) is = same (counts w h s) (requests.Observe objects wait)
-heard-whole w h s requests.Leave is = same (counts w h s) requests.Leave
-heard-whole w h s requests.Bad is = same (counts w h s) requests.Bad
-heard-whole w h s requests.End is = same (counts w h s) requests.End
+heard-whole w h s (requests.Join client life interest) is = whole-anyway (counts w h s) (requests.Join client life interest)
+heard-whole w h s (requests.Submit seq a) is = whole-anyway (counts w h s) (requests.Submit seq a)
+heard-whole w h s requests.Poll is = whole-anyway (counts w h s) requests.Poll
+heard-whole w h s (requests.Observe objects wait) is = whole-anyway (counts w h s) (requests.Observe objects wait)
+heard-whole w h s requests.Leave is = whole-anyway (counts w h s) requests.Leave
+heard-whole w h s requests.Bad is = whole-anyway (counts w h s) requests.Bad
+heard-whole w h s requests.End is = whole-anyway (counts w h s) requests.End
 
 -- ---- The core
 
@@ -132,6 +137,10 @@ reclosed old mid mid' new' h seat none seated still closed = record {
       | inl same ↦ ap (λ (b : Bool). cond b None (cond b (Some seat.session) (session_at old slot))) (eq-eqb seat.slot slot same) ∙ sym seated.free ∙ ap (session_at old) same
       | inr other ↦ ap (λ (b : Bool). cond b None (cond b (Some seat.session) (session_at old slot))) (ne_eqb seat.slot slot other)
     ]
+
+-- A session without an entry may leave its slot.
+pub may-leave : (w : Stewardship) (h : List Entry) (s t : ℕ) → t ≡ s → has_entry h s ≡ false → MayClose (heeded w h) t
+may-leave w h s t is none has = let clash : true ≡ false = sym has ∙ entry-heeded w h t ∙ ap (has_entry h) is ∙ none in cc
 
 pub unmoved : (core : Core) (h : List Entry) → Keeps core h → Remained core core h
 unmoved core h keeps = record { rules = refl; seats = λ slot. refl; count = refl; owed = refl; keeps = keeps }
@@ -286,3 +295,21 @@ module _ (c : Live) (h : List Entry) (was : KeepsLiving c h) where
         | inl same ↦ ap (λ (b : Bool). cond b None (cond b (Some seat.session) (session_at c.core slot))) (eq-eqb seat.slot slot same) ∙ sym seated.free ∙ ap (session_at c.core) same
         | inr other ↦ ap (λ (b : Bool). cond b None (cond b (Some seat.session) (session_at c.core slot))) (ne_eqb seat.slot slot other)
       ]
+
+  pub stays : StoodStill c c h
+  stays = record { rules = refl; stewards = refl; keeps = was }
+
+  -- The seat of a session in the table is the one where it sits.
+  pub seat-sits : (s : ℕ) (seat : Seat) → seat_of s c.table ≡ Some seat → SitsAt c.core seat × ((seat.session ≡ s) × (is_open h s ≡ true))
+  seat-sits s seat is =
+      let at = seat-all (SitsAt c.core) s seat c.table was.table.sit is in
+      (at.0, (at.1, sym (was.table.numbers s) ∙ sym (seat-some s c.table) ∙ ap (λ (o : Option Seat). is_some o) is))
+
+  pub seat-lacks : (s : ℕ) → seat_of s c.table ≡ None → is_open h s ≡ false
+  seat-lacks s is = sym (was.table.numbers s) ∙ sym (seat-some s c.table) ∙ ap (λ (o : Option Seat). is_some o) is
+
+  pub begins-is : (nat_lt (length c.table) most_open && nat_lt c.next most_session) ≡ may_begin h
+  begins-is = begin-is c.core h c.table c.next was.table was.next
+
+  pub room-for : length c.table < most_open → open_by c.core < most_open
+  room-for low = let same : open_by c.core ≡ length c.table = was.table.count in omega (arith, low, same)

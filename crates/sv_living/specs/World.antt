@@ -1,5 +1,5 @@
 -- A world without end as its callers see it, and one step of it.
-use Rattle.std.specs.Prelude.{◌≡◌, ℕ, Bool, true, false, ◌==◌, List, ◌∷◌}
+use Rattle.std.specs.Prelude.{◌≡◌, ℕ, true, false, ◌==◌, List, ◌∷◌, Result, Ok, Err}
 use Rattle.sv_wire.specs.declared.message.Request.{Request}
 use Rattle.sv_journal.specs.declared.entry.Entry.{Entry}
 use Rattle.sv_journal.specs.declared.entry.Logged.{Logged}
@@ -42,3 +42,8 @@ abbrev pub IsStepFault : List Entry → ℕ → StepFault → Type 0
 IsStepFault h s faults.NotOpen = (is_open h s ≡ false) × ((s == next_session h) ≡ false)
 IsStepFault h s faults.NoRoom = ((s == next_session h) ≡ true) × (may_begin h ≡ false)
 IsStepFault h s faults.Memory = may_ask h s ≡ true
+
+-- The answer that was given, or that memory was wanting.
+abbrev pub told : {E : Type 0} → Result Answer E → Result Answer StepFault
+told (Ok answer) = Ok answer
+told (Err error) = Err faults.Memory

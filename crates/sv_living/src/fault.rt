@@ -1,5 +1,4 @@
 //! Why a living world's core does not answer.
-use std::alloc::AllocError;
 use thiserror::Error;
 
 /// Why a request is not answered. Nothing changed then.
@@ -13,15 +12,4 @@ pub enum StepFault {
     NoRoom,
     #[error("out of memory")]
     Memory,
-}
-
-impl From<AllocError> for StepFault {
-    ghost use Rattle.std.specs.Prelude.{◌≡◌};
-    ghost use Rattle.sv_living.specs.declared.fault.StepFault.TheVariants as faults;
-
-    ghost from_gives = { λ _ e. e ≡ faults.Memory };
-
-    fn from(_e: AllocError) -> StepFault {
-        StepFault::Memory
-    }
 }

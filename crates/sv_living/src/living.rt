@@ -1,7 +1,8 @@
 //! A living world's core, and what it tells.
-ghost use Rattle.std.specs.Prelude.{◌≡◌, ◌<◌, ◌≤◌, true, [], None, length, slice_index_or, All, IfOk, IfErr, IsOk, MatchResult};
+ghost use Rattle.std.specs.Prelude.{◌≡◌, List, ◌<◌, ◌≤◌, true, [], None, length, slice_index_or, All, IfOk, IfErr, IsOk, MatchResult};
 ghost use Rattle.sv_world.specs.Limits.{most_positions};
 ghost use Rattle.sv_world.specs.Worlds.{IsGoodWorld};
+ghost use Rattle.sv_journal.specs.declared.entry.Entry.{Entry};
 ghost use Rattle.sv_journal.specs.History.{accepted, commit_of, committed_of};
 ghost use Rattle.sv_journal.specs.Laws.{IsRightful};
 ghost use Rattle.sv_journal.specs.Sessions.{is_end};
@@ -17,6 +18,7 @@ use crate::past::Past;
 use crate::stewards::Stewards;
 use std::alloc::{AllocError, Global};
 use std::marker::Model;
+use sv_journal::accepted_actions_are_rightful;
 use sv_sequencer::{Answer, Opened};
 use sv_wire::Request;
 use sv_world::{ObjectId, Value};
@@ -70,9 +72,25 @@ impl LivingCore {
         ensures cause { MatchResult result (λ _. may_ask self.old.history session ≡ true) (IsStepFault self.old.history session) }
         ensures end { is_end request.now ≡ true → is_open self.old.history session ≡ true → IsOk result }
     {
-        let answer = self.live.step(session, request)?;
-        self.past.enter(session, request, &answer.logged);
-        Ok(answer)
+        self.answer(session, request)
+    }
+
+    /// Answers a request. `h` is the history so far.
+    fn answer(&mut self, session: u64, request: &Request) -> Result<Answer, StepFault>
+        ghost h: { List Entry }
+        requires { h ≡ self.old.history }
+        ensures ok { IfOk result (Answered self.old self.new session request.now) }
+        ensures err { IfErr result (λ _. self.new ≡ self.old) }
+        ensures cause { MatchResult result (λ _. may_ask h session ≡ true) (IsStepFault h session) }
+        ensures end { is_end request.now ≡ true → is_open h session ≡ true → IsOk result }
+    {
+        match self.live.step(session, request) {
+            Ok(answer) => {
+                self.past.enter(session, request, &answer.logged);
+                Ok(answer)
+            }
+            Err(fault) => Err(fault),
+        }
     }
 
     /// The number of the next session: the least one without an entry.
@@ -132,6 +150,7 @@ impl LivingCore {
         ensures order { AreInOrder self.now.history }
         ensures rightful { All (IsRightful self.now.rules) (accepted self.now.history) }
     {
+        accepted_actions_are_rightful();
         let _ = &self.live;
     }
 }

@@ -1,5 +1,5 @@
 //! A step of what is live. Its core decides by the history of the results that count, but for what the steward polls.
-ghost use Rattle.std.specs.Prelude.{◌≡◌, ◌&&◌, List, ◌<◌, true, false, None, length, IfOk, IfErr, IsOk, OnErr, MatchResult};
+ghost use Rattle.std.specs.Prelude.{◌≡◌, ◌&&◌, List, ◌<◌, [], ◌∷◌, ◌++◌, true, false, None, length, IfOk, IfErr, IsOk, OnOk, OnErr, MatchResult};
 ghost use Rattle.sv_world.specs.Limits.{most_open};
 ghost use Rattle.sv_wire.specs.declared.message.Request.TheVariants as requests;
 ghost use Rattle.sv_wire.specs.declared.message.Reply.TheVariants as replies;
@@ -13,7 +13,7 @@ ghost use Rattle.sv_living.specs.Deciding.{answers_poll, IsDecided};
 ghost use Rattle.sv_living.specs.Keeping.{Course, stewardship_of, stewardship_at, KeepsLiving, Moved, StoodStill, CarriedOn, Began, Left};
 ghost use Rattle.sv_living.specs.Sessions.{is_open, most_session, may_begin, may_ask};
 ghost use Rattle.sv_living.specs.Table.{ends_below};
-ghost use Rattle.sv_living.specs.World.{IsStepFault};
+ghost use Rattle.sv_living.specs.World.{IsStepFault, told};
 
 use crate::due::due_decision;
 use crate::fault::StepFault;
@@ -62,6 +62,15 @@ fn is_due(
     answers_poll(request, decision) && is_stewards(core, stewards, seat)
 }
 
+/// A report of no results.
+fn silent(alloc: Global) -> Request
+    ensures { result ≡ requests.Done [] }
+{
+    Request::Done {
+        results: List::new(alloc),
+    }
+}
+
 /// Answers a request that is no End. `g` is the history of all entries. A report that does not count brings no results.
 fn answer(
     alloc: Global,
@@ -80,9 +89,7 @@ fn answer(
 {
     let decision = decide(core, stewards, seat, request);
     if is_silent(core, stewards, seat, request) {
-        let heard = Request::Done {
-            results: List::new(alloc),
-        };
+        let heard = silent(alloc);
         let answer = core.carry_out(seat, &heard, decision);
         // A tree that is let go at the end of its scope makes a long proof; a call that takes it, none.
         drop(heard);
@@ -114,6 +121,36 @@ fn leave(core: &mut Core, seat: Seat)
     core.close(seat);
 }
 
+/// Answers the first request of a session that sits at its slot, which is no End, and enters it into the table. `g` is the history of all entries.
+fn answer_first(
+    alloc: Global,
+    core: &mut Core,
+    table: &mut OpenSessions,
+    stewards: Stewards,
+    seat: Seat,
+    request: &Request,
+) -> Result<Answer, AllocError>
+    ghost g: { Course }
+    requires keeps { Keeps core.old (heeded g.w g.h) }
+    requires stewards { g.w ≡ stewardship_of stewards }
+    requires seat { SitsAt core.old seat }
+    requires below { ends_below seat.session table.old ≡ true }
+    requires more { is_end request.now ≡ false }
+    ensures ok { IfOk result (CarriedOn core.old core.new g.w g.h seat.session request.now) }
+    ensures err { OnErr result (Remained core.old core.new (heeded g.w g.h)) }
+    ensures entered { OnOk result (table.new ≡ table.old ++ seat ∷ []) }
+    ensures table { OnErr result (table.new ≡ table.old) }
+{
+    table.push(seat)?;
+    match answer(alloc, core, stewards, seat, request) {
+        Ok(answer) => Ok(answer),
+        Err(error) => {
+            table.remove(seat.session);
+            Err(error)
+        }
+    }
+}
+
 /// Seats the next session, and answers its first request, which is no End. `g` is the history of all entries.
 fn begin(
     alloc: Global,
@@ -137,17 +174,22 @@ fn begin(
     ensures table { OnErr result (table.new ≡ table.old) }
 {
     let seat = core.open(session)?;
-    if let Err(error) = table.push(seat) {
-        core.close(seat);
-        return Err(error);
-    }
-    match answer(alloc, core, stewards, seat, request) {
+    match answer_first(alloc, core, table, stewards, seat, request) {
         Ok(answer) => Ok(answer),
         Err(error) => {
-            table.remove(session);
             core.close(seat);
             Err(error)
         }
+    }
+}
+
+/// The answer, or that memory was wanting.
+fn told(answered: Result<Answer, AllocError>) -> Result<Answer, StepFault>
+    ensures { result ≡ told answered }
+{
+    match answered {
+        Ok(answer) => Ok(answer),
+        Err(_) => Err(StepFault::Memory),
     }
 }
 
@@ -164,7 +206,7 @@ impl Live {
         ensures end { is_end request.now ≡ true → is_open h session ≡ true → IsOk result }
     {
         if let Some(seat) = self.table.seat_of(session) {
-            return Ok(self.step_open(seat, request)?);
+            return told(self.step_open(seat, request));
         }
         if session != self.next {
             return Err(StepFault::NotOpen);
@@ -172,7 +214,7 @@ impl Live {
         if !self.may_begin() {
             return Err(StepFault::NoRoom);
         }
-        Ok(self.step_first(session, request)?)
+        told(self.step_first(session, request))
     }
 
     /// Answers a request of a session that is open.
@@ -209,16 +251,20 @@ impl Live {
         if let Request::End = request {
             return self.end_first(session);
         }
-        let answer = begin(
+        match begin(
             self.alloc,
             &mut self.core,
             &mut self.table,
             self.stewards,
             session,
             request,
-        )?;
-        self.next += 1;
-        Ok(answer)
+        ) {
+            Ok(answer) => {
+                self.next += 1;
+                Ok(answer)
+            }
+            Err(error) => Err(error),
+        }
     }
 
     /// The End of the next session, which makes no other request.

@@ -10,6 +10,3 @@ ghost-is_silent g a = g.g
 
 abbrev pub ghost-carry_out : goal.ghost-carry_out
 ghost-carry_out g a = heeded g.g.w g.g.h
-
-abbrev pub ghost-carry_out-2 : goal.ghost-carry_out-2
-ghost-carry_out-2 g a = heeded g.g.w g.g.h
