@@ -1,5 +1,5 @@
 -- What is decided, by the results that count, stands for the reply that the history of all entries gives.
-use Rattle.std.proofs.Common.{◌≡◌, ℕ, suc, ◌<◌, ◌≤◌, Bool, true, false, ◌&&◌, ◌||◌, not, ◌==◌, nat_le, nat_lt, map, List, [], ◌∷◌, filter, length, Option, Some, None, refl, sym, ap, ◌∙◌, subst, true≢false}
+use Rattle.std.proofs.Common.{◌≡◌, ℕ, ◌≤◌, Bool, true, false, ◌&&◌, ◌||◌, not, ◌==◌, nat_le, nat_lt, map, List, [], ◌∷◌, length, Option, Some, None, refl, sym, ap, ◌∙◌, subst, true≢false}
 use Rattle.std.specs.Prelude.{if◌then◌else◌}
 use Rattle.std.proofs.lemmas.Bool.{cond-true, cond_both, and_parts}
 use Rattle.sv_world.specs.declared.action.Action.{Action}
@@ -17,7 +17,7 @@ use Rattle.sv_wire.specs.declared.refusal.Refusal.TheVariants as refusals
 use Rattle.sv_journal.specs.declared.entry.Entry.{Entry}
 use Rattle.sv_journal.specs.declared.entry.Logged.{Logged}
 use Rattle.sv_journal.specs.declared.entry.Logged.TheVariants as logged
-use Rattle.sv_journal.specs.History.{is_noted, client_of, is_client, new_action, Outcome, Accepted, Dropped, Denied, accepted, actions_of, next_seq, commit_of}
+use Rattle.sv_journal.specs.History.{is_noted, client_of, is_client, new_action, Outcome, Accepted, Dropped, Denied, actions_of, next_seq, commit_of}
 use Rattle.sv_journal.specs.Sessions.{is_end, is_over, is_live, asked_in, life_of, kept_outcome}
 use Rattle.sv_journal.specs.Answer.{Rules, refused_as, is_above, is_full, is_spent, is_no_next_life, is_bad_done, is_good_interest, reply_to_allowed, reply_by_rights, reply_to_checked, reply_to_submit, reply_to_join, reply_to_client, reply_to_member, reply_to_request, reply_to, reply_to_poll, orphans}
 use Rattle.sv_journal.specs.Serving.{plain, is_poll, with_last_rows, with_results, reply_for}

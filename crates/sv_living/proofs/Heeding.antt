@@ -1,12 +1,12 @@
 -- What is heard of entries: the same sessions and clients, and each request but for results that do not count.
-use Rattle.std.proofs.Common.{◌≡◌, ℕ, Bool, true, false, List, [], ◌∷◌, filter, Option, refl, ap, ◌∙◌}
+use Rattle.std.proofs.Common.{◌≡◌, ℕ, Bool, true, false, List, [], ◌∷◌, filter, refl, ap}
 use Rattle.std.specs.Prelude.{if◌then◌else◌}
 use Rattle.sv_wire.specs.declared.message.Done1.{Done1}
 use Rattle.sv_wire.specs.declared.message.Request.{Request}
 use Rattle.sv_wire.specs.declared.message.Request.TheVariants as requests
 use Rattle.sv_journal.specs.declared.entry.Entry.{Entry}
 use Rattle.sv_journal.specs.declared.entry.Logged.{Logged}
-use Rattle.sv_journal.specs.History.{Authored, client_of, accepted}
+use Rattle.sv_journal.specs.History.{client_of, accepted}
 use Rattle.sv_journal.specs.Serving.{with_results}
 use Rattle.sv_journal.specs.Living.{Stewardship, counts, heeded, living}
 use Rattle.sv_journal.proofs.Kept.{client-kept, accepted-kept}

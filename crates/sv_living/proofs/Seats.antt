@@ -1,5 +1,5 @@
 -- The open sessions by their numbers: where one is, and what is left without it.
-use Rattle.std.proofs.Common.{◌≡◌, ℕ, zero, suc, ◌+◌, ◌<◌, ◌≤◌, inl, inr, Bool, true, false, ◌&&◌, ◌||◌, not, cond, All, List, [], ◌∷◌, ◌++◌, length, map, filter, get_or, nat_eq, nat_lt, Option, Some, None, is_some, refl, sym, ◌∙◌, ap, subst, arith, ltb-true, ltb-false, eq-eqb, ne_eqb}
+use Rattle.std.proofs.Common.{◌≡◌, ℕ, zero, suc, ◌+◌, ◌<◌, ◌≤◌, inl, inr, Bool, true, false, ◌&&◌, ◌||◌, not, cond, All, List, [], ◌∷◌, ◌++◌, length, filter, get_or, nat_eq, nat_lt, Option, Some, None, is_some, refl, sym, ◌∙◌, ap, subst, arith, ltb-true, ltb-false, eq-eqb, ne_eqb}
 use Rattle.std.specs.List.{remove, list_all}
 use Rattle.std.specs.List.Sorted.{IsPartitionPoint, IsNonDecreasingBy}
 use Rattle.std.proofs.lemmas.Bool.{cond_both, cond-true, cond-false, cases_lt, cases_eq, and_parts, and_from, false_from_ne_true, eqb-true, or_parts, not-true, lt-ltb}

@@ -1,9 +1,7 @@
 -- Where a living world's core stands, step by step.
-use Rattle.std.proofs.Common.{◌≡◌, ℕ, suc, ◌+◌, ◌-◌, ◌<◌, inl, inr, Bool, true, false, ◌&&◌, ◌||◌, not, cond, List, [], ◌∷◌, ◌++◌, length, nat_eq, nat_lt, Option, Some, None, is_some, unwrap_or, refl, sym, ◌∙◌, ap, ap₂, subst, arith, eq-eqb, ne_eqb, ltb-true}
-use Rattle.std.proofs.lemmas.Bool.{cases_eq, le-ltb}
-use Rattle.sv_world.specs.Control.{is_in}
+use Rattle.std.proofs.Common.{◌≡◌, ℕ, ◌+◌, ◌-◌, ◌<◌, inl, inr, Bool, true, false, ◌&&◌, ◌||◌, not, cond, List, [], ◌∷◌, ◌++◌, length, nat_eq, Option, Some, None, is_some, unwrap_or, refl, sym, ◌∙◌, ap, ap₂, subst, arith, eq-eqb, ne_eqb}
+use Rattle.std.proofs.lemmas.Bool.{cases_eq, le-ltb, and_parts, not-true}
 use Rattle.sv_world.specs.Limits.{most_open}
-use Rattle.sv_wire.specs.declared.message.Reply.{Reply}
 use Rattle.sv_wire.specs.declared.message.Request.{Request}
 use Rattle.sv_wire.specs.declared.message.Request.TheVariants as requests
 use Rattle.sv_wire.specs.declared.message.Reply.TheVariants as replies
@@ -21,17 +19,16 @@ use Rattle.sv_sequencer.specs.declared.decision.Decision.{Decision}
 use Rattle.sv_sequencer.specs.declared.seats.Seat.{Seat}
 use Rattle.sv_sequencer.specs.declared.server_core.Core.{Core}
 use Rattle.sv_sequencer.specs.Cores.{core_rules, open_by, owed_by, session_at, first_seat, SitsAt, Keeps, IsUnseated, MayClose, CarriedOut, Remained, WasSeated, WasClosed, decided_entry}
-use Rattle.sv_sequencer.specs.Decisions.{reply_by}
 use Rattle.sv_sequencer.specs.Rows.{has_entry}
 use Rattle.sv_sequencer.specs.Step.{entry_of, end_entry}
 use Rattle.sv_living.specs.declared.live.Live.{Live}
 use Rattle.sv_living.specs.Deciding.{IsDecided, is_report}
 use Rattle.sv_living.specs.Keeping.{rules_at, stewardship_at, AreOpen, KeepsLiving, heard, living_entry, CarriedOn, Began, Left, Moved, StoodStill}
-use Rattle.sv_living.specs.Sessions.{is_open, next_session, most_session, may_begin, may_ask, AreInOrder}
-use Rattle.sv_living.specs.Table.{seat_of, ends_below}
+use Rattle.sv_living.specs.Sessions.{is_open, next_session, may_begin, may_ask}
+use Rattle.sv_living.specs.Table.{seat_of}
 use Rattle.sv_living.proofs.Heeding.{accepted_heeded, heeded_next, heard_none}
-use Rattle.sv_living.proofs.Seats.{others, others-push, seat-some, seat-all}
-use Rattle.sv_living.proofs.Turns.{unended, open-parts, open-still, open-answered, open-unused, open-less, open-more, next-below, next-free, begin-is, next-same, next-more}
+use Rattle.sv_living.proofs.Seats.{others, seat-some, seat-all}
+use Rattle.sv_living.proofs.Turns.{unended, open-parts, open-still, open-answered, open-unused, open-less, open-more, next-free, next-same, next-more}
 
 -- ---- What is heard of sessions
 
@@ -61,7 +58,7 @@ heeded-end w h s = heeded_next w h s requests.End logged.Bye ∙ ap (λ (q : Req
 
 -- ---- What is heard of a request
 
-pub heard-silent : (w : Stewardship) (h : List Entry) (s : ℕ) (q : Request) → is_report q ≡ true → counts w h s ≡ false → heard w h s q ≡ requests.Done []
+heard-silent : (w : Stewardship) (h : List Entry) (s : ℕ) (q : Request) → is_report q ≡ true → counts w h s ≡ false → heard w h s q ≡ requests.Done []
 heard-silent w h s (requests.Done results) report uncounted = heard_none w h s results uncounted
 heard-silent w h s (requests.Join client life interest) report uncounted = cc
 heard-silent w h s (requests.Submit seq a) report uncounted = cc
@@ -74,6 +71,12 @@ heard-silent w h s requests.End report uncounted = cc
 whole-anyway : (b : Bool) (q : Request) → cond b q q ≡ q
 whole-anyway true q = refl
 whole-anyway false q = refl
+
+-- Of a report that does not count nothing is heard.
+pub silenced : (w : Stewardship) (h : List Entry) (s : ℕ) (q x : Request) → x ≡ requests.Done [] → (is_report q && not (counts w h s)) ≡ true → heard w h s q ≡ x
+silenced w h s q x empty is =
+    let parts = and_parts (is_report q) (not (counts w h s)) is in
+    heard-silent w h s q parts.0 (not-true (counts w h s) parts.1) ∙ sym empty
 
 pub heard-whole : (w : Stewardship) (h : List Entry) (s : ℕ) (q : Request) → (is_report q && not (counts w h s)) ≡ false → heard w h s q ≡ q
 heard-whole w h s (requests.Done results) is = go (counts w h s) is
@@ -296,9 +299,6 @@ module _ (c : Live) (h : List Entry) (was : KeepsLiving c h) where
         | inr other ↦ ap (λ (b : Bool). cond b None (cond b (Some seat.session) (session_at c.core slot))) (ne_eqb seat.slot slot other)
       ]
 
-  pub stays : StoodStill c c h
-  stays = record { rules = refl; stewards = refl; keeps = was }
-
   -- The seat of a session in the table is the one where it sits.
   pub seat-sits : (s : ℕ) (seat : Seat) → seat_of s c.table ≡ Some seat → SitsAt c.core seat × ((seat.session ≡ s) × (is_open h s ≡ true))
   seat-sits s seat is =
@@ -307,9 +307,6 @@ module _ (c : Live) (h : List Entry) (was : KeepsLiving c h) where
 
   pub seat-lacks : (s : ℕ) → seat_of s c.table ≡ None → is_open h s ≡ false
   seat-lacks s is = sym (was.table.numbers s) ∙ sym (seat-some s c.table) ∙ ap (λ (o : Option Seat). is_some o) is
-
-  pub begins-is : (nat_lt (length c.table) most_open && nat_lt c.next most_session) ≡ may_begin h
-  begins-is = begin-is c.core h c.table c.next was.table was.next
 
   pub room-for : length c.table < most_open → open_by c.core < most_open
   room-for low = let same : open_by c.core ≡ length c.table = was.table.count in omega (arith, low, same)

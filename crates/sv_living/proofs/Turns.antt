@@ -1,15 +1,13 @@
 -- Which sessions are open, entry by entry.
-use Rattle.std.proofs.Common.{◌≡◌, ℕ, zero, suc, ◌+◌, ◌<◌, inl, inr, Bool, true, false, ◌&&◌, ◌||◌, not, cond, All, List, [], ◌∷◌, ◌++◌, length, get_or, nat_eq, nat_lt, Option, Some, None, refl, sym, ◌∙◌, ap, ap₂, subst, arith, eq-eqb, ne_eqb, ltb-true}
-use Rattle.std.proofs.lemmas.Bool.{cases_lt, cases_eq, and_parts, and_from, eqb-true, or_parts, not-true, lt-ltb, le-ltb}
+use Rattle.std.proofs.Common.{◌≡◌, ℕ, zero, suc, ◌+◌, ◌<◌, inl, inr, Bool, true, false, ◌&&◌, ◌||◌, not, cond, All, List, [], ◌∷◌, ◌++◌, length, nat_eq, nat_lt, Option, Some, None, refl, sym, ◌∙◌, ap, ap₂, subst, arith, eq-eqb, ne_eqb, ltb-true}
+use Rattle.std.proofs.lemmas.Bool.{cases_lt, cases_eq, and_parts, eqb-true, or_parts, not-true, lt-ltb, le-ltb}
 use Rattle.std.proofs.lemmas.List.{length-append, length-map}
 use Rattle.std.proofs.lemmas.List.Elements.{All-weaker, All-append}
 use Rattle.sv_world.specs.Control.{is_in, below}
-use Rattle.sv_world.specs.Limits.{most_open}
 use Rattle.sv_world.proofs.Ascending.{ascending-filter, ascending_same}
 use Rattle.sv_world.proofs.Bases.{is_in-below, below-ascending}
 use Rattle.sv_world.proofs.Members.{is_in-filter, is_in-filter_parts}
 use Rattle.sv_wire.specs.declared.message.Request.{Request}
-use Rattle.sv_wire.specs.declared.message.Request.TheVariants as requests
 use Rattle.sv_journal.specs.declared.entry.Entry.{Entry}
 use Rattle.sv_journal.specs.declared.entry.Logged.{Logged}
 use Rattle.sv_journal.specs.Sessions.{is_end, is_ended}
@@ -19,7 +17,7 @@ use Rattle.sv_sequencer.specs.Cores.{open_by, session_at, SitsAt}
 use Rattle.sv_sequencer.specs.Rows.{has_entry}
 use Rattle.sv_sequencer.specs.Step.{entry_of, end_entry}
 use Rattle.sv_living.specs.Keeping.{AreOpen}
-use Rattle.sv_living.specs.Sessions.{is_open, next_session, open_sessions, most_session, may_begin}
+use Rattle.sv_living.specs.Sessions.{is_open, next_session, open_sessions}
 use Rattle.sv_living.specs.Table.{numbers_in, ends_below}
 use Rattle.sv_living.proofs.Seats.{others, others-ascending, others-length, others-numbers, all-others, below-all, push-ascending, push-numbers}
 
@@ -212,9 +210,6 @@ module _ (core : Core) (h : List Entry) (seats : List Seat) (next : ℕ) (was : 
 
   pub count-is : length seats ≡ length (open_sessions h)
   count-is = sym (length-map seats (λ (seat : Seat). seat.session)) ∙ ap length numbers-are
-
-  pub begin-is : (nat_lt (length seats) most_open && nat_lt next most_session) ≡ may_begin h
-  begin-is = ap₂ (λ (m n : ℕ). nat_lt m most_open && nat_lt n most_session) count-is is
 
 -- The number of the next session, with one more entry.
 pub next-same : (h : List Entry) (s : ℕ) (q : Request) (reply : Logged) → has_entry h s ≡ true → next_session (entry_of s q reply ∷ h) ≡ next_session h

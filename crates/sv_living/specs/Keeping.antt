@@ -1,6 +1,6 @@
 -- What is live of a world without end, by a history of all entries, and what a step makes of both.
 -- A history is the list of entries with the latest first. What is live has none of them: the contracts name the one that it keeps.
-use Rattle.std.specs.Prelude.{◌≡◌, ℕ, ◌+◌, Bool, true, false, ◌==◌, nat_lt, List, [], ◌∷◌, ◌++◌, length, Option, Some, None, All, if◌then◌else◌}
+use Rattle.std.specs.Prelude.{◌≡◌, ℕ, ◌+◌, true, false, ◌==◌, nat_lt, List, [], ◌∷◌, ◌++◌, length, Some, None, All, if◌then◌else◌}
 use Rattle.sv_world.specs.Control.{is_in}
 use Rattle.sv_wire.specs.declared.message.Request.{Request}
 use Rattle.sv_journal.specs.declared.entry.Entry.{Entry}

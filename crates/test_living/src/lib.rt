@@ -109,7 +109,12 @@ fn pass_sessions(core: &mut LivingCore, count: u64) -> Result<(), Fail> {
 }
 
 /// Asks what lines ask, and checks what they tell.
-fn check_on(alloc: Global, core: &mut LivingCore, setting: Setting, lines: &str) -> Result<(), Fail> {
+fn check_on(
+    alloc: Global,
+    core: &mut LivingCore,
+    setting: Setting,
+    lines: &str,
+) -> Result<(), Fail> {
     pass_sessions(core, setting.before)?;
     let mut journal = Journal::new(alloc);
     for line in lines.lines() {

@@ -1,28 +1,25 @@
 -- What was decided on the request holds of what is heard of it.
-use Rattle.std.proofs.Common.{◌≡◌, true, false, ◌&&◌, not, sym, ap, ◌∙◌, subst}
-use Rattle.std.proofs.lemmas.Bool.{and_parts, not-true}
+use Rattle.std.proofs.Common.{sym, ap, ◌∙◌, subst}
 use Rattle.sv_wire.specs.declared.message.Request.{Request}
 use Rattle.sv_journal.specs.Sessions.{is_end}
-use Rattle.sv_journal.specs.Living.{counts, heeded}
-use Rattle.sv_sequencer.specs.declared.answer.Answer.{Answer}
+use Rattle.sv_journal.specs.Living.{heeded}
 use Rattle.sv_sequencer.specs.Cores.{core_rules, CarriedOut}
 use Rattle.sv_sequencer.specs.Decisions.{Holds}
-use Rattle.sv_living.specs.Deciding.{is_report}
-use Rattle.sv_living.specs.Keeping.{CarriedOn, heard}
-use Rattle.sv_living.proofs.Standing.{heard-silent, heard-whole, carried-on}
+use Rattle.sv_living.specs.Keeping.{CarriedOn}
+use Rattle.sv_living.proofs.Standing.{silenced, heard-whole, carried-on}
 use Rattle.sv_living.proofs.Told.{if-ok}
 use Rattle.sv_living.proofs.step.answer.Goals as goal
 
 pub carry_out-answer-requires : goal.carry_out-answer-requires
 carry_out-answer-requires g c =
-    let parts = and_parts (is_report c.args.request.now) (not (counts g.g.w g.g.h c.args.seat.session)) (sym c.is_silent.ensures ∙ c.if-is_silent.true) in
-    let is = heard-silent g.g.w g.g.h c.args.seat.session c.args.request.now parts.0 (not-true (counts g.g.w g.g.h c.args.seat.session) parts.1) ∙ sym c.silent-heard.ensures in (
+    let s = c.args.seat.session in (
       c.requires.0,
       (
         c.requires.1.1.0,
         (
           ap is_end c.silent-heard.ensures,
-          subst (λ (x : Request). Holds (core_rules c.args.core.now) (heeded g.g.w g.g.h) c.args.seat.session x c.decide-decision.result) is c.decide-decision.ensures.holds,
+          subst (λ (x : Request). Holds (core_rules c.args.core.now) (heeded g.g.w g.g.h) s x c.decide-decision.result)
+              (silenced g.g.w g.g.h s c.args.request.now c.silent-heard.result c.silent-heard.ensures (sym c.is_silent.ensures ∙ c.if-is_silent.true)) c.decide-decision.ensures.holds,
         ),
       ),
     )
@@ -33,10 +30,10 @@ returns-then-is_silent-clause-ok g c =
     let q = c.args.request.now in
     let old = c.args.core.now in
     let new' = c.carry_out-answer.new.self in
-    let parts = and_parts (is_report q) (not (counts g.g.w g.g.h s)) (sym c.is_silent.ensures ∙ c.if-is_silent.true) in
-    let is = heard-silent g.g.w g.g.h s q parts.0 (not-true (counts g.g.w g.g.h s) parts.1) ∙ sym c.silent-heard.ensures in
     if-ok (CarriedOut old new' (heeded g.g.w g.g.h) s c.silent-heard.result c.decide-decision.result) (CarriedOn old new' g.g.w g.g.h s q) c.carry_out-answer.result
-    (λ a out. carried-on old new' g.g.w g.g.h s q c.silent-heard.result c.decide-decision.result a is c.decide-decision.ensures out) c.carry_out-answer.ensures.ok
+    (λ a out. carried-on old new' g.g.w g.g.h s q c.silent-heard.result c.decide-decision.result a
+    (silenced g.g.w g.g.h s q c.silent-heard.result c.silent-heard.ensures (sym c.is_silent.ensures ∙ c.if-is_silent.true)) c.decide-decision.ensures out)
+    c.carry_out-answer.ensures.ok
 
 pub carry_out-requires : goal.carry_out-requires
 carry_out-requires g c = (

@@ -1,8 +1,7 @@
 -- The session is seated and answered, or leaves its slot again.
-use Rattle.std.proofs.Common.{◌≡◌, ℕ, true, false, List, Option, sym, ap, ◌∙◌, subst}
+use Rattle.std.proofs.Common.{◌≡◌, ℕ, true, Option, sym, ap, ◌∙◌, subst}
 use Rattle.sv_journal.specs.Answer.{MayBeSession}
 use Rattle.sv_journal.specs.Living.{heeded}
-use Rattle.sv_sequencer.specs.declared.seats.Seat.{Seat}
 use Rattle.sv_sequencer.specs.Rows.{has_entry}
 use Rattle.sv_living.specs.Keeping.{CarriedOn}
 use Rattle.sv_living.specs.Table.{ends_below}
@@ -58,6 +57,11 @@ returns-in-Ok-clause-ok g c =
       seat = seat;
       number = c.in_ok-seat.ensures.number;
       table = c.in-Ok.ensures.entered;
-      seated = (mid, (c.in_ok-seat.ensures.ok,
-          subst (λ (n : ℕ). CarriedOn mid c.answer_first.new.core g.g.w g.g.h n c.args.request.now c.in-Ok.answer) c.in_ok-seat.ensures.number c.in-Ok.ensures.ok));
+      seated = (
+        mid,
+        (
+          c.in_ok-seat.ensures.ok,
+          subst (λ (n : ℕ). CarriedOn mid c.answer_first.new.core g.g.w g.g.h n c.args.request.now c.in-Ok.answer) c.in_ok-seat.ensures.number c.in-Ok.ensures.ok,
+        ),
+      );
     }

@@ -1,5 +1,5 @@
 -- The one at which those below the session end, or none.
-use Rattle.std.proofs.Common.{ℕ, ltb, sym, ap, ◌∙◌, arith, rules}
+use Rattle.std.proofs.Common.{ltb, arith, rules}
 use Rattle.std.proofs.lemmas.List.Sorted.{IsPartitionPoint-from_clause, IsPartitionedBy-ltb}
 use Rattle.sv_sequencer.specs.declared.seats.Seat.{Seat}
 use Rattle.sv_living.proofs.Seats.{in-order, point-none}

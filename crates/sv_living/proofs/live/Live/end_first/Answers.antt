@@ -1,10 +1,9 @@
 -- The session is seated, has its End, and leaves.
-use Rattle.std.proofs.Common.{◌≡◌, ℕ, true, false, ◌<◌, List, Option, sym, ap, ◌∙◌, subst}
-use Rattle.sv_journal.specs.declared.entry.Entry.{Entry}
+use Rattle.std.proofs.Common.{ℕ, Option, sym, ◌∙◌, subst}
 use Rattle.sv_journal.specs.Answer.{MayBeSession}
 use Rattle.sv_journal.specs.Living.{Stewardship, heeded}
 use Rattle.sv_sequencer.specs.Cores.{Keeps, Remained, WasSeated}
-use Rattle.sv_living.specs.Keeping.{StoodStill, Left}
+use Rattle.sv_living.specs.Keeping.{Left}
 use Rattle.sv_living.proofs.Standing.{entry-heeded, unseated-next, room-for, stood-still, stepped-unused, sits}
 use Rattle.sv_living.proofs.Told.{on-err}
 use Rattle.sv_living.proofs.Turns.{unended, next-free}

@@ -1,5 +1,5 @@
 -- The session began, or all is as it was.
-use Rattle.std.proofs.Common.{◌≡◌, ℕ, List, refl, sym, ◌∙◌, subst}
+use Rattle.std.proofs.Common.{List, sym, subst}
 use Rattle.sv_journal.specs.Living.{Stewardship, heeded}
 use Rattle.sv_sequencer.specs.declared.seats.Seat.{Seat}
 use Rattle.sv_sequencer.specs.Cores.{Keeps, Remained}

@@ -1,13 +1,11 @@
 -- The session left, or its request was answered.
-use Rattle.std.proofs.Common.{◌≡◌, ℕ, true, false, List, refl, sym, ap, ◌∙◌, subst, true≢false, IsOk}
+use Rattle.std.proofs.Common.{List, sym, ◌∙◌, subst, true≢false}
 use Rattle.sv_wire.specs.declared.message.Request.{Request}
 use Rattle.sv_wire.specs.declared.message.Request.TheVariants as requests
-use Rattle.sv_journal.specs.Sessions.{is_end}
 use Rattle.sv_journal.specs.Living.{Stewardship, heeded}
-use Rattle.sv_sequencer.specs.declared.answer.Answer.{Answer}
 use Rattle.sv_sequencer.specs.declared.seats.Seat.{Seat}
 use Rattle.sv_sequencer.specs.Cores.{Remained}
-use Rattle.sv_living.specs.Keeping.{stewardship_at, CarriedOn, Left, Moved, StoodStill}
+use Rattle.sv_living.specs.Keeping.{CarriedOn, Left, Moved, StoodStill}
 use Rattle.sv_living.proofs.Standing.{stood-still, stepped-open, stepped-end}
 use Rattle.sv_living.proofs.Told.{if-ok, on-errs, no-end}
 use Rattle.sv_living.proofs.live.Live.step_open.Goals as goal

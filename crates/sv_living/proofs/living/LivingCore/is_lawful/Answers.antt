@@ -1,5 +1,5 @@
 -- What is kept, and the law of rights.
-use Rattle.std.proofs.Common.{◌≡◌, All, subst}
+use Rattle.std.proofs.Common.{All, subst}
 use Rattle.sv_journal.specs.History.{accepted}
 use Rattle.sv_journal.specs.Laws.{IsRightful}
 use Rattle.sv_journal.specs.Serving.{LegalFor}
