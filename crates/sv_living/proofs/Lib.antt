@@ -1,0 +1,9 @@
+-- The lemmas on living worlds.
+pub mod Deciding
+pub mod Heeding
+pub mod Pasts
+pub mod Seats
+pub mod Standing
+pub mod Told
+pub mod Turns
+pub mod Viewed

@@ -1,0 +1,8 @@
+-- The same history.
+use Rattle.sv_living.proofs.live.Live.step_open.Given as goal
+
+abbrev pub ghost-leave : goal.ghost-leave
+ghost-leave g a = g.g
+
+abbrev pub ghost-answer : goal.ghost-answer
+ghost-answer g a = g.g

@@ -1,0 +1,8 @@
+-- The definitions of a living world's core.
+pub mod Deciding
+pub mod Invariant
+pub mod Keeping
+pub mod Past
+pub mod Sessions
+pub mod Table
+pub mod World

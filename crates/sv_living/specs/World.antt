@@ -1,0 +1,49 @@
+-- A world without end as its callers see it, and one step of it.
+use Rattle.std.specs.Prelude.{◌≡◌, ℕ, true, false, ◌==◌, List, ◌∷◌, Result, Ok, Err}
+use Rattle.sv_wire.specs.declared.message.Request.{Request}
+use Rattle.sv_journal.specs.declared.entry.Entry.{Entry}
+use Rattle.sv_journal.specs.declared.entry.Logged.{Logged}
+use Rattle.sv_journal.specs.History.{accepted, full_reply}
+use Rattle.sv_journal.specs.Answer.{Rules}
+use Rattle.sv_journal.specs.Serving.{reply_for}
+use Rattle.sv_journal.specs.Living.{Stewardship, heeded, living}
+use Rattle.sv_sequencer.specs.declared.answer.Answer.{Answer}
+use Rattle.sv_sequencer.specs.Step.{entry_of}
+use Rattle.sv_living.specs.declared.fault.StepFault.{StepFault}
+use Rattle.sv_living.specs.declared.fault.StepFault.TheVariants as faults
+use Rattle.sv_living.specs.Sessions.{is_open, next_session, may_begin, may_ask}
+
+-- What it was opened with, whose reports it goes by, and all entries so far, the latest first.
+pub record WorldView : Type 0 where
+  pub rules : Rules
+  pub stewardship : Stewardship
+  pub history : List Entry
+
+-- The history with those results alone that count: the commit and the committed values are those of this.
+abbrev pub heeded_in : WorldView → List Entry
+heeded_in v = heeded v.stewardship v.history
+
+-- The reply to a request of a session, by the answer table.
+abbrev pub reply_in : WorldView → ℕ → Request → Logged
+reply_in v s request = reply_for (living v.stewardship) v.rules v.history s request
+
+-- A world once a request was answered: its history has one entry more, with the reply of the table.
+abbrev pub after : WorldView → ℕ → Request → WorldView
+after v s request = record v { history = entry_of s request (reply_in v s request) ∷ v.history }
+
+-- A request was answered by the table, as its reply is kept and in full, and the world is what this entry makes of it.
+pub record Answered (old new : WorldView) (s : ℕ) (request : Request) (answer : Answer) : Type 0 where
+  pub world : new ≡ after old s request
+  pub logged : answer.logged ≡ reply_in old s request
+  pub whole : answer.reply ≡ full_reply (accepted (after old s request).history) (reply_in old s request)
+
+-- Why a request was not answered.
+abbrev pub IsStepFault : List Entry → ℕ → StepFault → Type 0
+IsStepFault h s faults.NotOpen = (is_open h s ≡ false) × ((s == next_session h) ≡ false)
+IsStepFault h s faults.NoRoom = ((s == next_session h) ≡ true) × (may_begin h ≡ false)
+IsStepFault h s faults.Memory = may_ask h s ≡ true
+
+-- The answer that was given, or that memory was wanting.
+abbrev pub told : {E : Type 0} → Result Answer E → Result Answer StepFault
+told (Ok answer) = Ok answer
+told (Err error) = Err faults.Memory

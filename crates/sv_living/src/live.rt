@@ -1,0 +1,67 @@
+//! What is live of a world without end.
+ghost use Rattle.std.specs.Prelude.{◌≡◌, ◌<◌, ◌≤◌, List, true, [], None, length, IfOk};
+ghost use Rattle.sv_world.specs.Limits.{most_open, most_positions};
+ghost use Rattle.sv_world.specs.Worlds.{IsGoodWorld};
+ghost use Rattle.sv_journal.specs.declared.entry.Entry.{Entry};
+ghost use Rattle.sv_living.specs.Keeping.{rules_at, stewardship_of, stewardship_at, KeepsLiving};
+ghost use Rattle.sv_living.specs.Sessions.{is_open, next_session, open_sessions, most_session, may_begin};
+
+use crate::stewards::Stewards;
+use crate::table::OpenSessions;
+use std::alloc::{AllocError, Global};
+use sv_sequencer::{Core, Opened};
+use sv_world::MOST_OPEN;
+
+/// A core with the table of its open sessions. It has no history: its contracts speak of the one that it keeps.
+#[derive(Drop)]
+pub struct Live {
+    pub alloc: Global,
+    /// It goes by the results that count.
+    pub core: Core,
+    pub stewards: Stewards,
+    pub table: OpenSessions,
+    /// The number of the next session.
+    pub next: u64,
+}
+
+impl Live {
+    pub fn new(alloc: Global, opened: Opened, stewards: Stewards) -> Result<Live, AllocError>
+        requires world { IsGoodWorld opened.world }
+        requires endless { opened.sessions ≡ None }
+        requires positions { opened.positions ≤ most_positions }
+        ensures rules { IfOk result (λ c. rules_at c ≡ opened) }
+        ensures stewards { IfOk result (λ c. stewardship_at c ≡ stewardship_of stewards) }
+        ensures keeps { IfOk result (λ c. KeepsLiving c []) }
+    {
+        Ok(Live {
+            alloc,
+            core: Core::new(alloc, opened)?,
+            stewards,
+            table: OpenSessions::new(alloc),
+            next: 0,
+        })
+    }
+
+    /// How many sessions are open.
+    pub fn open_count(&self) -> usize
+        ensures table { result ≡ length self.now.table }
+        ensures open { (h : List Entry) → KeepsLiving self.now h → result ≡ length (open_sessions h) }
+    {
+        self.table.len()
+    }
+
+    pub fn is_open(&self, session: u64) -> bool
+        ensures { (h : List Entry) → KeepsLiving self.now h → result ≡ is_open h session }
+    {
+        self.table.seat_of(session).is_some()
+    }
+
+    /// Whether one more session may begin.
+    pub fn may_begin(&self) -> bool
+        ensures room { result ≡ true → length self.now.table < most_open }
+        ensures last { result ≡ true → self.now.next < most_session }
+        ensures begin { (h : List Entry) → KeepsLiving self.now h → result ≡ may_begin h }
+    {
+        self.open_count() < MOST_OPEN as usize && self.next < u64::MAX
+    }
+}

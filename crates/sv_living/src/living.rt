@@ -1,0 +1,156 @@
+//! A living world's core, and what it tells.
+ghost use Rattle.std.specs.Prelude.{◌≡◌, List, ◌<◌, ◌≤◌, true, [], None, length, slice_index_or, All, IfOk, IfErr, IsOk, MatchResult};
+ghost use Rattle.sv_world.specs.Limits.{most_positions};
+ghost use Rattle.sv_world.specs.Worlds.{IsGoodWorld};
+ghost use Rattle.sv_journal.specs.declared.entry.Entry.{Entry};
+ghost use Rattle.sv_journal.specs.History.{accepted, commit_of, committed_of};
+ghost use Rattle.sv_journal.specs.Laws.{IsRightful};
+ghost use Rattle.sv_journal.specs.Sessions.{is_end};
+ghost use Rattle.sv_journal.specs.Serving.{LegalFor};
+ghost use Rattle.sv_journal.specs.Living.{living};
+ghost use Rattle.sv_living.specs.Keeping.{stewardship_of};
+ghost use Rattle.sv_living.specs.Sessions.{is_open, next_session, open_sessions, may_begin, may_ask, AreInOrder};
+ghost use Rattle.sv_living.specs.World.{heeded_in, Answered, IsStepFault};
+
+use crate::fault::StepFault;
+use crate::live::Live;
+use crate::past::Past;
+use crate::stewards::Stewards;
+use std::alloc::{AllocError, Global};
+use std::marker::Model;
+use sv_journal::accepted_actions_are_rightful;
+use sv_sequencer::{Answer, Opened};
+use sv_wire::Request;
+use sv_world::{ObjectId, Value};
+
+/// The core of a living world's server: it answers the requests of sessions without end, and keeps just what is live.
+///
+/// Contracts see it with the history of all entries so far, which takes no memory. Its sessions are numbered 0, 1, 2, .. in the order of
+/// their first requests, and at most 1,024 are open at once.
+#[derive(Drop)]
+pub struct LivingCore {
+    pub(crate) live: Live,
+    pub(crate) past: Past,
+}
+
+impl Model for LivingCore {
+    ghost use Rattle.std.specs.Coded.{codes};
+    ghost use Rattle.sv_journal.specs.contracts.entry.Entry as entry;
+    ghost use Rattle.sv_living.specs.World.{WorldView};
+
+    ghost Value = { WorldView };
+
+    ghost coded = { Prim.hlevel (codes, entry.the_row.coded) };
+
+    ghost use Rattle.sv_living.specs.Invariant.{world_of, IsLiving};
+
+    ghost view = { world_of };
+
+    ghost invariant = { IsLiving };
+}
+
+impl LivingCore {
+    /// Opens a living world in which nobody has asked anything.
+    pub fn new(alloc: Global, opened: Opened, stewards: Stewards) -> Result<LivingCore, AllocError>
+        requires world { IsGoodWorld opened.world }
+        requires endless { opened.sessions ≡ None }
+        requires positions { opened.positions ≤ most_positions }
+        ensures { IfOk result (λ c. c ≡ record { rules = opened; stewardship = stewardship_of stewards; history = [] }) }
+    {
+        Ok(LivingCore {
+            live: Live::new(alloc, opened, stewards)?,
+            past: Past::new(),
+        })
+    }
+
+    /// Answers a request of a session that is open, or of the next one, which begins by it. The reply is the one of the answer table.
+    ///
+    /// Where it is not answered everything is as it was, but for room. The End of an open session takes no memory.
+    pub fn step(&mut self, session: u64, request: &Request) -> Result<Answer, StepFault>
+        ensures ok { IfOk result (Answered self.old self.new session request.now) }
+        ensures err { IfErr result (λ _. self.new ≡ self.old) }
+        ensures cause { MatchResult result (λ _. may_ask self.old.history session ≡ true) (IsStepFault self.old.history session) }
+        ensures end { is_end request.now ≡ true → is_open self.old.history session ≡ true → IsOk result }
+    {
+        self.answer(session, request)
+    }
+
+    /// Answers a request. `h` is the history so far.
+    fn answer(&mut self, session: u64, request: &Request) -> Result<Answer, StepFault>
+        ghost h: { List Entry }
+        requires { h ≡ self.old.history }
+        ensures ok { IfOk result (Answered self.old self.new session request.now) }
+        ensures err { IfErr result (λ _. self.new ≡ self.old) }
+        ensures cause { MatchResult result (λ _. may_ask h session ≡ true) (IsStepFault h session) }
+        ensures end { is_end request.now ≡ true → is_open h session ≡ true → IsOk result }
+    {
+        match self.live.step(session, request) {
+            Ok(answer) => {
+                self.past.enter(session, request, &answer.logged);
+                Ok(answer)
+            }
+            Err(fault) => Err(fault),
+        }
+    }
+
+    /// The number of the next session: the least one without an entry.
+    pub fn next(&self) -> u64
+        ensures { result ≡ next_session self.now.history }
+    {
+        self.live.next
+    }
+
+    /// How many sessions are open.
+    pub fn open_count(&self) -> usize
+        ensures { result ≡ length (open_sessions self.now.history) }
+    {
+        self.live.open_count()
+    }
+
+    /// Whether a session is open: it has an entry, and had no End.
+    pub fn is_open(&self, session: u64) -> bool
+        ensures { result ≡ is_open self.now.history session }
+    {
+        self.live.is_open(session)
+    }
+
+    /// Whether one more session may begin.
+    pub fn may_begin(&self) -> bool
+        ensures { result ≡ may_begin self.now.history }
+    {
+        self.live.may_begin()
+    }
+
+    /// The last accepted position.
+    pub fn last(&self) -> u32
+        ensures { result ≡ length (accepted self.now.history) }
+    {
+        self.live.core.last()
+    }
+
+    /// The greatest position up to which all results that count are installed.
+    pub fn commit(&self) -> u32
+        ensures { result ≡ commit_of (heeded_in self.now) }
+    {
+        self.live.core.commit()
+    }
+
+    /// The value of an object at the commit.
+    pub fn committed(&self, object: ObjectId) -> &Value
+        requires { object.0 < self.now.rules.world.shape.objects }
+        ensures { result.now ≡ slice_index_or (committed_of self.now.rules.world.values (heeded_in self.now)) object.0 [] }
+    {
+        self.live.core.committed(object)
+    }
+
+    /// A law: at any time each reply is the one of the answer table, sessions began in the order of their numbers with at most 1,024 open,
+    /// and every accepted action writes only what its author may write.
+    pub fn is_lawful(&self)
+        ensures legal { LegalFor (living self.now.stewardship) self.now.rules self.now.history }
+        ensures order { AreInOrder self.now.history }
+        ensures rightful { All (IsRightful self.now.rules) (accepted self.now.history) }
+    {
+        accepted_actions_are_rightful();
+        let _ = &self.live;
+    }
+}
