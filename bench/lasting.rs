@@ -1,4 +1,4 @@
-//! The peer's core through a long life: `lasting REQUESTS SAMPLE`. The program `sv_lasting` of bench/programs asks its core the same requests.
+//! The peer's core through a long life: `lasting REQUESTS SAMPLE`. The program `bench_lasting` of bench/programs asks its core the same requests.
 //!
 //! 1,000 clients, 256 sessions open at once, 100 requests each. A session joins, then makes increments and reports them, and polls now and
 //! then; every third one ends with an action that it did not report. Results are made up: a server looks at their form alone.
