@@ -158,7 +158,7 @@ def test_random(test, rounds, seed):
 
 def test_wrong_runs(test, rounds, seed):
     """What servers and players print that break one rule."""
-    kinds = [one for one in vars(wrong_runs).values() if isinstance(one, type) and one.__module__ == "wrong_runs"]
+    kinds = [one for one in vars(wrong_runs).values() if isinstance(one, type) and one.__module__ == wrong_runs.__name__]
     for place in range(rounds):
         chance = random.Random(f"{seed} wrong {place}")
         path, scenario = test.scenario_file(chance)
