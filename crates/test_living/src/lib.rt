@@ -1,6 +1,7 @@
 //! Journals of living worlds, typed from the rules by hand: a living world's core that is asked what their lines ask answers as they tell.
 #![tactic(auto)]
 
+mod full;
 mod outcomes;
 mod rights;
 mod room;

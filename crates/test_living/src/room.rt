@@ -12,55 +12,40 @@ const SETTING: Setting = Setting {
     before: 0,
 };
 
-/// A request of a session: an End, or else a Poll. Why it is not answered; then the number of the next session, and how many are open.
-struct Row {
-    session: u64,
-    is_end: bool,
-    fault: Option<StepFault>,
-    next: u64,
-    open: usize,
-}
-
-const fn row(session: u64, is_end: bool, fault: Option<StepFault>, next: u64, open: usize) -> Row {
-    Row {
-        session,
-        is_end,
-        fault,
-        next,
-        open,
-    }
-}
+/// A session, and whether its request is an End, else it is a Poll. Why it is not answered; then the number of the next session, and how many
+/// are open.
+type Row = (u64, bool, Option<StepFault>, u64, usize);
 
 /// Sessions begin in the order of their numbers, and no number comes twice.
 const ORDER: &[Row] = &[
-    row(1, false, Some(StepFault::NotOpen), 0, 0),
-    row(0, false, None, 1, 1),
-    row(2, true, Some(StepFault::NotOpen), 1, 1),
-    row(1, true, None, 2, 1),
-    row(1, false, Some(StepFault::NotOpen), 2, 1),
-    row(1, true, Some(StepFault::NotOpen), 2, 1),
-    row(0, false, None, 2, 1),
-    row(2, false, None, 3, 2),
-    row(0, true, None, 3, 1),
-    row(0, false, Some(StepFault::NotOpen), 3, 1),
-    row(u64::MAX, false, Some(StepFault::NotOpen), 3, 1),
-    row(2, false, None, 3, 1),
+    (1, false, Some(StepFault::NotOpen), 0, 0),
+    (0, false, None, 1, 1),
+    (2, true, Some(StepFault::NotOpen), 1, 1),
+    (1, true, None, 2, 1),
+    (1, false, Some(StepFault::NotOpen), 2, 1),
+    (1, true, Some(StepFault::NotOpen), 2, 1),
+    (0, false, None, 2, 1),
+    (2, false, None, 3, 2),
+    (0, true, None, 3, 1),
+    (0, false, Some(StepFault::NotOpen), 3, 1),
+    (u64::MAX, false, Some(StepFault::NotOpen), 3, 1),
+    (2, false, None, 3, 1),
 ];
 
 /// While 1,024 are open no other begins, not even one that would end at once.
 const CROWDED: &[Row] = &[
-    row(1024, false, Some(StepFault::NoRoom), 1024, 1024),
-    row(1024, true, Some(StepFault::NoRoom), 1024, 1024),
-    row(1025, false, Some(StepFault::NotOpen), 1024, 1024),
-    row(1023, false, None, 1024, 1024),
-    row(7, true, None, 1024, 1023),
-    row(7, false, Some(StepFault::NotOpen), 1024, 1023),
-    row(1024, true, None, 1025, 1023),
-    row(1024, false, Some(StepFault::NotOpen), 1025, 1023),
-    row(1025, false, None, 1026, 1024),
-    row(1026, false, Some(StepFault::NoRoom), 1026, 1024),
-    row(1025, true, None, 1026, 1023),
-    row(1026, false, None, 1027, 1024),
+    (1024, false, Some(StepFault::NoRoom), 1024, 1024),
+    (1024, true, Some(StepFault::NoRoom), 1024, 1024),
+    (1025, false, Some(StepFault::NotOpen), 1024, 1024),
+    (1023, false, None, 1024, 1024),
+    (7, true, None, 1024, 1023),
+    (7, false, Some(StepFault::NotOpen), 1024, 1023),
+    (1024, true, None, 1025, 1023),
+    (1024, false, Some(StepFault::NotOpen), 1025, 1023),
+    (1025, false, None, 1026, 1024),
+    (1026, false, Some(StepFault::NoRoom), 1026, 1024),
+    (1025, true, None, 1026, 1023),
+    (1026, false, None, 1027, 1024),
 ];
 
 fn fault_of(core: &mut LivingCore, session: u64, request: &Request) -> Option<StepFault> {
@@ -74,12 +59,13 @@ fn fault_of(core: &mut LivingCore, session: u64, request: &Request) -> Option<St
 }
 
 fn is_row(core: &mut LivingCore, row: &Row) -> bool {
-    let fault = if row.is_end {
-        fault_of(core, row.session, &Request::End)
+    let (session, is_end, fault, next, open) = *row;
+    let found = if is_end {
+        fault_of(core, session, &Request::End)
     } else {
-        fault_of(core, row.session, &Request::Poll)
+        fault_of(core, session, &Request::Poll)
     };
-    fault == row.fault && core.next() == row.next && core.open_count() == row.open
+    found == fault && core.next() == next && core.open_count() == open
 }
 
 /// The first row that does not hold.
