@@ -618,7 +618,7 @@ class Client:
             self.drop(fault)
             raise
         if not link:
-            self.become("closed")
+            self.become("closed", self.fault)
             raise self.fault or Fault(word)
         self.start(link)
         self.pump()
@@ -627,7 +627,7 @@ class Client:
     def mend(self, fault):
         """The next session follows after a pause, which grows from try to try. Raises the fault where it is no connection's, or
         no try is left."""
-        if fault is not self.fault or not self.connect:
+        if fault is not self.fault or not self.connect or self.status not in ACTIVE:
             raise fault
         first, longest, most = self.retry
         self.tries += 1
@@ -753,6 +753,8 @@ class Client:
             raise Fault("outside")
         try:
             while (payload := first_payload(self.came)) is None:
+                if self.link.fileno() < 0:      # its owner closed it
+                    raise ConnectionError("closed")
                 if not select.select([self.link], [], [], None if seconds == math.inf else seconds)[0]:
                     return None
                 if not (piece := self.link.recv(65_536)):
