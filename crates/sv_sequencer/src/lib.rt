@@ -7,6 +7,7 @@ mod decide;
 mod decision;
 mod deliver;
 mod entering;
+mod known;
 mod object;
 mod opened;
 mod orphans;
