@@ -15,32 +15,32 @@ use Rattle.sv_influence.proofs.Growth.{whole-nil}
 use Rattle.sv_influence.proofs.Looks.{given-is, writer-above}
 use Rattle.sv_influence.proofs.Sights.{observed-parts, all-low, see-first, see-first_bases, see-all_bases, bases_to_see-all, see-last}
 use Rattle.sv_influence.proofs.Takes.{makes_wanted}
-use Rattle.sv_sequencer.specs.Relays.{held_in, item_in, knows, knows_by, seen_positions, seen_bases}
+use Rattle.sv_sequencer.specs.Relays.{held_in, item_in, knows, knows_of, seen_positions, seen_bases}
 use Rattle.sv_sequencer.proofs.Relayed.{objects-low}
 
 -- ---- one object
 
 -- No uncommitted position writes it.
-pub knows-given : (v : QueueView) (s x w n : ℕ) (given : Bool) → x < v.shape.objects → n ≡ last_position v + 1 → w ≡ last_writer (queue_actions v) x n → w ≡ 0 →
+pub knows-given : (v : QueueView) (s x w last : ℕ) (given : Bool) → x < v.shape.objects → last ≡ last_position v → w ≡ last_writer (queue_actions v) x (last + 1) → w ≡ 0 →
     given ≡ is_pair x s v.given → given ≡ knows v s x
-knows-given v s x w n given low next is none same =
-    let e : last_writer (queue_actions v) x (suc (last_position v)) ≡ 0 = ap (last_writer (queue_actions v) x) (sym next') ∙ sym is ∙ none in
-    same ∙ sym (given-is v x s low) ∙ sym (ap (knows_by v s x) e)
-  where
-    next' : n ≡ suc (last_position v)
-    next' = omega (arith, next)
+knows-given v s x w last given low at is none same =
+    let next : last + 1 ≡ suc (last_position v) = omega arith in
+    let e : last_writer (queue_actions v) x (suc (last_position v)) ≡ 0 = ap (last_writer (queue_actions v) x) (sym next) ∙ sym is ∙ none in
+    same ∙ sym (given-is v x s low)
+    ∙ sym (cond-true (nat_le 0 v.commit) (is_in x (given_objects v s)) (is_in 0 (sent_positions v s)) (le-leb 0 v.commit (omega arith)))
+    ∙ sym (ap (knows_of v s x) e)
 
-pub knows-sent : (v : QueueView) (s x w n : ℕ) (sent : Bool) → n ≡ last_position v + 1 → w ≡ last_writer (queue_actions v) x n → w ≢ 0 →
+pub knows-sent : (v : QueueView) (s x w last : ℕ) (sent : Bool) → last ≡ last_position v → w ≡ last_writer (queue_actions v) x (last + 1) → w ≢ 0 →
     sent ≡ is_in w (sent_positions v s) → sent ≡ knows v s x
-knows-sent v s x w n sent next is some' same =
-    let next' : n ≡ suc (last_position v) = omega arith in
-    let e : w ≡ last_writer (queue_actions v) x (suc (last_position v)) = is ∙ ap (last_writer (queue_actions v) x) next' in
+knows-sent v s x w last sent at is some' same =
+    let next : last + 1 ≡ suc (last_position v) = omega arith in
+    let e : w ≡ last_writer (queue_actions v) x (suc (last_position v)) = is ∙ ap (last_writer (queue_actions v) x) next in
     let above = writer-above v x (suc (last_position v)) (omega arith) in
     let late : v.commit < w = omega arith in
-    same ∙ sym (cond-false (nat_le w v.commit) (is_in x (given_objects v s)) (is_in w (sent_positions v s)) (lt-leb w v.commit late)) ∙ ap (knows_by v s x) e
+    same ∙ sym (cond-false (nat_le w v.commit) (is_in x (given_objects v s)) (is_in w (sent_positions v s)) (lt-leb w v.commit late)) ∙ ap (knows_of v s x) e
 
 -- Its last writer is not lacking.
-known-writer : (v : QueueView) (s x w : ℕ) → knows_by v s x w ≡ true → (nat_lt v.commit w && not (is_in w (sent_positions v s))) ≡ false
+known-writer : (v : QueueView) (s x w : ℕ) → knows_of v s x w ≡ true → (nat_lt v.commit w && not (is_in w (sent_positions v s))) ≡ false
 known-writer v s x w h =
     elim (cases_lt v.commit w) [
       | inl late ↦
@@ -50,7 +50,7 @@ known-writer v s x w h =
     ]
 
 -- Its committed value is not due.
-known-base : (v : QueueView) (s x w : ℕ) → knows_by v s x w ≡ true → (nat_le w v.commit && not (is_in x (given_objects v s))) ≡ false
+known-base : (v : QueueView) (s x w : ℕ) → knows_of v s x w ≡ true → (nat_le w v.commit && not (is_in x (given_objects v s))) ≡ false
 known-base v s x w h =
     elim (cases_lt v.commit w) [
       | inl late ↦ and_left (nat_le w v.commit) (not (is_in x (given_objects v s))) (lt-leb w v.commit late)

@@ -26,14 +26,13 @@ seen_positions v s xs = lacking_to_see v s xs (latest_cut v s xs)
 abbrev pub seen_bases : QueueView → ℕ → List ℕ → List ℕ
 seen_bases v s xs = bases_to_see v s xs (latest_cut v s xs)
 
--- A session knows what an object is at the last position: it was sent the object's last writer or, where that is committed, given the
--- committed value.
-abbrev pub knows : QueueView → ℕ → ℕ → Bool
-knows v s x = knows_by v s x (last_writer (queue_actions v) x (suc (last_position v)))
+-- A session knows of an object what its last writer made of it: it was sent this writer or, where that is committed, given the committed value.
+abbrev pub knows_of : QueueView → ℕ → ℕ → ℕ → Bool
+knows_of v s x writer = if nat_le writer v.commit then is_in x (given_objects v s) else is_in writer (sent_positions v s)
 
--- The same with the last writer at hand.
-abbrev pub knows_by : QueueView → ℕ → ℕ → ℕ → Bool
-knows_by v s x writer = if nat_le writer v.commit then is_in x (given_objects v s) else is_in writer (sent_positions v s)
+-- A session knows what an object is at the last position.
+abbrev pub knows : QueueView → ℕ → ℕ → Bool
+knows v s x = knows_of v s x (last_writer (queue_actions v) x (suc (last_position v)))
 
 -- The queue once some positions were sent to a session.
 abbrev pub marked_all : QueueView → List ℕ → ℕ → QueueView

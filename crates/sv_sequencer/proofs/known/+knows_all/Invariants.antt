@@ -3,4 +3,4 @@ use Rattle.std.proofs.Common.{length}
 use Rattle.sv_sequencer.proofs.known.+knows_all.Given as goal
 
 abbrev pub decreases-knows_all : goal.decreases-knows_all
-decreases-knows_all l = length l.objects.now
+decreases-knows_all g l = length l.objects.now
