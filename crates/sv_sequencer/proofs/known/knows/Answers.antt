@@ -1,5 +1,5 @@
 -- What the check leaves to prove of `knows`.
-use Rattle.std.proofs.Common.{◌≡◌, ◌≢◌, ℕ, ◌+◌, ◌-◌, ◌^◌, ◌<◌, ◌≤◌, arith}
+use Rattle.std.proofs.Common.{◌+◌, arith}
 use Rattle.sv_influence.proofs.Looks.{writer-queued}
 use Rattle.sv_sequencer.proofs.Knowing.{knows-given, knows-sent}
 use Rattle.sv_sequencer.proofs.known.knows.Goals as goal

@@ -1,5 +1,5 @@
 -- What the check leaves to prove of `seen_counted`.
-use Rattle.std.proofs.Common.{◌≡◌, true, map, All, sym, ◌∙◌, ap, subst}
+use Rattle.std.proofs.Common.{map, All, sym, ◌∙◌, ap, subst}
 use Rattle.sv_world.specs.declared.world.ObjectId.{ObjectId}
 use Rattle.sv_world.specs.Sets.{numbers_of}
 use Rattle.sv_queue.specs.Queue.{IsUncommitted}
