@@ -24,7 +24,7 @@ mod step;
 pub use answer::Answer;
 pub use decision::{Decided, Decision};
 pub use deliver::reported_by;
-pub use entering::{enter_end, enter_reply, open_core};
+pub use entering::{enter_asked, enter_end, enter_reply, open_core};
 pub use opened::Opened;
 pub use seats::Seat;
 pub use sequencer::Sequencer;
