@@ -1,11 +1,11 @@
--- What is proved by hand of `Client::make`.
+-- What is proved by hand of `LeanClient::make`.
 use Rattle.std.proofs.Common.{◌≡◌, ℕ, suc, ◌+◌, [], ◌∷◌, ap, ◌∙◌, add-one}
 use Rattle.sv_world.specs.declared.action.Action.{Action}
 use Rattle.sv_wire.specs.declared.message.Request.TheVariants as requests
 use Rattle.sv_client.specs.Traces.{makes}
 use Rattle.sv_client.specs.Seen.{ClientView}
 use Rattle.sv_client.proofs.Keeping.{asks_one}
-use Rattle.sv_client.proofs.client.Client.make.Goals as goal
+use Rattle.sv_client.proofs.lean.LeanClient.make.Goals as goal
 
 pub returns-clause-request : goal.returns-clause-request
 returns-clause-request c =
