@@ -1,3 +1,4 @@
 -- The lemmas of this crate, file by file.
 pub mod Taking
 pub mod Making
+pub mod Weights

@@ -1,5 +1,5 @@
 -- The action that a text is, and whether it may be made.
-use Rattle.std.proofs.Common.{◌≡◌, ℕ, List, Result, Ok, Err, subst}
+use Rattle.std.proofs.Common.{◌≡◌, ◌≤◌, ◌⊎◌, inl, inr, ℕ, List, Result, Ok, Err, subst}
 use Rattle.std.specs.Prelude.{IfErr}
 use Rattle.sv_world.specs.declared.action.Action.{Action}
 use Rattle.sv_text.specs.declared.fault.ParseFault.{ParseFault}
@@ -7,12 +7,11 @@ use Rattle.sv_text.specs.declared.fault.ParseFault.TheVariants as parse_faults
 use Rattle.sv_text.specs.Reading.{Gives}
 use Rattle.sv_text.specs.Grammar.{IsActionText}
 use Rattle.sv_text.specs.Tokens.{tokens_of}
-use Rattle.sv_client.specs.Proper.{MayMake}
-use Rattle.sv_client.specs.Seen.{ClientView}
+use Rattle.sv_client.specs.Proper.{IsReadyToMake}
 use Rattle.sv_pilot.specs.declared.trouble.Trouble.{Trouble}
 use Rattle.sv_pilot.specs.declared.trouble.Trouble.TheVariants as troubles
 use Rattle.sv_pilot.specs.Troubles.{trouble_of_text}
-use Rattle.sv_pilot.specs.Doings.{NoneMayBeMade}
+use Rattle.sv_pilot.specs.Doings.{PilotView, NoneMayBeMade, StoppedMake, StoppedAction}
 
 pub same_read : (a b : Action) → Gives (λ (x : Action). x) (Ok a) (Ok b) → b ≡ a
 same_read a b e = cc
@@ -21,9 +20,20 @@ pub none_read : (fault : ParseFault) (a : Action) → trouble_of_text fault ≡ 
 none_read parse_faults.Memory a game e = cc
 none_read (parse_faults.Text f) a game e = cc
 
-pub none_made : (text : List ℕ) (c : ClientView) (action : Action) → ((other : Action) → IsActionText other (tokens_of text) → other ≡ action) →
-    (MayMake c.who c.events action → ⊥) → NoneMayBeMade text c
-none_made text c action only not other is may = not (subst (λ (a : Action). MayMake c.who c.events a) (only other is) may)
+pub none_made : (text : List ℕ) (p : PilotView) (action : Action) → ((other : Action) → IsActionText other (tokens_of text) → other ≡ action) →
+    (IsReadyToMake p.client.who p.client.events action → ⊥) → NoneMayBeMade text p
+none_made text p action only not other is may = not (subst (λ (a : Action). IsReadyToMake p.client.who p.client.events a) (only other is) may)
+
+pub none_made_or : {B : Type 0} (text : List ℕ) (p : PilotView) (action : Action) → ((other : Action) → IsActionText other (tokens_of text) → other ≡ action) →
+    ((IsReadyToMake p.client.who p.client.events action → ⊥) ⊎ B) → NoneMayBeMade text p ⊎ B
+none_made_or text p action only (inl not) = inl (none_made text p action only not)
+none_made_or text p action only (inr b) = inr b
+
+pub stopped_text : (text : List ℕ) (old new : PilotView) (action : Action) (trouble : Trouble) → IsActionText action (tokens_of text) →
+    ((trouble ≡ troubles.Game) ⊎ StoppedMake action old new trouble) → (trouble ≡ troubles.Game) ⊎ StoppedAction text old new trouble
+stopped_text text old new action trouble is (inl game) = inl game
+stopped_text text old new action trouble is (inr (inl nothing)) = inr (inl nothing)
+stopped_text text old new action trouble is (inr (inr made)) = inr (inr (record { action = action; is_text = is; may = made.0; did = made.1 }, made.2))
 
 pub weaken_err : {X : Type 0} (P Q : Trouble → Type 0) (r : Result X Trouble) → ((t : Trouble) → P t → Q t) → IfErr r P → IfErr r Q
 weaken_err P Q (Ok x) f p = tt
