@@ -94,14 +94,6 @@ impl Inbox {
         answer
     }
 
-    /// What the first frame is read as. It stays.
-    pub fn first<M: Message>(&self, alloc: Global) -> Incoming<M>
-        ensures reads { ReadsFirst M.read_at result self.now }
-        ensures room { KeepsRoom result self.now }
-    {
-        read_first(alloc, self.reader.first())
-    }
-
     /// The payload of the first frame, where a whole one has come.
     pub fn first_payload(&self) -> Option<&[u8]>
         ensures { option_map (λ payload. payload.now) result ≡ first_payload_of self.now }

@@ -1,4 +1,5 @@
 -- The lemmas of this crate, file by file.
 pub mod Taking
+pub mod Moved
 pub mod Making
 pub mod Weights

@@ -1,16 +1,22 @@
 -- Replies that a pilot takes, one after the other.
-use Rattle.std.proofs.Common.{◌≡◌, ℕ, ◌<◌, inl, inr, List, [], ◌∷◌, ◌++◌, length, map, Ok, refl, sym, ap, subst, ◌∙◌, arith, append_assoc}
+use Rattle.std.proofs.Common.{◌≡◌, ℕ, ◌<◌, ◌⊎◌, inl, inr, List, [], ◌∷◌, ◌++◌, length, map, Some, Result, Ok, Err, refl, sym, ap, subst, ◌∙◌, arith, append_assoc}
+use Rattle.std.specs.Prelude.{OnOk, IfErr}
 use Rattle.std.proofs.lemmas.List.{map-append, append-nil}
 use Rattle.sv_frame.specs.Frames.{frame, frames_of}
 use Rattle.sv_frame.specs.Streams.{TakesOff}
 use Rattle.sv_wire.specs.declared.message.Reply.{Reply}
 use Rattle.sv_wire.specs.Messages.{reply_at}
+use Rattle.sv_exchange.specs.Incoming.{FirstReads}
+use Rattle.sv_client.specs.declared.fault.TakeFault.{TakeFault}
+use Rattle.sv_client.specs.declared.fault.TakeFault.TheVariants as take_faults
+use Rattle.sv_client.specs.Taking.{Fault, Unasked, WrongKind, BadOrder, BadItem, Missing, first_fault_of_reply}
 use Rattle.sv_client.specs.declared.trace.Event.{Event}
-use Rattle.sv_client.specs.Answers.{got_now}
-use Rattle.sv_client.specs.Seen.{ClientView}
+use Rattle.sv_client.specs.Answers.{got_now, IsTakeFault}
+use Rattle.sv_client.specs.Seen.{ClientView, with_event}
 use Rattle.sv_pilot.specs.Lines.{Line, IsCalm, GoesOn}
-use Rattle.sv_pilot.specs.Sending.{HasSent, HasRead}
-use Rattle.sv_pilot.specs.Doings.{PilotView, HasTaken, StopsBy, got_all}
+use Rattle.sv_pilot.specs.Sending.{HasSent, HasRead, IsSendFault, IsReceiveFault}
+use Rattle.sv_pilot.specs.Troubles.{trouble_of_take}
+use Rattle.sv_pilot.specs.Doings.{PilotView, HasTaken, Did, doing, NoReplyIsDue, StopsBy, Stopped, got_all}
 use Rattle.sv_pilot.specs.declared.trouble.Trouble.{Trouble}
 use Rattle.sv_pilot.specs.declared.trouble.Trouble.TheVariants as troubles
 
@@ -43,6 +49,15 @@ read_more a b c h k = record {
 
 pub calm_more : (a b c : Line) → IsCalm a b → IsCalm b c → IsCalm a c
 calm_more a b c h k = record { faults = k.faults ∙ h.faults; ended = k.ended ∙ h.ended }
+
+pub calm_same : (a b : Line) → b ≡ a → IsCalm a b
+calm_same a b e = record { faults = ap (λ (l : Line). l.faults) e; ended = ap (λ (l : Line). l.told.ended) e }
+
+pub nothing_sent : (l : Line) → HasSent l l
+nothing_sent l = record { line = goes_nowhere l; came = refl }
+
+pub nothing_read : (l : Line) → HasRead l l
+nothing_read l = sent_read l l (nothing_sent l)
 
 -- ---- Replies
 
@@ -126,6 +141,67 @@ stops_later old mid new troubles.Link calm (inr ended) = inr ended
 stops_later old mid new troubles.Reply calm why = (calm_more old.line mid.line new.line calm why.0, why.1)
 stops_later old mid new troubles.Memory calm why = calm_more old.line mid.line new.line calm why
 stops_later old mid new troubles.Game calm why = absurd why
+
+-- What stops a sending, or a receiving, stops a call.
+pub sending_stops_it : (old new : PilotView) (trouble : Trouble) → IsSendFault old.line new.line trouble → StopsBy old new trouble
+sending_stops_it old new troubles.Link why = inl why
+sending_stops_it old new troubles.Reply why = absurd why
+sending_stops_it old new troubles.Memory why = why
+sending_stops_it old new troubles.Game why = absurd why
+
+pub receiving_stops_it : (old new : PilotView) (trouble : Trouble) → IsReceiveFault old.line new.line trouble → StopsBy old new trouble
+receiving_stops_it old new troubles.Link why = why
+receiving_stops_it old new troubles.Reply why = (why.0, inl why.1)
+receiving_stops_it old new troubles.Memory why = why
+receiving_stops_it old new troubles.Game why = absurd why
+
+refused_for : (p : PilotView) (reply : Reply) (fault : Fault) → FirstReads reply_at p.line.came (Ok reply) → first_fault_of_reply p.client.who p.client.events reply ≡ Some fault → StopsBy p p troubles.Reply
+refused_for p reply fault front e = (calm_same p.line p.line refl, inr (inl (record { reply = reply; fault = fault; front = front; refused = e })))
+
+-- A reply that is refused stops a call.
+pub refused_by : (p : PilotView) (reply : Reply) (fault : TakeFault) → FirstReads reply_at p.line.came (Ok reply) → IsTakeFault p.client.who p.client.events reply fault → StopsBy p p (trouble_of_take fault)
+refused_by p reply take_faults.Unasked front e = refused_for p reply Unasked front e
+refused_by p reply take_faults.WrongKind front e = refused_for p reply WrongKind front e
+refused_by p reply take_faults.BadOrder front e = refused_for p reply BadOrder front e
+refused_by p reply take_faults.BadItem front e = refused_for p reply BadItem front e
+refused_by p reply (take_faults.Missing pos object) front e = refused_for p reply (Missing pos object.0) front e
+refused_by p reply take_faults.Memory front e = calm_same p.line p.line refl
+
+-- ---- One thing done
+
+pub did_then : (e : Event) (old mid new : PilotView) → mid.client ≡ with_event old.client e → HasRead old.line mid.line → HasTaken mid new → Did e old new
+did_then e old mid new c h k = taken_more (doing old e) mid new (line_taken (doing old e) mid c h) k
+
+pub did_only : (e : Event) (old new : PilotView) → new.client ≡ with_event old.client e → HasRead old.line new.line → Did e old new
+did_only e old new c h = line_taken (doing old e) new c h
+
+-- It was done, and then replies were taken, to the end.
+pub asked_fine : (e : Event) (old mid new : PilotView) (r : Result Unit Trouble) → mid.client ≡ with_event old.client e → HasRead old.line mid.line → IsCalm old.line mid.line → HasTaken mid new
+    → OnOk r (NoReplyIsDue new × IsCalm mid.line new.line) → OnOk r (Did e old new × NoReplyIsDue new × IsCalm old.line new.line)
+asked_fine e old mid new (Ok x) c h calm k s = (did_then e old mid new c h k, s.0, calm_more old.line mid.line new.line calm s.1)
+asked_fine e old mid new (Err t) c h calm k s = tt
+
+-- It was done, and then replies were taken, until it stopped.
+pub asked_stops : (e : Event) (old mid new : PilotView) (r : Result Unit Trouble) → mid.client ≡ with_event old.client e → HasRead old.line mid.line → IsCalm old.line mid.line → HasTaken mid new
+    → IfErr r (StopsBy mid new) → IfErr r (λ (trouble : Trouble). Did e old new × StopsBy old new trouble)
+asked_stops e old mid new (Ok x) c h calm k why = tt
+asked_stops e old mid new (Err t) c h calm k why = (did_then e old mid new c h k, stops_later old mid new t calm why)
+
+pub may_stop : (e : Event) (old new : PilotView) (r : Result Unit Trouble) → IfErr r (λ (trouble : Trouble). Did e old new × StopsBy old new trouble)
+    → IfErr r (λ (trouble : Trouble). (trouble ≡ troubles.Game) ⊎ Stopped e old new trouble)
+may_stop e old new (Ok x) why = tt
+may_stop e old new (Err t) why = inr (inr why)
+
+-- What stops a call is not the game.
+pub not_the_game : (old new : PilotView) (trouble : Trouble) → StopsBy old new trouble → trouble ≡ troubles.Game → ⊥
+not_the_game old new troubles.Link why e = cc
+not_the_game old new troubles.Reply why e = cc
+not_the_game old new troubles.Memory why e = cc
+not_the_game old new troubles.Game why e = why
+
+pub not_refused : (old new : PilotView) (r : Result Unit Trouble) (X : Type 0) → IfErr r (StopsBy old new) → IfErr r (λ (trouble : Trouble). trouble ≡ troubles.Game → X)
+not_refused old new (Ok x) X why = tt
+not_refused old new (Err t) X why = λ e. absurd (not_the_game old new t why e)
 
 pub none_left : {X : Type 0} (xs : List X) → length xs ≡ 0 → xs ≡ []
 none_left [] e = refl

@@ -17,7 +17,7 @@ use Rattle.sv_exchange.specs.Incoming.{FirstReads}
 use Rattle.sv_client.specs.declared.trace.Event.{Event}
 use Rattle.sv_client.specs.declared.trace.Event.TheVariants as events
 use Rattle.sv_client.specs.Taking.{Fault, outstanding, first_fault_of_reply}
-use Rattle.sv_client.specs.Proper.{IsReadyToMake}
+use Rattle.sv_client.specs.Proper.{IsReadyToMake, MayObserve}
 use Rattle.sv_client.specs.Answers.{got_now}
 use Rattle.sv_client.specs.Seen.{ClientView, with_event}
 use Rattle.sv_pilot.specs.declared.trouble.Trouble.{Trouble}
@@ -65,7 +65,7 @@ pub record IsRefused (p : PilotView) : Type 0 where
   pub refused : first_fault_of_reply p.client.who p.client.events reply ≡ Some fault
 
 -- Why a call did not come to its end, from what it had done first up to where it stopped: the end failed, or told that no more will come; the front of
--- what came is no reply, or one that the client does not take; or there was no memory.
+-- what came is no reply, or one that the client does not take, or the client's world is none that there may be; or there was no memory.
 abbrev pub StopsBy : PilotView → PilotView → Trouble → Type 0
 StopsBy old new troubles.Link = Rose old.line.faults new.line.faults ⊎ (new.line.told.ended ≡ true)
 StopsBy old new troubles.Reply = IsCalm old.line new.line × (IsBadFront new.line.came ⊎ (IsRefused new ⊎ (IsGoodShape new.client.who.shape → ⊥)))
@@ -78,8 +78,17 @@ Stopped e old new trouble = ((new ≡ old) × (trouble ≡ troubles.Memory)) ⊎
 
 -- It observed these objects so often, and took some replies after each time.
 abbrev pub Watched : List ObjectId → ℕ → ℕ → PilotView → PilotView → Type 0
-Watched objects wait zero old new = HasTaken old new
-Watched objects wait (suc n) old new = (mid : PilotView) × Did (events.Observe objects wait) old mid × Watched objects wait n mid new
+Watched objects wait zero old new = new ≡ old
+Watched objects wait (suc n) old new = (mid : PilotView) × Watched objects wait n old mid × Did (events.Observe objects wait) mid new
+
+-- It observed these objects fewer times than it should. The next time it might not, and nothing was done; or nothing was done for want of memory; or
+-- it was done, and some replies were taken, until it stopped.
+pub record StoppedWatch (objects : List ObjectId) (wait times : ℕ) (old new : PilotView) (trouble : Trouble) : Type 0 where
+  pub before : ℕ
+  pub fewer : before < times
+  pub last : PilotView
+  pub watched : Watched objects wait before old last
+  pub why : ((trouble ≡ troubles.Game) × (new ≡ last) × (MayObserve last.client.who last.client.events objects → ⊥)) ⊎ Stopped (events.Observe objects wait) last new trouble
 
 -- Nothing was done for want of memory; or it made an action, which it might make, and took some replies, until it stopped.
 abbrev pub StoppedMake : Action → PilotView → PilotView → Trouble → Type 0

@@ -1,26 +1,24 @@
 //! A client's connection to the server: requests go out, replies come in, over any end.
-ghost use Rattle.std.specs.Prelude.{◌≡◌, ◌≢◌, ◌⊎◌, ◌<◌, ◌++◌, [], true, false, length, Ok, Err, None, All, IfOk, IfErr, OnOk, OnErr};
-ghost use Rattle.sv_bytes.specs.Faults.{Rose};
+ghost use Rattle.std.specs.Prelude.{◌≡◌, ◌≢◌, ◌<◌, false, length, None, All, IfOk, IfErr};
 ghost use Rattle.sv_frame.specs.Frames.{first_frame, greatest_frame};
 ghost use Rattle.sv_frame.specs.Answers.{Skips};
 ghost use Rattle.sv_wire.specs.Grammar.{IsWireRequest};
-ghost use Rattle.sv_wire.specs.Messages.{reply_at};
-ghost use Rattle.sv_exchange.specs.Incoming.{FirstReads};
-ghost use Rattle.sv_pilot.specs.Lines.{line_of, IsCalm, GoesOn};
-ghost use Rattle.sv_pilot.specs.Sending.{trouble_of_sent, HasSent, HasRead, IsSendFault, IsReceiveFault};
+ghost use Rattle.sv_pilot.specs.Lines.{line_of};
+ghost use Rattle.sv_pilot.specs.Sending.{trouble_of_sent, trouble_of_read, HasSent, HasRead, IsSent, IsReadOn, IsReplyOf, IsFrontOf, IsReceived};
 
 use crate::trouble::Trouble;
 use std::alloc::Global;
 use std::marker::Model;
-use sv_exchange::{Inbox, Incoming, Outbox};
+use sv_exchange::Outbox;
+use sv_frame::{FrameReader, Next};
 use sv_link::{End, EndRead, Sent};
-use sv_wire::{Reply, Request, read_request};
+use sv_wire::{Reply, Request, WireFault, decode_reply, read_request};
 
 /// A connection. Contracts see what its end tells, which is open, how often the end failed, and the bytes that came and were not taken as replies.
 #[derive(Drop)]
 pub(crate) struct Connection<E: End> {
     alloc: Global,
-    inbox: Inbox,
+    reader: FrameReader,
     outbox: Outbox,
     end: E,
 }
@@ -31,7 +29,7 @@ impl<E: End> Model for Connection<E> {
 
     ghost Value = { Line };
 
-    ghost view = { λ c. record { told = E.told c.end; faults = E.faults c.end; came = c.inbox } };
+    ghost view = { λ c. record { told = E.told c.end; faults = E.faults c.end; came = c.reader } };
 
     ghost invariant = { λ c. (E.told c.end).closed ≡ false };
 }
@@ -47,6 +45,29 @@ fn whole(sent: Sent) -> Result<(), Trouble>
     }
 }
 
+/// What a read tells.
+fn some(read: EndRead) -> Result<(), Trouble>
+    ensures { result ≡ trouble_of_read read }
+{
+    match read {
+        EndRead::Got(_) => Ok(()),
+        EndRead::Ended => Err(Trouble::Link),
+        EndRead::Failed => Err(Trouble::Link),
+        EndRead::Memory => Err(Trouble::Memory),
+    }
+}
+
+/// The reply that a payload is.
+fn reply_of(alloc: Global, payload: &[u8]) -> Result<Reply, Trouble>
+    ensures { IsReplyOf payload.now result }
+{
+    match decode_reply(alloc, payload) {
+        Ok(reply) => Ok(reply),
+        Err(WireFault::Malformed(_)) => Err(Trouble::Reply),
+        Err(WireFault::Memory) => Err(Trouble::Memory),
+    }
+}
+
 impl<E: End> Connection<E> {
     ghost use Rattle.sv_pilot.specs.declared.trouble.Trouble.TheVariants as troubles;
 
@@ -56,11 +77,11 @@ impl<E: End> Connection<E> {
         ensures line { IfOk result (λ connection. connection ≡ line_of (E.told end) (E.faults end)) }
         ensures memory { IfErr result (λ trouble. trouble ≡ troubles.Memory) }
     {
-        let inbox = Inbox::new(alloc)?;
+        let reader = FrameReader::new(alloc)?;
         let outbox = Outbox::new(alloc)?;
         Ok(Connection {
             alloc,
-            inbox,
+            reader,
             outbox,
             end,
         })
@@ -70,8 +91,7 @@ impl<E: End> Connection<E> {
     pub(crate) fn send(&mut self, request: &Request) -> Result<(), Trouble>
         requires { IsWireRequest request.now }
         ensures sent { HasSent self.old self.new }
-        ensures calm { OnOk result (IsCalm self.old self.new) }
-        ensures fault { IfErr result (IsSendFault self.old self.new) }
+        ensures answer { IsSent self.old self.new result }
     {
         read_request(request);
         whole(self.outbox.put(request, &mut self.end))
@@ -81,21 +101,18 @@ impl<E: End> Connection<E> {
     pub(crate) fn send_all(&mut self, requests: &[Request]) -> Result<(), Trouble>
         requires { All IsWireRequest requests.now }
         ensures sent { HasSent self.old self.new }
-        ensures calm { OnOk result (IsCalm self.old self.new) }
-        ensures fault { IfErr result (IsSendFault self.old self.new) }
+        ensures answer { IsSent self.old self.new result }
     {
-        let [request, rest @ ..] = requests else {
-            return Ok(());
-        };
-        self.send(request)?;
-        self.send_all(rest)
+        for request in requests {
+            self.send(request)?;
+        }
+        Ok(())
     }
 
     /// Sends what waits.
     fn flush(&mut self) -> Result<(), Trouble>
         ensures sent { HasSent self.old self.new }
-        ensures calm { OnOk result (IsCalm self.old self.new) }
-        ensures fault { IfErr result (IsReceiveFault self.old self.new) }
+        ensures answer { IsSent self.old self.new result }
     {
         whole(self.outbox.flush(&mut self.end))
     }
@@ -104,43 +121,42 @@ impl<E: End> Connection<E> {
     fn read(&mut self) -> Result<(), Trouble>
         requires room { length self.old.came < greatest_frame }
         ensures read { HasRead self.old self.new }
-        ensures more { OnOk result (length self.old.came < length self.new.came) }
-        ensures calm { OnOk result (IsCalm self.old self.new) }
-        ensures fault { IfErr result (IsReceiveFault self.old self.new) }
+        ensures answer { IsReadOn self.old self.new result }
     {
-        match self.inbox.read_from(&mut self.end) {
-            EndRead::Got(_) => Ok(()),
-            EndRead::Ended | EndRead::Failed => Err(Trouble::Link),
-            EndRead::Memory => Err(Trouble::Memory),
+        some(self.reader.read_from(&mut self.end))
+    }
+
+    /// The reply at the front of what came, where a whole frame has come, or a length over the limit.
+    fn front(&self) -> Option<Result<Reply, Trouble>>
+        ensures { IsFrontOf self.now.came result }
+    {
+        match self.reader.first() {
+            Next::Frame(payload) => Some(reply_of(self.alloc, payload)),
+            Next::NotYet => None,
+            Next::TooLong(_) => Some(Err(Trouble::Reply)),
         }
     }
 
-    /// The reply at the front of what came. Where no whole one has come yet, it is waited for. It stays in front.
-    fn front(&mut self) -> Result<Reply, Trouble>
+    /// Waits for the next reply, which stays in front of what came.
+    fn wait(&mut self) -> Result<Reply, Trouble>
         ensures read { HasRead self.old self.new }
-        ensures calm { OnOk result (IsCalm self.old self.new) }
-        ensures front { IfOk result (λ reply. FirstReads reply_at self.new.came (Ok reply)) }
-        ensures fault { IfErr result (IsReceiveFault self.old self.new) }
+        ensures received { IsReceived self.old self.new result }
     {
         loop {
-            match self.inbox.first::<Reply>(self.alloc) {
-                Incoming::Whole(reply) => return Ok(reply),
-                Incoming::NotYet => self.read()?,
-                Incoming::Malformed(_) | Incoming::TooLong(_) => return Err(Trouble::Reply),
-                Incoming::Memory => return Err(Trouble::Memory),
+            if let Some(reply) = self.front() {
+                return reply;
             }
+            self.read()?;
         }
     }
 
     /// Sends what waits, and waits for the next reply, which stays in front of what came.
     pub(crate) fn receive(&mut self) -> Result<Reply, Trouble>
         ensures read { HasRead self.old self.new }
-        ensures calm { OnOk result (IsCalm self.old self.new) }
-        ensures front { IfOk result (λ reply. FirstReads reply_at self.new.came (Ok reply)) }
-        ensures fault { IfErr result (IsReceiveFault self.old self.new) }
+        ensures received { IsReceived self.old self.new result }
     {
         self.flush()?;
-        self.front()
+        self.wait()
     }
 
     /// Takes the reply at the front of what came off.
@@ -150,6 +166,6 @@ impl<E: End> Connection<E> {
         ensures faults { self.new.faults ≡ self.old.faults }
         ensures came { Skips self.old.came self.new.came }
     {
-        self.inbox.skip();
+        self.reader.skip();
     }
 }

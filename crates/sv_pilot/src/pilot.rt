@@ -3,7 +3,7 @@ ghost use Rattle.std.specs.Prelude.{◌≡◌, ◌⊎◌, ◌<◌, ◌≤◌, tr
 ghost use Rattle.sv_world.specs.Worlds.{IsGoodShape};
 ghost use Rattle.sv_text.specs.Grammar.{IsActionText};
 ghost use Rattle.sv_text.specs.Tokens.{tokens_of};
-ghost use Rattle.sv_wire.specs.Grammar.{IsWireRequest};
+ghost use Rattle.sv_wire.specs.Grammar.{IsWireRequest, IsWireReply};
 ghost use Rattle.sv_wire.specs.Messages.{reply_at};
 ghost use Rattle.sv_exchange.specs.Incoming.{FirstReads};
 ghost use Rattle.sv_client.specs.declared.trace.Event.TheVariants as events;
@@ -13,7 +13,7 @@ ghost use Rattle.sv_client.specs.Proper.{IsReadyToMake, MayPoll, MayObserve, May
 ghost use Rattle.sv_pilot.specs.declared.trouble.Trouble.TheVariants as troubles;
 ghost use Rattle.sv_pilot.specs.Troubles.{trouble_of_text};
 ghost use Rattle.sv_pilot.specs.Lines.{line_of, IsCalm};
-ghost use Rattle.sv_pilot.specs.Doings.{HasTaken, Did, Stopped, StopsBy, Watched, NoReplyIsDue, MadeAction, StoppedMake, StoppedAction, weight, NoneMayBeMade, number_seen, text_limit};
+ghost use Rattle.sv_pilot.specs.Doings.{HasTaken, Did, Stopped, StopsBy, Watched, StoppedWatch, NoReplyIsDue, MadeAction, StoppedMake, StoppedAction, weight, NoneMayBeMade, number_seen, text_limit};
 
 use crate::connection::Connection;
 use crate::seen::{Listener, Seen, tell_all, unseen};
@@ -221,9 +221,11 @@ impl<E: End, L: Listener> Pilot<E, L> {
         self.ask(&request)
     }
 
-    /// Keeps asking what objects are, so often, each time when the answer before has come. It stops at the first trouble.
+    /// Keeps asking what objects are, so often, each time when the answer before has come. It stops at the first trouble, which comes as at `observe`.
     pub fn watch(&mut self, objects: &[ObjectId], wait: u16, times: u32) -> Result<(), Trouble>
         ensures watched { OnOk result (Watched objects.now wait times self.old self.new) }
+        ensures calm { OnOk result (IsCalm self.old.line self.new.line) }
+        ensures stopped { IfErr result (StoppedWatch objects.now wait times self.old self.new) }
     {
         for _ in 0..times {
             let asked = copy_objects(self.alloc, objects)?;
@@ -301,14 +303,15 @@ impl<E: End, L: Listener> Pilot<E, L> {
     /// Takes the reply at the front of what came, reports the results that it asks for, and tells what it changed.
     fn take(&mut self, reply: &Reply) -> Result<(), Trouble>
         requires front { FirstReads reply_at self.old.line.came (Ok reply.now) }
+        requires message { IsWireReply reply.now }
         ensures taken { HasTaken self.old self.new }
         ensures calm { OnOk result (IsCalm self.old.line self.new.line) }
         ensures lighter { OnOk result (weight (outstanding self.new.client.who self.new.client.events) < weight (outstanding self.old.client.who self.old.client.events)) }
         ensures why { IfErr result (StopsBy self.old self.new) }
     {
-        self.client.in_turn();
         self.client.asks_messages();
         let done = self.client.take(reply)?;
+        self.client.in_turn();
         self.connection.skip();
         self.answer(done)?;
         self.tell()
