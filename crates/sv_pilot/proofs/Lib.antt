@@ -3,3 +3,4 @@ pub mod Taking
 pub mod Moved
 pub mod Making
 pub mod Weights
+pub mod Replied
