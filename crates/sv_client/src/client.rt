@@ -78,6 +78,13 @@ impl Client {
         })
     }
 
+    /// The client without its trace, by which it answers: contracts see the same of both.
+    pub fn lean(&self) -> &LeanClient
+        ensures { result.now ≡ self.now }
+    {
+        &self.lean
+    }
+
     pub fn id(&self) -> ClientId
         ensures { result ≡ self.now.who.client }
     {

@@ -4,3 +4,4 @@ pub mod Moved
 pub mod Making
 pub mod Weights
 pub mod Replied
+pub mod Asked

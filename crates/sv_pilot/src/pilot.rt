@@ -257,14 +257,19 @@ impl<E: End, L: Listener> Pilot<E, L> {
         listener
     }
 
-    /// Sends a request that was just made, with what it is expected to change told, and takes all replies.
+    /// Tells what a request that was just made is expected to change, sends it, and takes all replies.
     fn ask(&mut self, request: &Request) -> Result<(), Trouble>
         requires { IsWireRequest request.now }
         ensures taken { HasTaken self.old self.new }
         ensures settled { OnOk result (NoReplyIsDue self.new × IsCalm self.old.line self.new.line) }
         ensures why { IfErr result (StopsBy self.old self.new) }
     {
-        self.tell()?;
+        tell_all(
+            self.alloc,
+            &self.client,
+            self.seen.as_mut_slice(),
+            &mut self.listener,
+        )?;
         self.connection.send(request)?;
         self.settle()
     }
