@@ -5,3 +5,4 @@ pub mod Making
 pub mod Weights
 pub mod Replied
 pub mod Asked
+pub mod Watching
