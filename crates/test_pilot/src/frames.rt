@@ -21,6 +21,20 @@ pub const RELAY: &[u8] = &[
     0, 0, 0x20, 0, 0, 0, 0, 0, 0, 0, 1,
 ];
 
+/// A Welcome with commit 0, to a world whose object has four numbers: it is 10, 0, 0, 1.
+pub const WELCOME_OF_FOUR: &[u8] = &[
+    0, 0, 0, 42, 0x81, 0, 0, 0, 0, 0, 1, 0, 0, 4, //
+    0, 0, 0, 0, 0, 0, 0, 10, 0, 0, 0, 0, 0, 0, 0, 0, //
+    0, 0, 0, 0, 0, 0, 0, 0, 0, 0, 0, 0, 0, 0, 0, 1,
+];
+
+/// A Relay for the action 1 there: the own one alone, at position 1, which adds 1 to the fourth number.
+pub const RELAY_OF_FOURTH: &[u8] = &[
+    0, 0, 0, 52, 0x89, 0, 0, 0, 1, 0, 0, 0, 0, 0, 0, 1, //
+    0, 0, 0, 1, 0, 0, 0, 0, 0, 1, 1, 0, 0, 0, 1, 0, 0, 0, 0, 0, 0, 0, 0, 1, 0x10, 0, 3, 0x22, 0x21,
+    0, 3, 0x20, 0, 0, 0, 0, 0, 0, 0, 1,
+];
+
 /// What was seen: the object is 30 at position 0.
 pub const SEEN: &[u8] = &[
     0, 0, 0, 23, 0x8b, 0, 0, 0, 0, 0, 0, 0, 0, 0, 1, 0, 0, 1, 0, 0, 0, 0, 0, 0, 0, 30, 0,

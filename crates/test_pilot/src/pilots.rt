@@ -1,14 +1,10 @@
 //! What pilots do, row by row: what comes over each end, what is done, what is answered, and what the listener is told.
-ghost use Rattle.std.specs.Prelude.{◌≡◌, false, IfOk, IfErr};
-ghost use Rattle.sv_link.specs.Ends.{Told};
-
 use crate::frames::{
-    BYE, DROPPED, IDLE, MALFORMED, NOTED, REFUSED, RELAY, RELAY_BEHIND_ANOTHER, SEEN, TOO_LONG,
-    WELCOME,
+    BYE, DROPPED, IDLE, MALFORMED, NOTED, REFUSED, RELAY, RELAY_BEHIND_ANOTHER, RELAY_OF_FOURTH, SEEN,
+    TOO_LONG, WELCOME, WELCOME_OF_FOUR,
 };
 use crate::notes::Notes;
 use std::alloc::Global;
-use std::process::Abort;
 use std::test::Fail;
 use sv_client::LeanClient;
 use sv_pilot::{Pilot, Trouble};
@@ -40,12 +36,13 @@ enum Call<'a> {
     Over(&'a [&'a [u8]]),
 }
 
-/// A row: how many numbers an object has, which call of the end fails (0: none), the frames that come, what is done with what is answered, and
-/// what the listener is told.
+/// A row: how many numbers an object has, which call of the end fails (0: none), how often the listener has memory, the frames that come, what is
+/// done with what is answered, and what the listener is told.
 #[derive(Clone, Copy)]
 struct Row<'a> {
     attrs: u8,
     failing: u64,
+    room: u32,
     frames: &'a [&'a [u8]],
     calls: &'a [(Call<'a>, Option<Trouble>)],
     told: &'a str,
@@ -61,7 +58,7 @@ fn client_of(alloc: Global, attrs: u8) -> Result<LeanClient, Fail> {
 /// A text of an action with so many bytes, most of them blank.
 fn long_text(alloc: Global, size: usize) -> Result<String, Fail> {
     let mut text = String::from_str(alloc, "reads 0 writes { }")?;
-    while text.len() < size {
+    for _ in text.len()..size {
         text.push_str(" ")?;
     }
     Ok(text)
@@ -133,7 +130,7 @@ fn further_of(alloc: Global, row: &Row<'_>) -> Result<Vec<u8>, Fail> {
 fn flown(alloc: Global, row: &Row<'_>, coming: &[u8], further: &[u8]) -> Result<String, Fail> {
     let client = client_of(alloc, row.attrs)?;
     let end = ScriptEnd::new(alloc, coming, row.failing, 0)?;
-    let mut pilot = match Pilot::new(alloc, client, end, Notes::new(alloc)) {
+    let mut pilot = match Pilot::new(alloc, client, end, Notes::new(alloc, row.room)) {
         Ok(pilot) => pilot,
         Err(trouble) => return Err(Fail::new(format_args!("{trouble}"))),
     };
@@ -157,10 +154,9 @@ fn goes(alloc: Global, row: &Row<'_>) -> Result<(), Fail> {
     Ok(())
 }
 
-fn all_go(rt: &impl Abort, alloc: Global, rows: &[Row<'_>]) -> Result<(), Fail> {
+fn all_go(alloc: Global, rows: &[Row<'_>]) -> Result<(), Fail> {
     for (place, row) in rows.iter().enumerate() {
         if let Err(fail) = goes(alloc, row) {
-            let _ = rt;
             return Err(Fail::new(format_args!("row {place}: {fail}")));
         }
     }
@@ -172,6 +168,7 @@ const PLAYS: &[Row<'static>] = &[
     Row {
         attrs: 1,
         failing: 0,
+        room: 9,
         frames: &[WELCOME, RELAY, NOTED, BYE],
         calls: &[
             (Call::Join, None),
@@ -184,6 +181,7 @@ const PLAYS: &[Row<'static>] = &[
     Row {
         attrs: 1,
         failing: 0,
+        room: 9,
         frames: &[WELCOME, RELAY_BEHIND_ANOTHER, NOTED],
         calls: &[(Call::Join, None), (Call::Make(ADD), None)],
         told: " 0=10 0=11 0=21",
@@ -192,6 +190,7 @@ const PLAYS: &[Row<'static>] = &[
     Row {
         attrs: 1,
         failing: 0,
+        room: 9,
         frames: &[WELCOME, DROPPED],
         calls: &[(Call::Join, None), (Call::Act(ADD), None)],
         told: " 0=10 0=11 0=10",
@@ -200,6 +199,7 @@ const PLAYS: &[Row<'static>] = &[
     Row {
         attrs: 1,
         failing: 0,
+        room: 9,
         frames: &[WELCOME, SEEN, SEEN, SEEN, IDLE],
         calls: &[
             (Call::Join, None),
@@ -213,6 +213,7 @@ const PLAYS: &[Row<'static>] = &[
     Row {
         attrs: 1,
         failing: 0,
+        room: 9,
         frames: &[WELCOME],
         calls: &[
             (Call::Join, None),
@@ -222,10 +223,20 @@ const PLAYS: &[Row<'static>] = &[
         ],
         told: " 0=10 0=11 0=21",
     },
+    // What an action on the fourth number of an object changes is reported.
+    Row {
+        attrs: 4,
+        failing: 0,
+        room: 9,
+        frames: &[WELCOME_OF_FOUR, RELAY_OF_FOURTH, NOTED],
+        calls: &[(Call::Join, None), (Call::Act(FOURTH), None)],
+        told: " 0=10 0=10",
+    },
     // An action may name the fourth number of an object that has four.
     Row {
         attrs: 4,
         failing: 0,
+        room: 9,
         frames: &[],
         calls: &[
             (Call::Join, Some(Trouble::Link)),
@@ -241,6 +252,7 @@ const TROUBLES: &[Row<'static>] = &[
     Row {
         attrs: 1,
         failing: 1,
+        room: 9,
         frames: &[WELCOME],
         calls: &[(Call::Join, Some(Trouble::Link))],
         told: "",
@@ -248,6 +260,7 @@ const TROUBLES: &[Row<'static>] = &[
     Row {
         attrs: 1,
         failing: 2,
+        room: 9,
         frames: &[WELCOME],
         calls: &[(Call::Join, Some(Trouble::Link))],
         told: "",
@@ -255,6 +268,7 @@ const TROUBLES: &[Row<'static>] = &[
     Row {
         attrs: 1,
         failing: 0,
+        room: 9,
         frames: &[&[0, 0, 0, 18, 0x81]],
         calls: &[(Call::Join, Some(Trouble::Link))],
         told: "",
@@ -263,6 +277,7 @@ const TROUBLES: &[Row<'static>] = &[
     Row {
         attrs: 1,
         failing: 0,
+        room: 9,
         frames: &[MALFORMED],
         calls: &[(Call::Join, Some(Trouble::Reply))],
         told: "",
@@ -270,6 +285,7 @@ const TROUBLES: &[Row<'static>] = &[
     Row {
         attrs: 1,
         failing: 0,
+        room: 9,
         frames: &[WELCOME, TOO_LONG],
         calls: &[(Call::Join, None), (Call::Poll, Some(Trouble::Reply))],
         told: " 0=10",
@@ -277,6 +293,7 @@ const TROUBLES: &[Row<'static>] = &[
     Row {
         attrs: 1,
         failing: 0,
+        room: 9,
         frames: &[REFUSED],
         calls: &[(Call::Join, Some(Trouble::Reply))],
         told: "",
@@ -284,6 +301,7 @@ const TROUBLES: &[Row<'static>] = &[
     Row {
         attrs: 1,
         failing: 0,
+        room: 9,
         frames: &[WELCOME, BYE],
         calls: &[(Call::Join, None), (Call::Poll, Some(Trouble::Reply))],
         told: " 0=10",
@@ -292,14 +310,36 @@ const TROUBLES: &[Row<'static>] = &[
     Row {
         attrs: 2,
         failing: 0,
+        room: 9,
         frames: &[WELCOME],
         calls: &[(Call::Join, Some(Trouble::Reply))],
         told: "",
+    },
+    // A listener without memory, for a value that comes, and for one that is expected.
+    Row {
+        attrs: 1,
+        failing: 0,
+        room: 0,
+        frames: &[WELCOME],
+        calls: &[(Call::Join, Some(Trouble::Memory))],
+        told: "",
+    },
+    Row {
+        attrs: 1,
+        failing: 0,
+        room: 1,
+        frames: &[WELCOME, RELAY],
+        calls: &[
+            (Call::Join, None),
+            (Call::Act(ADD), Some(Trouble::Memory)),
+        ],
+        told: " 0=10",
     },
     // Outside a session nothing may be asked.
     Row {
         attrs: 1,
         failing: 0,
+        room: 9,
         frames: &[],
         calls: &[
             (Call::Act(ADD), Some(Trouble::Game)),
@@ -315,6 +355,7 @@ const TROUBLES: &[Row<'static>] = &[
     Row {
         attrs: 1,
         failing: 0,
+        room: 9,
         frames: &[WELCOME],
         calls: &[
             (Call::Join, None),
@@ -333,10 +374,10 @@ const TROUBLES: &[Row<'static>] = &[
 
 #[test]
 fn plays(rt: HostRuntime) -> Result<(), Fail> {
-    all_go(&rt, rt.alloc(), PLAYS)
+    all_go(rt.alloc(), PLAYS)
 }
 
 #[test]
 fn troubles(rt: HostRuntime) -> Result<(), Fail> {
-    all_go(&rt, rt.alloc(), TROUBLES)
+    all_go(rt.alloc(), TROUBLES)
 }
