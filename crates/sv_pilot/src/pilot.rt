@@ -152,7 +152,7 @@ impl<E: End, L: Listener> Pilot<E, L> {
         self.make(action)
     }
 
-    /// The action of a text, where the client may make actions.
+    /// The action of a text.
     fn read(&self, text: &str) -> Result<Action, Trouble>
         ensures text { IfOk result (λ action. IsActionText action (tokens_of text.now)) }
         ensures only { IfOk result (λ action. (other : Action) → IsActionText other (tokens_of text.now) → other ≡ action) }
