@@ -3,6 +3,7 @@ use Rattle.std.proofs.Common.{◌≡◌, ◌≤◌, ◌⊎◌, inl, inr, ℕ, Li
 use Rattle.std.specs.Prelude.{All, OnOk, IfErr}
 use Rattle.std.proofs.lemmas.List.Elements.{All-head}
 use Rattle.sv_world.specs.declared.action.Action.{Action}
+use Rattle.sv_world.specs.Worlds.{IsGoodShape}
 use Rattle.sv_wire.specs.declared.message.Request.{Request}
 use Rattle.sv_wire.specs.Grammar.{IsWireRequest}
 use Rattle.sv_client.specs.declared.fault.MakeFault.{MakeFault}
@@ -21,10 +22,10 @@ use Rattle.sv_client.specs.Seen.{newly_asked}
 use Rattle.sv_pilot.specs.declared.trouble.Trouble.{Trouble}
 use Rattle.sv_pilot.specs.declared.trouble.Trouble.TheVariants as troubles
 use Rattle.sv_pilot.specs.Troubles.{trouble_of_make, trouble_of_poll, trouble_of_observe}
-use Rattle.sv_pilot.specs.Lines.{IsCalm}
-use Rattle.sv_pilot.specs.Sending.{IsSendFault}
+use Rattle.sv_pilot.specs.Lines.{Line, IsCalm}
+use Rattle.sv_pilot.specs.Sending.{IsSendFault, IsSent}
 use Rattle.sv_pilot.specs.Doings.{PilotView, Did, NoReplyIsDue, StopsBy, Stopped, StoppedMake}
-use Rattle.sv_pilot.proofs.Taking.{calm_more, stops_later}
+use Rattle.sv_pilot.proofs.Taking.{calm_same, calm_more, stops_later, sending_stops_it}
 
 -- The one request that an event asks is a message.
 pub asked_is_message : (who : Identity) (t : List Event) (e : Event) (request : Request) → ((d : Event) → MayCome who 0 t d → IsServed who d → All IsWireRequest (newly_asked who t d))
@@ -68,6 +69,22 @@ settled_later old mid new (Err t) calm s = tt
 pub stopped_later : (old mid new : PilotView) (r : Result Unit Trouble) → IsCalm old.line mid.line → IfErr r (StopsBy mid new) → IfErr r (StopsBy old new)
 stopped_later old mid new (Ok x) calm why = tt
 stopped_later old mid new (Err t) calm why = stops_later old mid new t calm why
+
+pub calm_later : {X : Type 0} (a b c : Line) (r : Result X Trouble) → IsCalm a b → OnOk r (IsCalm b c) → OnOk r (IsCalm a c)
+calm_later a b c (Ok x) calm s = calm_more a b c calm s
+calm_later a b c (Err t) calm s = tt
+
+pub sent_calm : (old new : Line) (r : Result Unit Trouble) → IsSent old new r → OnOk r (IsCalm old new)
+sent_calm old new (Ok x) s = s
+sent_calm old new (Err t) s = tt
+
+pub sent_why : (old new : PilotView) (r : Result Unit Trouble) → IsSent old.line new.line r → IfErr r (StopsBy old new)
+sent_why old new (Ok x) s = tt
+sent_why old new (Err t) s = sending_stops_it old new t s
+
+-- A world of another shape has no results that could be told.
+pub stops_for_shape : (p : PilotView) → (IsGoodShape p.client.who.shape → ⊥) → StopsBy p p troubles.Reply
+stops_for_shape p bad = (calm_same p.line p.line refl, inr (inr bad))
 
 -- ---- Making
 

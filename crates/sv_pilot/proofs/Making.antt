@@ -56,3 +56,7 @@ text_nothing text p trouble (inr memory) = inr (inl (refl, memory))
 pub text_refused : (text : List ℕ) (p : PilotView) → (text_limit ≤ length text) ⊎ NoneMayBeMade text p → (p ≡ p) × ((text_limit ≤ length text) ⊎ (NoneMayBeMade text p ⊎ (most_numbers ≤ makes p.client.events)))
 text_refused text p (inl long) = (refl, inl long)
 text_refused text p (inr none) = (refl, inr (inl none))
+
+pub text_or_memory : (fault : ParseFault) → (trouble_of_text fault ≡ troubles.Game) ⊎ (trouble_of_text fault ≡ troubles.Memory)
+text_or_memory parse_faults.Memory = inr refl
+text_or_memory (parse_faults.Text f) = inl refl
