@@ -411,7 +411,7 @@ impl LeanClient {
     pub fn asks_messages(&self)
         ensures { (e : Event) → MayCome self.now.who 0 self.now.events e → IsServed self.now.who e → All IsWireRequest (newly_asked self.now.who self.now.events e) }
     {
-        let _ = self.told;
+        let _told = self.told;
     }
 
     /// A law: each event of its trace is one that may come after those before it.
@@ -419,6 +419,6 @@ impl LeanClient {
         ensures turn { AreInTurn self.now.who 0 self.now.events }
         ensures kept { AnswersAbove (told self.now.events) self.now.kept (held_of self.now.events) }
     {
-        let _ = self.told;
+        let _told = self.told;
     }
 }

@@ -127,8 +127,8 @@ taken_more old mid new h k = record {
   line = goes_further old.line mid.line new.line h.received k.received h.line k.line;
   payloads = h.payloads ++ k.payloads;
   stream = sym (append_assoc old.line.came h.received k.received) ∙ ap (λ (s : List ℕ). s ++ k.received) h.stream ∙ append_assoc (frames_of h.payloads) mid.line.came k.received
-  ∙ ap (λ (s : List ℕ). frames_of h.payloads ++ s) k.stream ∙ sym (append_assoc (frames_of h.payloads) (frames_of k.payloads) new.line.came)
-  ∙ ap (λ (s : List ℕ). s ++ new.line.came) (sym (frames_append h.payloads k.payloads));
+      ∙ ap (λ (s : List ℕ). frames_of h.payloads ++ s) k.stream ∙ sym (append_assoc (frames_of h.payloads) (frames_of k.payloads) new.line.came)
+      ∙ ap (λ (s : List ℕ). s ++ new.line.came) (sym (frames_append h.payloads k.payloads));
   read = map-append reply_at h.payloads k.payloads ∙ rw (h.read, k.read) (sym (map-append (λ (r : Reply). Ok r) h.replies k.replies));
 }
 

@@ -1,7 +1,7 @@
 //! What pilots do, row by row: what comes over each end, what is done, what is answered, and what the listener is told.
 use crate::frames::{
-    BYE, DROPPED, IDLE, MALFORMED, NOTED, REFUSED, RELAY, RELAY_BEHIND_ANOTHER, RELAY_OF_FOURTH, SEEN,
-    TOO_LONG, WELCOME, WELCOME_OF_FOUR,
+    BYE, DROPPED, IDLE, MALFORMED, NOTED, REFUSED, RELAY, RELAY_BEHIND_ANOTHER, RELAY_OF_FOURTH,
+    SEEN, TOO_LONG, WELCOME, WELCOME_OF_FOUR,
 };
 use crate::notes::Notes;
 use std::alloc::Global;
@@ -329,10 +329,7 @@ const TROUBLES: &[Row<'static>] = &[
         failing: 0,
         room: 1,
         frames: &[WELCOME, RELAY],
-        calls: &[
-            (Call::Join, None),
-            (Call::Act(ADD), Some(Trouble::Memory)),
-        ],
+        calls: &[(Call::Join, None), (Call::Act(ADD), Some(Trouble::Memory))],
         told: " 0=10",
     },
     // Outside a session nothing may be asked.

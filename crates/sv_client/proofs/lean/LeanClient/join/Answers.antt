@@ -7,8 +7,8 @@ use Rattle.sv_client.specs.Invariant.{who_is, IsClientOf}
 use Rattle.sv_client.proofs.Keeping.{joined_keeps}
 use Rattle.sv_client.proofs.lean.LeanClient.join.Goals as goal
 
-pub invariant_of-self-2 : goal.invariant_of-self-2
-invariant_of-self-2 c =
+pub invariant_of-self : goal.invariant_of-self
+invariant_of-self c =
     let who = who_is c.self.inside in
     let t = c.self.inside.past in
     let is = c.self.invariant in
