@@ -6,3 +6,4 @@ pub mod Weights
 pub mod Replied
 pub mod Asked
 pub mod Watching
+pub mod Shaped
