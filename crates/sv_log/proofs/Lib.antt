@@ -1,0 +1,8 @@
+-- The lemmas of this crate, file by file.
+pub mod Replays
+pub mod Moments
+pub mod Standing
+pub mod Texts
+pub mod Runs
+pub mod Mended
+pub mod Started
