@@ -6,3 +6,10 @@ pub mod Texts
 pub mod Runs
 pub mod Mended
 pub mod Started
+pub mod Numbers
+pub mod Chained
+pub mod Logged
+pub mod Puts
+pub mod Cuts
+pub mod Quiet
+pub mod Opened

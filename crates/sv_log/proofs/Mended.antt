@@ -1,17 +1,17 @@
 -- What a crash leaves while the end of a segment is made zero.
 use Rattle.std.proofs.Common.{◌≡◌, ◌≢◌, inl, inr, ⊎_elim, ℕ, zero, suc, ◌+◌, ◌-◌, ◌<◌, ◌≤◌, true, false, cond, not, ◌==◌, List, [], ◌∷◌, ◌++◌, length, take, drop, get_or, Option, Some, None, option_map, Result, Ok, Err, OnOk, refl, sym, ◌∙◌, ap, subst, arith, append_assoc, take-append-drop}
 use Rattle.std.specs.Str.{bytes_eq}
-use Rattle.std.proofs.lemmas.Bool.{cases_Bool, cond-true, cond-false, false≢true, and_from, or_right, not_from_false, ne_eqb, eqb-true}
+use Rattle.std.proofs.lemmas.Bool.{cases_Bool, cond-true, cond-false, false≢true, and_from, or_left, or_right, not_from_false, ne_eqb, eqb-true}
 use Rattle.std.proofs.lemmas.List.{append-nil, append_cancel_left, drop_all, take_all, take_more, drop_more, length-replicate}
 use Rattle.std.proofs.Math.Seq.{take-add}
 use Rattle.sv_log.specs.Pictures.{Picture, Call, Write, Sync, Disk, seen, noted, over, zeros, HasRoom, Makes}
-use Rattle.sv_log.specs.Crashes.{Same, Torn, Leaves, MayLeave, MayWrite, LeavesOnly}
+use Rattle.sv_log.specs.Crashes.{Same, SameBut, Torn, Leaves, MayLeave, MayWrite, LeavesOnly, is_synced}
 use Rattle.sv_log.specs.Texts.{has_line, whole, whole_in, IsText}
-use Rattle.sv_log.specs.Rests.{IsAtRest, Tells}
+use Rattle.sv_log.specs.Rests.{IsAtRest, Mends}
 use Rattle.sv_log.specs.Logs.{Stands}
 use Rattle.sv_log.proofs.Texts.{whole-append, text-append}
 use Rattle.sv_log.proofs.Moments.{made_only, then_only, same_only}
-use Rattle.sv_log.proofs.Standing.{bytes_differ, put_same, put_other}
+use Rattle.sv_log.proofs.Standing.{bytes_differ, bytes_same, put_same, put_other, none_some, stands_rest}
 
 pub whole_none : (x : List ℕ) → has_line x ≡ false → whole x ≡ []
 whole_none [] none = refl
@@ -150,8 +150,8 @@ module _ (disk : Disk) (name bytes : List ℕ) (end : ℕ) (rest : IsAtRest disk
   pub clear_room : HasRoom (seen disk) name end n
   clear_room = (bytes, file, omega (arith, within))
 
-  pub rest_tells : (c : Picture) → Leaves disk.start disk.past c → Tells (seen disk) name (whole bytes) c
-  rest_tells c left = let same = rest.only c left in ((λ m ne. same m), ap whole_in (same name ∙ file))
+  pub rest_tells : (c : Picture) → Leaves disk.start disk.past c → Mends (seen disk) name (whole bytes) c
+  rest_tells c left = let same = rest.only c left in ((λ m ne. same m), ap whole_in (same name ∙ file), (λ e. sym (same name) ∙ e))
 
   -- what a torn write of the zeros leaves
   cleared : (c d : Picture) → Leaves disk.start disk.past d → MayLeave (Write name end (zeros n)) d c → (torn : List ℕ) × (has_line torn ≡ false) × (c name ≡ Some (take end bytes ++ torn))
@@ -161,26 +161,27 @@ module _ (disk : Disk) (name bytes : List ℕ) (end : ℕ) (rest : IsAtRest disk
       let size : length w.0 ≡ n = length_torn (drop end bytes) (zeros n) w.0 w.1 ∙ length-replicate {A = ℕ} n 0 in
       (w.0, torn_none (drop end bytes) n w.0 no_line w.1, w.2 ∙ ap (λ (l : List ℕ). Some l) (over_all w.0 size))
 
-  pub clear_tells : (c d : Picture) → Leaves disk.start disk.past d → MayLeave (Write name end (zeros n)) d c → Tells (seen disk) name (whole bytes) c
+  pub clear_tells : (c d : Picture) → Leaves disk.start disk.past d → MayLeave (Write name end (zeros n)) d c → Mends (seen disk) name (whole bytes) c
   clear_tells c d left step =
       let w = cleared c d left step in (
         (λ m ne. step.0 m ne ∙ rest.only d left m),
         ap whole_in w.2 ∙ whole-append (take end bytes) w.0 is_text ∙ ap (λ (l : List ℕ). take end bytes ++ l) (whole_none w.0 w.1) ∙ append-nil (take end bytes) ∙ text,
+        (λ e. absurd (none_some (c name) (take end bytes ++ w.0) w.2 e)),
       )
 
-  tells_same : (c d : Picture) → Same c d → Tells (seen disk) name (whole bytes) d → Tells (seen disk) name (whole bytes) c
-  tells_same c d same w = ((λ m ne. same m ∙ w.0 m ne), ap whole_in (same name) ∙ w.1)
+  tells_same : (c d : Picture) → Same c d → Mends (seen disk) name (whole bytes) d → Mends (seen disk) name (whole bytes) c
+  tells_same c d same w = ((λ m ne. same m ∙ w.0 m ne), ap whole_in (same name) ∙ w.1, (λ e. w.2 (sym (same name) ∙ e)))
 
-  pub clear_only : {T E : Type 0} (new : Disk) (result : Result T E) → Makes (Write name end (zeros n)) disk new result → LeavesOnly disk new (Tells (seen disk) name (whole bytes))
-  clear_only new result makes = made_only disk new (Write name end (zeros n)) result (Tells (seen disk) name (whole bytes)) makes rest_tells clear_tells
+  pub clear_only : {T E : Type 0} (new : Disk) (result : Result T E) → Makes (Write name end (zeros n)) disk new result → LeavesOnly disk new (Mends (seen disk) name (whole bytes))
+  clear_only new result makes = made_only disk new (Write name end (zeros n)) result (Mends (seen disk) name (whole bytes)) makes rest_tells clear_tells
 
-  pub calm_tells : LeavesOnly disk disk (Tells (seen disk) name (whole bytes))
-  calm_tells = same_only disk disk (Tells (seen disk) name (whole bytes)) refl rest_tells
+  pub calm_tells : LeavesOnly disk disk (Mends (seen disk) name (whole bytes))
+  calm_tells = same_only disk disk (Mends (seen disk) name (whole bytes)) refl rest_tells
 
   pub clear_sync_only : {T E : Type 0} (mid new : Disk) (result : Result T E) → mid ≡ noted (Write name end (zeros n), true) disk → Makes (Sync name) mid new result
-      → LeavesOnly disk new (Tells (seen disk) name (whole bytes))
+      → LeavesOnly disk new (Mends (seen disk) name (whole bytes))
   clear_sync_only mid new result is makes =
-      let P = Tells (seen disk) name (whole bytes) in
+      let P = Mends (seen disk) name (whole bytes) in
       let now : (c : Picture) → Leaves mid.start mid.past c → P c = λ c left.
       let e = subst (λ (m : Disk). Leaves m.start m.past c) is left in clear_tells c e.0 e.1 e.2 in
       then_only disk mid new P (clear_only {T = ℕ} {E = ℕ} mid (Ok 0) is) (made_only mid new (Sync name) result P makes now (λ c d left same. tells_same c d same (now d left)))
@@ -208,6 +209,20 @@ module _ (disk : Disk) (name bytes : List ℕ) (end : ℕ) (rest : IsAtRest disk
     names = rest.names;
     others = λ m ne. or_right (bytes_eq m name) _ (and_from (not (bytes_eq m name)) _ (not_from_false (bytes_eq m name) (bytes_differ m name ne)) (rest.synced m));
   }
+
+  pub clear_rest : (mid new : Disk) → mid ≡ noted (Write name end (zeros n), true) disk → new ≡ noted (Sync name, true) mid → IsAtRest new
+  clear_rest mid new wrote is =
+      stands_rest new name (whole bytes) n (clear_stands mid new wrote is)
+      (subst (λ (d : Disk). is_synced d.past name ≡ true) (sym is) (or_left (bytes_eq name name) (is_synced mid.past name) (bytes_same name)))
+
+  pub clear_others : (mid new : Disk) → mid ≡ noted (Write name end (zeros n), true) disk → new ≡ noted (Sync name, true) mid → SameBut name (seen new) (seen disk)
+  clear_others mid new wrote is m ne = ap (λ (d : Disk). seen d m) (is ∙ ap (noted (Sync name, true)) wrote) ∙ put_other name m _ (seen disk) ne
+
+-- before anything is asked
+pub quiet_mends : (disk new : Disk) (name : List ℕ) → IsAtRest disk → new ≡ disk → LeavesOnly disk new (Mends (seen disk) name (whole_in (seen disk name)))
+quiet_mends disk new name rest is =
+    same_only disk new (Mends (seen disk) name (whole_in (seen disk name))) is
+    (λ c left. let same = rest.only c left in ((λ m ne. same m), ap whole_in (same name), (λ e. sym (same name) ∙ e)))
 
 -- what holds after a call that was answered Ok
 pub on_made : {T E Q : Type 0} (call : Call) (old new : Disk) (result : Result T E) → Makes call old new result → (new ≡ noted (call, true) old → Q) → OnOk result Q

@@ -3,13 +3,16 @@ use Rattle.std.proofs.Common.{◌≡◌, ℕ, ◌+◌, ◌-◌, ◌≤◌, true,
 use Rattle.std.specs.String.{string_bytes}
 use Rattle.std.proofs.lemmas.List.{append-nil}
 use Rattle.sv_log.specs.Pictures.{Picture, Grow, Write, Sync, Disk, seen, noted, Makes, HasRoom}
-use Rattle.sv_log.specs.Crashes.{SameBut, LeavesOnly}
+use Rattle.sv_log.specs.Crashes.{SameBut, LeavesOnly, is_synced}
 use Rattle.sv_log.specs.Texts.{IsText, IsFront, whole_in}
 use Rattle.sv_log.specs.Logs.{Stands, Within, IsOpen, appended, synced, pending}
 use Rattle.sv_log.specs.declared.segment.Segment.{Segment}
 use Rattle.sv_log.proofs.Texts.{front_same, front_more, front_then}
 use Rattle.sv_log.proofs.Moments.{made_only, then_only, same_only, weaker_only}
-use Rattle.sv_log.proofs.Standing.{now_within, grow_within, sync_within, write_within, synced_stands, grown_stands, written_stands, grown_within_again, has_room, opened, opened_text, opened_synced, put_other}
+use Rattle.sv_log.proofs.Standing.{now_within, grow_within, sync_within, write_within, synced_stands, grown_stands, written_stands, grown_within_again, has_room, opened, opened_text, opened_synced, put_other, bytes_same, stands_rest}
+use Rattle.std.specs.Str.{bytes_eq}
+use Rattle.std.proofs.lemmas.Bool.{or_left}
+use Rattle.sv_log.specs.Rests.{IsAtRest}
 
 module _ {F : Type 0} (disk : F → Disk) (old : Segment F) (is_open : IsOpen disk old) where
   abbrev s : List ℕ
@@ -139,6 +142,12 @@ module _ {F : Type 0} (disk : F → Disk) (old : Segment F) (is_open : IsOpen di
         synced_stands (disk old.folder) name s p room is_open.stands (disk folder)
         (subst (λ (n : List ℕ). disk folder ≡ noted (Sync n, true) (disk old.folder)) is_called is)
 
+    pub sync_rest : disk folder ≡ noted (Sync called, true) (disk old.folder) → IsAtRest (disk folder)
+    sync_rest is =
+        let named : disk folder ≡ noted (Sync name, true) (disk old.folder) = subst (λ (n : List ℕ). disk folder ≡ noted (Sync n, true) (disk old.folder)) is_called is in
+        stands_rest (disk folder) name (s ++ p) room (sync_stands is)
+        (subst (λ (d : Disk). is_synced d.past name ≡ true) (sym named) (or_left (bytes_eq name name) (is_synced (disk old.folder).past name) (bytes_same name)))
+
     pub sync_others : disk folder ≡ noted (Sync called, true) (disk old.folder) → SameBut name (seen (disk folder)) (seen (disk old.folder))
     sync_others is n ne = ap (λ (d : Disk). seen d n) is
 
@@ -170,7 +179,7 @@ module _ {F : Type 0} (disk : F → Disk) (old mid new : Segment F) (lines : Lis
   pub ready_only : LeavesOnly (disk old.folder) (disk mid.folder) (Within (seen (disk old.folder)) (string_bytes old.name) (synced disk old) (appended disk old)) → LeavesOnly (disk old.folder) (disk mid.folder) Grows
   ready_only only =
       weaker_only (disk old.folder) (disk mid.folder) _ Grows
-      (λ c w. (w.0, w.1, front_then (whole_in (c (string_bytes old.name))) (appended disk old) (appended disk old ++ lines) w.2 (front_more (appended disk old) lines))) only
+      (λ c w. (w.0, w.1, front_then (whole_in (c (string_bytes old.name))) (appended disk old) (appended disk old ++ lines) w.2 (front_more (appended disk old) lines), w.3)) only
 
   module _ (text : appended disk mid ≡ appended disk old) (front : IsFront (synced disk old) (synced disk mid)) (others : SameBut (string_bytes old.name) (seen (disk mid.folder)) (seen (disk old.folder))) where
     moved : (c : Picture) → Within (seen (disk mid.folder)) (string_bytes mid.name) (synced disk mid) (appended disk mid ++ lines) c → Grows c
@@ -179,6 +188,7 @@ module _ {F : Type 0} (disk : F → Disk) (old mid new : Segment F) (lines : Lis
           (λ n ne. v.0 n ne ∙ others n ne),
           front_then (synced disk old) (synced disk mid) (whole_in (c (string_bytes old.name))) front v.1,
           subst (λ (l : List ℕ). IsFront (whole_in (c (string_bytes old.name))) (l ++ lines)) text v.2,
+          v.3,
         )
 
     pub append_only : LeavesOnly (disk old.folder) (disk mid.folder) (Within (seen (disk old.folder)) (string_bytes old.name) (synced disk old) (appended disk old))

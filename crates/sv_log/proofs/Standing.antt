@@ -1,13 +1,14 @@
 -- What the calls of a segment make of its file, and what a crash leaves of it.
-use Rattle.std.proofs.Common.{◌≡◌, ◌≢◌, ◌⊎◌, ⊎_elim, ℕ, ◌+◌, ◌-◌, ◌≤◌, true, false, not, List, [], ◌++◌, length, take, drop, Option, Some, None, option_map, refl, sym, ◌∙◌, ap, subst, arith, append_assoc, length-append}
+use Rattle.std.proofs.Common.{◌≡◌, ◌≢◌, ◌⊎◌, inl, inr, ⊎_elim, ℕ, ◌+◌, ◌-◌, ◌≤◌, true, false, not, List, [], ◌∷◌, ◌++◌, length, take, drop, Option, Some, None, option_map, refl, sym, ◌∙◌, ap, subst, arith, append_assoc, length-append}
 use Rattle.std.specs.Str.{bytes_eq}
 use Rattle.std.specs.String.{string_bytes}
-use Rattle.std.proofs.lemmas.Bool.{cond-true, cond-false, and_from, or_right, not_from_false, false_from_ne_true}
+use Rattle.std.proofs.lemmas.Bool.{cases_Bool, cond-true, cond-false, false≢true, and_from, or_right, not_from_false, false_from_ne_true}
 use Rattle.std.proofs.lemmas.List.{append-nil, take_at, drop_at, replicate-append-replicate, length-replicate, drop-replicate, drop-drop}
 use Rattle.std.proofs.lemmas.Slice.Eq.{bytes_eq-Decides}
 use Rattle.sv_log.specs.Pictures.{Picture, Grow, Write, Sync, Disk, seen, noted, put, over, zeros, HasRoom}
-use Rattle.sv_log.specs.Crashes.{Same, SameBut, Torn, Leaves, MayLeave, MayWrite}
+use Rattle.sv_log.specs.Crashes.{Same, SameBut, Torn, Leaves, MayLeave, MayWrite, is_synced}
 use Rattle.sv_log.specs.Texts.{IsText, IsFront, Masked, whole, whole_in}
+use Rattle.sv_log.specs.Rests.{IsAtRest}
 use Rattle.sv_log.specs.Logs.{Stands, Within, IsOpen, appended, synced, pending}
 use Rattle.sv_log.specs.declared.segment.Segment.{Segment}
 use Rattle.sv_log.proofs.Texts.{whole-append, whole_text, text-append, front_same, front_more, front_then, front-append, masked_front, torn_masked, masked-append, length_masked}
@@ -35,6 +36,7 @@ torn_within others name s p high torn r c text same masked is front =
       same,
       subst (λ (l : List ℕ). IsFront s l) (sym gives) (front_more s w),
       subst (λ (l : List ℕ). IsFront l high) (sym gives) (front_then (s ++ w) (s ++ p) high (front-append s w p (masked_front p torn r masked)) front),
+      (s ++ torn ++ zeros r, is),
     )
 
 pub within_same : (others : Picture) (name low high : List ℕ) (c d : Picture) → Same c d → Within others name low high d → Within others name low high c
@@ -42,13 +44,50 @@ within_same others name low high c d same w = (
   (λ n ne. same n ∙ w.0 n ne),
   subst (λ (o : Option (List ℕ)). IsFront low (whole_in o)) (sym (same name)) w.1,
   subst (λ (o : Option (List ℕ)). IsFront (whole_in o) high) (sym (same name)) w.2,
+  (w.3.0, same name ∙ w.3.1),
 )
 
-none_some : (o : Option (List ℕ)) (x : List ℕ) → o ≡ Some x → o ≡ None → ⊥
+pub none_some : (o : Option (List ℕ)) (x : List ℕ) → o ≡ Some x → o ≡ None → ⊥
 none_some o x is none = absurd (cc (is, none))
 
-surely : (o known : Option (List ℕ)) (x : List ℕ) → o ≡ Some x → (o ≡ None) ⊎ (o ≡ known) → o ≡ known
+pub surely : (o known : Option (List ℕ)) (x : List ℕ) → o ≡ Some x → (o ≡ None) ⊎ (o ≡ known) → o ≡ known
 surely o known x is either = ⊎_elim (λ none. absurd (none_some o x is none)) (λ h. h) either
+
+masked_none : (t : List ℕ) → Masked [] t → t ≡ []
+masked_none [] m = refl
+masked_none (b ∷ t) m = absurd m
+
+-- where all of a file is synced, the folder is at rest
+pub stands_rest : (disk : Disk) (name s : List ℕ) (r : ℕ) → Stands disk name s [] r → is_synced disk.past name ≡ true → IsAtRest disk
+stands_rest disk name s r st settled = record {
+  only = λ c left n. elim (cases_Bool (bytes_eq n name)) [
+    | inl same ↦
+        let is : n ≡ name = (bytes_eq-Decides n name).0 same in
+        let x = st.crash c left in
+        let file : c name ≡ seen disk name = x.1.2 ∙ ap (λ (t : List ℕ). Some (s ++ t ++ zeros r)) (masked_none x.1.0 x.1.1) ∙ sym st.file in
+        subst (λ (m : List ℕ). c m ≡ seen disk m) (sym is) file
+    | inr other ↦ (st.crash c left).0 n (λ e. false≢true (sym other ∙ (bytes_eq-Decides n name).1 e))
+  ];
+  calm = st.calm;
+  names = st.names;
+  synced = λ n. elim (cases_Bool (bytes_eq n name)) [
+    | inl same ↦ subst (λ (m : List ℕ). is_synced disk.past m ≡ true) (sym ((bytes_eq-Decides n name).0 same)) settled
+    | inr other ↦ st.others n (λ e. false≢true (sym other ∙ (bytes_eq-Decides n name).1 e))
+  ];
+}
+
+-- a file whose text is on the disk
+pub rest_stands : (disk : Disk) (name s : List ℕ) (r : ℕ) → IsAtRest disk → IsText s → seen disk name ≡ Some (s ++ zeros r) → Stands disk name s [] r
+rest_stands disk name s r rest text file =
+    let joined : seen disk name ≡ Some (s ++ [] ++ zeros r) = file ∙ ap (λ (l : List ℕ). Some (l ++ zeros r)) (sym (append-nil s)) in record {
+      synced_text = text;
+      pending_text = refl;
+      file = joined;
+      crash = λ c left. ((λ n ne. rest.only c left n), ([], tt, rest.only c left name ∙ joined));
+      calm = rest.calm;
+      names = rest.names;
+      others = λ n ne. rest.synced n;
+    }
 
 module _ (disk : Disk) (name s p : List ℕ) (r : ℕ) (st : Stands disk name s p r) where
   -- a crash now

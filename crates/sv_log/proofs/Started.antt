@@ -1,18 +1,20 @@
 -- What a crash leaves while a segment is made.
-use Rattle.std.proofs.Common.{◌≡◌, ⊎_elim, ℕ, ◌-◌, ◌≤◌, true, false, not, List, [], ◌∷◌, ◌++◌, length, take, Option, Some, None, Result, Ok, refl, sym, ◌∙◌, ap, subst, arith, length-take-le}
+use Rattle.std.proofs.Common.{◌≡◌, ◌≢◌, ◌⊎◌, inl, inr, ⊎_elim, ℕ, ◌+◌, ◌-◌, ◌<◌, ◌≤◌, min, Bool, true, false, cond, not, List, [], ◌∷◌, ◌++◌, length, take, drop, Option, Some, None, Result, Ok, Err, refl, sym, ◌∙◌, ap, subst, arith, length-append, length-take-le}
 use Rattle.std.specs.Str.{bytes_eq}
 use Rattle.std.specs.String.{string_bytes}
-use Rattle.std.proofs.lemmas.List.{append-nil}
+use Rattle.std.proofs.Math.Seq.{take-add}
+use Rattle.std.proofs.lemmas.List.{append-nil, take_all}
 use Rattle.std.proofs.lemmas.Bool.{cases_Bool, and_from, or_left, or_right, not_from_false}
-use Rattle.sv_log.specs.Pictures.{Picture, Make, Sync, SyncFolder, Disk, seen, noted, zeros, Makes}
-use Rattle.sv_log.specs.Crashes.{Same, Leaves, MayLeave, MayMake, LeavesOnly, is_synced}
+use Rattle.sv_log.specs.Pictures.{Picture, Call, Make, Sync, SyncFolder, Made, Disk, seen, noted, zeros, Makes}
+use Rattle.sv_log.specs.Crashes.{Same, SameBut, Leaves, MayLeave, MayMake, LeavesOnly, is_synced}
 use Rattle.sv_log.specs.Texts.{whole, whole_in}
 use Rattle.sv_log.specs.Rests.{IsAtRest, Tells}
 use Rattle.sv_log.specs.Logs.{Stands, IsOpen, appended, synced}
+use Rattle.sv_log.specs.Reads.{ReadsPart}
 use Rattle.sv_log.specs.declared.segment.Segment.{Segment}
 use Rattle.sv_log.proofs.Texts.{whole_zeros}
-use Rattle.sv_log.proofs.Moments.{made_only, then_only}
-use Rattle.sv_log.proofs.Standing.{put_same, opened, opened_text, opened_synced}
+use Rattle.sv_log.proofs.Moments.{made_only, then_only, same_only}
+use Rattle.sv_log.proofs.Standing.{put_same, put_other, opened, opened_text, opened_synced}
 
 tells_same : (others : Picture) (name text : List ℕ) (c d : Picture) → Same c d → Tells others name text d → Tells others name text c
 tells_same others name text c d same w = ((λ m ne. same m ∙ w.0 m ne), ap whole_in (same name) ∙ w.1)
@@ -83,6 +85,18 @@ module _ (disk : Disk) (name : List ℕ) (size : ℕ) (rest : IsAtRest disk) (no
             others = λ m ne. all_synced m;
           }
 
+      pub make_rest : (new : Disk) → new ≡ noted (SyncFolder, true) kept → IsAtRest new
+      make_rest new is =
+          subst IsAtRest (sym (is ∙ ap (noted (SyncFolder, true)) (is_kept ∙ ap (noted (Sync name, true)) is_made))) record {
+            only = λ c left m. left.3 refl rest.calm m (all_synced m);
+            calm = rest.calm;
+            names = refl;
+            synced = all_synced;
+          }
+
+      pub make_others : (new : Disk) → new ≡ noted (SyncFolder, true) kept → SameBut name (seen new) (seen disk)
+      make_others new is m ne = ap (λ (d : Disk). seen d m) (is ∙ ap (noted (SyncFolder, true)) (is_kept ∙ ap (noted (Sync name, true)) is_made)) ∙ put_other name m _ (seen disk) ne
+
 -- an open segment without a line
 pub started : {F : Type 0} (disk : F → Disk) (log : Segment F) (room : ℕ) → Stands (disk log.folder) (string_bytes log.name) [] [] room → log.synced ≡ 0 → log.length ≡ 0 → log.size ≡ room → IsOpen disk log × (appended disk log ≡ [])
 started disk log room st synced_is length_is size_is = (
@@ -101,3 +115,37 @@ recovered disk log bytes found end is text within st synced_is length_is size_is
       told ∙ ap whole_in (sym is),
       opened_synced disk log (whole bytes) [] (length bytes - end) st (synced_is ∙ sym all) ∙ sym told,
     )
+
+-- ---- Reading a file piece by piece
+
+-- the front of a file was read
+abbrev pub HasRead : Option (List ℕ) → List ℕ → Type 0
+HasRead file bytes = (all : List ℕ) → file ≡ Some all → (length bytes ≤ length all) × (bytes ≡ take (length bytes) all)
+
+pub read_none : (file : Option (List ℕ)) → HasRead file []
+read_none file all is = (omega arith, refl)
+
+-- the file is there, where a part of it was read
+there : (file : Option (List ℕ)) (at : ℕ) (into : List ℕ) (n : ℕ) → ReadsPart file at into n → (all : List ℕ) × (file ≡ Some all) × (n ≡ min (length into) (length all - at)) × (take n into ≡ take n (drop at all))
+there None at into n part = absurd part
+there (Some all) at into n part = (all, refl, part.0, part.1)
+
+pub read_more : (file : Option (List ℕ)) (bytes into : List ℕ) (n : ℕ) → HasRead file bytes → ReadsPart file (length bytes) into n → HasRead file (bytes ++ take n into)
+read_more file bytes into n so_far part all is =
+    let p = there file (length bytes) into n part in
+    let same : p.0 ≡ all = let e : Some p.0 ≡ Some all = sym p.1 ∙ is in cc e in
+    let f = so_far all is in
+    let count : n ≡ min (length into) (length all - length bytes) = subst (λ (l : List ℕ). n ≡ min (length into) (length l - length bytes)) same p.2 in
+    let piece : take n into ≡ take n (drop (length bytes) all) = subst (λ (l : List ℕ). take n into ≡ take n (drop (length bytes) l)) same p.3 in
+    let size : length (bytes ++ take n into) ≡ length bytes + n = length-append bytes (take n into) ∙ ap (λ (m : ℕ). length bytes + m) (length-take-le n into (omega (arith, count))) in (
+      omega (arith, size, count, f.0),
+      ap (λ (l : List ℕ). l ++ take n into) f.1 ∙ ap (λ (l : List ℕ). take (length bytes) all ++ l) piece ∙ sym (take-add (length bytes) n all) ∙ ap (λ (m : ℕ). take m all) (sym size),
+    )
+
+pub read_all : (file : Option (List ℕ)) (bytes into : List ℕ) (n : ℕ) → HasRead file bytes → ReadsPart file (length bytes) into n → n < length into → file ≡ Some (bytes ++ take n into)
+read_all file bytes into n so_far part short =
+    let p = there file (length bytes) into n part in
+    let more = read_more file bytes into n so_far part p.0 p.1 in
+    let f = so_far p.0 p.1 in
+    let size : length (bytes ++ take n into) ≡ length bytes + n = length-append bytes (take n into) ∙ ap (λ (m : ℕ). length bytes + m) (length-take-le n into (omega (arith, short))) in
+    p.1 ∙ ap (λ (l : List ℕ). Some l) (sym (more.1 ∙ take_all (length (bytes ++ take n into)) p.0 (omega (arith, size, p.2, f.0, short))))

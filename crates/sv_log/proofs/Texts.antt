@@ -19,7 +19,7 @@ has_line-append (b ∷ x) r h = elim (cases_Bool (b == 0)) [
   ]
 ]
 
-text_parts : (b : ℕ) (x : List ℕ) → IsText (b ∷ x) → (has_line (b ∷ x) ≡ true) × IsText x
+pub text_parts : (b : ℕ) (x : List ℕ) → IsText (b ∷ x) → (has_line (b ∷ x) ≡ true) × IsText x
 text_parts b x is = elim (cases_Bool (has_line (b ∷ x))) [
   | inl ends ↦ let e : b ∷ whole x ≡ b ∷ x = sym (cond-true (has_line (b ∷ x)) (b ∷ whole x) [] ends) ∙ is in (ends, cc e)
   | inr none ↦ let e : [] ≡ b ∷ x = sym (cond-false (has_line (b ∷ x)) (b ∷ whole x) [] none) ∙ is in absurd (cc e)

@@ -7,3 +7,8 @@ pub mod Folders
 pub mod Logs
 pub mod Texts
 pub mod Rests
+pub mod Causes
+pub mod Names
+pub mod Chains
+pub mod OpenLogs
+pub mod Readings

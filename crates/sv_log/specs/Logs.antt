@@ -19,7 +19,7 @@ pub record Stands (disk : Disk) (name synced pending : List ℕ) (room : ℕ) : 
 
 -- a folder in which one file has a text from low to high, and the others are as they were
 abbrev pub Within : Picture → List ℕ → List ℕ → List ℕ → Picture → Type 0
-Within others name low high c = SameBut name c others × IsFront low (whole_in (c name)) × IsFront (whole_in (c name)) high
+Within others name low high c = SameBut name c others × IsFront low (whole_in (c name)) × IsFront (whole_in (c name)) high × ((bytes : List ℕ) × (c name ≡ Some bytes))
 
 -- what is synced is a part of the text, and the text of the file
 abbrev pub HasSizes : {F : Type 0} → Segment F → Type 0

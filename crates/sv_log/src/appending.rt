@@ -4,6 +4,7 @@ ghost use Rattle.sv_bytes.specs.Faults.{ReadAllCause};
 ghost use Rattle.sv_log.specs.Pictures.{seen};
 ghost use Rattle.sv_log.specs.Crashes.{LeavesOnly, SameBut};
 ghost use Rattle.sv_log.specs.Texts.{IsText, IsFront};
+ghost use Rattle.sv_log.specs.Rests.{IsAtRest};
 ghost use Rattle.sv_log.specs.Logs.{HasSizes, IsOpen, appended, synced, Within};
 
 use super::folder::Folder;
@@ -46,6 +47,7 @@ impl<F: Folder> Segment<F> {
         ensures any_moment { F.is_honest self.new.folder → LeavesOnly (F.disk self.old.folder) (F.disk self.new.folder)
             (Within (seen (F.disk self.old.folder)) (string_bytes self.old.name) (synced F.disk self.old) (appended F.disk self.old)) }
         ensures others { F.is_honest self.new.folder → OnOk result (SameBut (string_bytes self.old.name) (seen (F.disk self.new.folder)) (seen (F.disk self.old.folder))) }
+        ensures rest { F.is_honest self.new.folder → OnOk result (IsAtRest (F.disk self.new.folder)) }
         ensures name { self.new.name ≡ self.old.name }
         ensures honest { F.is_honest self.new.folder → F.is_honest self.old.folder }
         ensures cause { ReadAllCause (F.faults self.old.folder) (F.faults self.new.folder) result }

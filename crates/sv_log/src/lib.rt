@@ -3,15 +3,26 @@
 
 mod appending;
 mod calls;
+mod closing;
 mod folder;
+mod log;
 mod memory;
 mod mending;
+mod names;
+mod opening;
+mod reading;
 mod replay;
 mod segment;
 mod starting;
+mod whole;
 
+pub use closing::cut_synced;
 pub use folder::Folder;
+pub use log::{Log, line_count};
 pub use memory::MemFolder;
-pub use mending::{clear_behind, text_length};
+pub use mending::{clear_behind, rest_of, text_length};
+pub use names::{FileKind, NameKind, WORLD, kind_of, rest_name, segment_name, state_name};
+pub use reading::Reading;
 pub use segment::Segment;
-pub use starting::make_synced;
+pub use starting::{make_synced, read_file};
+pub use whole::put_whole;

@@ -2,9 +2,9 @@
 ghost use Rattle.std.specs.Prelude.{◌≡◌, ◌-◌, ◌<◌, ◌≤◌, ◌≢◌, [], Some, Err, false, length, take, IfOk, OnOk, MatchOption};
 ghost use Rattle.sv_bytes.specs.Faults.{ReadAllCause};
 ghost use Rattle.sv_log.specs.Pictures.{seen, zeros};
-ghost use Rattle.sv_log.specs.Crashes.{LeavesOnly};
+ghost use Rattle.sv_log.specs.Crashes.{LeavesOnly, SameBut};
 ghost use Rattle.sv_log.specs.Texts.{IsText, has_line, whole};
-ghost use Rattle.sv_log.specs.Rests.{IsAtRest, Tells};
+ghost use Rattle.sv_log.specs.Rests.{IsAtRest, Mends};
 ghost use Rattle.sv_log.specs.Logs.{Stands};
 
 use super::folder::Folder;
@@ -53,7 +53,9 @@ pub fn clear_behind<F: Folder>(
     requires text { take end bytes.now ≡ whole bytes.now }
     requires within { end ≤ length bytes.now }
     ensures stands { F.is_honest folder.new → OnOk result (Stands (F.disk folder.new) name.now (whole bytes.now) [] (length bytes.now - end)) }
-    ensures any_moment { F.is_honest folder.new → LeavesOnly (F.disk folder.old) (F.disk folder.new) (Tells (seen (F.disk folder.old)) name.now (whole bytes.now)) }
+    ensures rest { F.is_honest folder.new → OnOk result (IsAtRest (F.disk folder.new)) }
+    ensures others { F.is_honest folder.new → OnOk result (SameBut name.now (seen (F.disk folder.new)) (seen (F.disk folder.old))) }
+    ensures any_moment { F.is_honest folder.new → LeavesOnly (F.disk folder.old) (F.disk folder.new) (Mends (seen (F.disk folder.old)) name.now (whole bytes.now)) }
     ensures honest { F.is_honest folder.new → F.is_honest folder.old }
     ensures cause { ReadAllCause (F.faults folder.old) (F.faults folder.new) result }
 {
@@ -71,4 +73,18 @@ fn zeros_of(alloc: Global, size: usize) -> Result<Vec<u8>, FileFault>
         return Err(FileFault::Memory);
     }
     Ok(bytes)
+}
+
+/// The bytes from the first zero byte to the last byte that is not zero.
+pub fn rest_of(bytes: &[u8]) -> &[u8] {
+    let mut first = bytes.len();
+    let mut end = 0;
+    for i in 0..bytes.len() {
+        if bytes[i] != 0 {
+            end = i + 1;
+        } else if i < first {
+            first = i;
+        }
+    }
+    if first < end { &bytes[first..end] } else { &[] }
 }

@@ -2,7 +2,7 @@
 use Rattle.std.proofs.Common.{◌≡◌, ◌∙◌, ◌-◌, true, ℕ, List, length, sym, subst}
 use Rattle.std.proofs.lemmas.List.{length-replicate}
 use Rattle.sv_log.specs.Pictures.{seen, noted, Write, Sync, Makes, HasRoom}
-use Rattle.sv_log.proofs.Mended.{calm_tells, clear_only, clear_sync_only, clear_room, clear_stands, on_made}
+use Rattle.sv_log.proofs.Mended.{calm_tells, clear_only, clear_sync_only, clear_room, clear_stands, clear_rest, clear_others, on_made}
 use Rattle.sv_log.proofs.mending.clear_behind.Goals as goal
 
 pub write_at-requires : goal.write_at-requires
@@ -39,6 +39,26 @@ returns-clause-stands g c = λ h.
     let m = c.write_at.ensures.honest w in
     on_made (Sync c.args.name.now) (g.F.Folder.disk c.write_at.new.self) (g.F.Folder.disk c.sync.new.self) c.sync.result (c.sync.ensures.made h)
     (clear_stands (g.F.Folder.disk c.args.folder.now) c.args.name.now c.args.bytes.now c.args.end (c.requires.rest m) (c.requires.file m) c.requires.text c.requires.within
+    (g.F.Folder.disk c.write_at.new.self) (g.F.Folder.disk c.sync.new.self)
+    (subst (λ (z : List ℕ). g.F.Folder.disk c.write_at.new.self ≡ noted (Write c.args.name.now c.args.end z, true) (g.F.Folder.disk c.args.folder.now))
+    (c.as_slice.ensures.value ∙ c.in_ok-zeros.ensures.zeros) (c.in_ok-write_at.ensures.made w)))
+
+pub returns-clause-rest : goal.returns-clause-rest
+returns-clause-rest g c = λ h.
+    let w = c.sync.ensures.honest h in
+    let m = c.write_at.ensures.honest w in
+    on_made (Sync c.args.name.now) (g.F.Folder.disk c.write_at.new.self) (g.F.Folder.disk c.sync.new.self) c.sync.result (c.sync.ensures.made h)
+    (clear_rest (g.F.Folder.disk c.args.folder.now) c.args.name.now c.args.bytes.now c.args.end (c.requires.rest m) (c.requires.file m) c.requires.text c.requires.within
+    (g.F.Folder.disk c.write_at.new.self) (g.F.Folder.disk c.sync.new.self)
+    (subst (λ (z : List ℕ). g.F.Folder.disk c.write_at.new.self ≡ noted (Write c.args.name.now c.args.end z, true) (g.F.Folder.disk c.args.folder.now))
+    (c.as_slice.ensures.value ∙ c.in_ok-zeros.ensures.zeros) (c.in_ok-write_at.ensures.made w)))
+
+pub returns-clause-others : goal.returns-clause-others
+returns-clause-others g c = λ h.
+    let w = c.sync.ensures.honest h in
+    let m = c.write_at.ensures.honest w in
+    on_made (Sync c.args.name.now) (g.F.Folder.disk c.write_at.new.self) (g.F.Folder.disk c.sync.new.self) c.sync.result (c.sync.ensures.made h)
+    (clear_others (g.F.Folder.disk c.args.folder.now) c.args.name.now c.args.bytes.now c.args.end (c.requires.rest m) (c.requires.file m) c.requires.text c.requires.within
     (g.F.Folder.disk c.write_at.new.self) (g.F.Folder.disk c.sync.new.self)
     (subst (λ (z : List ℕ). g.F.Folder.disk c.write_at.new.self ≡ noted (Write c.args.name.now c.args.end z, true) (g.F.Folder.disk c.args.folder.now))
     (c.as_slice.ensures.value ∙ c.in_ok-zeros.ensures.zeros) (c.in_ok-write_at.ensures.made w)))

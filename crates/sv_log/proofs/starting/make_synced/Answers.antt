@@ -1,7 +1,7 @@
 -- What is proved by hand of `make_synced`.
 use Rattle.sv_log.specs.Pictures.{SyncFolder}
 use Rattle.sv_log.proofs.Mended.{on_made}
-use Rattle.sv_log.proofs.Started.{make_only, make_sync_only, make_folder_only, make_stands}
+use Rattle.sv_log.proofs.Started.{make_only, make_sync_only, make_folder_only, make_stands, make_rest, make_others}
 use Rattle.sv_log.proofs.starting.make_synced.Goals as goal
 
 pub returns-in_err-make-clause-any_moment : goal.returns-in_err-make-clause-any_moment
@@ -26,4 +26,18 @@ returns-clause-stands g c = λ h.
     let m = c.make.ensures.honest (c.sync.ensures.honest (c.sync_folder.ensures.honest h)) in
     on_made SyncFolder (g.F.Folder.disk c.sync.new.self) (g.F.Folder.disk c.sync_folder.new.self) c.sync_folder.result (c.sync_folder.ensures.made h)
     (make_stands (g.F.Folder.disk c.args.folder.now) c.args.name.now c.args.size (c.requires.rest m) (c.requires.none m)
+    (g.F.Folder.disk c.make.new.self) (c.in_ok-make.ensures.made (c.sync.ensures.honest (c.sync_folder.ensures.honest h))) (g.F.Folder.disk c.sync.new.self) (c.in_ok-sync.ensures.made (c.sync_folder.ensures.honest h)) (g.F.Folder.disk c.sync_folder.new.self))
+
+pub returns-clause-rest : goal.returns-clause-rest
+returns-clause-rest g c = λ h.
+    let m = c.make.ensures.honest (c.sync.ensures.honest (c.sync_folder.ensures.honest h)) in
+    on_made SyncFolder (g.F.Folder.disk c.sync.new.self) (g.F.Folder.disk c.sync_folder.new.self) c.sync_folder.result (c.sync_folder.ensures.made h)
+    (make_rest (g.F.Folder.disk c.args.folder.now) c.args.name.now c.args.size (c.requires.rest m) (c.requires.none m)
+    (g.F.Folder.disk c.make.new.self) (c.in_ok-make.ensures.made (c.sync.ensures.honest (c.sync_folder.ensures.honest h))) (g.F.Folder.disk c.sync.new.self) (c.in_ok-sync.ensures.made (c.sync_folder.ensures.honest h)) (g.F.Folder.disk c.sync_folder.new.self))
+
+pub returns-clause-others : goal.returns-clause-others
+returns-clause-others g c = λ h.
+    let m = c.make.ensures.honest (c.sync.ensures.honest (c.sync_folder.ensures.honest h)) in
+    on_made SyncFolder (g.F.Folder.disk c.sync.new.self) (g.F.Folder.disk c.sync_folder.new.self) c.sync_folder.result (c.sync_folder.ensures.made h)
+    (make_others (g.F.Folder.disk c.args.folder.now) c.args.name.now c.args.size (c.requires.rest m) (c.requires.none m)
     (g.F.Folder.disk c.make.new.self) (c.in_ok-make.ensures.made (c.sync.ensures.honest (c.sync_folder.ensures.honest h))) (g.F.Folder.disk c.sync.new.self) (c.in_ok-sync.ensures.made (c.sync_folder.ensures.honest h)) (g.F.Folder.disk c.sync_folder.new.self))

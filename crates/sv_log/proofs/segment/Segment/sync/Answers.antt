@@ -1,5 +1,5 @@
 -- What is proved by hand of `sync`.
-use Rattle.sv_log.proofs.Runs.{sync_only, sync_stands, sync_others, all_open, all_text, all_synced, within_room}
+use Rattle.sv_log.proofs.Runs.{sync_only, sync_stands, sync_rest, sync_others, all_open, all_text, all_synced, within_room}
 use Rattle.sv_log.proofs.segment.Segment.sync.Goals as goal
 
 pub returns-in_err-sync-clause-any_moment : goal.returns-in_err-sync-clause-any_moment
@@ -22,3 +22,6 @@ returns-clause-synced g c = λ h. all_synced g.F.Folder.disk c.args.self.now (c.
 
 pub returns-clause-others : goal.returns-clause-others
 returns-clause-others g c = λ h. sync_others g.F.Folder.disk c.args.self.now (c.requires.open (c.sync.ensures.honest h)) c.sync.new.self c.as_str.result.now c.as_str.ensures.value (c.in_ok-sync.ensures.made h)
+
+pub returns-clause-rest : goal.returns-clause-rest
+returns-clause-rest g c = λ h. sync_rest g.F.Folder.disk c.args.self.now (c.requires.open (c.sync.ensures.honest h)) c.sync.new.self c.as_str.result.now c.as_str.ensures.value (c.in_ok-sync.ensures.made h)
