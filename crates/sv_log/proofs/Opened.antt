@@ -34,6 +34,13 @@ some_holds world p r last n = inl (n.own, (r.closed.items, last, n.log, n.text))
 pub none_from : (world : List ℕ) (r : Reading) (p c : Picture) → ReadsNone world p r → Holds world 0 [] c → Holds world r.state r.text.items c
 none_from world r p c n holds = subst (λ (s : ℕ). Holds world s r.text.items c) (sym n.state) (subst (λ (t : List ℕ). Holds world 0 t c) (sym n.text) holds)
 
+reads_by : (world : List ℕ) (p : Picture) (r : Reading) (o : Option ℕ) → ReadsLast world p r o → Holds world r.state r.text.items p
+reads_by world p r None n = none_holds world p r n.0
+reads_by world p r (Some last) n = some_holds world p r last n
+
+pub reads_holds : (world : List ℕ) (p : Picture) (r : Reading) → Reads world p r → Holds world r.state r.text.items p
+reads_holds world p r reads = reads_by world p r r.last reads
+
 -- a folder at rest keeps its log
 pub rest_only : (disk : Disk) (world : List ℕ) (state : ℕ) (text : List ℕ) → IsAtRest disk → Holds world state text (seen disk) → LeavesOnly disk disk (Holds world state text)
 rest_only disk world state text rest holds =

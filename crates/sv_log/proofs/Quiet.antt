@@ -52,7 +52,7 @@ module _ (c p : Picture) (same : SameLog c p) where
   pub holds_same : (world : List ℕ) (state : ℕ) (text : List ℕ) → Holds world state text p → Holds world state text c
   holds_same world state text holds = elim holds [
     | inl h ↦
-        let l = log_same h.1.0 h.1.1 h.1.2 in
+        let l = log_same state h.1.0 h.1.1 h.1.2 in
         inl (same.world ∙ h.0, (h.1.0, h.1.1, l.0, h.1.3 ∙ ap (λ (t : List ℕ). t ++ text_at p h.1.1) (sym l.1) ∙ ap (λ (o : Option (List ℕ)). text_of c h.1.0 ++ whole_in o) (sym (same.segments h.1.1))))
     | inr f ↦ inr (fresh_same world f.0, f.1, f.2)
   ]

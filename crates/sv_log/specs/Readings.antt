@@ -1,9 +1,9 @@
 -- What is read of a log.
-use Rattle.std.specs.Prelude.{◌≡◌, ℕ, ◌+◌, ◌<◌, ◌≤◌, List, [], ◌++◌, Option, Some, None, Contains, true, false, Bool}
+use Rattle.std.specs.Prelude.{◌≡◌, ℕ, ◌+◌, List, [], ◌++◌, Option, Some, None, true, false, Bool}
 use Rattle.sv_log.specs.Pictures.{Picture}
 use Rattle.sv_log.specs.Texts.{whole_in}
 use Rattle.sv_log.specs.Rests.{Tells, Mends}
-use Rattle.sv_log.specs.Names.{segment_name, world_name, IsNumber}
+use Rattle.sv_log.specs.Names.{segment_name, world_name}
 use Rattle.sv_log.specs.Chains.{lines, text_at, text_of, IsLog, IsFresh}
 use Rattle.sv_log.specs.declared.reading.Reading.{Reading}
 

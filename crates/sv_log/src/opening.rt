@@ -10,7 +10,7 @@ ghost use Rattle.sv_log.specs.Rests.{IsAtRest};
 ghost use Rattle.sv_log.specs.Names.{segment_name, world_name};
 ghost use Rattle.sv_log.specs.Chains.{IsFresh, Holds, SameLog};
 ghost use Rattle.sv_log.specs.OpenLogs.{IsOpenLog, log_text, log_synced};
-ghost use Rattle.sv_log.specs.Readings.{Reads, IsReady, LastBecomes};
+ghost use Rattle.sv_log.specs.Readings.{Reads, HasWorld, IsReady, LastBecomes};
 
 use super::folder::Folder;
 use super::log::Log;
@@ -112,9 +112,7 @@ fn prepare<F: Folder>(
 {
     match reading.last {
         None => {
-            if !reading.has_world {
-                put_world(folder, world)?;
-            }
+            settle_world(folder, reading.has_world, world)?;
             segment_name(alloc, 1).map_err(|_| FileFault::Memory)
         }
         Some(last) => {
@@ -126,6 +124,23 @@ fn prepare<F: Folder>(
             Ok(name)
         }
     }
+}
+
+// Puts the world into a folder that has no log, unless it is there.
+fn settle_world<F: Folder>(folder: &mut F, has_world: bool, world: &[u8]) -> Result<(), FileFault>
+    requires rest { F.is_honest folder.old → IsAtRest (F.disk folder.old) }
+    requires fresh { F.is_honest folder.old → IsFresh world.now (seen (F.disk folder.old)) }
+    requires own { F.is_honest folder.old → HasWorld (seen (F.disk folder.old) world_name) world.now has_world }
+    ensures rest { F.is_honest folder.new → OnOk result (IsAtRest (F.disk folder.new)) }
+    ensures put { F.is_honest folder.new → OnOk result (IsFresh world.now (seen (F.disk folder.new)) × (seen (F.disk folder.new) world_name ≡ Some world.now)) }
+    ensures any_moment { F.is_honest folder.new → LeavesOnly (F.disk folder.old) (F.disk folder.new) (Holds world.now 0 []) }
+    ensures honest { F.is_honest folder.new → F.is_honest folder.old }
+    ensures cause { ReadAllCause (F.faults folder.old) (F.faults folder.new) result }
+{
+    if has_world {
+        return Ok(());
+    }
+    put_world(folder, world)
 }
 
 // Puts the world into a folder that has no log.

@@ -1,4 +1,5 @@
 -- What is proved by hand of `put_world`.
+use Rattle.std.proofs.Common.{[]}
 use Rattle.sv_log.specs.Pictures.{seen}
 use Rattle.sv_log.specs.Rests.{IsPut}
 use Rattle.sv_log.specs.Names.{world_name, new_name}
