@@ -63,7 +63,10 @@ closed_same p c n (m ∷ ms) last same h =
     let rest = closed_same p c (n + lines t) ms last same h.5 in
     let at : text_at c m ≡ text_at p m = ap (text_at c) h.0 ∙ text ∙ ap (text_at p) (sym h.0) in (
       subst (λ (u : List ℕ). Closed c n u m ms last) (sym text) (
-        h.0, h.1, file ∙ h.2, h.3,
+        h.0,
+        h.1,
+        file ∙ h.2,
+        h.3,
         (λ k number from to. let less : k < last = omega (arith, to, low) in same k number less ∙ h.4 k number from to),
         rest.0,
       ),

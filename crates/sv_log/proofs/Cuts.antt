@@ -27,8 +27,8 @@ cut_behind text r k le =
     let e = cut_zeros j r in (
       e.0,
       ap (λ (m : ℕ). take m (text ++ zeros r)) is ∙ take-add (length text) j (text ++ zeros r)
-      ∙ ap (λ (l : List ℕ). l ++ take j (drop (length text) (text ++ zeros r))) (take_at text (zeros r) (length text) refl)
-      ∙ ap (λ (l : List ℕ). text ++ take j l) (drop_at text (zeros r) (length text) refl) ∙ ap (λ (l : List ℕ). text ++ l) e.1,
+          ∙ ap (λ (l : List ℕ). l ++ take j (drop (length text) (text ++ zeros r))) (take_at text (zeros r) (length text) refl)
+          ∙ ap (λ (l : List ℕ). text ++ take j l) (drop_at text (zeros r) (length text) refl) ∙ ap (λ (l : List ℕ). text ++ l) e.1,
     )
 
 module _ (disk : Disk) (name : List ℕ) (n room : ℕ) (rest : IsAtRest disk) (file : seen disk name ≡ Some (whole_in (seen disk name) ++ zeros room)) (size : n ≡ length (whole_in (seen disk name))) where

@@ -88,7 +88,7 @@ module _ (bytes front : List ℕ) (last : ℕ) (whole : bytes ≡ front ++ last 
         let more : n < 10 ^ k * 10 = omega (arith, is.2, small, below) in (
           subst (λ (m : ℕ). n < 10 ^ m) (sym size) (subst (λ (p : ℕ). n < p) (sym (power_more k)) more),
           whole ∙ ap (λ (l : List ℕ). l ++ last ∷ []) (has.1 ∙ ap (digits k) (sym tens)) ∙ ap (λ (x : ℕ). digits k (n / 10) ++ x ∷ []) (sym ones)
-          ∙ sym (digits_more k n) ∙ ap (λ (m : ℕ). digits m n) (sym size),
+              ∙ sym (digits_more k n) ∙ ap (λ (m : ℕ). digits m n) (sym size),
         )
 
 -- ---- The part of a name that has the number

@@ -12,7 +12,9 @@ pub const WORLD: &str = "world.json";
 pub(crate) const NEW: &str = "new";
 
 const SEGMENT: &str = "journal-";
+
 const STATE: &str = "state-";
+
 const ENDING: &str = ".txt";
 
 /// How many digits a number in a name has.

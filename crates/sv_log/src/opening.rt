@@ -158,7 +158,12 @@ fn put_world<F: Folder>(folder: &mut F, world: &[u8]) -> Result<(), FileFault>
 }
 
 // Keeps what stands behind the text of a segment beside it.
-fn keep_rest<F: Folder>(alloc: Global, folder: &mut F, bytes: &[u8], next: u64) -> Result<(), FileFault>
+fn keep_rest<F: Folder>(
+    alloc: Global,
+    folder: &mut F,
+    bytes: &[u8],
+    next: u64,
+) -> Result<(), FileFault>
     requires rest { F.is_honest folder.old → IsAtRest (F.disk folder.old) }
     ensures rest { F.is_honest folder.new → OnOk result (IsAtRest (F.disk folder.new)) }
     ensures same { F.is_honest folder.new → OnOk result (SameLog (seen (F.disk folder.new)) (seen (F.disk folder.old))) }
