@@ -13,3 +13,6 @@ pub mod Puts
 pub mod Cuts
 pub mod Quiet
 pub mod Opened
+pub mod Firsts
+pub mod Listed
+pub mod Fresh

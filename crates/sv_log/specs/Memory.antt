@@ -1,10 +1,10 @@
 -- A folder in memory: the files that it was made with, and the calls since, the first of them first.
-use Rattle.std.specs.Prelude.{ℕ, List, [], ◌∷◌, ◌++◌, Option, Some, None, cond, Vec}
+use Rattle.std.specs.Prelude.{◌≡◌, ◌⊎◌, ℕ, List, [], ◌∷◌, ◌++◌, Option, Some, None, cond, Vec, Contains, IsSome}
 use Rattle.std.specs.Str.{bytes_eq}
 use Rattle.std.specs.String.{string_bytes}
 use Rattle.std.specs.declared.alloc.Global.{Global}
 use Rattle.sv_bytes.specs.Stored.{contents_of}
-use Rattle.sv_log.specs.Pictures.{Call, Make, Grow, Write, Cut, Rename, Remove, Sync, SyncFolder, Made, Disk}
+use Rattle.sv_log.specs.Pictures.{Picture, Call, Make, Grow, Write, Cut, Rename, Remove, Sync, SyncFolder, Made, Disk}
 use Rattle.sv_log.specs.declared.calls.Asked.{Asked}
 use Rattle.sv_log.specs.declared.calls.Asked.TheVariants as asked
 use Rattle.sv_log.specs.declared.calls.Kept.{Kept}
@@ -41,3 +41,25 @@ bytes_in (Some v) = Some v.items
 -- the disk of a folder in memory
 abbrev pub disk_of : List (List ℕ × List ℕ) → List Kept → Disk
 disk_of start calls = record { start = contents_of start; past = latest_first calls }
+
+-- the name that a call gives a file
+abbrev pub target : Call → Option (List ℕ)
+target (Make name size) = Some name
+target (Rename from to) = Some to
+target _ = None
+
+-- a file had this name at the start
+abbrev pub StartsIn : List (List ℕ × List ℕ) → List ℕ → Type 0
+StartsIn [] n = ⊥
+StartsIn (file ∷ files) n = (file.0 ≡ n) ⊎ StartsIn files n
+
+-- a call gave a file this name
+abbrev pub NamedIn : List Kept → List ℕ → Type 0
+NamedIn [] n = ⊥
+NamedIn (kept ∷ later) n = (target (call_of kept.call) ≡ Some n) ⊎ NamedIn later n
+
+-- A name was added where its file is there, and none else.
+pub record Adds (p : Picture) (name : Option (List ℕ)) (old new : List (List ℕ)) : Type 0 where
+  pub keeps : (n : List ℕ) → Contains old n → Contains new n
+  pub has : (n : List ℕ) → name ≡ Some n → IsSome (p n) → Contains new n
+  pub only : (n : List ℕ) → Contains new n → Contains old n ⊎ IsSome (p n)

@@ -23,6 +23,7 @@ pub trait Folder {
 
     /// The names of all files.
     fn names(&mut self, alloc: Global) -> Result<Vec<String>, FileFault>
+        ensures listed { is_honest self.new → IfOk result (λ names. Lists (seen (disk self.old)) (map string_bytes names.items)) }
         ensures same { disk self.new ≡ disk self.old }
         ensures honest { is_honest self.new → is_honest self.old }
         ensures cause { ReadAllCause (faults self.old) (faults self.new) result };

@@ -4,6 +4,7 @@
 mod appending;
 mod calls;
 mod closing;
+mod crash;
 mod folder;
 mod log;
 mod memory;
@@ -17,6 +18,7 @@ mod starting;
 mod whole;
 
 pub use closing::cut_synced;
+pub use crash::Loss;
 pub use folder::Folder;
 pub use log::{Log, line_count};
 pub use memory::MemFolder;
