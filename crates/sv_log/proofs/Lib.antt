@@ -13,6 +13,12 @@ pub mod Puts
 pub mod Cuts
 pub mod Quiet
 pub mod Opened
+pub mod Next
+pub mod Alone
 pub mod Firsts
+pub mod Sums
+pub mod Walked
+pub mod Refused
 pub mod Listed
+pub mod Recovered
 pub mod Fresh

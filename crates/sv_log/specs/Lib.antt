@@ -12,3 +12,6 @@ pub mod Names
 pub mod Chains
 pub mod OpenLogs
 pub mod Readings
+pub mod Refusals
+pub mod Walks
+pub mod Recoveries

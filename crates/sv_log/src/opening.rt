@@ -44,6 +44,8 @@ impl<F: Folder> Log<F> {
         ensures any_moment { IfOk result (λ log. F.is_honest log.segment.folder
             → LeavesOnly (F.disk folder) (F.disk log.segment.folder) (Holds world.now reading.state reading.text.items)) }
         ensures any_moment_err { IfErr result (λ e. F.is_honest e.1 → LeavesOnly (F.disk folder) (F.disk e.1) (Holds world.now reading.state reading.text.items)) }
+        ensures honest { IfOk result (λ log. F.is_honest log.segment.folder → F.is_honest folder) }
+        ensures honest_err { IfErr result (λ e. F.is_honest e.1 → F.is_honest folder) }
         ensures cause { IfErr result (λ e. FaultCause (F.faults folder) (F.faults e.1) e.0) }
         ensures calm { IfOk result (λ log. F.faults log.segment.folder ≡ F.faults folder) }
     {
