@@ -107,10 +107,10 @@ make_nothing old new action make_faults.Memory same = inr (inl (same, refl))
 pub made_fine : (old new : PilotView) (action : Action) (r : Result Unit Trouble) → IsReadyToMake old.client.who old.client.events action
     → OnOk r (Did (events.Make action) old new × NoReplyIsDue new × IsCalm old.line new.line)
     → OnOk r (IsReadyToMake old.client.who old.client.events action × Did (events.Make action) old new × NoReplyIsDue new × IsCalm old.line new.line)
-made_fine old new action (Ok x) may s = (may, s)
+made_fine old new action (Ok x) may s = (may, s.0, s.1, s.2)
 made_fine old new action (Err t) may s = tt
 
 pub made_stops : (old new : PilotView) (action : Action) (r : Result Unit Trouble) → IsReadyToMake old.client.who old.client.events action
     → IfErr r (λ (trouble : Trouble). Did (events.Make action) old new × StopsBy old new trouble) → IfErr r (λ (trouble : Trouble). (trouble ≡ troubles.Game) ⊎ StoppedMake action old new trouble)
 made_stops old new action (Ok x) may why = tt
-made_stops old new action (Err t) may why = inr (inr (may, why))
+made_stops old new action (Err t) may why = inr (inr (may, why.0, why.1))

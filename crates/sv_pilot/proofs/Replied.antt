@@ -1,5 +1,5 @@
 -- The reply at the front of what came is taken, and what it asks for is a message.
-use Rattle.std.proofs.Common.{◌≡◌, ◌≢◌, ℕ, ◌<◌, List, ◌∷◌, option_map, option_to_list, Option, Some, None, Ok, Err, Result, refl, sym, ap, subst, ◌∙◌}
+use Rattle.std.proofs.Common.{◌≡◌, ◌≢◌, ℕ, ◌<◌, List, [], ◌∷◌, option_map, option_to_list, Option, Some, None, Ok, Err, Result, refl, sym, ap, subst, ◌∙◌}
 use Rattle.std.specs.Prelude.{All, IfSome, IfErr, OnOk}
 use Rattle.std.proofs.lemmas.List.Elements.{All-head}
 use Rattle.sv_world.specs.Worlds.{IsGoodShape}
@@ -45,7 +45,7 @@ skip_takes old mid reply f who events told skips =
 
 some_of : (done : Option Request) → All IsWireRequest (option_to_list done) → IfSome done IsWireRequest
 some_of None all = tt
-some_of (Some request) all = All-head IsWireRequest request _ all
+some_of (Some request) all = All-head IsWireRequest request [] all
 
 pub done_is_message : (who : Identity) (t : List Event) (reply : Reply) (done : Option Request) → ((e : Event) → MayCome who 0 t e → IsServed who e → All IsWireRequest (newly_asked who t e))
     → AreInTurn who 0 (got_now t reply ∷ t) → IsWireReply reply → option_to_list done ≡ newly_asked who t (got_now t reply) → IsGoodShape who.shape → IfSome done IsWireRequest

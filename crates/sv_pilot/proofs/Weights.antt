@@ -1,5 +1,5 @@
 -- How many replies may still come.
-use Rattle.std.proofs.Common.{◌≡◌, ℕ, ◌+◌, ◌<◌, ◌≤◌, true, List, [], ◌∷◌, ◌++◌, drop, None, refl, sym, subst, arith}
+use Rattle.std.proofs.Common.{◌≡◌, ℕ, ◌+◌, ◌<◌, ◌≤◌, true, List, [], ◌∷◌, ◌++◌, drop, None, refl, sym, subst, zero-add, arith}
 use Rattle.sv_versions.specs.Held.{Held}
 use Rattle.sv_wire.specs.declared.message.Reply.{Reply}
 use Rattle.sv_wire.specs.declared.message.Reply.TheVariants as replies
@@ -15,7 +15,7 @@ use Rattle.sv_client.proofs.Outstanding.{got_turn}
 use Rattle.sv_pilot.specs.Doings.{weight}
 
 weight-append : (rs ss : List Request) → weight (rs ++ ss) ≡ weight rs + weight ss
-weight-append [] ss = refl
+weight-append [] ss = sym (zero-add (weight ss))
 weight-append (requests.Join c l i ∷ rs) ss = let e = weight-append rs ss in omega (arith, e)
 weight-append (requests.Submit n a ∷ rs) ss = let e = weight-append rs ss in omega (arith, e)
 weight-append (requests.Done ds ∷ rs) ss = let e = weight-append rs ss in omega (arith, e)

@@ -3,9 +3,15 @@ use Rattle.std.proofs.Common.{refl, subst}
 use Rattle.std.specs.Prelude.{OnOk, IfErr}
 use Rattle.sv_pilot.specs.Lines.{IsCalm}
 use Rattle.sv_pilot.specs.Doings.{PilotView, HasTaken, StopsBy}
-use Rattle.sv_pilot.proofs.Taking.{sent_read, line_taken}
+use Rattle.sv_pilot.proofs.Taking.{same_taken, sent_read, line_taken}
 use Rattle.sv_pilot.proofs.Asked.{sent_calm, sent_why}
 use Rattle.sv_pilot.proofs.pilot.Pilot.answer.Goals as goal
+
+pub returns-in_default-clause-taken : goal.returns-in_default-clause-taken
+returns-in_default-clause-taken g c = same_taken c.args.self.now
+
+pub returns-then-not-is_good_shape-clause-taken : goal.returns-then-not-is_good_shape-clause-taken
+returns-then-not-is_good_shape-clause-taken g c = same_taken c.args.self.now
 
 pub returns-clause-taken : goal.returns-clause-taken
 returns-clause-taken g c =

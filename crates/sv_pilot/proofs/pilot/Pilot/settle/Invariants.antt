@@ -4,11 +4,11 @@ use Rattle.sv_pilot.specs.Lines.{IsCalm}
 use Rattle.sv_pilot.specs.Doings.{HasTaken, weight}
 use Rattle.sv_pilot.proofs.pilot.Pilot.settle.Given as goal
 
-abbrev pub invariant-loop : goal.invariant-loop
-invariant-loop g l = record {
+abbrev pub invariant-loop-self : goal.invariant-loop-self
+invariant-loop-self g l = record {
   taken : HasTaken l.fn.self l.self;
   calm : IsCalm l.fn.self.line l.self.line;
 }
 
-abbrev pub decreases-loop : goal.decreases-loop
-decreases-loop g l = weight (outstanding l.self.client.who l.self.client.events)
+abbrev pub decreases-loop-self : goal.decreases-loop-self
+decreases-loop-self g l = weight (outstanding l.self.client.who l.self.client.events)
