@@ -69,7 +69,7 @@ got_all_append : (t : List Event) (rs ss : List Reply) → got_all t (rs ++ ss) 
 got_all_append t [] ss = refl
 got_all_append t (r ∷ rs) ss = got_all_append (got_now t r ∷ t) rs ss
 
-same_taken : (p : PilotView) → HasTaken p p
+pub same_taken : (p : PilotView) → HasTaken p p
 same_taken p = record {
   who = refl;
   replies = [];

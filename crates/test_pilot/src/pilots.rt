@@ -126,8 +126,14 @@ fn further_of(alloc: Global, row: &Row<'_>) -> Result<Vec<u8>, Fail> {
     Ok(Vec::new(alloc))
 }
 
-/// Does what a row has, over these bytes.
-fn flown(alloc: Global, row: &Row<'_>, coming: &[u8], further: &[u8]) -> Result<String, Fail> {
+/// Does what the row at a place has, over these bytes.
+fn flown(
+    alloc: Global,
+    at: usize,
+    row: &Row<'_>,
+    coming: &[u8],
+    further: &[u8],
+) -> Result<String, Fail> {
     let client = client_of(alloc, row.attrs)?;
     let end = ScriptEnd::new(alloc, coming, row.failing, 0)?;
     let mut pilot = match Pilot::new(alloc, client, end, Notes::new(alloc, row.room)) {
@@ -138,27 +144,25 @@ fn flown(alloc: Global, row: &Row<'_>, coming: &[u8], further: &[u8]) -> Result<
         let got = answer(alloc, &mut pilot, *call, further)?;
         if got != *wanted {
             drop(pilot);
-            return Err(Fail::new(format_args!("call {place}")));
+            return Err(Fail::new(format_args!("row {at}, call {place}")));
         }
     }
     Ok(pilot.into_listener().into_text())
 }
 
-fn goes(alloc: Global, row: &Row<'_>) -> Result<(), Fail> {
+fn goes(alloc: Global, at: usize, row: &Row<'_>) -> Result<(), Fail> {
     let coming = joined(alloc, row.frames)?;
     let further = further_of(alloc, row)?;
-    let told = flown(alloc, row, &coming, &further)?;
+    let told = flown(alloc, at, row, &coming, &further)?;
     if told.as_str() != row.told {
-        return Err(Fail::new(format_args!("told{told}, and not{}", row.told)));
+        return Err(Fail::new(format_args!("row {at}: told{told}")));
     }
     Ok(())
 }
 
 fn all_go(alloc: Global, rows: &[Row<'_>]) -> Result<(), Fail> {
-    for (place, row) in rows.iter().enumerate() {
-        if let Err(fail) = goes(alloc, row) {
-            return Err(Fail::new(format_args!("row {place}: {fail}")));
-        }
+    for (at, row) in rows.iter().enumerate() {
+        goes(alloc, at, row)?;
     }
     Ok(())
 }

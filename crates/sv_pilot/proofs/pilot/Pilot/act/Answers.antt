@@ -1,9 +1,11 @@
 -- What is proved by hand of `Pilot::act`.
-use Rattle.std.proofs.Common.{◌≡◌, ◌⊎◌, inr, Err}
+use Rattle.std.proofs.Common.{◌≡◌, ◌≤◌, ◌⊎◌, inr, length, Err}
 use Rattle.std.specs.Prelude.{IfErr}
 use Rattle.sv_pilot.specs.declared.trouble.Trouble.{Trouble}
 use Rattle.sv_pilot.specs.declared.trouble.Trouble.TheVariants as troubles
-use Rattle.sv_pilot.specs.Doings.{StoppedAction}
+use Rattle.sv_client.specs.Traces.{makes}
+use Rattle.sv_client.specs.Proper.{most_numbers}
+use Rattle.sv_pilot.specs.Doings.{StoppedAction, NoneMayBeMade, text_limit}
 use Rattle.sv_pilot.proofs.Making.{none_made_or, stopped_text, weaken_err, made_text, text_nothing, text_refused}
 use Rattle.sv_pilot.proofs.Moved.{failed_by}
 use Rattle.sv_pilot.proofs.pilot.Pilot.act.Goals as goal
@@ -16,7 +18,8 @@ returns-in_err-action-clause-stopped g c =
 
 pub returns-in_err-action-clause-refused : goal.returns-in_err-action-clause-refused
 returns-in_err-action-clause-refused g c =
-    failed_by c.from_residual.result c.in_err-action.field-0.0 c.from_residual.ensures.1 (λ q. IfErr q (λ (trouble : Trouble). trouble ≡ troubles.Game → _))
+    failed_by c.from_residual.result c.in_err-action.field-0.0 c.from_residual.ensures.1 (λ q. IfErr q (λ (trouble : Trouble). trouble ≡ troubles.Game
+    → (c.args.self.now ≡ c.args.self.now) × ((text_limit ≤ length c.args.text.now) ⊎ (NoneMayBeMade c.args.text.now c.args.self.now ⊎ (most_numbers ≤ makes c.args.self.now.client.events)))))
     (λ game. text_refused c.args.text.now c.args.self.now (c.in_err-action.ensures.refused game))
 
 pub returns-clause-made : goal.returns-clause-made

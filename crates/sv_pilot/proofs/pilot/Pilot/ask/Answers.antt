@@ -2,10 +2,15 @@
 use Rattle.std.proofs.Common.{Err, OnOk, IfErr, refl, subst}
 use Rattle.sv_pilot.specs.Lines.{IsCalm}
 use Rattle.sv_pilot.specs.Doings.{PilotView, HasTaken, NoReplyIsDue, StopsBy}
-use Rattle.sv_pilot.proofs.Taking.{sent_read, line_taken, taken_more, sending_stops_it}
+use Rattle.sv_pilot.proofs.Taking.{same_taken, sent_read, line_taken, taken_more, sending_stops_it}
 use Rattle.sv_pilot.proofs.Moved.{failed_by}
 use Rattle.sv_pilot.proofs.Asked.{settled_later, stopped_later}
 use Rattle.sv_pilot.proofs.pilot.Pilot.ask.Goals as goal
+
+pub returns-in_err-tell_all-clause-taken : goal.returns-in_err-tell_all-clause-taken
+returns-in_err-tell_all-clause-taken g c =
+    let old : PilotView = record { client = c.self.inside.client; line = c.self.inside.connection } in
+    subst (λ (p : PilotView). HasTaken p old) c.self.view_is (same_taken old)
 
 pub returns-in_err-send-clause-taken : goal.returns-in_err-send-clause-taken
 returns-in_err-send-clause-taken g c =

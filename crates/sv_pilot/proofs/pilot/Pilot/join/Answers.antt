@@ -1,10 +1,11 @@
 -- What is proved by hand of `Pilot::join`.
-use Rattle.std.proofs.Common.{◌≡◌, ◌⊎◌, inl, inr, ℕ, List, Err, refl, sym, ap, subst, ◌∙◌, zero-add}
+use Rattle.std.proofs.Common.{◌≡◌, ◌≤◌, ◌⊎◌, inl, inr, ℕ, List, Err, refl, sym, ap, subst, ◌∙◌, zero-add}
 use Rattle.std.specs.Prelude.{All, OnOk, IfErr}
 use Rattle.sv_wire.specs.declared.message.Request.{Request}
 use Rattle.sv_wire.specs.Grammar.{IsWireRequest}
 use Rattle.sv_client.specs.declared.trace.Event.TheVariants as events
 use Rattle.sv_client.specs.Traces.{joins}
+use Rattle.sv_client.specs.Proper.{most_numbers}
 use Rattle.sv_client.specs.Seen.{ClientView}
 use Rattle.sv_pilot.specs.declared.trouble.Trouble.{Trouble}
 use Rattle.sv_pilot.specs.declared.trouble.Trouble.TheVariants as troubles
@@ -18,7 +19,7 @@ use Rattle.sv_pilot.proofs.pilot.Pilot.join.Goals as goal
 pub send_all-requires : goal.send_all-requires
 send_all-requires g c =
     let n = joins c.self.inside.client.events in
-    subst (All IsWireRequest) (sym (c.as_slice.ensures ∙ c.in_ok-requests.ensures.requests)) (c.asks_messages.ensures (events.Join n) (sym (zero-add n)) tt)
+    subst (All IsWireRequest) (sym (c.as_slice.ensures.value ∙ c.in_ok-requests.ensures.requests)) (c.asks_messages.ensures (events.Join n) (sym (zero-add n)) tt)
 
 pub returns-in_err-requests-clause-stopped : goal.returns-in_err-requests-clause-stopped
 returns-in_err-requests-clause-stopped g c =
@@ -43,7 +44,7 @@ returns-in_err-send_all-clause-refused g c =
     let mid : PilotView = record { client = c.join.new.self; line = c.send_all.new.self } in
     let old : PilotView = record { client = c.self.inside.client; line = c.self.inside.connection } in
     let trouble = c.in_err-send_all.field-0.0 in
-    failed_by c.from_residual-in_err-send_all.result trouble c.from_residual-in_err-send_all.ensures.1 (λ q. IfErr q (λ (t : Trouble). t ≡ troubles.Game → _))
+    failed_by c.from_residual-in_err-send_all.result trouble c.from_residual-in_err-send_all.ensures.1 (λ q. IfErr q (λ (t : Trouble). t ≡ troubles.Game → (mid ≡ c.args.self.now) × (most_numbers ≤ joins c.args.self.now.client.events)))
     (λ game. absurd (not_of_game old mid trouble c.in_err-send_all.ensures.answer game))
 
 pub returns-clause-joined : goal.returns-clause-joined

@@ -1,11 +1,12 @@
 -- What is proved by hand of `Pilot::make`.
-use Rattle.std.proofs.Common.{◌≡◌, ◌⊎◌, inl, inr, Err, refl, sym, ap, subst, ◌∙◌}
+use Rattle.std.proofs.Common.{◌≡◌, ◌≤◌, ◌⊎◌, inl, inr, Err, refl, sym, ap, subst, ◌∙◌}
 use Rattle.std.specs.Prelude.{OnOk, IfErr}
 use Rattle.sv_client.specs.declared.trace.Event.TheVariants as events
 use Rattle.sv_client.specs.Seen.{ClientView}
 use Rattle.sv_pilot.specs.declared.trouble.Trouble.{Trouble}
 use Rattle.sv_pilot.specs.declared.trouble.Trouble.TheVariants as troubles
-use Rattle.sv_client.specs.Proper.{IsReadyToMake}
+use Rattle.sv_client.specs.Traces.{makes}
+use Rattle.sv_client.specs.Proper.{IsReadyToMake, most_numbers}
 use Rattle.sv_client.specs.Answers.{IsMakeFault}
 use Rattle.sv_pilot.specs.Troubles.{trouble_of_make}
 use Rattle.sv_pilot.specs.Lines.{IsCalm}
@@ -32,7 +33,8 @@ returns-in_err-request-clause-refused g c =
     let new : PilotView = record { client = c.make.new.self; line = c.self.inside.connection } in
     let same = ap (λ (v : ClientView). record { client = v; line = c.self.inside.connection }) c.in_err-request.ensures.err ∙ c.self.view_is in
     let is = subst (λ (p : PilotView). IsMakeFault p.client.who p.client.events c.args.action c.in_err-request.field-0.0) c.self.view_is c.in_err-request.ensures.cause in
-    failed_by c.from_residual.result (trouble_of_make c.in_err-request.field-0.0) c.from_residual.ensures.1 (λ q. IfErr q (λ (trouble : Trouble). trouble ≡ troubles.Game → _))
+    failed_by c.from_residual.result (trouble_of_make c.in_err-request.field-0.0) c.from_residual.ensures.1 (λ q. IfErr q (λ (trouble : Trouble). trouble ≡ troubles.Game
+    → (new ≡ c.args.self.now) × ((IsReadyToMake c.args.self.now.client.who c.args.self.now.client.events c.args.action → ⊥) ⊎ (most_numbers ≤ makes c.args.self.now.client.events))))
     (make_refused c.args.self.now new c.args.action c.in_err-request.field-0.0 same is)
 
 pub returns-clause-made : goal.returns-clause-made

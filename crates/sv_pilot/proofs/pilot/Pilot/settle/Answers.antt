@@ -1,9 +1,13 @@
 -- What is proved by hand of `Pilot::settle`.
+use Rattle.std.proofs.Common.{refl}
 use Rattle.std.specs.Prelude.{IfErr}
 use Rattle.sv_pilot.specs.Doings.{StopsBy}
-use Rattle.sv_pilot.proofs.Taking.{calm_more, taken_more, stops_later}
+use Rattle.sv_pilot.proofs.Taking.{same_taken, calm_same, calm_more, taken_more, stops_later}
 use Rattle.sv_pilot.proofs.Moved.{failed_by}
 use Rattle.sv_pilot.proofs.pilot.Pilot.settle.Goals as goal
+
+pub loop-self-init : goal.loop-self-init
+loop-self-init g c = record { taken = same_taken c.args.self.now; calm = calm_same c.args.self.now.line c.args.self.now.line refl }
 
 pub returns-in_err-take_next-clause-taken : goal.returns-in_err-take_next-clause-taken
 returns-in_err-take_next-clause-taken g c = taken_more c.args.self.now c.loop-self.self c.take_next.new.self c.loop-self.invariant.taken c.take_next.ensures.taken
