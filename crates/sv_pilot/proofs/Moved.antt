@@ -1,8 +1,7 @@
 -- What a connection's calls change of it.
-use Rattle.std.proofs.Common.{◌≡◌, ◌≢◌, ℕ, ◌+◌, ◌<◌, inl, inr, true, false, List, [], ◌++◌, length, take, option_map, Option, Some, None, Result, Ok, Err, refl, sym, ap, subst, ◌∙◌, arith, append-nil}
+use Rattle.std.proofs.Common.{◌≡◌, ℕ, ◌+◌, ◌<◌, inl, inr, false, List, [], ◌++◌, length, Some, Result, Ok, Err, sym, ap, subst, ◌∙◌, arith, append-nil}
 use Rattle.std.specs.Prelude.{IsErrAnd}
 use Rattle.std.proofs.lemmas.List.{length-append}
-use Rattle.sv_frame.specs.Frames.{first_frame, too_long}
 use Rattle.sv_frame.specs.Answers.{ReadsInto}
 use Rattle.sv_link.specs.Ends.{Told, sending, receiving, EndReadCause, SentCause}
 use Rattle.sv_link.specs.declared.ends.EndRead.{EndRead}
@@ -10,11 +9,10 @@ use Rattle.sv_link.specs.declared.ends.EndRead.TheVariants as reads
 use Rattle.sv_link.specs.declared.ends.Sent.{Sent}
 use Rattle.sv_link.specs.declared.ends.Sent.TheVariants as answers
 use Rattle.sv_wire.specs.declared.message.Reply.{Reply}
-use Rattle.sv_wire.specs.Messages.{reply_at}
-use Rattle.sv_exchange.specs.Incoming.{FirstReads, first_payload_of}
+use Rattle.sv_exchange.specs.Incoming.{first_payload_of}
 use Rattle.sv_pilot.specs.declared.trouble.Trouble.{Trouble}
 use Rattle.sv_pilot.specs.declared.trouble.Trouble.TheVariants as troubles
-use Rattle.sv_pilot.specs.Lines.{Line, IsCalm, GoesOn}
+use Rattle.sv_pilot.specs.Lines.{Line, IsCalm}
 use Rattle.sv_pilot.specs.Sending.{trouble_of_sent, trouble_of_read, HasSent, HasRead, IsSendFault, IsSent, IsReceiveFault, IsReadOn, IsReplyOf, IsFrontRead, IsReceived}
 use Rattle.sv_pilot.proofs.Taking.{calm_more}
 

@@ -1,5 +1,5 @@
 -- The reply at the front of what came is taken, and what it asks for is a message.
-use Rattle.std.proofs.Common.{◌≡◌, ◌≢◌, ℕ, ◌<◌, List, [], ◌∷◌, option_map, option_to_list, Option, Some, None, Ok, Err, Result, refl, sym, ap, subst, ◌∙◌}
+use Rattle.std.proofs.Common.{◌≡◌, ◌≢◌, ℕ, ◌<◌, List, [], ◌∷◌, option_map, option_to_list, Option, Some, None, Ok, Err, Result, sym, ap, subst, ◌∙◌}
 use Rattle.std.specs.Prelude.{All, IfSome, IfErr, OnOk}
 use Rattle.std.proofs.lemmas.List.Elements.{All-head}
 use Rattle.sv_world.specs.Worlds.{IsGoodShape}

@@ -1,5 +1,5 @@
 -- Observing over and over.
-use Rattle.std.proofs.Common.{◌≡◌, ◌+◌, ◌<◌, ◌⊎◌, inl, inr, ℕ, suc, List, refl, sym, subst, add-one}
+use Rattle.std.proofs.Common.{◌≡◌, ◌+◌, ◌<◌, ◌⊎◌, inl, inr, ℕ, List, refl, sym, subst, add-one}
 use Rattle.sv_world.specs.declared.world.ObjectId.{ObjectId}
 use Rattle.sv_client.specs.declared.trace.Event.TheVariants as events
 use Rattle.sv_client.specs.Proper.{MayObserve}

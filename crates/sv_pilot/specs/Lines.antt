@@ -3,7 +3,6 @@ use Rattle.std.specs.Prelude.{◌≡◌, ℕ, ◌⊎◌, List, [], ◌++◌, Som
 use Rattle.sv_frame.specs.Frames.{too_long}
 use Rattle.sv_wire.specs.declared.fault.Malformed.{Malformed}
 use Rattle.sv_wire.specs.Messages.{reply_at}
-use Rattle.sv_link.specs.declared.side.Side.{Side}
 use Rattle.sv_link.specs.Ends.{Told}
 use Rattle.sv_exchange.specs.Incoming.{FirstReads}
 

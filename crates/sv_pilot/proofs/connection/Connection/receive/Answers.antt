@@ -1,5 +1,4 @@
 -- What is proved by hand of `Connection::receive`.
-use Rattle.std.proofs.Common.{Err}
 use Rattle.sv_pilot.specs.Sending.{IsReceived}
 use Rattle.sv_pilot.proofs.Taking.{sent_read, read_more}
 use Rattle.sv_pilot.proofs.Moved.{received_later, sending_stops, failed_by}

@@ -1,5 +1,5 @@
 -- What is proved by hand of `Connection::send_all`.
-use Rattle.std.proofs.Common.{Err, refl}
+use Rattle.std.proofs.Common.{refl}
 use Rattle.sv_pilot.specs.Sending.{IsSent}
 use Rattle.sv_pilot.proofs.Taking.{nothing_sent, calm_same, sent_more, calm_more}
 use Rattle.sv_pilot.proofs.Moved.{fault_later, failed_by}

@@ -1,5 +1,5 @@
 -- What is proved by hand of `Connection::wait`.
-use Rattle.std.proofs.Common.{Err, refl}
+use Rattle.std.proofs.Common.{refl}
 use Rattle.sv_pilot.specs.Sending.{IsReceived}
 use Rattle.sv_pilot.proofs.Taking.{nothing_read, calm_same, read_more, calm_more}
 use Rattle.sv_pilot.proofs.Moved.{received_by, receive_later, failed_by}

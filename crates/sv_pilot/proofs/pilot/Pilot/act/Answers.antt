@@ -1,5 +1,5 @@
 -- What is proved by hand of `Pilot::act`.
-use Rattle.std.proofs.Common.{◌≡◌, ◌≤◌, ◌⊎◌, inr, length, Err}
+use Rattle.std.proofs.Common.{◌≡◌, ◌≤◌, ◌⊎◌, inr, length}
 use Rattle.std.specs.Prelude.{IfErr}
 use Rattle.sv_pilot.specs.declared.trouble.Trouble.{Trouble}
 use Rattle.sv_pilot.specs.declared.trouble.Trouble.TheVariants as troubles

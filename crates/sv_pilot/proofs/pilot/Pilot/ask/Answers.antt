@@ -1,5 +1,5 @@
 -- What is proved by hand of `Pilot::ask`.
-use Rattle.std.proofs.Common.{Err, OnOk, IfErr, refl, subst}
+use Rattle.std.proofs.Common.{OnOk, IfErr, refl, subst}
 use Rattle.sv_pilot.specs.Lines.{IsCalm}
 use Rattle.sv_pilot.specs.Doings.{PilotView, HasTaken, NoReplyIsDue, StopsBy}
 use Rattle.sv_pilot.proofs.Taking.{same_taken, sent_read, line_taken, taken_more, sending_stops_it}

@@ -1,7 +1,6 @@
 -- What is proved by hand of `Pilot::join`.
-use Rattle.std.proofs.Common.{◌≡◌, ◌≤◌, ◌⊎◌, inl, inr, ℕ, List, Err, refl, sym, ap, subst, ◌∙◌, zero-add}
+use Rattle.std.proofs.Common.{◌≡◌, ◌≤◌, ◌⊎◌, inr, refl, sym, ap, subst, ◌∙◌, zero-add}
 use Rattle.std.specs.Prelude.{All, OnOk, IfErr}
-use Rattle.sv_wire.specs.declared.message.Request.{Request}
 use Rattle.sv_wire.specs.Grammar.{IsWireRequest}
 use Rattle.sv_client.specs.declared.trace.Event.TheVariants as events
 use Rattle.sv_client.specs.Traces.{joins}

@@ -1,6 +1,6 @@
 -- What is proved by hand of `Pilot::take`.
-use Rattle.std.proofs.Common.{◌≡◌, List, Ok, Err, ◌<◌, sym, ap, subst, ◌∙◌}
-use Rattle.std.specs.Prelude.{IfErr, OnOk}
+use Rattle.std.proofs.Common.{◌≡◌, List, Ok, ◌<◌, sym, ap, subst, ◌∙◌}
+use Rattle.std.specs.Prelude.{IfErr}
 use Rattle.sv_world.specs.Worlds.{IsGoodShape}
 use Rattle.sv_link.specs.Ends.{Told}
 use Rattle.sv_wire.specs.Messages.{reply_at}
@@ -8,12 +8,12 @@ use Rattle.sv_exchange.specs.Incoming.{FirstReads}
 use Rattle.sv_client.specs.declared.trace.Event.{Event}
 use Rattle.sv_client.specs.Taking.{Identity, outstanding}
 use Rattle.sv_client.specs.Proper.{AreInTurn}
-use Rattle.sv_client.specs.Answers.{got_now, IsTakeFault}
-use Rattle.sv_client.specs.Seen.{ClientView, newly_asked}
+use Rattle.sv_client.specs.Answers.{IsTakeFault}
+use Rattle.sv_client.specs.Seen.{ClientView}
 use Rattle.sv_pilot.specs.Troubles.{trouble_of_take}
 use Rattle.sv_pilot.specs.Lines.{IsCalm}
 use Rattle.sv_pilot.specs.Doings.{PilotView, HasTaken, StopsBy, weight}
-use Rattle.sv_pilot.proofs.Taking.{none_taken, taken_more, calm_more, calm_same, stops_later}
+use Rattle.sv_pilot.proofs.Taking.{none_taken, taken_more, calm_more, stops_later}
 use Rattle.sv_pilot.proofs.Moved.{failed_by}
 use Rattle.sv_pilot.proofs.Replied.{some_frame, skip_takes, done_is_message, fewer_are_due, refused_at, always, memory_stops}
 use Rattle.sv_pilot.proofs.pilot.Pilot.take.Goals as goal

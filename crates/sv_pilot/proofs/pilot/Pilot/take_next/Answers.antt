@@ -1,5 +1,5 @@
 -- What is proved by hand of `Pilot::take_next`.
-use Rattle.std.proofs.Common.{◌<◌, Err, refl, subst}
+use Rattle.std.proofs.Common.{◌<◌, refl, subst}
 use Rattle.std.specs.Prelude.{OnOk, IfErr}
 use Rattle.sv_client.specs.Taking.{outstanding}
 use Rattle.sv_pilot.specs.Lines.{IsCalm}

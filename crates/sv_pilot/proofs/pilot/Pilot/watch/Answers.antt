@@ -1,5 +1,5 @@
 -- What is proved by hand of `Pilot::watch`.
-use Rattle.std.proofs.Common.{Err, refl, sym, ◌∙◌}
+use Rattle.std.proofs.Common.{refl}
 use Rattle.std.specs.Prelude.{IfErr}
 use Rattle.sv_pilot.specs.declared.trouble.Trouble.TheVariants as troubles
 use Rattle.sv_pilot.specs.Doings.{StoppedWatch}
