@@ -19,7 +19,7 @@ const digging = nuggets => action([when(turn.equals(me).and(left.atLeast(nuggets
 const choice = nuggets => me === 0 ? Number(nuggets % 4n) || 1 : Math.ceil(Math.random() * Math.min(3, Number(nuggets)));
 
 const client = new Client({
-    number: me, objects: 3, attributes: 2, interest: [0, 1, 2], connect: () => nodeLink(port),
+    number: me, objects: 3, attributes: 2, interest: [0, 1, 2], connect: () => nodeLink(port), retry: { tries: 9 },
     onChange: (object, old, now) => console.log(`player ${me} sees object ${object}: ${now}`),
     onStatus: status => console.log(`player ${me}: ${status}`) });
 await client.join();

@@ -3,11 +3,12 @@ ghost use Rattle.std.specs.Prelude.{◌≡◌, List, ◌<◌, ◌≤◌, true, [
 ghost use Rattle.sv_world.specs.Limits.{most_positions};
 ghost use Rattle.sv_world.specs.Worlds.{IsGoodWorld};
 ghost use Rattle.sv_journal.specs.declared.entry.Entry.{Entry};
-ghost use Rattle.sv_journal.specs.History.{accepted, commit_of, committed_of};
-ghost use Rattle.sv_journal.specs.Laws.{IsRightful};
+ghost use Rattle.sv_journal.specs.History.{accepted, commit_of, committed_of, full_reply};
+ghost use Rattle.sv_journal.specs.Laws.{AreWithinLimits, IsRightful};
 ghost use Rattle.sv_journal.specs.Sessions.{is_end};
 ghost use Rattle.sv_journal.specs.Serving.{LegalFor};
 ghost use Rattle.sv_journal.specs.Living.{living};
+ghost use Rattle.sv_wire.specs.Grammar.{IsWireReply};
 ghost use Rattle.sv_living.specs.Keeping.{stewardship_of};
 ghost use Rattle.sv_living.specs.Sessions.{is_open, next_session, open_sessions, may_begin, may_ask, AreInOrder};
 ghost use Rattle.sv_living.specs.World.{heeded_in, Answered, IsStepFault};
@@ -18,7 +19,7 @@ use crate::past::Past;
 use crate::stewards::Stewards;
 use std::alloc::{AllocError, Global};
 use std::marker::Model;
-use sv_journal::accepted_actions_are_rightful;
+use sv_journal::{accepted_actions_are_rightful, served_replies_are_messages};
 use sv_sequencer::{Answer, Opened};
 use sv_wire::Request;
 use sv_world::{ObjectId, Value};
@@ -144,13 +145,16 @@ impl LivingCore {
     }
 
     /// A law: at any time each reply is the one of the answer table, sessions began in the order of their numbers with at most 1,024 open,
-    /// and every accepted action writes only what its author may write.
+    /// and every accepted action writes only what its author may write. Where the rules are within the limits, among them a bound of at most
+    /// 32, every reply is a message.
     pub fn is_lawful(&self)
         ensures legal { LegalFor (living self.now.stewardship) self.now.rules self.now.history }
         ensures order { AreInOrder self.now.history }
         ensures rightful { All (IsRightful self.now.rules) (accepted self.now.history) }
+        ensures messages { AreWithinLimits self.now.rules → All (λ (e : Entry). IsWireReply (full_reply (accepted self.now.history) e.reply)) self.now.history }
     {
         accepted_actions_are_rightful();
+        served_replies_are_messages();
         let _ = &self.live;
     }
 }

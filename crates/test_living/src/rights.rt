@@ -69,3 +69,18 @@ fn nobody_may_write(rt: HostRuntime) -> Result<(), Fail> {
     };
     check(&rt, setting, NONE)
 }
+
+/// Where nothing may influence an action, one that its client may not make is denied before it is dropped.
+const DENIED_FIRST: &str = "\
+1 s0 join c2 1 [] -> welcome 0 []
+2 s0 submit 1 reads 1 writes 1 { } -> relay 1 at 0 [1=(20)] [1:c2.1]
+3 s0 submit 2 reads 0 1 writes 0 { } -> denied 2 object 0
+4 s0 submit 3 reads 1 writes 1 { } -> dropped 3 chain 1 far 0
+5 s0 submit 2 reads 1 writes 1 { } -> denied 2 object 0
+";
+
+#[test]
+fn denied_before_dropped(rt: HostRuntime) -> Result<(), Fail> {
+    let setting = Setting { bound: 0, ..SETTING };
+    check(&rt, setting, DENIED_FIRST)
+}

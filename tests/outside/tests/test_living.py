@@ -551,6 +551,42 @@ def test_refused(count):
     count.same(pauses, [True] * 7, "the pauses grow up to the longest one")
 
 
+def test_own_links(count):
+    """A player closes its own connection in a callback, and joins again; where no link is left, what broke the last one is told."""
+    server, links, calls, found = Holding(scenario([[0], [0]], 8, (0,))), [], [], []
+
+    def connect():
+        links.append(socket.create_connection(("127.0.0.1", server.port), timeout=5))
+        return links[-1]
+
+    client = Client(0, 2, 1, (0,), connect=connect, retry=(0.01, 0.02, 3), on_status=lambda status, fault: found.append(status))
+
+    def cut(values, changed):
+        calls.append(values[0])
+        if len(calls) > 1:
+            return True
+        links[0].close()
+        client.make(ADD[0])
+        return False
+
+    client.join()
+    client.watch((0,), cut)
+    client.run()
+    count.same((found, calls, client.made), (["joining", "joined", "lost", "joining", "joined"], [(0,), (1,)], 1), "an own cut")
+    client.leave()
+    server.stop()
+    for ends in (1, 2):
+        found.clear()
+        links = [socket.socketpair() for _ in range(ends)]
+        spare = [near for near, far in links if not far.close()]
+        client = Client(0, 2, 1, (0,), connect=lambda: spare.pop() if spare else None, retry=(0.01, 0.02, 9),
+                        on_status=lambda status, fault: found.append((status, type(fault).__name__)))
+        last = fault_of(client.join)
+        told = [status for status, _ in found if status != "joining"]
+        count.same(told, ["lost"] * ends + ["closed"], f"no link is left of {ends}")
+        count.same({last, found[-1][1]} <= {"BrokenPipeError", "ConnectionResetError", "ConnectionError"}, True, f"{last}: {found[-1]}")
+
+
 def refuse():
     """A connection that nobody takes."""
     raise ConnectionRefusedError("refused")
@@ -659,7 +695,7 @@ def main():
     for test in (test_double, test_told, test_asked):
         test(count)
     with ThreadPoolExecutor(3) as crew:
-        tests = (test_broken_js, test_places_js, test_broken, test_places, test_taken_up, test_refused)[0 if has_node else 2:]
+        tests = (test_broken_js, test_places_js, test_broken, test_places, test_taken_up, test_refused, test_own_links)[0 if has_node else 2:]
         list(crew.map(lambda test: test(count), tests))
     test_many(count, has_node)
     return count.close()
