@@ -6,7 +6,7 @@ use std::alloc::{AllocError, Global};
 use std::rt::Clock;
 use std::thread;
 use std::time::Duration;
-use sv_client::Client;
+use sv_client::LeanClient;
 use sv_door::{Door, EndMade};
 use sv_link::End;
 use sv_pilot::{Listener, Pilot, Trouble};
@@ -55,15 +55,12 @@ fn choice(me: u16, nuggets: i64) -> i64 {
 }
 
 /// The client of a player, which is told all three objects when it joins.
-fn client_of(alloc: Global, me: u16) -> Result<Client, Trouble> {
-    if 1 < me {
-        return Err(Trouble::Game);
-    }
+fn client_of(alloc: Global, me: u16) -> Result<LeanClient, Trouble> {
     let mut interest = List::new(alloc);
     interest.push(MINE)?;
     interest.push(ObjectId(1))?;
     interest.push(ObjectId(2))?;
-    Ok(Client::new(alloc, ClientId(me), SHAPE, interest)?)
+    Ok(LeanClient::new(alloc, ClientId(me), SHAPE, interest)?)
 }
 
 /// What a player does next: it digs where it is at turn, and else waits a while and looks.

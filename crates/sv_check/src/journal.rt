@@ -102,20 +102,21 @@ impl Served {
     }
 
     /// Answers a request that it may answer.
-    fn answer(&mut self, scenario: &Scenario, asked: &Asked) -> Result<(), AllocError>
+    fn answer(&mut self, scenario: &Scenario, asked: Asked) -> Result<(), AllocError>
         requires served { IsServed scenario.now self.old }
-        requires session { MayBeSession self.old.sequencer.rules.sessions asked.now.session }
-        requires told { IsTold scenario.now.world.shape asked.now.request }
-        requires first { is_end asked.now.request ≡ true → is_ended (history self.old.sequencer) asked.now.session ≡ false }
+        requires session { MayBeSession self.old.sequencer.rules.sessions asked.session }
+        requires told { IsTold scenario.now.world.shape asked.request }
+        requires first { is_end asked.request ≡ true → is_ended (history self.old.sequencer) asked.session ≡ false }
         ensures served { OnOk result (IsServed scenario.now self.new) }
         ensures more { OnOk result (entries_of self.new ≡ entries_of self.old
-            ++ entry_of asked.now.session asked.now.request (reply_to (rules_of scenario.now) (history self.old.sequencer) asked.now.session asked.now.request) ∷ []) }
+            ++ entry_of asked.session asked.request (reply_to (rules_of scenario.now) (history self.old.sequencer) asked.session asked.request) ∷ []) }
     {
         let _ = scenario;
         full_replies_stay();
         legal_relays_name_accepted();
         self.is_legal();
-        let reply = self.sequencer.step(asked.session, &asked.request)?;
+        let Asked { session, request } = asked;
+        let reply = self.sequencer.step(session, request)?;
         self.replies.push(reply)?;
         Ok(())
     }
@@ -131,9 +132,11 @@ impl Served {
         match asked_at(alloc, scenario.world.shape, text) {
             Ok(asked) => {
                 if !self.may_answer(&asked) {
+                    // A tree that is let go at the end of its scope makes a long proof; a call that takes it, none.
+                    drop(asked);
                     return Ok(false);
                 }
-                self.answer(scenario, &asked)?;
+                self.answer(scenario, asked)?;
                 Ok(true)
             }
             Err(Unread::Wrong) => Ok(false),

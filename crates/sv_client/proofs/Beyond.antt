@@ -18,7 +18,7 @@ use Rattle.sv_client.specs.declared.trace.Event.{Event}
 use Rattle.sv_client.specs.declared.trace.Event.TheVariants as events
 use Rattle.sv_client.specs.Traces.{held_of, head_held, held_at, item_result, item_held, with_items, with_reply}
 use Rattle.sv_client.specs.Taking.{Identity, told}
-use Rattle.sv_client.specs.Proper.{AreProper}
+use Rattle.sv_client.specs.Proper.{AreInTurn}
 use Rattle.sv_client.specs.Evaluating.{IsHeadWithin, ItemsReadWithin, IsFitting}
 use Rattle.sv_client.proofs.Looking.{got_fits}
 
@@ -70,7 +70,7 @@ module _ (n x : ℕ) (over : n ≤ x) where
   reply_free t held (replies.Refused c d) e f = e
   reply_free t held replies.Bye e f = e
 
-pub none_held : (who : Identity) (first : ℕ) (t : List Event) → AreProper who first t → (x : ℕ) → who.shape.objects ≤ x → versions_of x (held_of t) ≡ []
+pub none_held : (who : Identity) (first : ℕ) (t : List Event) → AreInTurn who first t → (x : ℕ) → who.shape.objects ≤ x → versions_of x (held_of t) ≡ []
 none_held who first [] p x l = refl
 none_held who first (events.Join s ∷ t) p x l = none_held who first t p.1 x l
 none_held who first (events.Make a ∷ t) p x l = none_held who first t p.1 x l
@@ -82,10 +82,10 @@ none_held who first (events.Cut ∷ t) p x l = none_held who first t p.1 x l
 none_held who first (events.Quit ∷ t) p x l = none_held who first t p.1 x l
 none_held who first (events.Show os ∷ t) p x l = none_held who first t p.1 x l
 
-pub none_latest : (who : Identity) (first : ℕ) (t : List Event) → AreProper who first t → (x : ℕ) → who.shape.objects ≤ x → latest (held_of t) x ≡ None
+pub none_latest : (who : Identity) (first : ℕ) (t : List Event) → AreInTurn who first t → (x : ℕ) → who.shape.objects ≤ x → latest (held_of t) x ≡ None
 none_latest who first t p x l = ap (λ (hs : List Held). option_map (λ (h : Held). h.value) (newest hs)) (none_held who first t p x l)
 
-pub none_old : (who : Identity) (first : ℕ) (t : List Event) (kept : List Held) (commit : ℕ) → AreProper who first t → AnswersAbove commit kept (held_of t) → (x pos : ℕ) → who.shape.objects ≤ x → count_up_to kept x pos ≡ 0
+pub none_old : (who : Identity) (first : ℕ) (t : List Event) (kept : List Held) (commit : ℕ) → AreInTurn who first t → AnswersAbove commit kept (held_of t) → (x pos : ℕ) → who.shape.objects ≤ x → count_up_to kept x pos ≡ 0
 none_old who first t kept commit p a x pos l =
     let none : newest (versions_of x kept) ≡ None = a.last x ∙ ap newest (none_held who first t p x l) in
     ap (λ (hs : List Held). count_by (λ (h : Held). nat_le h.pos pos) hs) (greatest_none (versions_of x kept) none)

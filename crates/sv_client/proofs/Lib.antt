@@ -17,3 +17,7 @@ pub mod Looks
 pub mod Applies
 pub mod Raised
 pub mod Backwards
+pub mod Pasts
+pub mod Wells
+pub mod Sizes
+pub mod Wires

@@ -1,5 +1,5 @@
 -- What a reply makes of a client, from what its parts say.
-use Rattle.std.proofs.Common.{◌≡◌, ℕ, ◌+◌, ◌-◌, ◌<◌, ◌≤◌, Bool, List, [], ◌∷◌, ◌++◌, length, drop, map, slice_get, Option, Some, None, Ok, refl, sym, ap, subst, ◌∙◌, arith}
+use Rattle.std.proofs.Common.{◌≡◌, ℕ, ◌<◌, ◌≤◌, Bool, List, [], ◌∷◌, ◌++◌, length, drop, map, slice_get, Option, Some, None, Ok, refl, sym, ap, subst, ◌∙◌, arith}
 use Rattle.std.specs.Prelude.{IfSome}
 use Rattle.std.proofs.lemmas.Bool.{eq-eqb}
 use Rattle.std.proofs.lemmas.List.{length-append, length-drop, map-append}
@@ -10,8 +10,7 @@ use Rattle.sv_wire.specs.declared.message.Reply.TheVariants as replies
 use Rattle.sv_wire.specs.declared.message.Request.{Request}
 use Rattle.sv_client.specs.declared.kinds.Awaited.{Awaited}
 use Rattle.sv_client.specs.declared.trace.Event.{Event}
-use Rattle.sv_client.specs.declared.trace.Event.TheVariants as events
-use Rattle.sv_client.specs.Traces.{current_session, held_of, pending_of, with_reply, done_for}
+use Rattle.sv_client.specs.Traces.{held_of, pending_of, with_reply, done_for}
 use Rattle.sv_client.specs.Taking.{Identity, outstanding, told, told_by, told_with, commit_in, first_fault_of_reply, missing_fault, missing_in, Fault}
 use Rattle.sv_client.specs.Proper.{MayGet}
 use Rattle.sv_client.specs.Kinds.{kind_of, done_kinds}
@@ -21,8 +20,8 @@ use Rattle.sv_client.specs.Invariant.{AreAwaited, IsClientOf}
 use Rattle.sv_client.specs.declared.fault.TakeFault.{TakeFault}
 use Rattle.sv_client.specs.Answers.{IsFine, IsTaken, IsTakeFault, got_now}
 use Rattle.sv_client.proofs.Looking.{fine_misses, Oldest, oldest}
-use Rattle.sv_client.proofs.Outstanding.{outstanding_got}
-use Rattle.sv_client.proofs.Keeping.{latest_is, latest_in, latest_count, same_long}
+use Rattle.sv_client.proofs.Outstanding.{got_turn}
+use Rattle.sv_client.proofs.Keeping.{latest_is, same_long}
 
 told_more : (o : Option ℕ) (n : ℕ) → n ≤ told_with o n
 told_more None n = omega arith
@@ -102,7 +101,7 @@ taken_is who t reply store pending ks sessions made commit joined is fine done s
         few = subst (λ (n : ℕ). (x : ℕ) → count_up_to store_after.held x n ≤ 1) c few;
       };
       actions = λ i. record { shape = shape i; items = a.2 i };
-      awaited = awaited_got who t reply ks kinds is.awaited (asked_some (outstanding who t) fine.request fine.rest fine.asked) (outstanding_got who 0 t (latest_session t) reply is.proper may) awaited;
+      awaited = awaited_got who t reply ks kinds is.awaited (asked_some (outstanding who t) fine.request fine.rest fine.asked) (got_turn who 0 t (latest_session t) reply is.turn may) awaited;
       commit_is = c;
       asked = a.1 ∙ sym (newly_got who t reply);
     }
@@ -126,14 +125,3 @@ answers_front who t reply k ks a e fine = go (oldest ks (outstanding who t) k a.
 -- A value that is missing is the fault of a reply in which nothing else is wrong.
 pub missing_is : (who : Identity) (t : List Event) (reply : Reply) (fault : TakeFault) (fine : IsFine who t reply) → IsMissing (missing_in (held_of t) (kind_of fine.request) reply) fault → IsTakeFault who t reply fault
 missing_is who t reply fault fine m = subst (λ (o : Option Fault). IfSome (fault_named fault) (λ f. o ≡ Some f)) (sym (fine_misses who t reply fine)) m
-
--- A client that takes a reply has begun one session more than the number of the latest.
-pub sessions_are : (who : Identity) (t : List Event) (reply : Reply) (store : Store) (pending : PendingList) (ks : List Awaited) (sessions made commit : ℕ) (joined : Bool)
-    → IsClientOf who t store pending ks sessions made commit joined → IsFine who t reply → sessions ≡ latest_session t + 1
-sessions_are who t reply store pending ks sessions made commit joined is fine =
-    is.counts.sessions_are ∙ latest_count who t is.proper (latest_session t) (latest_in who t (current_session t) (asked_some (outstanding who t) fine.request fine.rest fine.asked))
-
-pub got_event : (sessions : ℕ) (t : List Event) (reply : Reply) → sessions ≡ latest_session t + 1 → events.Got (sessions - 1) reply ≡ got_now t reply
-got_event sessions t reply e =
-    let s : sessions - 1 ≡ latest_session t = omega (arith, e) in
-    ap (λ (n : ℕ). events.Got n reply) s

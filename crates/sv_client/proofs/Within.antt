@@ -20,8 +20,9 @@ use Rattle.sv_client.specs.declared.trace.Event.TheVariants as events
 use Rattle.sv_client.specs.Kinds.{kind_of}
 use Rattle.sv_client.specs.Traces.{current_session, is_session, asked, asked_by_event, got, done_for, held_of, pending_of, submit_of}
 use Rattle.sv_client.specs.Taking.{Identity, outstanding, unanswered, observed_by, observed_first, observed_now}
-use Rattle.sv_client.specs.Proper.{AreProper}
+use Rattle.sv_client.specs.Proper.{AreProper, AreInTurn}
 use Rattle.sv_client.specs.Evaluating.{AreWithin, AsksWithin}
+use Rattle.sv_client.proofs.Sessions.{in_turn}
 
 all_within : (n : ℕ) (os : List ObjectId) → list_all (λ x. nat_lt x n) (numbers_of os) ≡ true → AreWithin n os
 all_within n [] e = All-nil (λ (o : ObjectId). o.0 < n)
@@ -85,7 +86,7 @@ module _ (n : ℕ) where
       let rest : map (λ k. Some k) ks ≡ map kind_of rs = cc in
       All-cons (AsksWithin n) k ks (subst (KindWithin n) first (All-head (RequestWithin n) r rs w)) (kinds_within ks rs rest (All-tail (RequestWithin n) r rs w))
 
-event_within : (who : Identity) (first : ℕ) (t : List Event) (e : Event) → AreProper who first (e ∷ t) → (k : ℕ)
+event_within : (who : Identity) (first : ℕ) (t : List Event) (e : Event) → AreInTurn who first (e ∷ t) → (k : ℕ)
     → All (RequestWithin who.shape.objects) (asked_by_event who.client who.interest t e k)
 event_within who first t (events.Join s) p k =
     if_asked who.shape.objects (eqb s k) _ (All-cons (RequestWithin who.shape.objects) _ (map submit_of (pending_of t)) (no_object who.shape.objects) (submits_within who.shape.objects (pending_of t)))
@@ -99,19 +100,19 @@ event_within who first t events.Cut p k = none_asked who.shape.objects
 event_within who first t events.Quit p k = none_asked who.shape.objects
 event_within who first t (events.Show os) p k = none_asked who.shape.objects
 
-asked_within : (who : Identity) (first : ℕ) (t : List Event) → AreProper who first t → (k : ℕ) → All (RequestWithin who.shape.objects) (asked who.client who.interest t k)
+asked_within : (who : Identity) (first : ℕ) (t : List Event) → AreInTurn who first t → (k : ℕ) → All (RequestWithin who.shape.objects) (asked who.client who.interest t k)
 asked_within who first [] p k = none_asked who.shape.objects
 asked_within who first (e ∷ t) p k =
     All-append (RequestWithin who.shape.objects) (asked who.client who.interest t k) (asked_by_event who.client who.interest t e k) (asked_within who first t p.1 k) (event_within who first t e p k)
 
-outstanding_within : (who : Identity) (first : ℕ) (t : List Event) → AreProper who first t → All (RequestWithin who.shape.objects) (outstanding who t)
+outstanding_within : (who : Identity) (first : ℕ) (t : List Event) → AreInTurn who first t → All (RequestWithin who.shape.objects) (outstanding who t)
 outstanding_within who first t p = go (current_session t)
   where
     go : (o : Option ℕ) → All (RequestWithin who.shape.objects) (unanswered who t o)
     go None = none_asked who.shape.objects
     go (Some s) = drop_within who.shape.objects (length (got t s)) (asked who.client who.interest t s) (asked_within who first t p s)
 
-pub awaited_within : (who : Identity) (first : ℕ) (t : List Event) (ks : List Awaited) → AreProper who first t → map (λ k. Some k) ks ≡ map kind_of (outstanding who t) → All (AsksWithin who.shape.objects) ks
+pub awaited_within : (who : Identity) (first : ℕ) (t : List Event) (ks : List Awaited) → AreInTurn who first t → map (λ k. Some k) ks ≡ map kind_of (outstanding who t) → All (AsksWithin who.shape.objects) ks
 awaited_within who first t ks p e = kinds_within who.shape.objects ks (outstanding who t) e (outstanding_within who first t p)
 
 -- ---- What the oldest request observes
@@ -130,7 +131,7 @@ seen_within n (Some kinds.Poll) w = All-nil (λ x. x < n)
 seen_within n (Some kinds.Leave) w = All-nil (λ x. x < n)
 
 pub seen_now_within : (who : Identity) (first : ℕ) (t : List Event) → AreProper who first t → All (λ x. x < who.shape.objects) (observed_now who t)
-seen_now_within who first t p = go (outstanding who t) (outstanding_within who first t p)
+seen_now_within who first t p = go (outstanding who t) (outstanding_within who first t (in_turn who first t p))
   where
     go : (rs : List Request) → All (RequestWithin who.shape.objects) rs → All (λ x. x < who.shape.objects) (observed_first rs)
     go [] w = All-nil (λ x. x < who.shape.objects)

@@ -5,6 +5,8 @@ use Rattle.sv_world.specs.declared.action.Action.{Action}
 use Rattle.sv_world.specs.declared.world.ObjectId.{ObjectId}
 use Rattle.sv_world.specs.Sets.{numbers_of}
 use Rattle.sv_world.specs.Faults.{first_fault_of_action, may_be_observed}
+use Rattle.sv_world.specs.Worlds.{IsGoodShape}
+use Rattle.sv_wire.specs.Grammar.{IsWireReply}
 use Rattle.sv_versions.specs.Held.{Store}
 use Rattle.sv_pending.specs.Made.{PendingList}
 use Rattle.sv_wire.specs.declared.message.Reply.{Reply}
@@ -56,6 +58,11 @@ IsTakeFault who t reply fault = IfSome (fault_named fault) (λ f. first_fault_of
 -- The event of a reply that is got now.
 abbrev pub got_now : List Event → Reply → Event
 got_now t reply = events.Got (latest_session t) reply
+
+-- A reply is a message, and comes to a client whose world has a shape that a world may have. Any other event is no server's.
+abbrev pub IsServed : Identity → Event → Type 0
+IsServed who (events.Got s reply) = IsGoodShape who.shape × IsWireReply reply
+IsServed who _ = Unit {0}
 
 -- What a reply makes of a client: it has no fault, and the answer, the store and the parts are those of the trace with the reply.
 pub record IsTaken (who : Identity) (t : List Event) (reply : Reply) (done : Option Request) (store : Store) (pending : PendingList) (kinds : List Awaited) (commit : ℕ) : Type 0 where

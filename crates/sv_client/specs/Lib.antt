@@ -5,6 +5,8 @@ pub mod Taking
 pub mod Proper
 pub mod Kinds
 pub mod Seen
+pub mod Past
 pub mod Evaluating
 pub mod Invariant
+pub mod Recorded
 pub mod Answers

@@ -28,9 +28,19 @@ pub record IsGoodIdentity (who : Identity) : Type 0 where
   pub ascending : is_ascending (map (λ (o : ObjectId). o.0) who.interest) ≡ true
   pub objects : All (λ (o : ObjectId). o.0 < who.shape.objects) who.interest
 
+-- An interest that a Join may have.
+pub record IsGoodInterest (who : Identity) : Type 0 where
+  pub few : length who.interest ≤ most_interest
+  pub ascending : is_ascending (map (λ (o : ObjectId). o.0) who.interest) ≡ true
+  pub objects : All (λ (o : ObjectId). o.0 < who.shape.objects) who.interest
+
 -- The actions that a client makes.
 abbrev pub most_made : ℕ
 most_made = 65536
+
+-- The lives, and the sequence numbers, that a message has room for.
+abbrev pub most_numbers : ℕ
+most_numbers = 4294967295
 
 pub record MayMake (who : Identity) (t : List Event) (action : Action) : Type 0 where
   pub joined : in_session t ≡ true
@@ -38,6 +48,13 @@ pub record MayMake (who : Identity) (t : List Event) (action : Action) : Type 0 
   pub room : length (pending_of t) < most_pending
   pub calm : length (outstanding who t) < most_outstanding
   pub few : makes t < most_made
+
+-- The same, however many actions were made before.
+pub record IsReadyToMake (who : Identity) (t : List Event) (action : Action) : Type 0 where
+  pub joined : in_session t ≡ true
+  pub good : first_fault_of_action who.shape action ≡ None
+  pub room : length (pending_of t) < most_pending
+  pub calm : length (outstanding who t) < most_outstanding
 
 pub record MayPoll (who : Identity) (t : List Event) : Type 0 where
   pub joined : in_session t ≡ true
@@ -75,6 +92,16 @@ MayFollow who first t _ = Unit {0}
 abbrev pub AreProper : Identity → ℕ → List Event → Type 0
 AreProper who first [] = Unit {0}
 AreProper who first (e ∷ t) = MayFollow who first t e × AreProper who first t
+
+-- An event may come after the events t, however many came before: the numbers of sessions and of actions have no limit here.
+abbrev pub MayCome : Identity → ℕ → List Event → Event → Type 0
+MayCome who first t (events.Join s) = s ≡ first + joins t
+MayCome who first t (events.Make action) = IsReadyToMake who t action
+MayCome who first t e = MayFollow who first t e
+
+abbrev pub AreInTurn : Identity → ℕ → List Event → Type 0
+AreInTurn who first [] = Unit {0}
+AreInTurn who first (e ∷ t) = MayCome who first t e × AreInTurn who first t
 
 abbrev pub identity_of : Shape → Trace → Identity
 identity_of shape trace = record { client = trace.client; interest = trace.interest; shape = shape }

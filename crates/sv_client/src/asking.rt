@@ -1,12 +1,11 @@
 //! The requests of a client, and what is kept of those that have no reply yet.
-ghost use Rattle.std.specs.Prelude.{◌≡◌, ◌<◌, ◌++◌, [], ◌∷◌, map, length, take, drop, replicate, IfOk, OnOk, OnErr};
+ghost use Rattle.std.specs.Prelude.{◌≡◌, ◌<◌, ◌++◌, [], ◌∷◌, map, length, take, drop, replicate, IfOk, OnOk};
 ghost use Rattle.sv_wire.specs.declared.message.Request.TheVariants as requests;
 ghost use Rattle.sv_client.specs.declared.kinds.Awaited.TheVariants as kinds;
 ghost use Rattle.sv_client.specs.Traces.{submit_of};
 ghost use Rattle.sv_client.specs.Kinds.{asks_for_done, done_kinds};
 
 use crate::kinds::Awaited;
-use crate::trace::Event;
 use std::alloc::{AllocError, Global};
 use sv_pending::Pending;
 use sv_wire::{Reply, Request};
@@ -65,24 +64,6 @@ pub(crate) fn awaited_at_join(alloc: Global, count: usize) -> Result<Vec<Awaited
         awaited.push(Awaited::Submit)?;
     }
     Ok(awaited)
-}
-
-/// Notes an event that asks a request, which is awaited from then on. Without memory for both, neither is noted.
-pub(crate) fn note_asked(
-    events: &mut Vec<Event>,
-    awaited: &mut Vec<Awaited>,
-    event: Event,
-    kind: Awaited,
-) -> Result<(), AllocError>
-    ensures events { OnOk result (events.new.items ≡ events.old.items ++ event ∷ []) }
-    ensures awaited { OnOk result (awaited.new.items ≡ awaited.old.items ++ kind ∷ []) }
-    ensures no_event { OnErr result (events.new.items ≡ events.old.items) }
-    ensures none_awaited { OnErr result (awaited.new.items ≡ awaited.old.items) }
-{
-    awaited.reserve(1)?;
-    events.push(event)?;
-    awaited.push_reserved(kind);
-    Ok(())
 }
 
 fn asks_for_done(reply: &Reply) -> bool

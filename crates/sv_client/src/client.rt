@@ -1,4 +1,4 @@
-//! A client of a world: its calls, and what each of them changes of its trace.
+//! A client of a world that writes its trace down.
 ghost use Rattle.std.specs.Prelude.{◌≡◌, ℕ, ◌-◌, ◌<◌, ◌≤◌, true, ◌∷◌, [], length, option_map, option_to_list, slice_get, IfOk, IfErr, OnOk, OnErr, MatchResult};
 ghost use Rattle.sv_world.specs.Limits.{most_outstanding, most_sessions};
 ghost use Rattle.sv_world.specs.Sets.{numbers_of};
@@ -12,23 +12,16 @@ ghost use Rattle.sv_client.specs.Proper.{IsGoodIdentity, MayMake, MayPoll, MayOb
 ghost use Rattle.sv_client.specs.Seen.{new_client, with_event, newly_asked, event_of_mark, trace_from};
 ghost use Rattle.sv_client.specs.Answers.{view_seen, IsMakeFault, IsPollFault, IsObserveFault, IsTakeFault, IsFine, got_now};
 
-use crate::asking::{awaited_at_join, joining, note_asked};
-use crate::checks::{is_out_of_order, is_unfit};
 use crate::fault::{MakeFault, ObserveFault, PollFault, TakeFault};
-use crate::kinds::{Awaited, allows_kind, observed_by};
+use crate::lean::LeanClient;
 use crate::raising::raise_events;
-use crate::taken::take_reply;
 use crate::trace::{Event, Trace, TraceMark};
 use crate::view::View;
 use std::alloc::{AllocError, Global};
 use std::marker::Model;
-use sv_pending::{Overlay, Pending, PendingItem};
-use sv_versions::Versions;
+use sv_pending::PendingItem;
 use sv_wire::{Reply, Request};
-use sv_world::{
-    Action, ClientId, List, MOST_OUTSTANDING, MOST_PENDING, ObjectId, Shape, check_action,
-    copy_action, copy_objects, may_be_observed,
-};
+use sv_world::{Action, ClientId, List, ObjectId, Shape, copy_action, copy_objects};
 
 /// A client of a world, which is its trace.
 ///
@@ -36,17 +29,8 @@ use sv_world::{
 #[derive(Debug, Drop)]
 pub struct Client {
     alloc: Global,
-    id: ClientId,
-    shape: Shape,
-    interest: List<ObjectId>,
-    versions: Versions,
-    pending: Pending,
-    awaited: Vec<Awaited>,
+    lean: LeanClient,
     events: Vec<Event>,
-    sessions: u16,
-    made: u32,
-    told: u32,
-    joined: bool,
 }
 
 impl Model for Client {
@@ -58,11 +42,22 @@ impl Model for Client {
 
     ghost coded = { Prim.hlevel (codes, event_rows.the_row.coded) };
 
-    ghost use Rattle.sv_client.specs.Invariant.{client_seen, IsClient};
+    ghost use Rattle.sv_client.specs.Recorded.{IsRecorded};
 
-    ghost view = { client_seen };
+    ghost view = { λ c. c.lean };
 
-    ghost invariant = { IsClient };
+    ghost invariant = { IsRecorded };
+}
+
+/// The event that a mark is.
+fn event_of(mark: TraceMark) -> Event
+    ensures { result ≡ event_of_mark mark }
+{
+    match mark {
+        TraceMark::Cut => Event::Cut,
+        TraceMark::Quit => Event::Quit,
+        TraceMark::Show(objects) => Event::Show(objects),
+    }
 }
 
 impl Client {
@@ -78,44 +73,42 @@ impl Client {
     {
         Ok(Client {
             alloc,
-            id,
-            shape,
-            interest,
-            versions: Versions::new(alloc, shape)?,
-            pending: Pending::new(alloc, shape),
-            awaited: Vec::new(alloc),
+            lean: LeanClient::new(alloc, id, shape, interest)?,
             events: Vec::new(alloc),
-            sessions: 0,
-            made: 0,
-            told: 0,
-            joined: false,
         })
+    }
+
+    /// The client without its trace, by which it answers: contracts see the same of both.
+    pub fn lean(&self) -> &LeanClient
+        ensures { result.now ≡ self.now }
+    {
+        &self.lean
     }
 
     pub fn id(&self) -> ClientId
         ensures { result ≡ self.now.who.client }
     {
-        self.id
+        self.lean.id()
     }
 
     pub fn interest(&self) -> &[ObjectId]
         ensures { result.now ≡ self.now.who.interest }
     {
-        self.interest.as_slice()
+        self.lean.interest()
     }
 
     /// How many actions are made and not settled, at most 8.
     pub fn pending(&self) -> usize
         ensures { result ≡ length (pending_of self.now.events) }
     {
-        self.pending.len()
+        self.lean.pending()
     }
 
     /// The action that was made last of those that are not settled, with the result that the client keeps of it.
     pub fn made_last(&self) -> Option<PendingItem<'_>>
         ensures { option_map item_seen result ≡ slice_get (pending_of self.now.events) (length (pending_of self.now.events) - 1) }
     {
-        self.pending.back()
+        self.lean.made_last()
     }
 
     /// How many requests have no reply yet, at most 16.
@@ -123,7 +116,7 @@ impl Client {
         ensures exact { result ≡ length (outstanding self.now.who self.now.events) }
         ensures few { result ≤ most_outstanding }
     {
-        self.awaited.len()
+        self.lean.outstanding()
     }
 
     /// The objects that the oldest request without a reply observes, and so those that its reply shows.
@@ -131,38 +124,35 @@ impl Client {
         ensures numbers { numbers_of result.now ≡ observed_now self.now.who self.now.events }
         ensures within { AreWithin self.now.who.shape.objects result.now }
     {
-        match self.awaited.first() {
-            Some(awaited) => observed_by(awaited),
-            None => &[],
-        }
+        self.lean.observed()
     }
 
     /// Whether the client began a session and did not leave the latest one.
     pub fn in_session(&self) -> bool
         ensures { result ≡ in_session self.now.events }
     {
-        self.joined
+        self.lean.in_session()
     }
 
     /// How many sessions were begun, at most 64.
     pub fn sessions(&self) -> u16
         ensures { result ≡ joins self.now.events }
     {
-        self.sessions
+        self.lean.sessions() as u16
     }
 
     /// How many actions were made, at most 65,536.
     pub fn made(&self) -> u32
         ensures { result ≡ makes self.now.events }
     {
-        self.made
+        self.lean.made()
     }
 
     /// The greatest commit that the client was told, 0 at first.
     pub fn told(&self) -> u32
         ensures { result ≡ told self.now.events }
     {
-        self.told
+        self.lean.told()
     }
 
     /// How many values of an object are held at or below the greatest commit told.
@@ -170,35 +160,14 @@ impl Client {
         ensures exact { result ≡ count_up_to self.now.kept object.0 (told self.now.events) }
         ensures few { result ≤ 1 }
     {
-        if object.0 < self.shape.objects {
-            self.versions.old_versions(object, self.told) as u32
-        } else {
-            0
-        }
+        self.lean.old_versions(object)
     }
 
     /// The value that the client sees of an object: the stable one, overlaid by its own pending actions.
     pub fn view(&self, object: ObjectId) -> View<'_>
         ensures { view_seen result ≡ view_of self.now.events object.0 }
     {
-        match self.pending.overlay(object) {
-            Overlay::Kept(value) => View::Known(value),
-            Overlay::Unknown => View::Unknown,
-            Overlay::Unwritten => self.stable(object),
-        }
-    }
-
-    /// The value held of an object at its greatest position.
-    fn stable(&self, object: ObjectId) -> View<'_>
-        ensures { view_seen result ≡ latest (held_of self.now.events) object.0 }
-    {
-        if object.0 >= self.shape.objects {
-            return View::Unknown;
-        }
-        match self.versions.latest(object) {
-            Some(value) => View::Known(value),
-            None => View::Unknown,
-        }
+        self.lean.view(object)
     }
 
     /// The value held of an object at the greatest position below one, which is above what the client was told.
@@ -207,10 +176,7 @@ impl Client {
         requires above { told self.now.events < pos }
         ensures { view_seen result ≡ read_below (held_of self.now.events) object.0 pos }
     {
-        match self.versions.read_below(object, pos) {
-            Some(value) => View::Known(value),
-            None => View::Unknown,
-        }
+        self.lean.value_below(object, pos)
     }
 
     /// Begins the first or the next session: a Join, and a Submit for each pending action. What was outstanding is forgotten.
@@ -220,19 +186,10 @@ impl Client {
         ensures ok { OnOk result (self.new ≡ with_event self.old (events.Join (joins self.old.events))) }
         ensures err { OnErr result (self.new ≡ self.old) }
     {
-        let interest = copy_objects(self.alloc, self.interest.as_slice())?;
-        let requests = joining(
-            self.alloc,
-            self.id,
-            u32::from(self.sessions) + 1,
-            interest,
-            &self.pending,
-        )?;
-        let awaited = awaited_at_join(self.alloc, self.pending.len())?;
-        self.events.push(Event::Join(self.sessions))?;
-        self.awaited = awaited;
-        self.sessions += 1;
-        self.joined = true;
+        let session = self.sessions();
+        self.events.reserve(1)?;
+        let requests = self.lean.join()?;
+        self.events.push_reserved(Event::Join(session));
         Ok(requests)
     }
 
@@ -241,12 +198,9 @@ impl Client {
         ensures ok { OnOk result (self.new ≡ with_event self.old (event_of_mark mark)) }
         ensures err { OnErr result (self.new ≡ self.old) }
     {
-        let event = match mark {
-            TraceMark::Cut => Event::Cut,
-            TraceMark::Quit => Event::Quit,
-            TraceMark::Show(objects) => Event::Show(objects),
-        };
-        self.events.push(event)?;
+        self.events.reserve(1)?;
+        self.lean.note(&mark);
+        self.events.push_reserved(event_of(mark));
         Ok(())
     }
 
@@ -259,35 +213,11 @@ impl Client {
         ensures err { OnErr result (self.new ≡ self.old) }
         ensures cause { MatchResult result (λ _. MayMake self.old.who self.old.events action) (IsMakeFault self.old.who self.old.events action) }
     {
-        if let Err(cause) = check_action(self.shape, &action) {
-            return Err(MakeFault::BadAction(cause));
-        }
-        if self.pending.len() >= MOST_PENDING {
-            return Err(MakeFault::Full);
-        }
-        if self.awaited.len() >= MOST_OUTSTANDING {
-            return Err(MakeFault::Busy);
-        }
-        let sent = copy_action(self.alloc, &action)?;
-        let seq = self.made + 1;
-        self.add_made(action)?;
-        Ok(Request::Submit { seq, action: sent })
-    }
-
-    /// Makes an action that may be made.
-    fn add_made(&mut self, action: Action) -> Result<(), AllocError>
-        requires { MayMake self.old.who self.old.events action }
-        ensures ok { OnOk result (self.new ≡ with_event self.old (events.Make action)) }
-        ensures err { OnErr result (self.new ≡ self.old) }
-    {
         let noted = copy_action(self.alloc, &action)?;
         self.events.reserve(1)?;
-        self.awaited.reserve(1)?;
-        self.pending.add(self.made + 1, action, &self.versions)?;
+        let request = self.lean.make(action)?;
         self.events.push_reserved(Event::Make(noted));
-        self.awaited.push_reserved(Awaited::Submit);
-        self.made += 1;
-        Ok(())
+        Ok(request)
     }
 
     /// Asks for an abandoned action to complete.
@@ -298,16 +228,10 @@ impl Client {
         ensures err { OnErr result (self.new ≡ self.old) }
         ensures cause { MatchResult result (λ _. MayPoll self.old.who self.old.events) (IsPollFault self.old.who self.old.events) }
     {
-        if self.awaited.len() >= MOST_OUTSTANDING {
-            return Err(PollFault::Busy);
-        }
-        note_asked(
-            &mut self.events,
-            &mut self.awaited,
-            Event::Poll,
-            Awaited::Poll,
-        )?;
-        Ok(Request::Poll)
+        self.events.reserve(1)?;
+        let request = self.lean.poll()?;
+        self.events.push_reserved(Event::Poll);
+        Ok(request)
     }
 
     /// Asks what these objects are, and would wait for news of them for so many milliseconds.
@@ -318,21 +242,11 @@ impl Client {
         ensures err { OnErr result (self.new ≡ self.old) }
         ensures cause { MatchResult result (λ _. MayObserve self.old.who self.old.events objects) (IsObserveFault self.old.who self.old.events objects) }
     {
-        if !may_be_observed(self.shape.objects, objects.as_slice()) {
-            return Err(ObserveFault::BadObjects);
-        }
-        if self.awaited.len() >= MOST_OUTSTANDING {
-            return Err(ObserveFault::Busy);
-        }
         let noted = copy_objects(self.alloc, objects.as_slice())?;
-        let awaited = copy_objects(self.alloc, objects.as_slice())?;
-        note_asked(
-            &mut self.events,
-            &mut self.awaited,
-            Event::Observe(noted, wait),
-            Awaited::Observe(awaited),
-        )?;
-        Ok(Request::Observe { objects, wait })
+        self.events.reserve(1)?;
+        let request = self.lean.observe(objects, wait)?;
+        self.events.push_reserved(Event::Observe(noted, wait));
+        Ok(request)
     }
 
     /// Leaves the session.
@@ -342,14 +256,10 @@ impl Client {
         ensures ok { OnOk result (self.new ≡ with_event self.old events.Leave) }
         ensures err { OnErr result (self.new ≡ self.old) }
     {
-        note_asked(
-            &mut self.events,
-            &mut self.awaited,
-            Event::Leave,
-            Awaited::Leave,
-        )?;
-        self.joined = false;
-        Ok(Request::Leave)
+        self.events.reserve(1)?;
+        let request = self.lean.leave()?;
+        self.events.push_reserved(Event::Leave);
+        Ok(request)
     }
 
     /// Takes the reply to the oldest outstanding request, and answers the Done of its items, if it has any.
@@ -365,38 +275,11 @@ impl Client {
         ensures few { OnOk result ((x : ℕ) → count_up_to self.new.kept x (told self.new.events) ≤ 1) }
         ensures err { OnErr result (self.new ≡ self.old) }
     {
-        self.look_at(&reply)?;
+        let session = self.lean.latest_session() as u16;
         self.events.reserve(1)?;
-        let done = take_reply(
-            &mut self.versions,
-            &mut self.pending,
-            &mut self.awaited,
-            &mut self.told,
-            &reply,
-        )?;
-        let session = self.sessions - 1;
+        let done = self.lean.take(&reply)?;
         self.events.push_reserved(Event::Got(session, reply));
         Ok(done)
-    }
-
-    /// Refuses a reply for a fault that is seen before any item is evaluated.
-    fn look_at(&self, reply: &Reply) -> Result<(), TakeFault>
-        ensures ok { OnOk result (IsFine self.now.who self.now.events reply.now) }
-        ensures fault { IfErr result (IsTakeFault self.now.who self.now.events reply.now) }
-    {
-        let Some(awaited) = self.awaited.first() else {
-            return Err(TakeFault::Unasked);
-        };
-        if !allows_kind(awaited, reply) {
-            return Err(TakeFault::WrongKind);
-        }
-        if is_out_of_order(self.told, reply) {
-            return Err(TakeFault::BadOrder);
-        }
-        if is_unfit(self.id, self.shape, &self.pending, awaited, reply) {
-            return Err(TakeFault::BadItem);
-        }
-        Ok(())
     }
 
     /// The trace, where the first session has this number.
@@ -405,17 +288,13 @@ impl Client {
         ensures trace { result ≡ trace_from first self }
         ensures proper { Proper self.who.shape result }
     {
-        let Client {
-            id,
-            interest,
-            events,
-            ..
-        } = self;
+        let Client { lean, events, .. } = self;
+        lean.in_turn();
         let mut events = events;
         raise_events(&mut events, first);
         Trace {
-            client: id,
-            interest,
+            client: lean.id(),
+            interest: lean.into_interest(),
             first,
             events: List::from_vec(events),
         }

@@ -131,19 +131,19 @@ impl<O: Object> Desk<O> {
         }
     }
 
-    /// One step of the object in hand.
+    /// One step of the object in hand, which takes the request.
     pub fn step(
         &self,
         seat: &mut Place<O>,
         number: u16,
-        request: &O::Request,
+        request: O::Request,
     ) -> Result<O::Reply, AllocError>
         requires table { seat.old.table_id ≡ self.now.table.shared.table_id }
-        requires held { (x : O) × (seat.old.me.1 ≡ (0, x) ∷ []) × O.can_step (O.base x) number request.now (entries_of O.number_of number (O.history x)) }
+        requires held { (x : O) × (seat.old.me.1 ≡ (0, x) ∷ []) × O.can_step (O.base x) number request (entries_of O.number_of number (O.history x)) }
         ensures table { seat.new.table_id ≡ seat.old.table_id }
-        ensures plain { O.is_plain request.now → IsOk result }
+        ensures plain { O.is_plain request → IsOk result }
         ensures seat { (x : O) × (y : O) × (seat.old.me.1 ≡ (0, x) ∷ []) × (seat.new.me ≡ (seat.old.me.0, (0, y) ∷ [])) × (O.base y ≡ O.base x) × O.lawful (O.base y) (O.history y)
-            × IfOk result (λ r. O.history y ≡ O.history x ++ O.entry number request.now r ∷ []) × IfOk result (λ r. O.whole r (O.history y)) × OnErr result (O.history y ≡ O.history x) }
+            × IfOk result (λ r. O.history y ≡ O.history x ++ O.entry number request r ∷ []) × IfOk result (λ r. O.whole r (O.history y)) × OnErr result (O.history y ≡ O.history x) }
     {
         let object = seat.slot_mut(&self.table.shared, 0);
         let reply = object.step(number, request);
@@ -157,15 +157,15 @@ impl<O: Object> Desk<O> {
         rt: &R,
         seat: &mut Place<O>,
         number: u16,
-        request: &O::Request,
+        request: O::Request,
     ) -> Result<O::Reply, AllocError>
         requires table { seat.old.table_id ≡ self.now.table.shared.table_id }
         requires idle { (seat.old.me.0.stage ≡ Idle) × (seat.old.me.1 ≡ []) }
         requires number { seat.old.me.0.lists ≡ (number, first_list seat.old.me.0.lists) ∷ [] }
-        requires can { (b : O.Base) × (seat.old.me.0.base ≡ Some b) × O.can_step b number request.now (first_list seat.old.me.0.lists) }
+        requires can { (b : O.Base) × (seat.old.me.0.base ≡ Some b) × O.can_step b number request (first_list seat.old.me.0.lists) }
         ensures table { seat.new.table_id ≡ seat.old.table_id }
-        ensures plain { O.is_plain request.now → IsOk result }
-        ensures ran { Called O.lawful O.number_of number (first_list seat.old.me.0.lists) (O.entry number request.now) O.whole seat.old.me seat.new.me result }
+        ensures plain { O.is_plain request → IsOk result }
+        ensures ran { Called O.lawful O.number_of number (first_list seat.old.me.0.lists) (O.entry number request) O.whole seat.old.me seat.new.me result }
     {
         self.take(rt, seat);
         let answer = self.step(seat, number, request);

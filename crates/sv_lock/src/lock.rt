@@ -78,22 +78,22 @@ impl<O: Object> SeqLock<O> {
         }
     }
 
-    /// Calls the object, once no one else has it.
+    /// Calls the object, once no one else has it. The object takes the request: where memory runs out it is let go.
     pub fn call<R: Wait>(
         &self,
         rt: &R,
         pass: &mut Pass<O>,
-        request: &O::Request,
+        request: O::Request,
     ) -> Result<O::Reply, AllocError>
         requires lock { pass.old.lock ≡ self.now.id }
         requires session { IsSome pass.old.session }
-        requires can { O.can_step pass.old.base (session_number pass.old) request.now pass.old.mine }
+        requires can { O.can_step pass.old.base (session_number pass.old) request pass.old.mine }
         ensures same { (pass.new.lock ≡ pass.old.lock) × (pass.new.session ≡ pass.old.session) × (pass.new.base ≡ pass.old.base) × (pass.new.made ≡ pass.old.made) × (pass.new.ended ≡ pass.old.ended) }
-        ensures seen { IfOk result (λ r. GoesOn pass.old.seen (O.entry (session_number pass.old) request.now r) pass.new.seen) }
-        ensures mine { IfOk result (λ r. pass.new.mine ≡ pass.old.mine ++ O.entry (session_number pass.old) request.now r ∷ []) }
+        ensures seen { IfOk result (λ r. GoesOn pass.old.seen (O.entry (session_number pass.old) request r) pass.new.seen) }
+        ensures mine { IfOk result (λ r. pass.new.mine ≡ pass.old.mine ++ O.entry (session_number pass.old) request r ∷ []) }
         ensures whole { IfOk result (λ r. O.whole r pass.new.seen) }
         ensures err { OnErr result (IsPrefix pass.old.seen pass.new.seen × (pass.new.mine ≡ pass.old.mine)) }
-        ensures plain { O.is_plain request.now → IsOk result }
+        ensures plain { O.is_plain request → IsOk result }
         ensures just { entries_of O.number_of (session_number pass.new) pass.new.seen ≡ pass.new.mine }
         ensures lawful { O.lawful pass.new.base pass.new.seen }
     {

@@ -38,14 +38,14 @@ pub trait Object {
     /// A request that needs no memory.
     ghost is_plain: { Self.Request → Type 0 };
 
-    /// One step. Where memory runs out, the history stays as it was.
-    fn step(&mut self, number: u16, request: &Self::Request) -> Result<Self::Reply, AllocError>
-        requires { can_step (base self.old) number request.now (entries_of number_of number (history self.old)) }
+    /// One step. It takes the request for its own. Where memory runs out, the history stays as it was, and the request is let go.
+    fn step(&mut self, number: u16, request: Self::Request) -> Result<Self::Reply, AllocError>
+        requires { can_step (base self.old) number request (entries_of number_of number (history self.old)) }
         ensures base { base self.new ≡ base self.old }
-        ensures ok { IfOk result (λ r. history self.new ≡ history self.old ++ entry number request.now r ∷ []) }
+        ensures ok { IfOk result (λ r. history self.new ≡ history self.old ++ entry number request r ∷ []) }
         ensures whole { IfOk result (λ r. whole r (history self.new)) }
         ensures err { OnErr result (history self.new ≡ history self.old) }
-        ensures plain { is_plain request.now → IsOk result };
+        ensures plain { is_plain request → IsOk result };
 
     /// Does nothing: it shows proofs that an object is lawful, which its type says.
     fn certify(&self)

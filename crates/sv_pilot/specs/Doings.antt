@@ -1,54 +1,124 @@
--- What a pilot did, as the events of its client tell it.
+-- What a pilot did, as the events of its client and its connection tell it.
 -- Events stand with the latest first: `e ∷ t` is t, and then e.
-use Rattle.std.specs.Prelude.{◌≡◌, ℕ, ℤ, pos, List, [], ◌∷◌, ◌++◌, Option, Some, None, unwrap_or}
+use Rattle.std.specs.Prelude.{◌≡◌, ℕ, zero, suc, ℤ, ◌<◌, ◌⊎◌, pos, List, [], ◌∷◌, ◌++◌, map, Option, Some, None, unwrap_or, Ok, true}
 use Rattle.std.specs.List.{slice_get}
 use Rattle.sv_world.specs.declared.action.Action.{Action}
+use Rattle.sv_world.specs.declared.world.ObjectId.{ObjectId}
 use Rattle.sv_text.specs.Grammar.{IsActionText}
 use Rattle.sv_text.specs.Tokens.{tokens_of}
+use Rattle.sv_bytes.specs.Faults.{Rose}
+use Rattle.sv_frame.specs.Frames.{frames_of}
+use Rattle.sv_world.specs.Worlds.{IsGoodShape}
+use Rattle.sv_wire.specs.Messages.{reply_at}
+use Rattle.sv_wire.specs.declared.message.Reply.{Reply}
+use Rattle.sv_wire.specs.declared.message.Request.{Request}
+use Rattle.sv_wire.specs.declared.message.Request.TheVariants as requests
+use Rattle.sv_exchange.specs.Incoming.{FirstReads}
 use Rattle.sv_client.specs.declared.trace.Event.{Event}
 use Rattle.sv_client.specs.declared.trace.Event.TheVariants as events
-use Rattle.sv_client.specs.Taking.{outstanding}
-use Rattle.sv_client.specs.Proper.{MayMake}
-use Rattle.sv_client.specs.Seen.{ClientView}
+use Rattle.sv_client.specs.Taking.{Fault, outstanding, first_fault_of_reply}
+use Rattle.sv_client.specs.Proper.{IsReadyToMake, MayObserve}
+use Rattle.sv_client.specs.Answers.{got_now}
+use Rattle.sv_client.specs.Seen.{ClientView, with_event}
+use Rattle.sv_pilot.specs.declared.trouble.Trouble.{Trouble}
+use Rattle.sv_pilot.specs.declared.trouble.Trouble.TheVariants as troubles
+use Rattle.sv_pilot.specs.Lines.{Line, IsCalm, GoesOn, IsBadFront}
 
--- these events are replies that were taken
-abbrev pub OnlyReplies : List Event → Type 0
-OnlyReplies [] = Unit {0}
-OnlyReplies (events.Got s reply ∷ t) = OnlyReplies t
-OnlyReplies (_ ∷ t) = ⊥
+-- A pilot: its client, and its connection.
+pub record PilotView : Type 0 where
+  pub client : ClientView
+  pub line : Line
 
--- It took some replies, and did nothing else.
-pub record HasTaken (old new : ClientView) : Type 0 where
-  pub who : new.who ≡ old.who
-  pub replies : List Event
-  pub only : OnlyReplies replies
-  pub events : new.events ≡ replies ++ old.events
+-- The events of replies that are got in order after the events t.
+abbrev pub got_all : List Event → List Reply → List Event
+got_all t [] = t
+got_all t (reply ∷ replies) = got_all (got_now t reply ∷ t) replies
+
+-- It took some replies, and did nothing else. They are what stood in front of what came, in order, and their bytes are taken off.
+pub record HasTaken (old new : PilotView) : Type 0 where
+  pub who : new.client.who ≡ old.client.who
+  pub replies : List Reply
+  pub events : new.client.events ≡ got_all old.client.events replies
+  pub received : List ℕ
+  pub line : GoesOn old.line new.line received
+  pub payloads : List (List ℕ)
+  pub stream : old.line.came ++ received ≡ frames_of payloads ++ new.line.came
+  pub read : map reply_at payloads ≡ map (λ (r : Reply). Ok r) replies
+
+-- With one event more of its client, and the same connection.
+abbrev pub doing : PilotView → Event → PilotView
+doing p e = record p { client = with_event p.client e }
 
 -- It did one thing, then took some replies, and did nothing else.
-pub record Did (e : Event) (old new : ClientView) : Type 0 where
-  pub who : new.who ≡ old.who
-  pub replies : List Event
-  pub only : OnlyReplies replies
-  pub events : new.events ≡ replies ++ e ∷ old.events
+abbrev pub Did : Event → PilotView → PilotView → Type 0
+Did e old new = HasTaken (doing old e) new
 
 -- no reply is due
-abbrev pub NoReplyIsDue : ClientView → Type 0
-NoReplyIsDue c = outstanding c.who c.events ≡ []
+abbrev pub NoReplyIsDue : PilotView → Type 0
+NoReplyIsDue p = outstanding p.client.who p.client.events ≡ []
+
+-- The front of what came is a reply that the client does not take.
+pub record IsRefused (p : PilotView) : Type 0 where
+  pub reply : Reply
+  pub fault : Fault
+  pub front : FirstReads reply_at p.line.came (Ok reply)
+  pub refused : first_fault_of_reply p.client.who p.client.events reply ≡ Some fault
+
+-- Why a call did not come to its end, from what it had done first up to where it stopped: the end failed, or told that no more will come; the front of
+-- what came is no reply, or one that the client does not take, or the client's world is none that there may be; or there was no memory.
+abbrev pub StopsBy : PilotView → PilotView → Trouble → Type 0
+StopsBy old new troubles.Link = Rose old.line.faults new.line.faults ⊎ (new.line.told.ended ≡ true)
+StopsBy old new troubles.Reply = IsCalm old.line new.line × (IsBadFront new.line.came ⊎ (IsRefused new ⊎ (IsGoodShape new.client.who.shape → ⊥)))
+StopsBy old new troubles.Memory = IsCalm old.line new.line
+StopsBy old new troubles.Game = ⊥
+
+-- Nothing was done for want of memory; or one thing was done and some replies were taken, until it stopped.
+abbrev pub Stopped : Event → PilotView → PilotView → Trouble → Type 0
+Stopped e old new trouble = ((new ≡ old) × (trouble ≡ troubles.Memory)) ⊎ (Did e old new × StopsBy old new trouble)
+
+-- It observed these objects so often, and took some replies after each time.
+abbrev pub Watched : List ObjectId → ℕ → ℕ → PilotView → PilotView → Type 0
+Watched objects wait zero old new = new ≡ old
+Watched objects wait (suc n) old new = (mid : PilotView) × Watched objects wait n old mid × Did (events.Observe objects wait) mid new
+
+-- It observed these objects fewer times than it should. The next time it might not, and nothing was done; or nothing was done for want of memory; or
+-- it was done, and some replies were taken, until it stopped.
+pub record StoppedWatch (objects : List ObjectId) (wait times : ℕ) (old new : PilotView) (trouble : Trouble) : Type 0 where
+  pub before : ℕ
+  pub fewer : before < times
+  pub last : PilotView
+  pub watched : Watched objects wait before old last
+  pub why : ((trouble ≡ troubles.Game) × (new ≡ last) × (MayObserve last.client.who last.client.events objects → ⊥)) ⊎ Stopped (events.Observe objects wait) last new trouble
+
+-- Nothing was done for want of memory; or it made an action, which it might make, and took some replies, until it stopped.
+abbrev pub StoppedMake : Action → PilotView → PilotView → Trouble → Type 0
+StoppedMake action old new trouble =
+    ((new ≡ old) × (trouble ≡ troubles.Memory)) ⊎ (IsReadyToMake old.client.who old.client.events action × Did (events.Make action) old new × StopsBy old new trouble)
 
 -- It made an action of the text, which it might make, and then took some replies.
-pub record MadeAction (text : List ℕ) (old new : ClientView) : Type 0 where
+pub record MadeAction (text : List ℕ) (old new : PilotView) : Type 0 where
   pub action : Action
   pub is_text : IsActionText action (tokens_of text)
-  pub may : MayMake old.who old.events action
+  pub may : IsReadyToMake old.client.who old.client.events action
   pub did : Did (events.Make action) old new
+
+-- Nothing was done for want of memory; or it made an action of the text, which it might make, and took some replies, until it stopped.
+abbrev pub StoppedAction : List ℕ → PilotView → PilotView → Trouble → Type 0
+StoppedAction text old new trouble = ((new ≡ old) × (trouble ≡ troubles.Memory)) ⊎ (MadeAction text old new × StopsBy old new trouble)
+
+-- How many replies may still come: one to each request, and one to the Done of each that is none.
+abbrev pub weight : List Request → ℕ
+weight [] = 0
+weight (requests.Done results ∷ rs) = suc (weight rs)
+weight (r ∷ rs) = suc (suc (weight rs))
 
 -- the text of an action has fewer bytes
 abbrev pub text_limit : ℕ
 text_limit = 1000
 
 -- no action of the text may be made now
-abbrev pub NoneMayBeMade : List ℕ → ClientView → Type 0
-NoneMayBeMade text c = (action : Action) → IsActionText action (tokens_of text) → MayMake c.who c.events action → ⊥
+abbrev pub NoneMayBeMade : List ℕ → PilotView → Type 0
+NoneMayBeMade text p = (action : Action) → IsActionText action (tokens_of text) → IsReadyToMake p.client.who p.client.events action → ⊥
 
 -- a number of a value, and 0 where there is none
 abbrev pub number_seen : Option (List ℤ) → ℕ → ℤ

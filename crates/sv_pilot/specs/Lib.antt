@@ -1,3 +1,6 @@
 -- The definitions of this crate, file by file.
 pub mod Troubles
+pub mod Shapes
+pub mod Lines
+pub mod Sending
 pub mod Doings

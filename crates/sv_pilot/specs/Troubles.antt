@@ -4,6 +4,8 @@ use Rattle.sv_text.specs.declared.fault.ParseFault.{ParseFault}
 use Rattle.sv_text.specs.declared.fault.ParseFault.TheVariants as parse_faults
 use Rattle.sv_client.specs.declared.fault.MakeFault.{MakeFault}
 use Rattle.sv_client.specs.declared.fault.MakeFault.TheVariants as make_faults
+use Rattle.sv_client.specs.declared.fault.ObserveFault.{ObserveFault}
+use Rattle.sv_client.specs.declared.fault.ObserveFault.TheVariants as observe_faults
 use Rattle.sv_client.specs.declared.fault.PollFault.{PollFault}
 use Rattle.sv_client.specs.declared.fault.PollFault.TheVariants as poll_faults
 use Rattle.sv_client.specs.declared.fault.TakeFault.{TakeFault}
@@ -24,6 +26,11 @@ trouble_of_make _ = troubles.Game
 abbrev pub trouble_of_poll : PollFault → Trouble
 trouble_of_poll poll_faults.Memory = troubles.Memory
 trouble_of_poll poll_faults.Busy = troubles.Game
+
+abbrev pub trouble_of_observe : ObserveFault → Trouble
+trouble_of_observe observe_faults.Memory = troubles.Memory
+trouble_of_observe observe_faults.BadObjects = troubles.Game
+trouble_of_observe observe_faults.Busy = troubles.Game
 
 -- A text that is none of an action is the game's, but for memory.
 abbrev pub trouble_of_text : ParseFault → Trouble

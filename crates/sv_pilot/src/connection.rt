@@ -1,37 +1,42 @@
 //! A client's connection to the server: requests go out, replies come in, over any end.
-ghost use Rattle.std.specs.Prelude.{◌≡◌, false, IfErr};
-ghost use Rattle.sv_pilot.specs.Troubles.{IsNotOfGame};
+ghost use Rattle.std.specs.Prelude.{◌≡◌, ◌≢◌, ◌<◌, false, length, None, All, IfOk, IfErr};
+ghost use Rattle.sv_frame.specs.Frames.{first_frame, greatest_frame};
+ghost use Rattle.sv_frame.specs.Answers.{Skips};
+ghost use Rattle.sv_wire.specs.Grammar.{IsWireRequest};
+ghost use Rattle.sv_pilot.specs.Lines.{line_of};
+ghost use Rattle.sv_pilot.specs.Sending.{trouble_of_sent, trouble_of_read, HasSent, HasRead, IsSent, IsReadOn, IsReplyOf, IsFrontOf, IsReceived};
 
-use crate::messages::is_message;
 use crate::trouble::Trouble;
 use std::alloc::Global;
 use std::marker::Model;
-use sv_exchange::{Inbox, Incoming, Outbox};
+use sv_exchange::Outbox;
+use sv_frame::{FrameReader, Next};
 use sv_link::{End, EndRead, Sent};
-use sv_wire::{Reply, Request, read_request};
+use sv_wire::{Reply, Request, WireFault, decode_reply, read_request};
 
-/// A connection. Contracts see what its end tells, which is open.
+/// A connection. Contracts see what its end tells, which is open, how often the end failed, and the bytes that came and were not taken as replies.
 #[derive(Drop)]
 pub(crate) struct Connection<E: End> {
     alloc: Global,
-    inbox: Inbox,
+    reader: FrameReader,
     outbox: Outbox,
     end: E,
 }
 
 impl<E: End> Model for Connection<E> {
     ghost use Rattle.std.specs.Prelude.{◌≡◌, false};
-    ghost use Rattle.sv_link.specs.Ends.{Told};
+    ghost use Rattle.sv_pilot.specs.Lines.{Line};
 
-    ghost Value = { Told };
+    ghost Value = { Line };
 
-    ghost view = { λ c. E.told c.end };
+    ghost view = { λ c. record { told = E.told c.end; faults = E.faults c.end; came = c.reader } };
 
     ghost invariant = { λ c. (E.told c.end).closed ≡ false };
 }
 
+/// What a try to send tells.
 fn whole(sent: Sent) -> Result<(), Trouble>
-    ensures { IfErr result IsNotOfGame }
+    ensures { result ≡ trouble_of_sent sent }
 {
     match sent {
         Sent::Whole => Ok(()),
@@ -40,36 +45,63 @@ fn whole(sent: Sent) -> Result<(), Trouble>
     }
 }
 
+/// What a read tells.
+fn some(read: EndRead) -> Result<(), Trouble>
+    ensures { result ≡ trouble_of_read read }
+{
+    match read {
+        EndRead::Got(_) => Ok(()),
+        EndRead::Ended => Err(Trouble::Link),
+        EndRead::Failed => Err(Trouble::Link),
+        EndRead::Memory => Err(Trouble::Memory),
+    }
+}
+
+/// The reply that a payload is.
+fn reply_of(alloc: Global, payload: &[u8]) -> Result<Reply, Trouble>
+    ensures { IsReplyOf payload.now result }
+{
+    match decode_reply(alloc, payload) {
+        Ok(reply) => Ok(reply),
+        Err(WireFault::Malformed(_)) => Err(Trouble::Reply),
+        Err(WireFault::Memory) => Err(Trouble::Memory),
+    }
+}
+
 impl<E: End> Connection<E> {
-    /// A connection over a new end.
+    ghost use Rattle.sv_pilot.specs.declared.trouble.Trouble.TheVariants as troubles;
+
+    /// A connection over a new end. It fails with `Memory` alone.
     pub(crate) fn new(alloc: Global, end: E) -> Result<Connection<E>, Trouble>
         requires open { (E.told end).closed ≡ false }
-        ensures blame { IfErr result IsNotOfGame }
+        ensures line { IfOk result (λ connection. connection ≡ line_of (E.told end) (E.faults end)) }
+        ensures memory { IfErr result (λ trouble. trouble ≡ troubles.Memory) }
     {
-        let inbox = Inbox::new(alloc)?;
+        let reader = FrameReader::new(alloc)?;
         let outbox = Outbox::new(alloc)?;
         Ok(Connection {
             alloc,
-            inbox,
+            reader,
             outbox,
             end,
         })
     }
 
-    /// Puts a request behind those that wait to be sent. Where it is no message, what the server sent before is to blame.
+    /// Puts a request behind those that wait to be sent.
     pub(crate) fn send(&mut self, request: &Request) -> Result<(), Trouble>
-        ensures blame { IfErr result IsNotOfGame }
+        requires { IsWireRequest request.now }
+        ensures sent { HasSent self.old self.new }
+        ensures answer { IsSent self.old self.new result }
     {
-        if !is_message(request) {
-            return Err(Trouble::Reply);
-        }
         read_request(request);
         whole(self.outbox.put(request, &mut self.end))
     }
 
     /// Puts requests behind those that wait to be sent.
     pub(crate) fn send_all(&mut self, requests: &[Request]) -> Result<(), Trouble>
-        ensures blame { IfErr result IsNotOfGame }
+        requires { All IsWireRequest requests.now }
+        ensures sent { HasSent self.old self.new }
+        ensures answer { IsSent self.old self.new result }
     {
         for request in requests {
             self.send(request)?;
@@ -77,50 +109,63 @@ impl<E: End> Connection<E> {
         Ok(())
     }
 
-    /// Puts the Done of a relay behind what waits, where there is one.
-    pub(crate) fn answer(&mut self, done: Option<Request>) -> Result<(), Trouble>
-        ensures blame { IfErr result IsNotOfGame }
-    {
-        match done {
-            Some(request) => self.send(&request),
-            None => Ok(()),
-        }
-    }
-
     /// Sends what waits.
     fn flush(&mut self) -> Result<(), Trouble>
-        ensures blame { IfErr result IsNotOfGame }
+        ensures sent { HasSent self.old self.new }
+        ensures answer { IsSent self.old self.new result }
     {
         whole(self.outbox.flush(&mut self.end))
     }
 
-    /// The next reply, where a whole one has come. Else what comes next is read.
-    fn reply_or_read(&mut self) -> Result<Option<Reply>, Trouble>
-        ensures blame { IfErr result IsNotOfGame }
+    /// Waits for more bytes.
+    fn read(&mut self) -> Result<(), Trouble>
+        requires room { length self.old.came < greatest_frame }
+        ensures read { HasRead self.old self.new }
+        ensures answer { IsReadOn self.old self.new result }
     {
-        match self.inbox.next::<Reply>(self.alloc) {
-            Incoming::Whole(reply) => return Ok(Some(reply)),
-            Incoming::NotYet => {}
-            Incoming::Malformed(_) | Incoming::TooLong(_) => return Err(Trouble::Reply),
-            Incoming::Memory => return Err(Trouble::Memory),
-        }
-        match self.inbox.read_from(&mut self.end) {
-            EndRead::Got(_) => Ok(None),
-            EndRead::Ended | EndRead::Failed => Err(Trouble::Link),
-            EndRead::Memory => Err(Trouble::Memory),
+        some(self.reader.read_from(&mut self.end))
+    }
+
+    /// The reply at the front of what came, where a whole frame has come, or a length over the limit.
+    fn front(&self) -> Option<Result<Reply, Trouble>>
+        ensures { IsFrontOf self.now.came result }
+    {
+        match self.reader.first() {
+            Next::Frame(payload) => Some(reply_of(self.alloc, payload)),
+            Next::NotYet => None,
+            Next::TooLong(_) => Some(Err(Trouble::Reply)),
         }
     }
 
-    /// Sends what waits, and waits for the next reply.
+    /// Waits for the next reply, which stays in front of what came.
+    fn wait(&mut self) -> Result<Reply, Trouble>
+        ensures read { HasRead self.old self.new }
+        ensures received { IsReceived self.old self.new result }
+    {
+        loop {
+            if let Some(reply) = self.front() {
+                return reply;
+            }
+            self.read()?;
+        }
+    }
+
+    /// Sends what waits, and waits for the next reply, which stays in front of what came.
     pub(crate) fn receive(&mut self) -> Result<Reply, Trouble>
-        ensures blame { IfErr result IsNotOfGame }
+        ensures read { HasRead self.old self.new }
+        ensures received { IsReceived self.old self.new result }
     {
         self.flush()?;
-        for _ in 0..u64::MAX {
-            if let Some(reply) = self.reply_or_read()? {
-                return Ok(reply);
-            }
-        }
-        Err(Trouble::Link)
+        self.wait()
+    }
+
+    /// Takes the reply at the front of what came off.
+    pub(crate) fn skip(&mut self)
+        requires { first_frame self.old.came ≢ None }
+        ensures told { self.new.told ≡ self.old.told }
+        ensures faults { self.new.faults ≡ self.old.faults }
+        ensures came { Skips self.old.came self.new.came }
+    {
+        self.reader.skip();
     }
 }

@@ -3,9 +3,9 @@
 #![tactic(auto)]
 
 mod connection;
-mod messages;
 mod pilot;
 mod seen;
+mod shapes;
 mod trouble;
 
 pub use pilot::Pilot;

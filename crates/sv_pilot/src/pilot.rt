@@ -1,34 +1,40 @@
 //! A client that game code drives.
-ghost use Rattle.std.specs.Prelude.{◌≡◌, ◌⊎◌, ◌<◌, ◌≤◌, true, false, length, IfOk, IfErr, OnOk, OnErr, MatchResult};
-ghost use Rattle.sv_world.specs.Limits.{most_sessions};
+ghost use Rattle.std.specs.Prelude.{◌≡◌, ◌⊎◌, ◌<◌, ◌≤◌, true, false, length, Ok, IfOk, IfErr, IfSome, OnOk, OnErr};
+ghost use Rattle.sv_world.specs.Worlds.{IsGoodShape};
 ghost use Rattle.sv_text.specs.Grammar.{IsActionText};
 ghost use Rattle.sv_text.specs.Tokens.{tokens_of};
+ghost use Rattle.sv_wire.specs.Grammar.{IsWireRequest, IsWireReply};
+ghost use Rattle.sv_wire.specs.Messages.{reply_at};
+ghost use Rattle.sv_exchange.specs.Incoming.{FirstReads};
 ghost use Rattle.sv_client.specs.declared.trace.Event.TheVariants as events;
 ghost use Rattle.sv_client.specs.Traces.{joins, makes, view_of};
 ghost use Rattle.sv_client.specs.Taking.{outstanding};
-ghost use Rattle.sv_client.specs.Proper.{MayMake, MayPoll, MayLeave, in_session, most_made};
+ghost use Rattle.sv_client.specs.Proper.{IsReadyToMake, MayPoll, MayObserve, MayLeave, in_session, most_numbers};
 ghost use Rattle.sv_pilot.specs.declared.trouble.Trouble.TheVariants as troubles;
-ghost use Rattle.sv_pilot.specs.Troubles.{IsNotOfGame, trouble_of_text};
-ghost use Rattle.sv_pilot.specs.Doings.{HasTaken, Did, NoReplyIsDue, MadeAction, NoneMayBeMade, number_seen, text_limit};
+ghost use Rattle.sv_pilot.specs.Troubles.{trouble_of_text};
+ghost use Rattle.sv_pilot.specs.Lines.{line_of, IsCalm};
+ghost use Rattle.sv_pilot.specs.Doings.{HasTaken, Did, Stopped, StopsBy, Watched, StoppedWatch, NoReplyIsDue, MadeAction, StoppedMake, StoppedAction, weight, NoneMayBeMade, number_seen, text_limit};
 
 use crate::connection::Connection;
 use crate::seen::{Listener, Seen, tell_all, unseen};
+use crate::shapes::is_good_shape;
 use crate::trouble::Trouble;
 use std::alloc::Global;
 use std::marker::Model;
-use sv_client::{Client, MOST_MADE, View};
+use sv_client::{LeanClient, MOST_NUMBERS, View};
 use sv_link::End;
 use sv_text::{ParseFault, parse_action};
 use sv_wire::{Reply, Request};
-use sv_world::{Action, MOST_SESSIONS, ObjectId};
+use sv_world::{Action, List, ObjectId, copy_objects};
 
 /// A client over one connection, and a listener that is called for each change of what it sees of its interest.
 ///
-/// Contracts see the client. The end of the connection is open.
+/// Contracts see the client; and of the connection what its end tells, how often the end failed, and the bytes that came and were not taken as
+/// replies.
 #[derive(Drop)]
 pub struct Pilot<E: End, L: Listener> {
     alloc: Global,
-    client: Client,
+    client: LeanClient,
     connection: Connection<E>,
     seen: Vec<Seen>,
     listener: L,
@@ -36,21 +42,18 @@ pub struct Pilot<E: End, L: Listener> {
 
 impl<E: End, L: Listener> Model for Pilot<E, L> {
     ghost use Rattle.std.specs.Coded.{codes};
-    ghost use Rattle.sv_client.specs.Seen.{ClientView};
     ghost use Rattle.sv_client.specs.contracts.trace.Event as event_rows;
+    ghost use Rattle.sv_pilot.specs.Doings.{PilotView};
 
-    ghost Value = { ClientView };
+    ghost Value = { PilotView };
 
     ghost coded = { Prim.hlevel (codes, event_rows.the_row.coded) };
 
-    ghost view = { λ p. p.client };
+    ghost view = { λ p. record { client = p.client; line = p.connection } };
 }
 
 /// The text of an action has fewer bytes.
 const TEXT_LIMIT: usize = 1_000;
-
-/// How many replies may be due at once, with the Done of each.
-const REPLIES: u32 = 32;
 
 /// Whether a text is to blame, or memory.
 fn trouble_of(fault: ParseFault) -> Trouble
@@ -64,10 +67,15 @@ fn trouble_of(fault: ParseFault) -> Trouble
 
 impl<E: End, L: Listener> Pilot<E, L> {
     /// A pilot of a client over a new end, in no session. It fails with `Memory` alone.
-    pub fn new(alloc: Global, client: Client, end: E, listener: L) -> Result<Pilot<E, L>, Trouble>
+    pub fn new(
+        alloc: Global,
+        client: LeanClient,
+        end: E,
+        listener: L,
+    ) -> Result<Pilot<E, L>, Trouble>
         requires open { (E.told end).closed ≡ false }
-        ensures client { IfOk result (λ pilot. pilot ≡ client) }
-        ensures blame { IfErr result IsNotOfGame }
+        ensures pilot { IfOk result (λ pilot. pilot ≡ record { client = client; line = line_of (E.told end) (E.faults end) }) }
+        ensures memory { IfErr result (λ trouble. trouble ≡ troubles.Memory) }
     {
         let seen = unseen(alloc, client.interest())?;
         let connection = Connection::new(alloc, end)?;
@@ -81,15 +89,15 @@ impl<E: End, L: Listener> Pilot<E, L> {
     }
 
     /// The client, which holds what is known.
-    pub fn client(&self) -> &Client
-        ensures { result.now ≡ self.now }
+    pub fn client(&self) -> &LeanClient
+        ensures { result.now ≡ self.now.client }
     {
         &self.client
     }
 
     /// A number of an object as the player sees it, and 0 where it knows none.
     pub fn number(&self, object: ObjectId, attribute: usize) -> i64
-        ensures { result ≡ number_seen (view_of self.now.events object.0) attribute }
+        ensures { result ≡ number_seen (view_of self.now.client.events object.0) attribute }
     {
         match self.client.view(object) {
             View::Known(value) => match value.as_slice().get(attribute) {
@@ -100,29 +108,31 @@ impl<E: End, L: Listener> Pilot<E, L> {
         }
     }
 
-    /// Begins a session, and is told the objects of the interest. At most 64 are begun.
+    /// Begins a session, and is told the objects of the interest.
     ///
-    /// `Game` comes where so many were begun, and then nothing was done. Else a session may have been begun: `Link` comes where the connection failed
-    /// or ended, `Reply` where what came is no reply that the client takes, and `Memory`.
-    #[tactic(auto, using(crate::proofs::Taking::did_then))]
+    /// `Game` comes where so many were begun that a message has no room for the number of the next one, and then nothing was done. Else a session may
+    /// have been begun: `Link` comes where the end failed or told that no more will come, `Reply` where the front of what came is no reply or one that
+    /// the client does not take, and `Memory`.
     pub fn join(&mut self) -> Result<(), Trouble>
-        ensures joined { OnOk result (Did (events.Join (joins self.old.events)) self.old self.new × NoReplyIsDue self.new) }
-        ensures stopped { OnErr result ((self.new ≡ self.old) ⊎ Did (events.Join (joins self.old.events)) self.old self.new) }
-        ensures refused { IfErr result (λ trouble. trouble ≡ troubles.Game → (self.new ≡ self.old) × (most_sessions ≤ joins self.old.events)) }
+        ensures joined { OnOk result (Did (events.Join (joins self.old.client.events)) self.old self.new × NoReplyIsDue self.new × IsCalm self.old.line self.new.line) }
+        ensures stopped { IfErr result (λ trouble. (trouble ≡ troubles.Game) ⊎ Stopped (events.Join (joins self.old.client.events)) self.old self.new trouble) }
+        ensures refused { IfErr result (λ trouble. trouble ≡ troubles.Game → (self.new ≡ self.old) × (most_numbers ≤ joins self.old.client.events)) }
     {
-        if self.client.sessions() >= MOST_SESSIONS {
+        if self.client.sessions() >= MOST_NUMBERS {
             return Err(Trouble::Game);
         }
+        self.client.asks_messages();
         let requests = self.client.join()?;
         self.connection.send_all(requests.as_slice())?;
         self.settle()
     }
 
-    /// Goes on over another new end, in no session yet. The old one is closed. It fails with `Memory` alone.
+    /// Goes on over another new end, in no session yet. The old one is closed. It fails with `Memory` alone, and then goes on over the old one.
     pub fn change_end(&mut self, end: E) -> Result<(), Trouble>
         requires open { (E.told end).closed ≡ false }
-        ensures same { self.new ≡ self.old }
-        ensures blame { IfErr result IsNotOfGame }
+        ensures changed { OnOk result (self.new ≡ record self.old { line = line_of (E.told end) (E.faults end) }) }
+        ensures err { OnErr result (self.new ≡ self.old) }
+        ensures memory { IfErr result (λ trouble. trouble ≡ troubles.Memory) }
     {
         self.connection = Connection::new(self.alloc, end)?;
         Ok(())
@@ -134,25 +144,23 @@ impl<E: End, L: Listener> Pilot<E, L> {
     /// `Game` comes outside a session, for a text that is longer or that of no action, and for an action that the client may not make; then nothing
     /// was done. Else the action may have been made: `Link`, `Reply` and `Memory` come as at `join`.
     pub fn act(&mut self, text: &str) -> Result<(), Trouble>
-        ensures made { OnOk result (MadeAction text.now self.old self.new × NoReplyIsDue self.new) }
-        ensures stopped { OnErr result ((self.new ≡ self.old) ⊎ MadeAction text.now self.old self.new) }
-        ensures refused { IfErr result (λ trouble. trouble ≡ troubles.Game → (self.new ≡ self.old) × ((text_limit ≤ length text.now) ⊎ NoneMayBeMade text.now self.old)) }
+        ensures made { OnOk result ((length text.now < text_limit) × MadeAction text.now self.old self.new × NoReplyIsDue self.new × IsCalm self.old.line self.new.line) }
+        ensures stopped { IfErr result (λ trouble. (trouble ≡ troubles.Game) ⊎ StoppedAction text.now self.old self.new trouble) }
+        ensures refused { IfErr result (λ trouble. trouble ≡ troubles.Game → (self.new ≡ self.old) × ((text_limit ≤ length text.now) ⊎ (NoneMayBeMade text.now self.old ⊎ (most_numbers ≤ makes self.old.client.events)))) }
     {
         let action = self.read(text)?;
         self.make(action)
     }
 
-    /// The action of a text, where the client may make actions.
+    /// The action of a text.
     fn read(&self, text: &str) -> Result<Action, Trouble>
         ensures text { IfOk result (λ action. IsActionText action (tokens_of text.now)) }
         ensures only { IfOk result (λ action. (other : Action) → IsActionText other (tokens_of text.now) → other ≡ action) }
-        ensures ready { OnOk result ((in_session self.now.events ≡ true) × (makes self.now.events < most_made)) }
+        ensures short { OnOk result (length text.now < text_limit) }
         ensures refused { IfErr result (λ trouble. trouble ≡ troubles.Game → (text_limit ≤ length text.now) ⊎ NoneMayBeMade text.now self.now) }
+        ensures blame { IfErr result (λ trouble. (trouble ≡ troubles.Game) ⊎ (trouble ≡ troubles.Memory)) }
     {
-        if !self.client.in_session()
-            || self.client.made() >= MOST_MADE
-            || text.len() >= TEXT_LIMIT
-        {
+        if text.len() >= TEXT_LIMIT {
             return Err(Trouble::Game);
         }
         match parse_action(self.alloc, text) {
@@ -161,15 +169,19 @@ impl<E: End, L: Listener> Pilot<E, L> {
         }
     }
 
-    /// Makes an action.
-    #[tactic(auto, using(crate::proofs::Taking::did_then))]
-    fn make(&mut self, action: Action) -> Result<(), Trouble>
-        requires joined { in_session self.old.events ≡ true }
-        requires few { makes self.old.events < most_made }
-        ensures made { OnOk result (MayMake self.old.who self.old.events action × Did (events.Make action) self.old self.new × NoReplyIsDue self.new) }
-        ensures stopped { OnErr result ((self.new ≡ self.old) ⊎ (MayMake self.old.who self.old.events action × Did (events.Make action) self.old self.new)) }
-        ensures refused { IfErr result (λ trouble. trouble ≡ troubles.Game → (self.new ≡ self.old) × (MayMake self.old.who self.old.events action → ⊥)) }
+    /// Makes an action that was built. The listener is called as by `act`.
+    ///
+    /// `Game` comes outside a session and for an action that the client may not make, and then nothing was done. Else it may have been made: `Link`,
+    /// `Reply` and `Memory` come as at `join`.
+    pub fn make(&mut self, action: Action) -> Result<(), Trouble>
+        ensures made { OnOk result (IsReadyToMake self.old.client.who self.old.client.events action × Did (events.Make action) self.old self.new × NoReplyIsDue self.new × IsCalm self.old.line self.new.line) }
+        ensures stopped { IfErr result (λ trouble. (trouble ≡ troubles.Game) ⊎ StoppedMake action self.old self.new trouble) }
+        ensures refused { IfErr result (λ trouble. trouble ≡ troubles.Game → (self.new ≡ self.old) × ((IsReadyToMake self.old.client.who self.old.client.events action → ⊥) ⊎ (most_numbers ≤ makes self.old.client.events))) }
     {
+        if !self.client.in_session() || self.client.made() >= MOST_NUMBERS {
+            return Err(Trouble::Game);
+        }
+        self.client.asks_messages();
         let request = self.client.make(action)?;
         self.ask(&request)
     }
@@ -178,32 +190,63 @@ impl<E: End, L: Listener> Pilot<E, L> {
     ///
     /// `Game` comes outside a session and where too many replies are due, and then nothing was asked. Else it may have been: `Link`, `Reply` and
     /// `Memory` come as at `join`.
-    #[tactic(auto, using(crate::proofs::Taking::did_then))]
     pub fn poll(&mut self) -> Result<(), Trouble>
-        ensures polled { OnOk result (Did events.Poll self.old self.new × NoReplyIsDue self.new) }
-        ensures stopped { OnErr result ((self.new ≡ self.old) ⊎ Did events.Poll self.old self.new) }
-        ensures refused { IfErr result (λ trouble. trouble ≡ troubles.Game → (self.new ≡ self.old) × (MayPoll self.old.who self.old.events → ⊥)) }
+        ensures polled { OnOk result (Did events.Poll self.old self.new × NoReplyIsDue self.new × IsCalm self.old.line self.new.line) }
+        ensures stopped { IfErr result (λ trouble. (trouble ≡ troubles.Game) ⊎ Stopped events.Poll self.old self.new trouble) }
+        ensures refused { IfErr result (λ trouble. trouble ≡ troubles.Game → (self.new ≡ self.old) × (MayPoll self.old.client.who self.old.client.events → ⊥)) }
     {
         if !self.client.in_session() {
             return Err(Trouble::Game);
         }
+        self.client.asks_messages();
         let request = self.client.poll()?;
         self.ask(&request)
+    }
+
+    /// Asks what objects are, all at one moment, and waits up to so many milliseconds for news of them. The listener is called for what is another of
+    /// its interest.
+    ///
+    /// `Game` comes outside a session, for objects that may not be observed, and where too many replies are due; then nothing was asked. Else it may
+    /// have been: `Link`, `Reply` and `Memory` come as at `join`.
+    pub fn observe(&mut self, objects: List<ObjectId>, wait: u16) -> Result<(), Trouble>
+        ensures observed { OnOk result (Did (events.Observe objects wait) self.old self.new × NoReplyIsDue self.new × IsCalm self.old.line self.new.line) }
+        ensures stopped { IfErr result (λ trouble. (trouble ≡ troubles.Game) ⊎ Stopped (events.Observe objects wait) self.old self.new trouble) }
+        ensures refused { IfErr result (λ trouble. trouble ≡ troubles.Game → (self.new ≡ self.old) × (MayObserve self.old.client.who self.old.client.events objects → ⊥)) }
+    {
+        if !self.client.in_session() {
+            return Err(Trouble::Game);
+        }
+        self.client.asks_messages();
+        let request = self.client.observe(objects, wait)?;
+        self.ask(&request)
+    }
+
+    /// Keeps asking what objects are, so often, each time when the answer before has come. It stops at the first trouble, which comes as at `observe`.
+    pub fn watch(&mut self, objects: &[ObjectId], wait: u16, times: u32) -> Result<(), Trouble>
+        ensures watched { OnOk result (Watched objects.now wait times self.old self.new) }
+        ensures calm { OnOk result (IsCalm self.old.line self.new.line) }
+        ensures stopped { IfErr result (StoppedWatch objects.now wait times self.old self.new) }
+    {
+        for _ in 0..times {
+            let asked = copy_objects(self.alloc, objects)?;
+            self.observe(asked, wait)?;
+        }
+        Ok(())
     }
 
     /// Leaves the session.
     ///
     /// `Game` comes outside a session and while a reply is due, and then nothing was done. Else the session may have been left: `Link`, `Reply` and
     /// `Memory` come as at `join`.
-    #[tactic(auto, using(crate::proofs::Taking::did_then))]
     pub fn leave(&mut self) -> Result<(), Trouble>
-        ensures left { OnOk result (Did events.Leave self.old self.new × NoReplyIsDue self.new) }
-        ensures stopped { OnErr result ((self.new ≡ self.old) ⊎ Did events.Leave self.old self.new) }
-        ensures refused { IfErr result (λ trouble. trouble ≡ troubles.Game → (self.new ≡ self.old) × (MayLeave self.old.who self.old.events → ⊥)) }
+        ensures left { OnOk result (Did events.Leave self.old self.new × NoReplyIsDue self.new × IsCalm self.old.line self.new.line) }
+        ensures stopped { IfErr result (λ trouble. (trouble ≡ troubles.Game) ⊎ Stopped events.Leave self.old self.new trouble) }
+        ensures refused { IfErr result (λ trouble. trouble ≡ troubles.Game → (self.new ≡ self.old) × (MayLeave self.old.client.who self.old.client.events → ⊥)) }
     {
         if !self.client.in_session() || self.client.outstanding() != 0 {
             return Err(Trouble::Game);
         }
+        self.client.asks_messages();
         let request = self.client.leave()?;
         self.ask(&request)
     }
@@ -214,13 +257,19 @@ impl<E: End, L: Listener> Pilot<E, L> {
         listener
     }
 
-    /// Sends a request that was just made, with what it is expected to change told, and takes all replies.
+    /// Tells what a request that was just made is expected to change, sends it, and takes all replies.
     fn ask(&mut self, request: &Request) -> Result<(), Trouble>
+        requires { IsWireRequest request.now }
         ensures taken { HasTaken self.old self.new }
-        ensures settled { OnOk result (NoReplyIsDue self.new) }
-        ensures blame { IfErr result IsNotOfGame }
+        ensures settled { OnOk result (NoReplyIsDue self.new × IsCalm self.old.line self.new.line) }
+        ensures why { IfErr result (StopsBy self.old self.new) }
     {
-        self.tell()?;
+        tell_all(
+            self.alloc,
+            &self.client,
+            self.seen.as_mut_slice(),
+            &mut self.listener,
+        )?;
         self.connection.send(request)?;
         self.settle()
     }
@@ -236,41 +285,64 @@ impl<E: End, L: Listener> Pilot<E, L> {
     /// Takes replies until none is due.
     fn settle(&mut self) -> Result<(), Trouble>
         ensures taken { HasTaken self.old self.new }
-        ensures settled { OnOk result (NoReplyIsDue self.new) }
-        ensures blame { IfErr result IsNotOfGame }
+        ensures settled { OnOk result (NoReplyIsDue self.new × IsCalm self.old.line self.new.line) }
+        ensures why { IfErr result (StopsBy self.old self.new) }
     {
-        for _ in 0..REPLIES {
-            if self.is_settled() {
-                return Ok(());
-            }
+        while !self.is_settled() {
             self.take_next()?;
         }
-        Err(Trouble::Reply)
+        Ok(())
     }
 
     /// Waits for the next reply, and takes it.
     fn take_next(&mut self) -> Result<(), Trouble>
         ensures taken { HasTaken self.old self.new }
-        ensures blame { IfErr result IsNotOfGame }
+        ensures calm { OnOk result (IsCalm self.old.line self.new.line) }
+        ensures lighter { OnOk result (weight (outstanding self.new.client.who self.new.client.events) < weight (outstanding self.old.client.who self.old.client.events)) }
+        ensures why { IfErr result (StopsBy self.old self.new) }
     {
         let reply = self.connection.receive()?;
-        self.take(reply)
+        self.take(&reply)
     }
 
-    /// Takes a reply, reports the results that it asks for, and tells what it changed.
-    fn take(&mut self, reply: Reply) -> Result<(), Trouble>
+    /// Takes the reply at the front of what came, reports the results that it asks for, and tells what it changed.
+    fn take(&mut self, reply: &Reply) -> Result<(), Trouble>
+        requires front { FirstReads reply_at self.old.line.came (Ok reply.now) }
+        requires message { IsWireReply reply.now }
         ensures taken { HasTaken self.old self.new }
-        ensures blame { IfErr result IsNotOfGame }
+        ensures calm { OnOk result (IsCalm self.old.line self.new.line) }
+        ensures lighter { OnOk result (weight (outstanding self.new.client.who self.new.client.events) < weight (outstanding self.old.client.who self.old.client.events)) }
+        ensures why { IfErr result (StopsBy self.old self.new) }
     {
+        self.client.asks_messages();
         let done = self.client.take(reply)?;
-        self.connection.answer(done)?;
+        self.client.in_turn();
+        self.connection.skip();
+        self.answer(done)?;
         self.tell()
+    }
+
+    /// Reports results, where there are any.
+    fn answer(&mut self, done: Option<Request>) -> Result<(), Trouble>
+        requires { IsGoodShape self.old.client.who.shape → IfSome done IsWireRequest }
+        ensures taken { HasTaken self.old self.new }
+        ensures client { self.new.client ≡ self.old.client }
+        ensures calm { OnOk result (IsCalm self.old.line self.new.line) }
+        ensures why { IfErr result (StopsBy self.old self.new) }
+    {
+        let Some(request) = done else {
+            return Ok(());
+        };
+        if !is_good_shape(self.client.shape()) {
+            return Err(Trouble::Reply);
+        }
+        self.connection.send(&request)
     }
 
     /// Calls the listener for what changed.
     fn tell(&mut self) -> Result<(), Trouble>
         ensures same { self.new ≡ self.old }
-        ensures blame { IfErr result IsNotOfGame }
+        ensures memory { IfErr result (λ trouble. trouble ≡ troubles.Memory) }
     {
         tell_all(
             self.alloc,

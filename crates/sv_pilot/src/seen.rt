@@ -1,6 +1,6 @@
 //! Telling a listener each change of what a client sees.
 use std::alloc::{AllocError, Global};
-use sv_client::{Client, View};
+use sv_client::{LeanClient, View};
 use sv_world::{ObjectId, Value, copy_value};
 
 /// Who is called for each change.
@@ -56,7 +56,7 @@ impl Seen {
     fn tell<L: Listener>(
         &mut self,
         alloc: Global,
-        client: &Client,
+        client: &LeanClient,
         listener: &mut L,
     ) -> Result<(), AllocError> {
         match client.view(self.object) {
@@ -69,7 +69,7 @@ impl Seen {
 /// Calls the listener for each object that the client sees otherwise than before.
 pub(crate) fn tell_all<L: Listener>(
     alloc: Global,
-    client: &Client,
+    client: &LeanClient,
     seen: &mut [Seen],
     listener: &mut L,
 ) -> Result<(), AllocError> {

@@ -1,6 +1,6 @@
 //! What can go wrong.
 use std::alloc::{AllocError, AllocFailed};
-use sv_client::{MakeFault, PollFault, TakeFault};
+use sv_client::{MakeFault, ObserveFault, PollFault, TakeFault};
 use thiserror::Error;
 
 /// Why a call of a pilot failed.
@@ -10,7 +10,7 @@ pub enum Trouble {
     #[error("a connection failed")]
     Link,
 
-    /// What came is no reply that the client takes.
+    /// The front of what came is no reply, or one that the client does not take.
     #[error("the server sent what no client takes")]
     Reply,
 
@@ -82,6 +82,20 @@ impl From<PollFault> for Trouble {
         match fault {
             PollFault::Memory => Trouble::Memory,
             PollFault::Busy => Trouble::Game,
+        }
+    }
+}
+
+impl From<ObserveFault> for Trouble {
+    ghost use Rattle.std.specs.Prelude.{◌≡◌};
+    ghost use Rattle.sv_pilot.specs.Troubles.{trouble_of_observe};
+
+    ghost from_gives = { λ fault e. e ≡ trouble_of_observe fault };
+
+    fn from(fault: ObserveFault) -> Trouble {
+        match fault {
+            ObserveFault::Memory => Trouble::Memory,
+            ObserveFault::BadObjects | ObserveFault::Busy => Trouble::Game,
         }
     }
 }

@@ -15,8 +15,9 @@ use Rattle.sv_client.specs.Taking.{Identity, outstanding, allows, is_bad_head, i
 use Rattle.sv_client.specs.Proper.{AreProper}
 use Rattle.sv_client.proofs.Outstanding.{outstanding_joined, outstanding_made, outstanding_polled, outstanding_observed, outstanding_left, outstanding_cut, outstanding_quit, outstanding_shown, outstanding_got}
 use Rattle.sv_script.proofs.Pending.{redone-count, either-few, replied-few}
-use Rattle.sv_player.proofs.Well.{is_well}
-use Rattle.sv_player.proofs.Wire.{AreWirePending, pending_are}
+use Rattle.sv_client.proofs.Wells.{is_well}
+use Rattle.sv_player.proofs.Wire.{pending_are}
+use Rattle.sv_client.proofs.Wires.{AreWirePending}
 
 abbrev submit_count : Request → ℕ
 submit_count (requests.Submit seq action) = 1

@@ -25,7 +25,7 @@ use Rattle.sv_script.proofs.Ends.{passed-none}
 use Rattle.sv_script.proofs.Cuts.{cuts-done}
 use Rattle.sv_player.specs.declared.playing.Player.{Player}
 use Rattle.sv_player.specs.Going.{one_more_if, AreTold, AreSeen, IsBudget, IsGoing, Did, IsHere, IsReady}
-use Rattle.sv_player.proofs.Well.{is_well}
+use Rattle.sv_client.proofs.Wells.{is_well}
 
 -- ---- The steps that are left
 

@@ -1,5 +1,4 @@
 -- The lemmas of this crate, file by file.
-pub mod Well
 pub mod Sizes
 pub mod Wire
 pub mod Awaited

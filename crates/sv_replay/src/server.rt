@@ -26,11 +26,11 @@ pub trait Server: Drop {
         requires { MayBeSession (view self.now).rules.sessions session }
         ensures { result ≡ is_ended (view self.now).history session };
 
-    /// Answers a request of a session, whose End comes at most once, and enters both into its journal.
-    fn step(&mut self, session: u16, request: &Request) -> Result<Reply, AllocError>
+    /// Answers a request of a session, whose End comes at most once, and enters both into its journal. Where it does not, the request is let go.
+    fn step(&mut self, session: u16, request: Request) -> Result<Reply, AllocError>
         requires session { MayBeSession (view self.old).rules.sessions session }
-        requires first { is_end request.now ≡ true → is_ended (view self.old).history session ≡ false }
-        ensures { IfOk result (Answers (view self.old) (view self.new) session request.now) };
+        requires first { is_end request ≡ true → is_ended (view self.old).history session ≡ false }
+        ensures { IfOk result (Answers (view self.old) (view self.new) session request) };
 
     /// The value of an object at the commit.
     fn committed(&self, object: ObjectId) -> &Value
@@ -65,7 +65,7 @@ impl Server for Sequencer {
         self.is_ended(session)
     }
 
-    fn step(&mut self, session: u16, request: &Request) -> Result<Reply, AllocError> {
+    fn step(&mut self, session: u16, request: Request) -> Result<Reply, AllocError> {
         self.step(session, request)
     }
 

@@ -34,7 +34,7 @@ pub(crate) fn serve<S: Server>(
     }
     match channel.next_request()? {
         Some(request) => {
-            answer(server, channel, session, &request)?;
+            answer(server, channel, session, request)?;
             Ok(true)
         }
         None if channel.is_closed() => {
@@ -50,14 +50,14 @@ fn answer<S: Server>(
     server: &mut S,
     channel: &mut Exchange,
     session: u16,
-    request: &Request,
+    request: Request,
 ) -> Result<(), AllocError>
     requires session { MayBeSession (S.view server.old).rules.sessions session }
     requires running { is_ended (S.view server.old).history session ≡ false }
     requires unstopped { channel.old.stopped ≡ false }
-    requires message { IsReply (whole_reply (S.view server.old).server (S.view server.old).history session request.now) }
-    ensures { OnOk result (Entered session request.now (S.view server.old) (S.view server.new) channel.new
-        (with_answer (S.view server.old).server (S.view server.old).history session request.now channel.old)) }
+    requires message { IsReply (whole_reply (S.view server.old).server (S.view server.old).history session request) }
+    ensures { OnOk result (Entered session request (S.view server.old) (S.view server.new) channel.new
+        (with_answer (S.view server.old).server (S.view server.old).history session request channel.old)) }
 {
     let reply = server.step(session, request)?;
     let stops = stop_for(&reply).is_some();
@@ -83,7 +83,7 @@ fn end<S: Server>(server: &mut S, channel: &mut Exchange, session: u16) -> Resul
     requires running { is_ended (S.view server.old).history session ≡ false }
     ensures { OnOk result (Entered session requests.End (S.view server.old) (S.view server.new) channel.new (record channel.old { stopped = true })) }
 {
-    server.step(session, &Request::End)?;
+    server.step(session, Request::End)?;
     channel.stop();
     Ok(())
 }

@@ -15,6 +15,7 @@ pub mod FitPush
 pub mod FitRelays
 pub mod FitReports
 pub mod HistorySteps
+pub mod Knowing
 pub mod Seating
 pub mod Sent
 pub mod Shared

@@ -1,13 +1,13 @@
 -- What a relay takes from a queue, and what its delivery and reported results make of it.
-use Rattle.std.specs.Prelude.{◌≡◌, ℕ, ◌<◌, ◌≤◌, Bool, ◌&&◌, ◌||◌, not, ◌==◌, nat_lt, List, [], ◌∷◌, map, length, slice_index_or, is_none, if◌then◌else◌}
+use Rattle.std.specs.Prelude.{◌≡◌, ℕ, suc, ◌<◌, ◌≤◌, Bool, ◌&&◌, ◌||◌, not, ◌==◌, nat_lt, nat_le, List, [], ◌∷◌, map, length, slice_index_or, is_none, if◌then◌else◌}
 use Rattle.std.specs.List.{list_all}
-use Rattle.sv_world.specs.Control.{is_in, action_at}
+use Rattle.sv_world.specs.Control.{is_in, action_at, last_writer}
 use Rattle.sv_world.specs.Sets.{write_set}
 use Rattle.sv_wire.specs.declared.message.Done1.{Done1}
 use Rattle.sv_wire.specs.declared.message.ObjectValue.{ObjectValue}
 use Rattle.sv_wire.specs.declared.message.Item.{Item}
 use Rattle.sv_world.specs.Worlds.{HaveAttrs}
-use Rattle.sv_queue.specs.Queue.{QueueView, last_position, entry_at, queue_actions, sent_positions, with_mark, with_given, with_result}
+use Rattle.sv_queue.specs.Queue.{QueueView, last_position, entry_at, queue_actions, sent_positions, given_objects, with_mark, with_given, with_result}
 use Rattle.sv_influence.specs.Lacking.{lacking_to_see, bases_to_see, latest_cut}
 
 -- Objects with their committed values in a queue.
@@ -25,6 +25,14 @@ seen_positions v s xs = lacking_to_see v s xs (latest_cut v s xs)
 -- The objects of the base values that go with it.
 abbrev pub seen_bases : QueueView → ℕ → List ℕ → List ℕ
 seen_bases v s xs = bases_to_see v s xs (latest_cut v s xs)
+
+-- A session knows of an object what its last writer made of it: it was sent this writer or, where that is committed, given the committed value.
+abbrev pub knows_of : QueueView → ℕ → ℕ → ℕ → Bool
+knows_of v s x writer = if nat_le writer v.commit then is_in x (given_objects v s) else is_in writer (sent_positions v s)
+
+-- A session knows what an object is at the last position.
+abbrev pub knows : QueueView → ℕ → ℕ → Bool
+knows v s x = knows_of v s x (last_writer (queue_actions v) x (suc (last_position v)))
 
 -- The queue once some positions were sent to a session.
 abbrev pub marked_all : QueueView → List ℕ → ℕ → QueueView

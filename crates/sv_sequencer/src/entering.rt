@@ -1,11 +1,11 @@
 //! A core and a journal that has room for the Ends to come: what the core does goes into the journal.
-ghost use Rattle.std.specs.Prelude.{◌≡◌, List, ◌-◌, ◌<◌, ◌≤◌, [], ◌∷◌, ◌++◌, false, Some, IfOk, OnErr};
+ghost use Rattle.std.specs.Prelude.{◌≡◌, List, ◌-◌, ◌<◌, ◌≤◌, [], ◌∷◌, ◌++◌, false, Some, IfOk, OnOk, OnErr};
 ghost use Rattle.sv_world.specs.Limits.{most_sessions};
 ghost use Rattle.sv_world.specs.Worlds.{IsGoodWorld};
 ghost use Rattle.sv_journal.specs.declared.entry.Entry.{Entry};
 ghost use Rattle.sv_journal.specs.Sessions.{is_end, is_ended};
 ghost use Rattle.sv_journal.specs.Answer.{scenario_rules};
-ghost use Rattle.sv_sequencer.specs.Cores.{core_rules, session_at, Keeps, SitByNumber};
+ghost use Rattle.sv_sequencer.specs.Cores.{core_rules, owed_by, session_at, Keeps, CarriedOut, SitByNumber};
 ghost use Rattle.sv_sequencer.specs.Decisions.{Holds};
 ghost use Rattle.sv_sequencer.specs.Entering.{HasRoomForEnds, TookEntry, EnteredReply, NothingEntered};
 ghost use Rattle.sv_sequencer.specs.Step.{entry_of, end_entry};
@@ -17,7 +17,7 @@ use crate::seats::Seat;
 use crate::server_core::Core;
 use std::alloc::{AllocError, Global};
 use sv_journal::{Entry, Journal, Logged};
-use sv_wire::{Reply, Request, copy_request};
+use sv_wire::{Reply, Request};
 use sv_world::World;
 
 /// Opens a core for so many sessions, each at the slot of its number, and a journal without entries that has room for the Ends of all of them.
@@ -66,15 +66,41 @@ pub fn enter_end(core: &mut Core, journal: &mut Journal, session: u16)
     });
 }
 
-/// Does what was decided on a request as the core takes it, of a session that sits at the slot of its number, and enters it as it was asked, with
-/// the reply, which it gives in full. `h` is a history that the core keeps, by which the decision holds.
+/// Does what was decided on a request of a session that sits at the slot of its number, and enters it with the reply, which it gives in full. `h`
+/// is a history that the core keeps, by which the decision holds.
 ///
-/// After running out of memory everything is as it was, but for room in the journal.
+/// The journal keeps the request itself. After running out of memory everything is as it was, but for room in the journal, and the request is let
+/// go.
 pub fn enter_reply(
     core: &mut Core,
     journal: &mut Journal,
     decided: Decided,
-    asked: &Request,
+    request: Request,
+) -> Result<Reply, AllocError>
+    ghost h: { List Entry }
+    requires keeps { Keeps core.old h }
+    requires seat { session_at core.old decided.session ≡ Some decided.session }
+    requires more { is_end request ≡ false }
+    requires holds { Holds (core_rules core.old) h decided.session request decided.decision }
+    ensures ok { IfOk result (EnteredReply core.old core.new journal.old journal.new h decided.session request request decided.decision) }
+    ensures err { OnErr result (NothingEntered core.old core.new journal.old journal.new h) }
+{
+    match carry_out(core, journal, decided, &request) {
+        Ok(answer) => Ok(enter(journal, decided.session, request, answer)),
+        Err(error) => {
+            // A tree that is let go at the end of its scope makes a long proof; a call that takes it, none.
+            drop(request);
+            Err(error)
+        }
+    }
+}
+
+/// The same, where the core takes another request than was asked: what was asked is entered, with the reply to what was taken.
+pub fn enter_asked(
+    core: &mut Core,
+    journal: &mut Journal,
+    decided: Decided,
+    asked: Request,
     taken: &Request,
 ) -> Result<Reply, AllocError>
     ghost h: { List Entry }
@@ -82,24 +108,42 @@ pub fn enter_reply(
     requires seat { session_at core.old decided.session ≡ Some decided.session }
     requires more { is_end taken.now ≡ false }
     requires holds { Holds (core_rules core.old) h decided.session taken.now decided.decision }
-    ensures ok { IfOk result (EnteredReply core.old core.new journal.old journal.new h decided.session asked.now taken.now decided.decision) }
+    ensures ok { IfOk result (EnteredReply core.old core.new journal.old journal.new h decided.session asked taken.now decided.decision) }
+    ensures err { OnErr result (NothingEntered core.old core.new journal.old journal.new h) }
+{
+    match carry_out(core, journal, decided, taken) {
+        Ok(answer) => Ok(enter(journal, decided.session, asked, answer)),
+        Err(error) => {
+            drop(asked);
+            Err(error)
+        }
+    }
+}
+
+/// Does what was decided once the journal has room for its entry and for the Ends that are to come.
+fn carry_out(
+    core: &mut Core,
+    journal: &mut Journal,
+    decided: Decided,
+    request: &Request,
+) -> Result<Answer, AllocError>
+    ghost h: { List Entry }
+    requires keeps { Keeps core.old h }
+    requires seat { session_at core.old decided.session ≡ Some decided.session }
+    requires more { is_end request.now ≡ false }
+    requires holds { Holds (core_rules core.old) h decided.session request.now decided.decision }
+    ensures ok { IfOk result (CarriedOut core.old core.new h decided.session request.now decided.decision) }
+    ensures entries { journal.new.entries ≡ journal.old.entries }
+    ensures room { OnOk result (owed_by core.new < journal.new.spare) }
     ensures err { OnErr result (NothingEntered core.old core.new journal.old journal.new h) }
 {
     let Decided { session, decision } = decided;
     journal.reserve(core.owed() as usize + 1)?;
-    let copy = copy_request(core.alloc, asked)?;
     let seat = Seat {
         slot: session,
         session: session as u64,
     };
-    match core.carry_out(seat, taken, decision) {
-        Ok(answer) => Ok(enter(journal, session, copy, answer)),
-        Err(error) => {
-            // A tree that is let go at the end of its scope makes a long proof; a call that takes it, none.
-            drop(copy);
-            Err(error)
-        }
-    }
+    core.carry_out(seat, request, decision)
 }
 
 /// Enters a request with its reply into a journal that has room, and gives the reply in full.

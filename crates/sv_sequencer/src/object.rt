@@ -39,7 +39,7 @@ impl Object for Sequencer {
 
     ghost number_of_entry = { λ session request reply. refl };
 
-    fn step(&mut self, session: u16, request: &Request) -> Result<Reply, AllocError> {
+    fn step(&mut self, session: u16, request: Request) -> Result<Reply, AllocError> {
         self.step(session, request)
     }
 

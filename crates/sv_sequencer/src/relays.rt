@@ -8,6 +8,7 @@ ghost use Rattle.sv_queue.specs.Queue.{IsUncommitted, last_position};
 ghost use Rattle.sv_influence.specs.Lacking.{lacking, base_objects, latest_cut, MarksAreClosed};
 ghost use Rattle.sv_sequencer.specs.Relays.{held_in, item_in, marked_all, given_all, seen_positions, seen_bases};
 
+use crate::known::knows_all;
 use std::alloc::{AllocError, Global};
 use std::marker::Brand;
 use std::sync::ledger::{Blank, Ledger};
@@ -23,6 +24,23 @@ pub struct Relayed {
     pub positions: List<u32>,
     pub sent_head: List<ObjectValue>,
     pub items: List<Item>,
+}
+
+impl Relayed {
+    /// Nothing is sent or given.
+    fn nothing(alloc: Global) -> Relayed
+        ensures head { result.head ≡ [] }
+        ensures positions { result.positions ≡ [] }
+        ensures sent_head { result.sent_head ≡ [] }
+        ensures items { result.items ≡ [] }
+    {
+        Relayed {
+            head: List::new(alloc),
+            positions: List::new(alloc),
+            sent_head: List::new(alloc),
+            items: List::new(alloc),
+        }
+    }
 }
 
 /// What is seen at a cut.
@@ -65,7 +83,7 @@ fn counted<L: Ledger>(
     relayed_of(alloc, queue, found.items, found.head.as_slice(), &mut steps)
 }
 
-/// What a session may see of objects, at the greatest cut.
+/// What a session may see of objects, at the greatest cut. Where it knows them all it sees nothing at the last position, and no memory is taken.
 pub fn seen_in(
     alloc: Global,
     queue: &Queue,
@@ -104,6 +122,12 @@ fn seen_counted<L: Ledger>(
     ensures items { IfOk result (λ r. r.relayed.items ≡ map (item_in queue.now) (seen_positions queue.now slot (numbers_of objects.now))) }
 {
     let mut steps = Steps::<L>::new(blank);
+    if knows_all(queue, slot, objects, &mut steps) {
+        return Ok(Seen {
+            last: queue.last(),
+            relayed: Relayed::nothing(alloc),
+        });
+    }
     let found = cut(alloc, queue, slot, objects, &mut steps)?;
     let last = found.last;
     let relayed = relayed_of(alloc, queue, found.items, found.head.as_slice(), &mut steps)?;

@@ -15,16 +15,19 @@ use sv_wire::{Reply, Request};
 impl Sequencer {
     /// Answers a request of a session, whose End comes at most once, and enters both into the journal.
     ///
-    /// After running out of memory everything is as it was, but for room in the journal. An End takes no memory.
-    pub fn step(&mut self, session: u16, request: &Request) -> Result<Reply, AllocError>
+    /// The journal keeps the request itself. After running out of memory everything is as it was, but for room in the journal, and the request is
+    /// let go. An End takes no memory.
+    pub fn step(&mut self, session: u16, request: Request) -> Result<Reply, AllocError>
         requires session { MayBeSession self.old.rules.sessions session }
-        requires first { is_end request.now ≡ true → is_ended (history self.old) session ≡ false }
-        ensures ok { IfOk result (Answered self.old self.new session request.now) }
+        requires first { is_end request ≡ true → is_ended (history self.old) session ≡ false }
+        ensures ok { IfOk result (Answered self.old self.new session request) }
         ensures err { OnErr result (Stayed self.old self.new) }
         ensures legal { Legal self.new.rules (history self.new) }
-        ensures end { is_end request.now ≡ true → IsOk result }
+        ensures end { is_end request ≡ true → IsOk result }
     {
         if let Request::End = request {
+            // A tree that is let go at the end of its scope makes a long proof; a call that takes it, none.
+            drop(request);
             self.end(session);
             self.is_legal();
             return Ok(Reply::Bye);
@@ -53,24 +56,23 @@ impl Sequencer {
     }
 
     /// Answers a request that is no End. `h` is the journal's history. The room for the Ends that are to come stays.
-    fn answer(&mut self, session: u16, request: &Request) -> Result<Reply, AllocError>
+    fn answer(&mut self, session: u16, request: Request) -> Result<Reply, AllocError>
         ghost h: { List Entry }
         requires past { h ≡ history self.old }
         requires session { MayBeSession self.old.rules.sessions session }
-        requires more { is_end request.now ≡ false }
-        ensures ok { IfOk result (Answered self.old self.new session request.now) }
+        requires more { is_end request ≡ false }
+        ensures ok { IfOk result (Answered self.old self.new session request) }
         ensures err { OnErr result (Stayed self.old self.new) }
     {
         let seat = Seat {
             slot: session,
             session: session as u64,
         };
-        let decision = self.core.decide(seat, request);
+        let decision = self.core.decide(seat, &request);
         enter_reply(
             &mut self.core,
             &mut self.journal,
             Decided { session, decision },
-            request,
             request,
         )
     }

@@ -32,11 +32,11 @@ impl<R: Wait, G: Gate> Server<'_, R, G> {
         &self,
         pass: &mut Pass<Sequencer>,
         turn: u32,
-        request: &Request,
+        request: Request,
     ) -> Result<Reply, AllocError>
         requires may { MayServe self.now.lock.now pass.old }
-        requires asked { is_end request.now ≡ false }
-        ensures ok { IfOk result (λ reply. Steps pass.old request.now reply pass.new) }
+        requires asked { is_end request ≡ false }
+        ensures ok { IfOk result (λ reply. Steps pass.old request reply pass.new) }
         ensures err { OnErr result (StepsOn pass.old [] pass.new) }
     {
         let Some(session) = pass.session() else {
@@ -68,7 +68,7 @@ impl<R: Wait, G: Gate> Server<'_, R, G> {
             Taken::Memory => return Some(SessionOut::Memory),
         };
         *turn = turn.saturating_add(1);
-        let Ok(reply) = self.step(pass, *turn, &request) else {
+        let Ok(reply) = self.step(pass, *turn, request) else {
             return Some(SessionOut::Memory);
         };
         post(&reply, &mut buffers.outbox, end)

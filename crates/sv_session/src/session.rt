@@ -42,7 +42,7 @@ pub fn serve_session<R: Wait, E: End, G: Gate>(
     };
     let out = server.serve_all(pass, end);
     end.close();
-    let Ok(_) = lock.call(rt, pass, &Request::End) else {
+    let Ok(_) = lock.call(rt, pass, Request::End) else {
         unreachable!()
     };
     out

@@ -45,10 +45,10 @@ impl Server for Lying {
         self.witness.is_ended(session)
     }
 
-    fn step(&mut self, session: u16, request: &Request) -> Result<Reply, AllocError> {
+    fn step(&mut self, session: u16, request: Request) -> Result<Reply, AllocError> {
         if self.hears_lies(session) {
             let lie = lie_for(self.alloc, request)?;
-            self.witness.step(session, &lie)
+            self.witness.step(session, lie)
         } else {
             self.witness.step(session, request)
         }

@@ -1,9 +1,10 @@
 //! The lie that a client can be let tell.
 ghost use Rattle.std.specs.Prelude.{◌≡◌, pos, ◌+ℤ◌, int_lt, map, if◌then◌else◌, IfOk};
+ghost use Rattle.sv_wire.specs.declared.message.Request.TheVariants as requests;
 ghost use Rattle.sv_witness.specs.Lies.{greatest_int, lied, lied_result, lied_value};
 
 use std::alloc::{AllocError, Global};
-use sv_wire::{Done1, Request, copy_request};
+use sv_wire::{Done1, Request};
 use sv_world::{List, Value, copy_value};
 
 /// 1 more, where there is one more.
@@ -57,13 +58,20 @@ fn lied_results(alloc: Global, results: &[Done1]) -> Result<List<Done1>, AllocEr
 }
 
 /// What is heard in place of a request that the liar makes.
-pub(crate) fn lie_for(alloc: Global, request: &Request) -> Result<Request, AllocError>
-    ensures { IfOk result (λ lie. lie ≡ lied request.now) }
+pub(crate) fn lie_for(alloc: Global, request: Request) -> Result<Request, AllocError>
+    ensures { IfOk result (λ lie. lie ≡ lied request) }
 {
     match request {
-        Request::Done { results } => Ok(Request::Done {
-            results: lied_results(alloc, results.as_slice())?,
-        }),
-        _ => copy_request(alloc, request),
+        Request::Done { results } => lied_done(alloc, results),
+        request => Ok(request),
     }
+}
+
+fn lied_done(alloc: Global, results: List<Done1>) -> Result<Request, AllocError>
+    ensures { IfOk result (λ lie. lie ≡ requests.Done (map lied_result results)) }
+{
+    let lies = lied_results(alloc, results.as_slice());
+    // Trees that are let go at the end of their scope make a long proof; a call that takes them, none.
+    drop(results);
+    Ok(Request::Done { results: lies? })
 }

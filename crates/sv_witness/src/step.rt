@@ -29,7 +29,9 @@ use crate::witness::Witness;
 use std::alloc::{AllocError, Global};
 use sv_journal::Journal;
 use sv_queue::Queue;
-use sv_sequencer::{Core, Decided, Decision, Seat, enter_end, enter_reply, reported_by};
+use sv_sequencer::{
+    Core, Decided, Decision, Seat, enter_asked, enter_end, enter_reply, reported_by,
+};
 use sv_wire::{Done1, Reply, Request};
 use sv_world::List;
 
@@ -94,26 +96,26 @@ fn enter_emptied(
     core: &mut Core,
     journal: &mut Journal,
     decided: Decided,
-    request: &Request,
+    request: Request,
 ) -> Result<Reply, AllocError>
     ghost h: { List Entry }
     requires keeps { Keeps core.old h }
     requires seat { session_at core.old decided.session ≡ Some decided.session }
-    requires more { is_end request.now ≡ false }
-    requires holds { Holds (core_rules core.old) h decided.session (emptied request.now) decided.decision }
-    ensures ok { IfOk result (EnteredReply core.old core.new journal.old journal.new h decided.session request.now (emptied request.now) decided.decision) }
+    requires more { is_end request ≡ false }
+    requires holds { Holds (core_rules core.old) h decided.session (emptied request) decided.decision }
+    ensures ok { IfOk result (EnteredReply core.old core.new journal.old journal.new h decided.session request (emptied request) decided.decision) }
     ensures err { OnErr result (NothingEntered core.old core.new journal.old journal.new h) }
 {
     if let Request::Done { .. } = request {
         let done = Request::Done {
             results: List::new(alloc),
         };
-        let entered = enter_reply(core, journal, decided, request, &done);
+        let entered = enter_asked(core, journal, decided, request, &done);
         // A tree that is let go at the end of its scope makes a long proof; a call that takes it, none.
         drop(done);
         return entered;
     }
-    enter_reply(core, journal, decided, request, request)
+    enter_reply(core, journal, decided, request)
 }
 
 /// Notes a Done that is not bad, when all is known of its results and there is room for what they change, and enters it: those that bring
@@ -122,22 +124,22 @@ fn install(
     core: &mut Core,
     journal: &mut Journal,
     testimony: &mut Testimony,
-    request: &Request,
+    request: Request,
     noting: Noting,
 ) -> Result<Reply, AllocError>
     ghost h: { List Entry }
     requires standing { Standing core.old testimony.old.reports testimony.old.disputes.items h }
     requires seat { session_at core.old noting.asker.session ≡ Some noting.asker.session }
     requires joined { client_of h noting.asker.session ≡ Some noting.asker.client }
-    requires done { request.now ≡ requests.Done (results_in request.now) }
-    requires good { is_bad_done (core_rules core.old) (agreed_history h) noting.asker.session (results_in request.now) ≡ false }
-    requires reply { witnessed_reply (core_rules core.old) h noting.asker.session request.now ≡ noted_after agreed h noting.asker.session request.now }
-    requires counted { noting.counted.items ≡ counted_results (queue_of core.old).commit testimony.old.reports noting.asker.client (results_in request.now) }
+    requires done { request ≡ requests.Done (results_in request) }
+    requires good { is_bad_done (core_rules core.old) (agreed_history h) noting.asker.session (results_in request) ≡ false }
+    requires reply { witnessed_reply (core_rules core.old) h noting.asker.session request ≡ noted_after agreed h noting.asker.session request }
+    requires counted { noting.counted.items ≡ counted_results (queue_of core.old).commit testimony.old.reports noting.asker.client (results_in request) }
     requires brought { noting.agreed.items ≡ agreed_results (queue_of core.old) testimony.old.reports noting.counted.items }
     requires made { noting.disputes.items ≡ new_disputes testimony.old.reports noting.asker.client noting.counted.items }
     requires rows { AllByRecursion (λ (d : Done1). HasRoomFor testimony.old.reports d.pos) noting.counted.items }
     requires places { vec_len testimony.old.disputes + length noting.disputes.items ≤ vec_capacity testimony.old.disputes }
-    ensures ok { IfOk result (Replied core.old core.new journal.old journal.new testimony.new.reports testimony.new.disputes.items h noting.asker.session request.now) }
+    ensures ok { IfOk result (Replied core.old core.new journal.old journal.new testimony.new.reports testimony.new.disputes.items h noting.asker.session request) }
     ensures err { OnErr result (NothingEntered core.old core.new journal.old journal.new (agreed_history h)) }
     ensures testimony { OnErr result (testimony.new ≡ testimony.old) }
 {
@@ -155,7 +157,7 @@ fn install(
         session: asker.session,
         decision: Decision::Note,
     };
-    let entered = enter_reply(core, journal, noted, request, &done);
+    let entered = enter_asked(core, journal, noted, request, &done);
     drop(done);
     match entered {
         Ok(reply) => {
@@ -179,16 +181,18 @@ impl Witness {
     /// two clients report equally is installed, in the order of positions; that of an action that writes nothing by its first report. A Poll
     /// is sent the lowest position without a result that was not sent to the session and that its client did not report.
     ///
-    /// After running out of memory everything is as it was, but for room. An End takes no memory.
-    pub fn step(&mut self, session: u16, request: &Request) -> Result<Reply, AllocError>
+    /// The journal keeps the request itself. After running out of memory everything is as it was, but for room, and the request is let go. An End
+    /// takes no memory.
+    pub fn step(&mut self, session: u16, request: Request) -> Result<Reply, AllocError>
         requires session { MayBeSession self.old.rules.sessions session }
-        requires first { is_end request.now ≡ true → is_ended (history self.old) session ≡ false }
-        ensures ok { IfOk result (Witnesses self.old self.new session request.now) }
+        requires first { is_end request ≡ true → is_ended (history self.old) session ≡ false }
+        ensures ok { IfOk result (Witnesses self.old self.new session request) }
         ensures err { OnErr result (Stayed self.old self.new) }
         ensures legal { IsWitnessed self.new.rules (history self.new) }
-        ensures end { is_end request.now ≡ true → IsOk result }
+        ensures end { is_end request ≡ true → IsOk result }
     {
         if let Request::End = request {
+            drop(request);
             self.end(session);
             self.is_witnessed();
             return Ok(Reply::Bye);
@@ -217,23 +221,23 @@ impl Witness {
     }
 
     /// Answers a request that is no End. `h` is the journal's history.
-    fn answer(&mut self, session: u16, request: &Request) -> Result<Reply, AllocError>
+    fn answer(&mut self, session: u16, request: Request) -> Result<Reply, AllocError>
         ghost h: { List Entry }
         requires past { h ≡ history self.old }
         requires session { MayBeSession self.old.rules.sessions session }
-        requires more { is_end request.now ≡ false }
-        ensures ok { IfOk result (Witnesses self.old self.new session request.now) }
+        requires more { is_end request ≡ false }
+        ensures ok { IfOk result (Witnesses self.old self.new session request) }
         ensures err { OnErr result (Stayed self.old self.new) }
     {
         let seat = Seat {
             slot: session,
             session: session as u64,
         };
-        let decision = self.core.decide(seat, request);
+        let decision = self.core.decide(seat, &request);
         if let Decision::Note = decision {
             return self.note_results(session, request);
         }
-        if answers_poll(request, decision) {
+        if answers_poll(&request, decision) {
             return self.poll(session, request);
         }
         self.keep(session, request, decision)
@@ -243,17 +247,17 @@ impl Witness {
     fn keep(
         &mut self,
         session: u16,
-        request: &Request,
+        request: Request,
         decision: Decision,
     ) -> Result<Reply, AllocError>
         ghost h: { List Entry }
         requires past { h ≡ history self.old }
         requires session { MayBeSession self.old.rules.sessions session }
-        requires more { is_end request.now ≡ false }
-        requires holds { Holds self.old.rules (agreed_history h) session (emptied request.now) decision }
-        requires reply { reply_by self.old.rules (agreed_history h) session (emptied request.now) decision ≡ witnessed_reply self.old.rules h session request.now }
-        requires quiet { is_noted (witnessed_reply self.old.rules h session request.now) ≡ false }
-        ensures ok { IfOk result (Witnesses self.old self.new session request.now) }
+        requires more { is_end request ≡ false }
+        requires holds { Holds self.old.rules (agreed_history h) session (emptied request) decision }
+        requires reply { reply_by self.old.rules (agreed_history h) session (emptied request) decision ≡ witnessed_reply self.old.rules h session request }
+        requires quiet { is_noted (witnessed_reply self.old.rules h session request) ≡ false }
+        ensures ok { IfOk result (Witnesses self.old self.new session request) }
         ensures err { OnErr result (Stayed self.old self.new) }
     {
         enter_emptied(
@@ -266,13 +270,13 @@ impl Witness {
     }
 
     /// Answers a Poll that is not refused: with the lowest position that is due. `h` is the journal's history.
-    fn poll(&mut self, session: u16, request: &Request) -> Result<Reply, AllocError>
+    fn poll(&mut self, session: u16, request: Request) -> Result<Reply, AllocError>
         ghost h: { List Entry }
         requires past { h ≡ history self.old }
         requires session { MayBeSession self.old.rules.sessions session }
-        requires poll { request.now ≡ requests.Poll }
-        requires reply { witnessed_reply self.old.rules h session request.now ≡ polled_after agreed self.old.rules h session }
-        ensures ok { IfOk result (Witnesses self.old self.new session request.now) }
+        requires poll { request ≡ requests.Poll }
+        requires reply { witnessed_reply self.old.rules h session request ≡ polled_after agreed self.old.rules h session }
+        ensures ok { IfOk result (Witnesses self.old self.new session request) }
         ensures err { OnErr result (Stayed self.old self.new) }
     {
         let seat = Seat {
@@ -289,14 +293,14 @@ impl Witness {
 
     /// Notes a Done that is not bad: its results count as the client's reports, and those that bring agreement are installed. `h` is the
     /// journal's history. All memory is taken first.
-    fn note_results(&mut self, session: u16, request: &Request) -> Result<Reply, AllocError>
+    fn note_results(&mut self, session: u16, request: Request) -> Result<Reply, AllocError>
         ghost h: { List Entry }
         requires past { h ≡ history self.old }
         requires session { MayBeSession self.old.rules.sessions session }
-        requires done { request.now ≡ requests.Done (results_in request.now) }
-        requires good { is_bad_done self.old.rules (agreed_history h) session (results_in request.now) ≡ false }
-        requires reply { witnessed_reply self.old.rules h session request.now ≡ noted_after agreed h session request.now }
-        ensures ok { IfOk result (Witnesses self.old self.new session request.now) }
+        requires done { request ≡ requests.Done (results_in request) }
+        requires good { is_bad_done self.old.rules (agreed_history h) session (results_in request) ≡ false }
+        requires reply { witnessed_reply self.old.rules h session request ≡ noted_after agreed h session request }
+        ensures ok { IfOk result (Witnesses self.old self.new session request) }
         ensures err { OnErr result (Stayed self.old self.new) }
     {
         let seat = Seat {
@@ -307,13 +311,16 @@ impl Witness {
             unreachable!();
         };
         let asker = Asker { client, session };
-        let noting = note_ahead(
+        let Ok(noting) = note_ahead(
             self.alloc,
             self.core.queue(),
             &mut self.testimony,
             asker,
-            reported_by(request),
-        )?;
+            reported_by(&request),
+        ) else {
+            drop(request);
+            return Err(AllocError);
+        };
         install(
             &mut self.core,
             &mut self.journal,

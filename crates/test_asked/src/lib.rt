@@ -7,4 +7,5 @@ mod worlds;
 
 pub use lines::{asked_in, check_lines, printed};
 pub use locks::locked;
+pub use sv_lines::Asked;
 pub use worlds::{values_of, world_of};

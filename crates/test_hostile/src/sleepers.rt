@@ -101,7 +101,7 @@ impl Object for Steps {
 
     ghost number_of_entry = { λ number request reply. refl };
 
-    fn step(&mut self, number: u16, _request: &()) -> Result<(), AllocError> {
+    fn step(&mut self, number: u16, _request: ()) -> Result<(), AllocError> {
         self.made.push(number)?;
         self.places.step(self.made.len() as u64);
         Ok(())
@@ -124,7 +124,7 @@ fn call_in_turn<R: Wait>(
 {
     for turn in 0..CALLS {
         places.call(turn.wrapping_mul(2).wrapping_add(first));
-        let _ = lock.call(rt, &mut pass, &());
+        let _ = lock.call(rt, &mut pass, ());
     }
     pass
 }

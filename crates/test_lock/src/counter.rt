@@ -79,13 +79,12 @@ impl Object for Counter {
 
     ghost number_of_entry = { λ number amount total. refl };
 
-    fn step(&mut self, number: u16, amount: &u64) -> Result<u64, AllocError> {
+    fn step(&mut self, number: u16, amount: u64) -> Result<u64, AllocError> {
         pause(self.pauses);
         self.calls = self.calls.wrapping_add(1);
         if self.failing != 0 && self.calls % self.failing == 0 {
             return Err(AllocError);
         }
-        let amount = *amount;
         self.added.push(Added { by: number, amount })?;
         self.total = self.total.wrapping_add(amount);
         Ok(self.total)

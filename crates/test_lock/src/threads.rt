@@ -25,7 +25,7 @@ fn add_up<R: Wait>(
 {
     let mut left = count;
     for amount in 0..count {
-        if lock.call(rt, &mut pass, &amount).is_ok() {
+        if lock.call(rt, &mut pass, amount).is_ok() {
             left = left.wrapping_sub(1);
         }
     }
@@ -132,7 +132,7 @@ fn ask<R: Wait>(
     requires small { amount < pass.old.base }
     ensures same { (pass.new.lock ≡ pass.old.lock) × (pass.new.session ≡ pass.old.session) × (pass.new.base ≡ pass.old.base) }
 {
-    lock.call(rt, pass, &amount).ok()
+    lock.call(rt, pass, amount).ok()
 }
 
 // One pass alone adds 5, 7, 1, 2, 3 and 4.
@@ -239,10 +239,10 @@ fn let_go<R: Wait>(rt: &R, alloc: Global, failing: u64, mark: &Arc<u8>) -> Resul
         Err((_, error)) => return Err(error),
     };
     let mut pass = lock.split(&mut keeper);
-    lock.call(rt, &mut pass, &5)?;
+    lock.call(rt, &mut pass, 5)?;
     drop(lock.split(&mut keeper));
     drop(keeper);
-    lock.call(rt, &mut pass, &7)
+    lock.call(rt, &mut pass, 7)
 }
 
 #[test]

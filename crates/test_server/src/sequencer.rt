@@ -17,7 +17,7 @@ use std::alloc::Global;
 use std::test::Fail;
 use sv_sequencer::Sequencer;
 use sv_wire::Request;
-use test_asked::{asked_in, check_lines, world_of};
+use test_asked::{Asked, asked_in, check_lines, world_of};
 
 /// A server of objects of one number each, for four sessions.
 fn opened(alloc: Global, numbers: &[i64], bound: u8, reach: Option<u32>) -> Result<Sequencer, Fail>
@@ -43,8 +43,10 @@ fn may_ask(sequencer: &Sequencer, session: u16, request: &Request) -> bool
     }
 }
 
-fn ask(sequencer: &mut Sequencer, session: u16, request: &Request) -> Result<(), Fail> {
-    if !may_ask(sequencer, session, request) {
+fn ask(sequencer: &mut Sequencer, session: u16, request: Request) -> Result<(), Fail> {
+    if !may_ask(sequencer, session, &request) {
+        // At the end of its scope it would make a long proof; a call that takes it makes none.
+        drop(request);
         return Err(Fail::new("no such request may be made"));
     }
     sequencer.step(session, request)?;
@@ -53,11 +55,8 @@ fn ask(sequencer: &mut Sequencer, session: u16, request: &Request) -> Result<(),
 
 /// Asks what a line asks.
 fn ask_line(alloc: Global, sequencer: &mut Sequencer, line: &str) -> Result<(), Fail> {
-    let asked = asked_in(alloc, line)?;
-    let answered = ask(sequencer, asked.session, &asked.request);
-    // At the end of its scope it would make a long proof; a call that takes it makes none.
-    drop(asked);
-    answered
+    let Asked { session, request } = asked_in(alloc, line)?;
+    ask(sequencer, session, request)
 }
 
 fn play(alloc: Global, sequencer: &mut Sequencer, lines: &str) -> Result<(), Fail> {

@@ -3,9 +3,9 @@ ghost use Rattle.std.specs.Prelude.{◌≡◌, ◌<◌, IfOk, Some};
 
 mod rows;
 
-use std::alloc::Global;
+use std::alloc::{AllocError, Global};
 use std::test::Fail;
-use sv_wire::Request;
+use sv_wire::{Request, copy_request};
 use sv_witness::{Dispute, Report, Witness};
 use sv_world::{ObjectId, Value};
 use test_asked::{asked_in, check_lines, world_of};
@@ -43,32 +43,50 @@ fn stands_at(witness: &Witness, entries: usize, commit: u32, disputes: usize) ->
         && witness.disputes().len() == disputes
 }
 
-/// Asks once more where there was no memory. Then nothing may have changed.
-fn ask(witness: &mut Witness, session: u16, request: &Request) -> Result<(), Fail>
+/// One request that is no End. Whether it was answered.
+fn step(witness: &mut Witness, session: u16, request: Request) -> Result<bool, Fail>
     requires sessions { witness.old.rules.sessions ≡ Some 4 }
     ensures same { witness.new.rules ≡ witness.old.rules }
 {
+    // At the end of its scope a request would make a long proof; a call that takes it makes none.
     if session >= SESSIONS {
+        drop(request);
         return Err(Fail::new("there is no such session"));
     }
     if let Request::End = request {
+        drop(request);
         return Err(Fail::new("no line asks for an End"));
     }
-    let entries = witness.journal().entries().len();
-    let commit = witness.commit();
-    let disputes = witness.disputes().len();
     match witness.step(session, request) {
         Ok(reply) => {
             drop(reply);
-            return Ok(());
+            Ok(true)
         }
-        Err(_) => {}
+        Err(_) => Ok(false),
+    }
+}
+
+/// Asks once more where there was no memory. Then nothing may have changed.
+fn ask(alloc: Global, witness: &mut Witness, session: u16, request: &Request) -> Result<(), Fail>
+    requires sessions { witness.old.rules.sessions ≡ Some 4 }
+    ensures same { witness.new.rules ≡ witness.old.rules }
+{
+    let entries = witness.journal().entries().len();
+    let commit = witness.commit();
+    let disputes = witness.disputes().len();
+    let copy = copy_request(alloc, request)?;
+    if step(witness, session, copy)? {
+        return Ok(());
     }
     if !stands_at(witness, entries, commit, disputes) {
         return Err(Fail::new("a step without memory changed the server"));
     }
-    witness.step(session, request)?;
-    Ok(())
+    let again = copy_request(alloc, request)?;
+    if step(witness, session, again)? {
+        Ok(())
+    } else {
+        Err(Fail::from(AllocError))
+    }
 }
 
 /// Asks what a line asks.
@@ -77,7 +95,7 @@ fn ask_line(alloc: Global, witness: &mut Witness, line: &str) -> Result<(), Fail
     ensures same { witness.new.rules ≡ witness.old.rules }
 {
     let asked = asked_in(alloc, line)?;
-    let answered = ask(witness, asked.session, &asked.request);
+    let answered = ask(alloc, witness, asked.session, &asked.request);
     // At the end of its scope it would make a long proof; a call that takes it makes none.
     drop(asked);
     answered

@@ -11,7 +11,7 @@ use std::alloc::{AllocError, Global};
 use std::test::Fail;
 use sv_journal::{Entry, Journal};
 use sv_sequencer::Sequencer;
-use sv_wire::{Done1, Request};
+use sv_wire::{Done1, Request, copy_request};
 use sv_world::{Action, Body, ClientId, List, ObjectId, Point, Reads, Shape, Value};
 use test_asked::{printed, values_of, world_of};
 
@@ -230,11 +230,17 @@ fn some_request(
 }
 
 /// A request to the sequencer, where it may be made. It tells whether.
-fn ask_allowed(sequencer: &mut Sequencer, session: u16, request: &Request) -> Result<bool, Fail> {
+fn ask_allowed(
+    alloc: Global,
+    sequencer: &mut Sequencer,
+    session: u16,
+    request: &Request,
+) -> Result<bool, Fail> {
     if !may_ask(sequencer, session, request) {
         return Ok(false);
     }
-    ask(sequencer, session, request)?;
+    let copy = copy_request(alloc, request)?;
+    ask(sequencer, session, copy)?;
     Ok(true)
 }
 
@@ -259,7 +265,7 @@ fn ask_both(
 ) -> Result<(), Fail> {
     let session = dice.below(SESSIONS);
     let request = some_request(alloc, journal.entries(), session, dice)?;
-    match ask_allowed(sequencer, session, &request) {
+    match ask_allowed(alloc, sequencer, session, &request) {
         Ok(true) => answer_plainly(alloc, rules, journal, session, request),
         Ok(false) => {
             drop(request);

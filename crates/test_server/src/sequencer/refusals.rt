@@ -57,7 +57,7 @@ struct Polls<'a> {
 fn poll_all(alloc: Global, sequencer: &mut Sequencer, polls: Polls) -> Result<(), Fail> {
     play(alloc, sequencer, polls.first)?;
     for _ in sequencer.journal().len()..usize::from(polls.entries) {
-        ask(sequencer, polls.session, &Request::Poll)?;
+        ask(sequencer, polls.session, Request::Poll)?;
     }
     Ok(())
 }

@@ -11,14 +11,14 @@ use std::test::Fail;
 use sv_lock::{Pass, SeqLock};
 use sv_sequencer::Sequencer;
 use sv_wire::Request;
-use test_asked::{asked_in, check_lines, locked};
+use test_asked::{Asked, asked_in, check_lines, locked};
 
 /// One request that is no End. It tells whether it was answered.
 pub fn call<R: Wait>(
     rt: &R,
     lock: &SeqLock<Sequencer>,
     pass: &mut Pass<Sequencer>,
-    request: &Request,
+    request: Request,
 ) -> bool
     requires lock { pass.old.lock ≡ lock.now.id }
     requires session { IsSome pass.old.session }
@@ -26,6 +26,7 @@ pub fn call<R: Wait>(
     ensures same { (pass.new.lock ≡ pass.old.lock) × (pass.new.session ≡ pass.old.session) × (pass.new.base ≡ pass.old.base) }
 {
     if let Request::End = request {
+        drop(request);
         return false;
     }
     lock.call(rt, pass, request).is_ok()
@@ -45,9 +46,8 @@ fn call_all<R: Wait>(
     ensures same { (pass.new.lock ≡ pass.old.lock) × (pass.new.session ≡ pass.old.session) × (pass.new.base ≡ pass.old.base) }
 {
     for line in lines.lines() {
-        let asked = asked_in(alloc, line)?;
-        call(rt, lock, pass, &asked.request);
-        drop(asked);
+        let Asked { request, .. } = asked_in(alloc, line)?;
+        call(rt, lock, pass, request);
     }
     Ok(())
 }

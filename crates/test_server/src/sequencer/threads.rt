@@ -34,10 +34,9 @@ fn visit<R: Wait>(
         life: 1,
         interest: List::new(alloc),
     };
-    call(rt, lock, &mut pass, &join);
-    drop(join);
+    call(rt, lock, &mut pass, join);
     for _ in 0..100 {
-        call(rt, lock, &mut pass, &Request::Poll);
+        call(rt, lock, &mut pass, Request::Poll);
     }
     pass
 }

@@ -16,6 +16,6 @@ pub returns : goal.returns
 returns g c =
     let view = g.S.Server.view in
     on_ok_weaker c.send_answer.result
-    (λ sent. answer_entered (view c.args.server.now) (view c.step.new.self) c.args.session c.args.request.now c.in_ok-reply.reply c.is_some-stops.result c.args.channel.now c.send_answer.new.channel
+    (λ sent. answer_entered (view c.args.server.now) (view c.step.new.self) c.args.session c.args.request c.in_ok-reply.reply c.is_some-stops.result c.args.channel.now c.send_answer.new.channel
     c.in_ok-reply.ensures (c.is_some-stops.ensures ∙ ap is_some c.stop_for.ensures.stop) sent)
     c.send_answer.ensures

@@ -2,5 +2,5 @@
 use Rattle.sv_witness.specs.Reports.{agreed_history}
 use Rattle.sv_witness.proofs.step.install.Given as goal
 
-abbrev pub ghost-enter_reply : goal.ghost-enter_reply
-ghost-enter_reply g a = agreed_history g.h
+abbrev pub ghost-enter_asked : goal.ghost-enter_asked
+ghost-enter_asked g a = agreed_history g.h

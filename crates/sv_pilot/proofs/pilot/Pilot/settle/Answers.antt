@@ -1,9 +1,24 @@
 -- What is proved by hand of `Pilot::settle`.
-use Rattle.sv_pilot.proofs.Taking.{taken_more}
+use Rattle.std.proofs.Common.{refl}
+use Rattle.std.specs.Prelude.{IfErr}
+use Rattle.sv_pilot.specs.Doings.{StopsBy}
+use Rattle.sv_pilot.proofs.Taking.{same_taken, calm_same, calm_more, taken_more, stops_later}
+use Rattle.sv_pilot.proofs.Moved.{failed_by}
 use Rattle.sv_pilot.proofs.pilot.Pilot.settle.Goals as goal
 
-pub returns-in_err-take_next-clause-taken : goal.returns-in_err-take_next-clause-taken
-returns-in_err-take_next-clause-taken g c = taken_more c.args.self.now c.loop.self c.take_next.new.self c.loop.invariant.taken c.take_next.ensures.taken
+pub loop-self-init : goal.loop-self-init
+loop-self-init g c = record { taken = same_taken c.args.self.now; calm = calm_same c.args.self.now.line c.args.self.now.line refl }
 
-pub loop-preserved : goal.loop-preserved
-loop-preserved g c = record { taken = taken_more c.args.self.now c.loop.self c.take_next.new.self c.loop.invariant.taken c.take_next.ensures.taken }
+pub returns-in_err-take_next-clause-taken : goal.returns-in_err-take_next-clause-taken
+returns-in_err-take_next-clause-taken g c = taken_more c.args.self.now c.loop-self.self c.take_next.new.self c.loop-self.invariant.taken c.take_next.ensures.taken
+
+pub returns-in_err-take_next-clause-why : goal.returns-in_err-take_next-clause-why
+returns-in_err-take_next-clause-why g c =
+    failed_by c.from_residual.result c.in_err-take_next.field-0.0 c.from_residual.ensures.1 (λ q. IfErr q (StopsBy c.args.self.now c.take_next.new.self))
+    (stops_later c.args.self.now c.loop-self.self c.take_next.new.self c.in_err-take_next.field-0.0 c.loop-self.invariant.calm c.in_err-take_next.ensures.why)
+
+pub loop-self-preserved : goal.loop-self-preserved
+loop-self-preserved g c = record {
+  taken = taken_more c.args.self.now c.loop-self.self c.take_next.new.self c.loop-self.invariant.taken c.take_next.ensures.taken;
+  calm = calm_more c.args.self.now.line c.loop-self.self.line c.take_next.new.self.line c.loop-self.invariant.calm c.in_ok-take_next.ensures.calm;
+}

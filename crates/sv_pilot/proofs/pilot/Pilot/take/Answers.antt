@@ -1,18 +1,97 @@
 -- What is proved by hand of `Pilot::take`.
-use Rattle.std.proofs.Common.{refl, subst}
-use Rattle.sv_client.specs.Seen.{ClientView, latest_session}
-use Rattle.sv_pilot.specs.Doings.{HasTaken}
-use Rattle.sv_pilot.proofs.Taking.{got_then}
+use Rattle.std.proofs.Common.{◌≡◌, List, Ok, ◌<◌, sym, ap, subst, ◌∙◌}
+use Rattle.std.specs.Prelude.{IfErr}
+use Rattle.sv_world.specs.Worlds.{IsGoodShape}
+use Rattle.sv_link.specs.Ends.{Told}
+use Rattle.sv_wire.specs.Messages.{reply_at}
+use Rattle.sv_exchange.specs.Incoming.{FirstReads}
+use Rattle.sv_client.specs.declared.trace.Event.{Event}
+use Rattle.sv_client.specs.Taking.{Identity, outstanding}
+use Rattle.sv_client.specs.Proper.{AreInTurn}
+use Rattle.sv_client.specs.Answers.{IsTakeFault}
+use Rattle.sv_client.specs.Seen.{ClientView}
+use Rattle.sv_pilot.specs.Troubles.{trouble_of_take}
+use Rattle.sv_pilot.specs.Lines.{IsCalm}
+use Rattle.sv_pilot.specs.Doings.{PilotView, HasTaken, StopsBy, weight}
+use Rattle.sv_pilot.proofs.Taking.{none_taken, taken_more, calm_more, stops_later}
+use Rattle.sv_pilot.proofs.Moved.{failed_by}
+use Rattle.sv_pilot.proofs.Replied.{some_frame, skip_takes, done_is_message, fewer_are_due, refused_at, always, memory_stops}
 use Rattle.sv_pilot.proofs.pilot.Pilot.take.Goals as goal
+
+pub returns-in_err-done-clause-taken : goal.returns-in_err-done-clause-taken
+returns-in_err-done-clause-taken g c =
+    let new : PilotView = record { client = c.take.new.self; line = c.self.inside.connection } in
+    none_taken c.args.self.now new (ap (λ (v : ClientView). record { client = v; line = c.self.inside.connection }) c.in_err-done.ensures.err ∙ c.self.view_is)
+
+pub returns-in_err-done-clause-why : goal.returns-in_err-done-clause-why
+returns-in_err-done-clause-why g c =
+    let new : PilotView = record { client = c.take.new.self; line = c.self.inside.connection } in
+    let same = ap (λ (v : ClientView). record { client = v; line = c.self.inside.connection }) c.in_err-done.ensures.err ∙ c.self.view_is in
+    let why = subst (λ (p : PilotView). IsTakeFault p.client.who p.client.events c.args.reply.now c.in_err-done.field-0.0) c.self.view_is c.in_err-done.ensures.fault in
+    failed_by c.from_residual.result (trouble_of_take c.in_err-done.field-0.0) c.from_residual.ensures.1 (λ q. IfErr q (StopsBy c.args.self.now new))
+    (refused_at c.args.self.now new c.args.reply.now c.in_err-done.field-0.0 same c.requires.front why)
+
+pub skip-requires : goal.skip-requires
+skip-requires g c =
+    some_frame _ _ (subst (λ (p : PilotView). FirstReads reply_at p.line.came (Ok c.args.reply.now)) (sym c.self.view_is) c.requires.front)
+
+pub answer-requires : goal.answer-requires
+answer-requires g c = λ shape.
+    let v : ClientView = c.self.inside.client in
+    let turn = subst (λ (es : List Event). AreInTurn v.who 0 es) c.in_ok-done.ensures.got (subst (λ (w : Identity). AreInTurn w 0 c.take.new.self.events) c.in_ok-done.ensures.who c.in_turn.ensures.turn) in
+    done_is_message v.who v.events c.args.reply.now c.in_ok-done.done c.asks_messages.ensures turn c.requires.message c.in_ok-done.ensures.done
+    (subst (λ (w : Identity). IsGoodShape w.shape) c.in_ok-done.ensures.who shape)
 
 pub returns-in_err-answer-clause-taken : goal.returns-in_err-answer-clause-taken
 returns-in_err-answer-clause-taken g c =
-    let p = c.self.inside.client in
-    subst (λ (v : ClientView). HasTaken v c.take.new.self) c.self.view_is
-    (got_then p c.take.new.self c.take.new.self (latest_session p.events) c.args.reply c.in_ok-done.ensures.who c.in_ok-done.ensures.got refl)
+    let old : PilotView = record { client = c.self.inside.client; line = c.self.inside.connection } in
+    let mid : PilotView = record { client = c.take.new.self; line = c.skip.new.self } in
+    let front = subst (λ (p : PilotView). FirstReads reply_at p.line.came (Ok c.args.reply.now)) (sym c.self.view_is) c.requires.front in
+    let first : HasTaken old mid = skip_takes old mid c.args.reply.now front c.in_ok-done.ensures.who c.in_ok-done.ensures.got c.skip.ensures.told c.skip.ensures.came in
+    subst (λ (p : PilotView). HasTaken p c.answer.new.self) c.self.view_is (taken_more old mid c.answer.new.self first c.answer.ensures.taken)
+
+pub returns-in_err-answer-clause-why : goal.returns-in_err-answer-clause-why
+returns-in_err-answer-clause-why g c =
+    let old : PilotView = record { client = c.self.inside.client; line = c.self.inside.connection } in
+    let mid : PilotView = record { client = c.take.new.self; line = c.skip.new.self } in
+    let calm : IsCalm old.line mid.line = record { faults = c.skip.ensures.faults; ended = ap (λ (t : Told). t.ended) c.skip.ensures.told } in
+    failed_by c.from_residual-in_err-answer.result c.in_err-answer.field-0.0 c.from_residual-in_err-answer.ensures.1 (λ q. IfErr q (StopsBy c.args.self.now c.answer.new.self))
+    (subst (λ (p : PilotView). StopsBy p c.answer.new.self c.in_err-answer.field-0.0) c.self.view_is (stops_later old mid c.answer.new.self c.in_err-answer.field-0.0 calm c.in_err-answer.ensures.why))
 
 pub returns-clause-taken : goal.returns-clause-taken
 returns-clause-taken g c =
-    let p = c.self.inside.client in
-    subst (λ (v : ClientView). HasTaken v c.tell.new.self) c.self.view_is
-    (got_then p c.take.new.self c.tell.new.self (latest_session p.events) c.args.reply c.in_ok-done.ensures.who c.in_ok-done.ensures.got c.tell.ensures.same)
+    let old : PilotView = record { client = c.self.inside.client; line = c.self.inside.connection } in
+    let mid : PilotView = record { client = c.take.new.self; line = c.skip.new.self } in
+    let front = subst (λ (p : PilotView). FirstReads reply_at p.line.came (Ok c.args.reply.now)) (sym c.self.view_is) c.requires.front in
+    let first : HasTaken old mid = skip_takes old mid c.args.reply.now front c.in_ok-done.ensures.who c.in_ok-done.ensures.got c.skip.ensures.told c.skip.ensures.came in
+    subst (HasTaken c.args.self.now) (sym c.tell.ensures.same)
+    (subst (λ (p : PilotView). HasTaken p c.answer.new.self) c.self.view_is (taken_more old mid c.answer.new.self first c.answer.ensures.taken))
+
+pub returns-clause-calm : goal.returns-clause-calm
+returns-clause-calm g c =
+    let old : PilotView = record { client = c.self.inside.client; line = c.self.inside.connection } in
+    let mid : PilotView = record { client = c.take.new.self; line = c.skip.new.self } in
+    let calm : IsCalm old.line mid.line = record { faults = c.skip.ensures.faults; ended = ap (λ (t : Told). t.ended) c.skip.ensures.told } in
+    let all = calm_more old.line mid.line c.answer.new.self.line calm c.in_ok-answer.ensures.calm in
+    always _ c.tell.result (subst (λ (p : PilotView). IsCalm c.args.self.now.line p.line) (sym c.tell.ensures.same) (subst (λ (p : PilotView). IsCalm p.line c.answer.new.self.line) c.self.view_is all))
+
+pub returns-clause-why : goal.returns-clause-why
+returns-clause-why g c =
+    let old : PilotView = record { client = c.self.inside.client; line = c.self.inside.connection } in
+    let mid : PilotView = record { client = c.take.new.self; line = c.skip.new.self } in
+    let calm : IsCalm old.line mid.line = record { faults = c.skip.ensures.faults; ended = ap (λ (t : Told). t.ended) c.skip.ensures.told } in
+    let all = calm_more old.line mid.line c.answer.new.self.line calm c.in_ok-answer.ensures.calm in
+    memory_stops c.args.self.now c.tell.new.self c.tell.result
+    (subst (λ (p : PilotView). IsCalm c.args.self.now.line p.line) (sym c.tell.ensures.same) (subst (λ (p : PilotView). IsCalm p.line c.answer.new.self.line) c.self.view_is all)) c.tell.ensures.memory
+
+pub returns-clause-lighter : goal.returns-clause-lighter
+returns-clause-lighter g c =
+    let v : ClientView = c.self.inside.client in
+    let turn = subst (λ (es : List Event). AreInTurn v.who 0 es) c.in_ok-done.ensures.got (subst (λ (w : Identity). AreInTurn w 0 c.take.new.self.events) c.in_ok-done.ensures.who c.in_turn.ensures.turn) in
+    let fewer = fewer_are_due v.who v.events c.args.reply.now turn in
+    let due = subst (λ (es : List Event). weight (outstanding v.who es) < weight (outstanding v.who v.events)) (sym c.in_ok-done.ensures.got) fewer in
+    let mine = subst (λ (w : Identity). weight (outstanding w c.take.new.self.events) < weight (outstanding v.who v.events)) (sym c.in_ok-done.ensures.who) due in
+    let same : c.tell.new.self.client ≡ c.take.new.self = ap (λ (p : PilotView). p.client) c.tell.ensures.same ∙ c.answer.ensures.client in
+    let new = subst (λ (w : ClientView). weight (outstanding w.who w.events) < weight (outstanding v.who v.events)) (sym same) mine in
+    always _ c.tell.result
+    (subst (λ (p : PilotView). weight (outstanding c.tell.new.self.client.who c.tell.new.self.client.events) < weight (outstanding p.client.who p.client.events)) c.self.view_is new)

@@ -6,4 +6,4 @@ pub step-requires-clause-first : goal.step-requires-clause-first
 step-requires-clause-first c = c.requires.first
 
 pub returns : goal.returns
-returns c = sequencer_answers c.args.self.now c.step.new.self c.args.session c.args.request.now c.step.result c.step.ensures.ok
+returns c = sequencer_answers c.args.self.now c.step.new.self c.args.session c.args.request c.step.result c.step.ensures.ok

@@ -25,7 +25,7 @@ pub invariant_of-self : goal.invariant_of-self
 invariant_of-self g c =
     let a = c.self.inside in
     let s = c.args.session in
-    let q = c.args.request.now in
+    let q = c.args.request in
     let d = c.decide-decision.result in
     let core = c.enter_reply.new.core in
     let journal = c.enter_reply.new.journal in

@@ -19,7 +19,7 @@ pub note_results-requires : goal.note_results-requires
 note_results-requires g c =
     let r = c.args.self.now.rules in
     let s = c.args.session in
-    let q = c.args.request.now in
+    let q = c.args.request in
     let d = c.decide-decision.result in
     let told = subst (λ (v : SequencerView). reply_by v.rules (agreed_history g.h) s q d ≡ reply_to_request v.rules (agreed_history g.h) s q) c.self.view_is c.decide-decision.ensures.reply in
     let holds = subst (λ (v : SequencerView). Holds v.rules (agreed_history g.h) s q d) c.self.view_is c.decide-decision.ensures.holds in
@@ -35,7 +35,7 @@ pub poll-requires : goal.poll-requires
 poll-requires g c =
     let r = c.args.self.now.rules in
     let s = c.args.session in
-    let q = c.args.request.now in
+    let q = c.args.request in
     let d = c.decide-decision.result in
     let told = subst (λ (v : SequencerView). reply_by v.rules (agreed_history g.h) s q d ≡ reply_to_request v.rules (agreed_history g.h) s q) c.self.view_is c.decide-decision.ensures.reply in
     let more = c.requires.1.1 in
@@ -46,7 +46,7 @@ pub keep-requires : goal.keep-requires
 keep-requires g c =
     let r = c.args.self.now.rules in
     let s = c.args.session in
-    let q = c.args.request.now in
+    let q = c.args.request in
     let d = c.decide-decision.result in
     let told = subst (λ (v : SequencerView). reply_by v.rules (agreed_history g.h) s q d ≡ reply_to_request v.rules (agreed_history g.h) s q) c.self.view_is c.decide-decision.ensures.reply in
     let holds = subst (λ (v : SequencerView). Holds v.rules (agreed_history g.h) s q d) c.self.view_is c.decide-decision.ensures.holds in

@@ -19,7 +19,7 @@ enter_emptied-requires g c = (
     c.self.invariant.seats.seats c.args.session (subst (λ (v : SequencerView). MayBeSession v.rules.sessions c.args.session) (sym c.self.view_is) c.requires.1.0),
     (
       c.requires.1.1.0,
-      subst (λ (v : SequencerView). Holds v.rules (agreed_history g.h) c.args.session (emptied c.args.request.now) c.args.decision) (sym c.self.view_is) c.requires.1.1.1.0,
+      subst (λ (v : SequencerView). Holds v.rules (agreed_history g.h) c.args.session (emptied c.args.request) c.args.decision) (sym c.self.view_is) c.requires.1.1.1.0,
     ),
   ),
 )
@@ -28,7 +28,7 @@ pub invariant_of-self : goal.invariant_of-self
 invariant_of-self g c =
     let a = c.self.inside in
     let s = c.args.session in
-    let q = c.args.request.now in
+    let q = c.args.request in
     let result = c.enter_emptied.result in
     let core = c.enter_emptied.new.core in
     let journal = c.enter_emptied.new.journal in
@@ -41,7 +41,7 @@ pub returns-clause-ok : goal.returns-clause-ok
 returns-clause-ok g c =
     let a = c.self.inside in
     let s = c.args.session in
-    let q = c.args.request.now in
+    let q = c.args.request in
     let core = c.enter_emptied.new.core in
     let journal = c.enter_emptied.new.journal in
     IfOk-weaker c.enter_emptied.result _ _ (λ reply is. witnessed a (record a { core = core; journal = journal }) s q c.args.self.now c.self.view_is reply

@@ -34,7 +34,7 @@ unreachable-requires g c =
     let h = g.h in
     let s = c.args.session in
     let is = stands-for c.self.inside c.args.self.now h c.self.invariant c.self.view_is c.requires.0 in
-    let has = done-joined c.args.self.now.rules h s c.args.request.now c.requires.1.1.0 c.requires.1.1.1.1 in
+    let has = done-joined c.args.self.now.rules h s c.args.request c.requires.1.1.0 c.requires.1.1.1.1 in
     c.in_default.not-Some has.client (c.client.ensures (agreed_history h) is.keeps ∙ client-agreed h s ∙ has.joined)
 
 pub note_ahead-requires : goal.note_ahead-requires
@@ -44,10 +44,10 @@ note_ahead-requires g c =
     let s = c.args.session in
     let is = stands-for a c.args.self.now h c.self.invariant c.self.view_is c.requires.0 in
     let joined = sym (client-agreed h s) ∙ sym (c.client.ensures (agreed_history h) is.keeps) ∙ c.in-Some.is in
-    let good = subst (λ (v : SequencerView). is_bad_done v.rules (agreed_history h) s (results_in c.args.request.now) ≡ false) (sym c.self.view_is) c.requires.1.1.1.0 in
+    let good = subst (λ (v : SequencerView). is_bad_done v.rules (agreed_history h) s (results_in c.args.request) ≡ false) (sym c.self.view_is) c.requires.1.1.1.0 in
     subst (λ (v : QueueView). All (λ (d : Done1). d.pos ≤ last_position v) c.reported_by.result.now) (sym c.queue.ensures)
     (subst (All (λ (d : Done1). d.pos ≤ last_position (queue_of a.core))) (sym c.reported_by.ensures)
-    (reported-low (core_rules a.core) h s c.in-Some.client (results_in c.args.request.now) joined good (queue_of a.core) is.keeps.fits.last))
+    (reported-low (core_rules a.core) h s c.in-Some.client (results_in c.args.request) joined good (queue_of a.core) is.keeps.fits.last))
 
 pub install-requires : goal.install-requires
 install-requires g c =
@@ -55,12 +55,12 @@ install-requires g c =
     let h = g.h in
     let s = c.args.session in
     let k = c.in-Some.client in
-    let q = c.args.request.now in
+    let q = c.args.request in
     let v = queue_of a.core in
     let rows = a.testimony.reports in
     let new = c.note_ahead.new.testimony.reports in
-    let noting = c.in_ok-noting.noting in
-    let said = c.in_ok-noting.ensures in
+    let noting = c.in-Ok.noting in
+    let said = c.in-Ok.ensures in
     let same = c.note_ahead.ensures.reports in
     let is = stands-for a c.args.self.now h c.self.invariant c.self.view_is c.requires.0 in
     let joined = sym (client-agreed h s) ∙ sym (c.client.ensures (agreed_history h) is.keeps) ∙ c.in-Some.is in
@@ -100,13 +100,13 @@ pub invariant_of-self-2 : goal.invariant_of-self-2
 invariant_of-self-2 g c =
     let a = c.self.inside in
     let s = c.args.session in
-    let q = c.args.request.now in
+    let q = c.args.request in
     let result = c.install.result in
     let core = c.install.new.core in
     let journal = c.install.new.journal in
     let kept = c.install.new.testimony in
     let at = c.requires.0 ∙ sym (ap history c.self.view_is) in
-    let asked = ap (λ (asker : Asker). asker.session) c.in_ok-noting.ensures.asker in
+    let asked = ap (λ (asker : Asker). asker.session) c.in-Ok.ensures.asker in
     after-reply a (record a { core = core; journal = journal; testimony = kept }) s q result c.self.invariant
     (subst (λ (h : List Entry). IfOk result (Replied a.core core a.journal journal kept.reports kept.disputes.items h s q)) at
     (subst (λ n. IfOk result (Replied a.core core a.journal journal kept.reports kept.disputes.items g.h n q)) asked c.install.ensures.ok))
@@ -118,12 +118,12 @@ pub returns-clause-ok : goal.returns-clause-ok
 returns-clause-ok g c =
     let a = c.self.inside in
     let s = c.args.session in
-    let q = c.args.request.now in
+    let q = c.args.request in
     let core = c.install.new.core in
     let journal = c.install.new.journal in
     let kept = c.install.new.testimony in
     let at = c.requires.0 ∙ sym (ap history c.self.view_is) in
-    let asked = ap (λ (asker : Asker). asker.session) c.in_ok-noting.ensures.asker in
+    let asked = ap (λ (asker : Asker). asker.session) c.in-Ok.ensures.asker in
     IfOk-weaker c.install.result _ _ (witnessed a (record a { core = core; journal = journal; testimony = kept }) s q c.args.self.now c.self.view_is)
     (subst (λ (h : List Entry). IfOk c.install.result (Replied a.core core a.journal journal kept.reports kept.disputes.items h s q)) at
     (subst (λ n. IfOk c.install.result (Replied a.core core a.journal journal kept.reports kept.disputes.items g.h n q)) asked c.install.ensures.ok))

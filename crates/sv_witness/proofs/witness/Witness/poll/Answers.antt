@@ -21,7 +21,7 @@ unreachable-requires g c =
     let h = g.h in
     let s = c.args.session in
     let is = stands-for c.self.inside c.args.self.now h c.self.invariant c.self.view_is c.requires.0 in
-    let has = poll-joined c.args.self.now.rules h s c.args.request.now c.requires.1.1.0 c.requires.1.1.1 in
+    let has = poll-joined c.args.self.now.rules h s c.args.request c.requires.1.1.0 c.requires.1.1.1 in
     c.in_default.not-Some has.client (c.client.ensures (agreed_history h) is.keeps ∙ client-agreed h s ∙ has.joined)
 
 pub keep-requires : goal.keep-requires
@@ -31,7 +31,7 @@ keep-requires g c =
     let h = g.h in
     let s = c.args.session in
     let k = c.in-Some.client in
-    let q = c.args.request.now in
+    let q = c.args.request in
     let d = c.due_decision-decision.result in
     let is = stands-for a c.args.self.now h c.self.invariant c.self.view_is c.requires.0 in
     let sits = c.self.invariant.seats.seats s (subst (λ (v : SequencerView). MayBeSession v.rules.sessions s) (sym c.self.view_is) c.requires.1.0) in

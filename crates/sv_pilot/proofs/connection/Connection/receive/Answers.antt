@@ -1,0 +1,20 @@
+-- What is proved by hand of `Connection::receive`.
+use Rattle.sv_pilot.specs.Sending.{IsReceived}
+use Rattle.sv_pilot.proofs.Taking.{sent_read, read_more}
+use Rattle.sv_pilot.proofs.Moved.{received_later, sending_stops, failed_by}
+use Rattle.sv_pilot.proofs.connection.Connection.receive.Goals as goal
+
+pub returns-in_err-flush-clause-read : goal.returns-in_err-flush-clause-read
+returns-in_err-flush-clause-read g c = sent_read c.args.self.now c.flush.new.self c.flush.ensures.sent
+
+pub returns-in_err-flush-clause-received : goal.returns-in_err-flush-clause-received
+returns-in_err-flush-clause-received g c =
+    failed_by c.from_residual.result c.in_err-flush.field-0.0 c.from_residual.ensures.1 (IsReceived c.args.self.now c.flush.new.self)
+    (sending_stops c.args.self.now c.flush.new.self c.in_err-flush.field-0.0 c.in_err-flush.ensures.answer)
+
+pub returns-clause-read : goal.returns-clause-read
+returns-clause-read g c =
+    read_more c.args.self.now c.flush.new.self c.wait.new.self (sent_read c.args.self.now c.flush.new.self c.flush.ensures.sent) c.wait.ensures.read
+
+pub returns-clause-received : goal.returns-clause-received
+returns-clause-received g c = received_later c.args.self.now c.flush.new.self c.wait.new.self c.wait.result c.in_ok-flush.ensures.answer c.wait.ensures.received

@@ -1,0 +1,71 @@
+-- What is proved by hand of `Pilot::join`.
+use Rattle.std.proofs.Common.{◌≡◌, ◌≤◌, ◌⊎◌, inr, refl, sym, ap, subst, ◌∙◌, zero-add}
+use Rattle.std.specs.Prelude.{All, OnOk, IfErr}
+use Rattle.sv_wire.specs.Grammar.{IsWireRequest}
+use Rattle.sv_client.specs.declared.trace.Event.TheVariants as events
+use Rattle.sv_client.specs.Traces.{joins}
+use Rattle.sv_client.specs.Proper.{most_numbers}
+use Rattle.sv_client.specs.Seen.{ClientView}
+use Rattle.sv_pilot.specs.declared.trouble.Trouble.{Trouble}
+use Rattle.sv_pilot.specs.declared.trouble.Trouble.TheVariants as troubles
+use Rattle.sv_pilot.specs.Lines.{IsCalm}
+use Rattle.sv_pilot.specs.Doings.{PilotView, Did, NoReplyIsDue, Stopped}
+use Rattle.sv_pilot.proofs.Taking.{sent_read, did_only, sending_stops_it, asked_fine, asked_stops, may_stop, not_refused}
+use Rattle.sv_pilot.proofs.Moved.{failed_by}
+use Rattle.sv_pilot.proofs.Asked.{nothing_done, not_of_game}
+use Rattle.sv_pilot.proofs.pilot.Pilot.join.Goals as goal
+
+pub send_all-requires : goal.send_all-requires
+send_all-requires g c =
+    let n = joins c.self.inside.client.events in
+    subst (All IsWireRequest) (sym (c.as_slice.ensures.value ∙ c.in_ok-requests.ensures.requests)) (c.asks_messages.ensures (events.Join n) (sym (zero-add n)) tt)
+
+pub returns-in_err-requests-clause-stopped : goal.returns-in_err-requests-clause-stopped
+returns-in_err-requests-clause-stopped g c =
+    let new : PilotView = record { client = c.join.new.self; line = c.self.inside.connection } in
+    let e = events.Join (joins c.args.self.now.client.events) in
+    let same = ap (λ (v : ClientView). record { client = v; line = c.self.inside.connection }) c.in_err-requests.ensures.err ∙ c.self.view_is in
+    failed_by c.from_residual.result troubles.Memory c.from_residual.ensures.1 (λ q. IfErr q (λ (trouble : Trouble). (trouble ≡ troubles.Game) ⊎ Stopped e c.args.self.now new trouble))
+    (nothing_done e c.args.self.now new troubles.Memory same (inr refl))
+
+pub returns-in_err-send_all-clause-stopped : goal.returns-in_err-send_all-clause-stopped
+returns-in_err-send_all-clause-stopped g c =
+    let old : PilotView = record { client = c.self.inside.client; line = c.self.inside.connection } in
+    let mid : PilotView = record { client = c.join.new.self; line = c.send_all.new.self } in
+    let trouble = c.in_err-send_all.field-0.0 in
+    failed_by c.from_residual-in_err-send_all.result trouble c.from_residual-in_err-send_all.ensures.1
+    (λ q. IfErr q (λ (t : Trouble). (t ≡ troubles.Game) ⊎ Stopped (events.Join (joins c.args.self.now.client.events)) c.args.self.now mid t))
+    (subst (λ (p : PilotView). (trouble ≡ troubles.Game) ⊎ Stopped (events.Join (joins p.client.events)) p mid trouble) c.self.view_is
+    (inr (inr (did_only (events.Join (joins old.client.events)) old mid c.in_ok-requests.ensures.ok (sent_read old.line mid.line c.send_all.ensures.sent), sending_stops_it old mid trouble c.in_err-send_all.ensures.answer))))
+
+pub returns-in_err-send_all-clause-refused : goal.returns-in_err-send_all-clause-refused
+returns-in_err-send_all-clause-refused g c =
+    let mid : PilotView = record { client = c.join.new.self; line = c.send_all.new.self } in
+    let old : PilotView = record { client = c.self.inside.client; line = c.self.inside.connection } in
+    let trouble = c.in_err-send_all.field-0.0 in
+    failed_by c.from_residual-in_err-send_all.result trouble c.from_residual-in_err-send_all.ensures.1 (λ q. IfErr q (λ (t : Trouble). t ≡ troubles.Game → (mid ≡ c.args.self.now) × (most_numbers ≤ joins c.args.self.now.client.events)))
+    (λ game. absurd (not_of_game old mid trouble c.in_err-send_all.ensures.answer game))
+
+pub returns-clause-joined : goal.returns-clause-joined
+returns-clause-joined g c =
+    let old : PilotView = record { client = c.self.inside.client; line = c.self.inside.connection } in
+    let mid : PilotView = record { client = c.join.new.self; line = c.send_all.new.self } in
+    let new = c.settle.new.self in
+    let e = events.Join (joins old.client.events) in
+    subst (λ (p : PilotView). OnOk c.settle.result (Did (events.Join (joins p.client.events)) p new × NoReplyIsDue new × IsCalm p.line new.line)) c.self.view_is
+    (asked_fine e old mid new c.settle.result c.in_ok-requests.ensures.ok (sent_read old.line mid.line c.send_all.ensures.sent) c.in_ok-send_all.ensures.answer c.settle.ensures.taken c.settle.ensures.settled)
+
+pub returns-clause-stopped : goal.returns-clause-stopped
+returns-clause-stopped g c =
+    let old : PilotView = record { client = c.self.inside.client; line = c.self.inside.connection } in
+    let mid : PilotView = record { client = c.join.new.self; line = c.send_all.new.self } in
+    let new = c.settle.new.self in
+    let e = events.Join (joins old.client.events) in
+    subst (λ (p : PilotView). IfErr c.settle.result (λ (trouble : Trouble). (trouble ≡ troubles.Game) ⊎ Stopped (events.Join (joins p.client.events)) p new trouble)) c.self.view_is
+    (may_stop e old new c.settle.result
+    (asked_stops e old mid new c.settle.result c.in_ok-requests.ensures.ok (sent_read old.line mid.line c.send_all.ensures.sent) c.in_ok-send_all.ensures.answer c.settle.ensures.taken c.settle.ensures.why))
+
+pub returns-clause-refused : goal.returns-clause-refused
+returns-clause-refused g c =
+    let mid : PilotView = record { client = c.join.new.self; line = c.send_all.new.self } in
+    not_refused mid c.settle.new.self c.settle.result _ c.settle.ensures.why

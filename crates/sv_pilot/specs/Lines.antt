@@ -1,0 +1,42 @@
+-- A pilot's connection, and what is wrong with what came over it.
+use Rattle.std.specs.Prelude.{◌≡◌, ℕ, ◌⊎◌, List, [], ◌++◌, Some, Err}
+use Rattle.sv_frame.specs.Frames.{too_long}
+use Rattle.sv_wire.specs.declared.fault.Malformed.{Malformed}
+use Rattle.sv_wire.specs.Messages.{reply_at}
+use Rattle.sv_link.specs.Ends.{Told}
+use Rattle.sv_exchange.specs.Incoming.{FirstReads}
+
+-- What the end in use tells, how often it failed, and the bytes that came and were not taken as replies.
+pub record Line : Type 0 where
+  pub told : Told
+  pub faults : ℕ
+  pub came : List ℕ
+
+-- The line of an end over which nothing came yet.
+abbrev pub line_of : Told → ℕ → Line
+line_of told faults = record { told = told; faults = faults; came = [] }
+
+-- No call of the end failed, and no read told that no more will come.
+pub record IsCalm (old new : Line) : Type 0 where
+  pub faults : new.faults ≡ old.faults
+  pub ended : new.told.ended ≡ old.told.ended
+
+-- It is the same end, which sent some bytes more; and some bytes more were received, which stand behind those that had come.
+pub record GoesOn (old new : Line) (received : List ℕ) : Type 0 where
+  pub sent : List ℕ
+  pub sends : new.told.sent ≡ old.told.sent ++ sent
+  pub receives : new.told.received ≡ old.told.received ++ received
+  pub pair : new.told.pair ≡ old.told.pair
+  pub side : new.told.side ≡ old.told.side
+
+-- the first payload of what came is none of a reply
+abbrev pub IsMalformed : List ℕ → Type 0
+IsMalformed came = (fault : Malformed) × FirstReads reply_at came (Err fault)
+
+-- what came begins with a length that is too great
+abbrev pub IsTooLong : List ℕ → Type 0
+IsTooLong came = (n : ℕ) × (too_long came ≡ Some n)
+
+-- the front of what came is no reply
+abbrev pub IsBadFront : List ℕ → Type 0
+IsBadFront came = IsMalformed came ⊎ IsTooLong came
