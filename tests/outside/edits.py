@@ -5,10 +5,10 @@
     python3 tests/outside/edits.py --recorded
 
 Without words it tries those of all crates, with --due those that are due. It puts them in place in a copy of the repository's committed state,
-in which no other edit stands, and runs `rt ci` there on these crates. So it takes what the gate has kept, and proves anew just what an edit
-changes. All of them take an hour of one processor and more. Where all were refused, it records for each crate, in edits/refused.txt, the sum of
-its edits and of its code and definitions and those of all crates below it. With --recorded it tries nothing, and only says which edits are due:
-those whose sum is another one now.
+in which no other edit stands, and runs tools/pieces/gate.py there on these crates. So it takes what that has kept, and proves anew just what an
+edit changes. All of them take an hour of one processor and more. Where all of a crate's edits were refused, it records for it, in
+edits/refused.txt, the sum of its edits and of its code and definitions and those of all crates below it. With --recorded it tries nothing, and
+only says which edits are due: those whose sum is another one now.
 """
 
 import hashlib
@@ -78,15 +78,19 @@ def place(copy, crates):
 
 
 def try_all(crates):
-    """The status of `rt ci` over a copy with the edits of these crates. Where it is 0, what was tried is recorded."""
+    """Tries the edits of these crates over a copy. Those of a crate that are all refused are recorded. The status: 0 where all are."""
     with tempfile.TemporaryDirectory() as room:
         copy = os.path.join(room, "dimboetu")
         subprocess.run(["git", "clone", "-q", ROOT, copy], check=True)
         sums = {crate: sum_of(copy, crate) for crate in crates}
         place(copy, crates)
-        status = subprocess.run(["rt", "ci", *crates], cwd=copy, check=False).returncode
-    if status == 0:
-        write_record({**recorded(), **sums})
+        gate = [sys.executable, os.path.join(ROOT, "tools", "pieces", "gate.py"), "--at", copy, "--steps", "edits"]
+        status = 0
+        for crate in crates:
+            failed = subprocess.run([*gate, crate], check=False).returncode
+            status = status or failed
+            if not failed:
+                write_record({**recorded(), crate: sums[crate]})
     return status
 
 
