@@ -81,6 +81,9 @@ const DENIED_FIRST: &str = "\
 
 #[test]
 fn denied_before_dropped(rt: HostRuntime) -> Result<(), Fail> {
-    let setting = Setting { bound: 0, ..SETTING };
+    let setting = Setting {
+        bound: 0,
+        ..SETTING
+    };
     check(&rt, setting, DENIED_FIRST)
 }
