@@ -12,8 +12,8 @@ use Rattle.sv_versions.specs.contracts.history.History as history
 use Rattle.sv_pending.specs.contracts.made.Made as made
 use Rattle.sv_pending.specs.contracts.pending.Pending as pending
 use Rattle.http_server.proofs.log.Log.TheSendSync as logs
-use Rattle.sv_client.proofs.deed.Deed.TheSendSync as deeds
 use Rattle.sv_client.proofs.kinds.Awaited.TheSendSync as awaited
+use Rattle.sv_client.specs.contracts.deed.Deed as deed
 use Rattle.sv_client.specs.contracts.lean.LeanClient as lean
 use Rattle.sv_client.specs.contracts.past.Past as past
 use Rattle.sv_client.specs.contracts.client.Client as client
@@ -48,14 +48,17 @@ made-field-sends = search (action-field-sends, lists.the_send, shorts.the_send, 
 pending-field-sends : IsSend (pending.the_field).row
 pending-field-sends = search (made-field-sends, lists.the_send, shorts.the_send, sendable, crosses) depth 40 fits 10000
 
+deed-field-sends : IsSend (deed.the_field).row
+deed-field-sends = search (sendable, crosses) depth 30 fits 10000
+
 past-field-sends : IsSend (past.the_field).row
-past-field-sends = search (logs.the_send, deeds.the_send, lists.the_send, action-field-sends, reply-field-sends, sendable, crosses) depth 40 fits 10000
+past-field-sends = search (logs.the_send, deed-field-sends, sendable, crosses) depth 40 fits 10000
 
 lean-field-sends : IsSend (lean.the_field).row
-lean-field-sends = search (lists.the_send, shorts.the_send, past-field-sends, versions-field-sends, pending-field-sends, awaited.the_send, sendable, crosses) depth 40 fits 10000
+lean-field-sends = search (lists.the_send, past-field-sends, versions-field-sends, pending-field-sends, awaited.the_send, sendable, crosses) depth 40 fits 10000
 
 pub client-field-sends : IsSend (client.the_field).row
-client-field-sends = search (lists.the_send, event-field-sends, lean-field-sends, sendable, crosses) depth 40 fits 10000
+client-field-sends = search (event-field-sends, lean-field-sends, sendable, crosses) depth 40 fits 10000
 
 pub trace-field-sends : IsSend (trace.the_field).row
 trace-field-sends = search (lists.the_send, event-field-sends, sendable, crosses) depth 40
