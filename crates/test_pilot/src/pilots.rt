@@ -75,6 +75,9 @@ fn objects_of(alloc: Global, numbers: &[u16]) -> Result<List<ObjectId>, Fail> {
 type Flown<'a> = Pilot<ScriptEnd<'a>, Notes>;
 
 fn make(alloc: Global, pilot: &mut Flown<'_>, text: &str) -> Result<Option<Trouble>, Fail> {
+    if text.len() > 1_000 {
+        return Err(Fail::new("the text is too long"));
+    }
     match parse_action(alloc, text) {
         Ok(action) => Ok(pilot.make(action).err()),
         Err(ParseFault::Memory) => Err(Fail::new(format_args!("memory"))),
@@ -126,13 +129,30 @@ fn further_of(alloc: Global, row: &Row<'_>) -> Result<Vec<u8>, Fail> {
     Ok(Vec::new(alloc))
 }
 
-/// Does what the row at a place has, over these bytes.
-fn flown(
+/// Makes the calls of the row at a place.
+fn flies<'a>(
     alloc: Global,
     at: usize,
     row: &Row<'_>,
-    coming: &[u8],
-    further: &[u8],
+    pilot: &mut Flown<'a>,
+    further: &'a [u8],
+) -> Result<(), Fail> {
+    for (place, (call, wanted)) in row.calls.iter().enumerate() {
+        let got = answer(alloc, pilot, *call, further)?;
+        if got != *wanted {
+            return Err(Fail::new(format_args!("row {at}, call {place}")));
+        }
+    }
+    Ok(())
+}
+
+/// Does what the row at a place has, over these bytes.
+fn flown<'a>(
+    alloc: Global,
+    at: usize,
+    row: &Row<'_>,
+    coming: &'a [u8],
+    further: &'a [u8],
 ) -> Result<String, Fail> {
     let client = client_of(alloc, row.attrs)?;
     let end = ScriptEnd::new(alloc, coming, row.failing, 0)?;
@@ -140,13 +160,7 @@ fn flown(
         Ok(pilot) => pilot,
         Err(trouble) => return Err(Fail::new(format_args!("{trouble}"))),
     };
-    for (place, (call, wanted)) in row.calls.iter().enumerate() {
-        let got = answer(alloc, &mut pilot, *call, further)?;
-        if got != *wanted {
-            drop(pilot);
-            return Err(Fail::new(format_args!("row {at}, call {place}")));
-        }
-    }
+    flies(alloc, at, row, &mut pilot, further)?;
     Ok(pilot.into_listener().into_text())
 }
 
