@@ -29,6 +29,8 @@ export declare class Fault extends Error {
     object?: number;
     /** Of `toolong`. */
     length?: number;
+    /** Of `closed`: what the last try broke by. */
+    reason?: Error | null;
     /** Of `unasked` and `wrongkind`: the server's refusal, where the reply was one. */
     refused?: { code: number; detail: number; name: string } | null;
 }
@@ -67,10 +69,10 @@ export declare function number(value: bigint | number): Term;
 export declare function obj(object: number): { attr(attribute: number): Term };
 
 /** The statement that does those of `then` where the condition holds, else those of `other`. */
-export declare function when(condition: Term, then: readonly Statement[], other?: readonly Statement[]): Statement;
+export declare function when(condition: Term, then: Statement | Iterable<Statement>, other?: Statement | Iterable<Statement>): Statement;
 
 /** The action that reads all objects which these statements name and writes those that they set, or more. */
-export declare function action(statements: readonly Statement[],
+export declare function action(statements: Statement | Iterable<Statement>,
     more?: { reads?: readonly number[]; writes?: readonly number[]; at?: readonly [number, number] }): Action;
 
 /** Code over the objects that it reads, ascending. The mask says which slots are written; the body names slots. */
@@ -208,6 +210,8 @@ export interface Saved extends World {
 export declare class Client {
     constructor(options: World & Options);
     /** A client that goes on where another program's stood when it called `saved()`. */
+    static fromSaved(saved: Saved, options: Options): Client;
+    /** The older name of `fromSaved`. */
     static from(saved: Saved, options: Options): Client;
     saved(): Saved;
     readonly status: Status;
@@ -219,14 +223,19 @@ export declare class Client {
     /** How many actions have no outcome yet. */
     readonly pending: number;
     readonly knowledge: Knowledge;
+    /** The link of the present session. Close it to try what happens where the connection breaks. */
+    readonly link: Link | null;
     view(object: number): Value | null;
     join(): Promise<void>;
     act(given: Action | string): Promise<Outcome>;
     /** The position of the abandoned action that is completed now, or null. */
     poll(): Promise<number | null>;
     observe(objects: readonly number[], wait?: number): Promise<{ last: number; values: Map<number, Value> }>;
-    /** Calls back with the views of all these objects, and those that changed: once all are known, and at each change. */
-    watch(objects: readonly number[], callback: (values: Map<number, Value | null>, changed: number[]) => void): { stop(): void };
+    /** Calls back with the views of all these objects, and those that changed: once all are known, and at each change; until it answers
+     * `true`, or `stop()` is called. */
+    watch(objects: readonly number[], callback: (values: Map<number, Value | null>, changed: number[]) => unknown): { stop(): void };
+    /** Resolves once nothing is watched. Breaks with the fault where the client stops before. */
+    run(): Promise<void>;
     leave(): Promise<void>;
     close(): void;
 }

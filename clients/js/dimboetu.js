@@ -51,17 +51,33 @@ const mapFields = ([kind, ...parts], make) => NODES.get(kind).slice(1).map((fiel
 /** These nodes and all under them, each with the number of nodes above it. Throws where one may not stand so. */
 function nodesOf(nodes, allowed = "statement", above = 0, found = []) {
     for (const node of nodes) {
-        if (!Array.isArray(node) || !KINDS[allowed].includes(node[0])) throw new TypeError(`a ${allowed} belongs here`);
+        if (!Array.isArray(node) || !KINDS[allowed].includes(node[0])) throw misplaced(node, allowed);
         found.push([node, above]);
         mapFields(node, (field, part) => {
             if (field === "list" || field in KINDS) {
                 nodesOf(field === "list" ? part : [part], field === "list" ? "statement" : field, above + 1, found);
             } else if (!(field === "wide" ? isWide(part) : Number.isInteger(part) && part >= 0)) {
-                throw new TypeError("a whole number of 64 bits belongs here");
+                throw misplaced(part, `whole number${field === "wide" ? " of 64 bits" : ""}`);
             }
         });
     }
     return found;
+}
+
+/** What stands there, in words. */
+function saidOf(part) {
+    const [kind, value] = part instanceof Term ? part.node : Array.isArray(part) ? part : [];
+    if (!NODES.has(kind)) return typeof part === "string" ? `'${part}'` : part && typeof part === "object" ? "an object" : String(part);
+    if (kind === "get" || kind === "number") return kind === "get" ? "an attribute" : String(value);
+    return `the ${Object.keys(KINDS).find(name => KINDS[name].includes(kind))} \`${kind}\``;
+}
+
+const misplaced = (part, wanted) => new TypeError(`${saidOf(part)} stands where a${/^[ae]/.test(wanted) ? "n" : ""} ${wanted} belongs`);
+
+/** These statements, and those of lists among them; also one alone. */
+function listOf(given) {
+    const isNode = typeof given === "string" || (Array.isArray(given) && typeof given[0] === "string");
+    return isNode || typeof given?.[Symbol.iterator] !== "function" ? [given] : [...given].flatMap(listOf);
 }
 
 const isWide = part => typeof part === "bigint" && LEAST <= part && part <= GREATEST;
@@ -90,7 +106,7 @@ export class Term {
 
     /** The statement that sets this attribute. */
     set(value) {
-        if (this.node[0] !== "get") throw new TypeError("only an attribute can be set");
+        if (this.node[0] !== "get") throw new TypeError(`only an attribute can be set, as obj(3).attr(0): ${saidOf(this)} can't`);
         return ["set", this.node[1], this.node[2], nodeOf(value)];
     }
 
@@ -102,7 +118,7 @@ export class Term {
 /** The node of a term, or of a whole number. */
 function nodeOf(value) {
     if (value instanceof Term) return value.node;
-    if (typeof value !== "bigint" && !Number.isSafeInteger(value)) throw new TypeError("a term or a whole number belongs here");
+    if (typeof value !== "bigint" && !Number.isSafeInteger(value)) throw misplaced(value, "term or a whole number");
     return ["number", BigInt(value)];
 }
 
@@ -112,11 +128,14 @@ export const number = value => new Term(...nodeOf(value));
 /** The object of this number, as in `obj(3).attr(0).plus(1)`. */
 export const obj = object => ({ attr: attribute => new Term("get", object, attribute) });
 /** The statement that does those of `then` where the condition holds, else those of `other`. */
-export const when = (condition, then, other = []) => ["if", nodeOf(condition), [...then], [...other]];
+export function when(condition, then, other = []) {
+    if (!(condition instanceof Term) || !KINDS.condition.includes(condition.node[0])) throw misplaced(condition, "condition");
+    return ["if", condition.node, listOf(then), listOf(other)];
+}
 
 /** The action that reads all objects which these statements name and writes those that they set, or more. */
-export function action(statements, { reads = [], writes = [], at = [0, 0] } = {}) {
-    const named = nodesOf(statements).map(([node]) => node).filter(isNamed);
+export function action(given, { reads = [], writes = [], at = [0, 0] } = {}) {
+    const statements = listOf(given), named = nodesOf(statements).map(([node]) => node).filter(isNamed);
     const written = ascending([...named.filter(([kind]) => kind === "set").map(([, object]) => object), ...writes]);
     const slots = ascending([...named.map(([, object]) => object), ...written, ...reads]);
     return new Action(slots, maskOf(slots, written), [...at], statements.map(each => slotted(each, slots)));
@@ -582,9 +601,9 @@ export class Knowledge {
 /** Calls what is not ours. What it throws comes up by itself, and stops nothing here. */
 function call(callback, ...words) {
     try {
-        callback(...words);
+        return callback(...words);
     } catch (fault) {
-        queueMicrotask(() => { throw fault; });
+        return queueMicrotask(() => { throw fault; });
     }
 }
 
@@ -599,12 +618,12 @@ export class Client {
         const knowledge = new Knowledge(world), seen = new Map(knowledge.interest.map(object => [object, null]));
         Object.assign(this, { knowledge, seen, connect, key, onChange, onStatus, pause, wait, requests, patience,
             retry: { first: 200, longest: 10_000, tries: Infinity, ...retry }, status: "new", knows: false, isLeaving: false,
-            isTelling: false, link: null, entry: null, left: null, asked: 0, submitted: 0, tries: 0, queue: [], answers: new Set(),
+            isTelling: false, link: null, entry: null, left: null, running: null, asked: 0, submitted: 0, tries: 0, queue: [], answers: new Set(),
             outcomes: new Map(), watchers: new Set(), looked: null, holds: true });
     }
 
     /** A client that goes on where another program's stood when it called `saved()`. */
-    static from({ versions, pending, knows, life, made, told, ...world }, more) {
+    static fromSaved({ versions, pending, knows, life, made, told, ...world }, more) {
         const client = new Client({ ...world, ...more }), value = texts => Object.freeze(texts.map(BigInt));
         client.knows = knows;
         Object.assign(client.knowledge, { life, made, told,
@@ -613,6 +632,11 @@ export class Client {
             pending: pending.map(([own, text, kept]) =>
                 ({ number: own, action: parseAction(text), kept: kept && kept.map(value) })) });
         return client;
+    }
+
+    /** The older name of `fromSaved`. */
+    static from(saved, more) {
+        return Client.fromSaved(saved, more);
     }
 
     /** All that the client keeps, as plain data: BigInts are texts. */
@@ -646,6 +670,7 @@ export class Client {
 
     /** Makes an action, given as one or as a text. Views show it at once; resolves with what became of it. */
     act(given) {
+        if (!(given instanceof Action) && typeof given !== "string") throw misplaced(given, "action, or its text,");
         const act = given instanceof Action ? given : parseAction(given), { pending, objects, attributes } = this.knowledge;
         this.needWorld();
         const cause = act.fault(objects, attributes);
@@ -673,7 +698,8 @@ export class Client {
         return this.request({ kind: "observe", objects: [...objects], wait });
     }
 
-    /** Calls back with the views of all these objects, and those that changed: once all are known, and at each change. */
+    /** Calls back with the views of all these objects, and those that changed: once all are known, and at each change; until it
+     * answers `true`, or `stop()` of what `watch` gives back is called. */
     watch(objects, callback) {
         const watcher = { objects: ascending(objects), callback, told: null };
         this.needObjects(watcher.objects);
@@ -682,13 +708,34 @@ export class Client {
         this.lookAnew();
         this.pump();
         queueMicrotask(() => this.tell());
-        return { stop: () => { this.watchers.delete(watcher); } };
+        watcher.stop = () => {
+            this.watchers.delete(watcher);
+            this.endRun();
+        };
+        return { stop: watcher.stop };
+    }
+
+    /** Resolves once nothing is watched. Breaks with the fault where the client stops before. */
+    run() {
+        this.needWorld();
+        this.running ??= this.promised();
+        const { promise } = this.running;
+        this.endRun();
+        return promise;
+    }
+
+    /** Nothing may be watched any more. */
+    endRun() {
+        if (this.watchers.size) return;
+        this.running?.resolve();
+        this.running = null;
     }
 
     /** Leaves, once all that was asked is answered. Resolves when the session is over. */
     leave() {
         this.needWorld();
         this.stopWatching();
+        this.endRun();
         this.isLeaving = true;
         this.left = this.promised();
         const { promise } = this.left, held = this.knowledge.outstanding.findLast(each => each.wait > 0);
@@ -747,7 +794,7 @@ export class Client {
             return this.finish("closed", fault);
         }
         const { link } = this;
-        if (!link) return this.finish("closed", new Fault("closed"));
+        if (!link) return this.finish("closed", new Fault("closed", { reason: null }));
         link.onMessage = bytes => { if (link === this.link) this.receive(bytes); };
         link.onClose = fault => { if (link === this.link) this.lost(fault); };
         if (this.key && !link.hasKey) link.send(encodeRequest({ kind: "hello", key: this.key }));
@@ -882,7 +929,7 @@ export class Client {
         const changed = objects.filter(object => !told || String(told.get(object)) !== String(views.get(object)));
         if (!changed.length) return false;
         watcher.told = views;
-        call(callback, new Map(views), changed);
+        if (call(callback, new Map(views), changed) === true) watcher.stop();
         return true;
     }
 
@@ -908,7 +955,7 @@ export class Client {
         this.giveUp();
         this.tries += 1;
         if (this.isLeaving && !this.pending && !this.queue.length) return this.finish("left");
-        if (this.tries >= this.retry.tries) return this.finish("closed", new Fault("closed"));
+        if (this.tries >= this.retry.tries) return this.finish("closed", new Fault("closed", { reason: fault }));
         const pause = Math.min(this.retry.first * 2 ** (this.tries - 1), this.retry.longest);
         this.timer = setTimeout(() => this.begin(), pause * (0.5 + Math.random() / 2));
         return this.say("lost", fault);
@@ -932,7 +979,7 @@ export class Client {
         for (const answer of this.answers) answer.reject(fault ?? new Fault("outside"));
         for (const each of this.knowledge.outstanding) delete each.answer;
         this.queue.length = 0;
-        this.entry = null;
+        this.entry = this.running = null;
         this.say(status, fault);
     }
 
@@ -987,8 +1034,12 @@ export class Client {
 export function webSocketLink(address, WebSocketClass = globalThis.WebSocket, key = null) {
     const shown = key ? `${address.includes("?") ? "&" : "?"}key=${Array.from(key, one => hex(one)).join("")}` : "";
     const socket = new WebSocketClass(address + shown), waiting = [];
-    const link = { wasOpen: false, hasKey: key !== null, onMessage() {}, onClose() {}, close: () => socket.close(),
-        send: bytes => link.wasOpen ? socket.send(bytes) : waiting.push(bytes) };
+    const link = { wasOpen: false, hasKey: key !== null, onMessage() {}, onClose() {},
+        send: bytes => link.wasOpen ? socket.send(bytes) : waiting.push(bytes),
+        close: () => {
+            socket.close();
+            queueMicrotask(() => link.onClose(new Error("closed")));
+        } };
     socket.binaryType = "arraybuffer";
     socket.onopen = () => {
         link.wasOpen = true;

@@ -19,15 +19,20 @@ const digging = nuggets => action([when(turn.equals(me).and(left.atLeast(nuggets
 const choice = nuggets => me === 0 ? Number(nuggets % 4n) || 1 : Math.ceil(Math.random() * Math.min(3, Number(nuggets)));
 
 const client = new Client({
-    number: me, objects: 3, attributes: 2, interest: [0, 1, 2], connect: () => nodeLink(port), retry: { tries: 9 },
+    number: me, objects: 3, attributes: 2, interest: [0, 1, 2], connect: () => nodeLink(port), retry: { tries: 1 },
     onChange: (object, old, now) => console.log(`player ${me} sees object ${object}: ${now}`),
     onStatus: status => console.log(`player ${me}: ${status}`) });
-await client.join();
-await new Promise(end => {
-    client.watch([0, 1, 2], () => {
-        const [nuggets, player] = client.view(0);
-        if (nuggets === 0n) end();
-        else if (player === BigInt(me)) client.act(digging(choice(nuggets)));
+try {
+    await client.join();
+    client.watch([0, 1, 2], values => {
+        const [nuggets, player] = values.get(0);
+        if (nuggets > 0n && player === BigInt(me)) client.act(digging(choice(nuggets)));
+        return nuggets === 0n;
     });
-});
-await client.leave();
+    await client.run();
+    await client.leave();
+} catch ({ message, refused, reason }) {
+    const more = refused ? `refused ${refused.code} ${refused.detail}, ${refused.name}` : reason?.message ?? "";
+    console.error(`stopped: ${message}${more && `: ${more}`}`);
+    process.exitCode = 1;
+}

@@ -10,5 +10,5 @@ export declare class Frames {
     next(): Uint8Array | null;
 }
 
-/** A link to a server at this port of 127.0.0.1, or of another host. */
-export declare function nodeLink(port: number, host?: string): Link;
+/** A link to a server at this port of 127.0.0.1, or of another host. Where nobody listens yet it tries for 10,000 milliseconds, or so many. */
+export declare function nodeLink(port: number, host?: string, wait?: number): Link;

@@ -39,28 +39,49 @@ export class Frames {
     }
 }
 
-/** A link to a server at this port. It connects at once; what is sent before it is connected waits. */
-export function nodeLink(port, host = "127.0.0.1") {
-    const socket = connect({ port, host, noDelay: true }), frames = new Frames();
-    let reason = new Error("closed");
-    const told = () => link.onClose(reason);
+/**
+ * A link to a server at this port. It connects at once, or, where nobody listens yet, within so many milliseconds. What is sent
+ * before it is connected waits.
+ */
+export function nodeLink(port, host = "127.0.0.1", wait = 10_000) {
+    const end = performance.now() + wait, waiting = [], frames = new Frames();
+    let socket = null, timer = null, reason = new Error("closed"), isOver = false;
+    const told = () => {
+        isOver = true;
+        link.onClose(reason);
+    };
     const link = { wasOpen: false, onMessage() {}, onClose() {},
         send(bytes) {
-            if (socket.destroyed) queueMicrotask(told);
-            else socket.write(frame(bytes));
+            if (isOver) queueMicrotask(told);
+            else if (link.wasOpen) socket.write(frame(bytes));
+            else waiting.push(bytes);
         },
         close() {
-            if (socket.connecting) socket.destroy();
-            else socket.end();
+            clearTimeout(timer);
+            if (link.wasOpen) socket.end();
+            else socket.destroy();
             socket.unref();
+            queueMicrotask(told);
         } };
     const takeAll = () => {
         for (let payload = frames.next(); payload; payload = frames.next()) link.onMessage(payload);
     };
-    socket.on("connect", () => { link.wasOpen = true; });
-    socket.on("error", fault => { reason = fault; });
-    socket.on("close", told);
-    socket.on("data", piece => {
+    const open = () => {
+        socket = connect({ port, host, noDelay: true });
+        socket.on("connect", () => {
+            link.wasOpen = true;
+            reason = new Error("closed");
+            for (const bytes of waiting.splice(0)) socket.write(frame(bytes));
+        });
+        socket.on("error", fault => { reason = fault; });
+        socket.on("close", () => {
+            if (isOver) return;
+            if (reason.code === "ECONNREFUSED" && performance.now() < end) timer = setTimeout(open, 100);
+            else told();
+        });
+        socket.on("data", receive);
+    };
+    const receive = piece => {
         frames.feed(piece);
         try {
             takeAll();
@@ -69,6 +90,7 @@ export function nodeLink(port, host = "127.0.0.1") {
             reason = fault;
             socket.destroy();
         }
-    });
+    };
+    open();
     return link;
 }

@@ -4,7 +4,7 @@
                     connect=lambda: socket.create_connection(("127.0.0.1", 4000)))
     client.join()
     gold = obj(3).attr(0)
-    client.make(action(gold.set(gold + 1), when(gold > 9, [obj(0).attr(1).set(gold * 2)])))
+    client.act(action(gold.set(gold + 1), when(gold > 9, [obj(0).attr(1).set(gold * 2)])))
     client.leave()
 """
 
@@ -52,11 +52,13 @@ ACTIVE = ("joining", "joined", "lost")
 class Fault(Exception):
     """Nothing was done (`outside` a session, `text PLACE CAUSE`, `action N`, `objects`, `full`, `busy`, `spent`), or a reply
     is refused: `malformed PLACE CAUSE`, `toolong N`, `unasked`, `wrongkind`, `badorder`, `baditem`, `missing POSITION
-    OBJECT`. Where the reply was a refusal it has its `code`, `detail` and `name`; that of a text its `place` and `cause`."""
-    code = detail = name = place = cause = None
+    OBJECT`. `word` is the first of these. Where the reply was a refusal it has its `code`, `detail` and `name`, and all three
+    as `refused`; that of a text its `place` and `cause`."""
+    code = detail = name = place = cause = refused = None
 
     def __init__(self, text, **more):
         super().__init__(text)
+        self.word = text.split(" ")[0]
         self.__dict__.update(more)
 
 
@@ -67,6 +69,8 @@ class Term:
 
     def set(self, value):
         """The statement that sets this attribute."""
+        if self.node[0] != "get":
+            raise TypeError(f"only an attribute can be set, as obj(3).attr(0): {said_of(self)} can't")
         return ("set", *self.node[1:], node_of(value))
 
     def __bool__(self):
@@ -79,8 +83,37 @@ def obj(number):
 
 
 def node_of(value):
-    """The node of a term, or of a number."""
-    return value.node if isinstance(value, Term) else ("number", value)
+    """The node of a term, or of a whole number."""
+    if isinstance(value, Term):
+        return value.node
+    if type(value) is not int or not LEAST <= value <= GREATEST:
+        raise TypeError(f"{said_of(value)} stands where a term or a whole number of 64 bits belongs")
+    return ("number", value)
+
+
+def number(value):
+    """A number as a term, as in `number(5).min(gold)`."""
+    return Term(*node_of(value))
+
+
+def said_of(part):
+    """What stands there, in words."""
+    node = part.node if isinstance(part, Term) else part
+    if not isinstance(node, tuple) or not node or not isinstance(node[0], str) or node[0] not in NODES:
+        return repr(part)
+    kind = next(name for name, kinds in KINDS.items() if node[0] in kinds)
+    return {"get": "an attribute", "number": repr(node[-1])}.get(node[0], f"the {kind} `{node[0]}`")
+
+
+def statements_of(parts):
+    """Statements, and those of lists among them, in order."""
+    for part in parts:
+        if isinstance(part, tuple) and part and isinstance(part[0], str):
+            yield part
+        elif hasattr(part, "__iter__") and not isinstance(part, (str, dict)):
+            yield from statements_of(part)
+        else:
+            raise TypeError(f"{said_of(part)} stands where a statement belongs, as gold.set(5) or when(gold > 5, [..])")
 
 
 for _name, _kind in zip("add sub mul truediv mod min max eq lt le and or".split(), OPERATIONS):
@@ -93,11 +126,18 @@ Term.__invert__, Term.__ne__ = lambda term: Term("not", term.node), lambda left,
 
 def when(condition, then, other=()):
     """The statement that does those of `then` where the condition holds, else those of `other`."""
-    return ("if", condition.node, tuple(then), tuple(other))
+    if not isinstance(condition, Term) or condition.node[0] not in KINDS["condition"]:
+        raise TypeError(f"{said_of(condition)} stands where a condition belongs, as gold > 5")
+    return ("if", condition.node, *(tuple(statements_of((part,))) for part in (then, other)))
 
 
 def action(*statements, reads=(), writes=(), at=(0, 0)):
-    """The action that reads all objects which these statements name and writes those that they set, or more."""
+    """The action that reads all objects which these statements name and writes those that they set, or more. They may stand
+    in a list."""
+    statements = tuple(statements_of(statements))
+    for name, part in (("reads", reads), ("writes", writes), ("at", at)):
+        if not hasattr(part, "__len__") or any(type(one) is not int for one in part):
+            raise TypeError(f"{name}={part!r}: a list of whole numbers belongs there")
     named = [node for _, node in nodes_of(statements) if node[0] in ("set", "get")]
     written = {node[1] for node in named if node[0] == "set"} | set(writes)
     slots = tuple(sorted({node[1] for node in named} | written | set(reads)))
@@ -114,7 +154,7 @@ def nodes_of(nodes, above=0, allowed="statement"):
     """These nodes and all under them, each with the number of nodes above it. Raises where one may not stand so."""
     for node in nodes:
         if node[0] not in KINDS[allowed]:
-            raise TypeError(f"{node[0]!r} stands where a {allowed} belongs")
+            raise TypeError(f"{said_of(node)} stands where a{'n' * (allowed[0] == 'e')} {allowed} belongs")
         yield above, node
         for field, part in zip(NODES[node[0]][1], node[1:]):
             if field == "list":
@@ -122,7 +162,7 @@ def nodes_of(nodes, above=0, allowed="statement"):
             elif field in KINDS:
                 yield from nodes_of((part,), above + 1, field)
             elif type(part) is not int or not (LEAST if field == "wide" else 0) <= part <= GREATEST:
-                raise TypeError(f"{part!r} stands where a number belongs")
+                raise TypeError(f"{part!r} stands where a whole number{' of 64 bits' * (field == 'wide')} belongs")
 
 
 def run(node, values):
@@ -143,7 +183,10 @@ def run(node, values):
 
 
 class Action(namedtuple("Action", "reads mask origin body")):
-    """Code over the objects that it reads, ascending; the mask and the body name them by slot."""
+    """Code over the objects that it reads, ascending; the mask and the body name them by slot. `str` gives its text."""
+    def __str__(self):
+        return text_of(self)
+
     @property
     def writes(self):
         """The objects at the slots of the mask, ascending."""
@@ -271,9 +314,12 @@ class Text:
         return (joint, left, right)
 
 
-def action_of(text):
+def parse_action(text):
     """The action of a text in the language of docs/ACTIONS.md. Raises `text PLACE CAUSE`."""
     return Text(text).action()
+
+
+action_of = parse_action                # its older name
 
 
 def text_of(act):
@@ -428,7 +474,7 @@ class Client:
         client = cls(data["number"], *data["shape"], data["interest"], **more)
         client.life, client.made, client.told, client.knows = data["life"], data["made"], data["told"], data["knows"]
         client.versions = {target: {place: tuple(value) for place, value in held} for target, held in data["versions"]}
-        client.pending = [(number, action_of(text), kept and tuple(map(tuple, kept))) for number, text, kept in data["pending"]]
+        client.pending = [(own, parse_action(text), kept and tuple(map(tuple, kept))) for own, text, kept in data["pending"]]
         return client
 
     def view(self, target):
@@ -507,9 +553,11 @@ class Client:
         self.life = life
         self.ask("join", self.number, life, tuple(self.seen))
 
-    def make(self, act):
-        """Makes an action, given as one or as a text; its number is `made` then."""
-        act = action_of(act) if isinstance(act, str) else act
+    def act(self, act):
+        """Makes an action, given as one or as a text; its number is `made` then. Views show at once what is expected of it."""
+        act = parse_action(act) if isinstance(act, str) else act
+        if not isinstance(act, Action):
+            raise TypeError(f"{said_of(act)} stands where an action belongs: action(..), or its text")
         cause = act.fault(*self.shape)
         if cause or len(self.pending) == MOST_PENDING:
             raise Fault(f"action {cause}" if cause else "full", cause=cause)
@@ -524,6 +572,8 @@ class Client:
         except OSError as fault:
             self.mend(fault)
         self.tell()
+
+    make = act                          # its older name
 
     def pump(self):
         """Submits what is pending and was not yet, as far as there is room."""
@@ -786,7 +836,7 @@ class Client:
         kind = self.outstanding[0][0] if self.outstanding else None
         if not kind or reply.kind not in FITS[kind].split():
             more = {"code": reply.code, "detail": reply.detail, "name": REFUSALS[reply.code - 1]} if reply.kind == "refused" else {}
-            raise Fault("wrongkind" if kind else "unasked", **more)
+            raise Fault("wrongkind" if kind else "unasked", **more, refused=SimpleNamespace(**more) if more else None)
         places = [item.position for item in reply.items]
         if any(sorted(set(each)) != each for each in (places, [target for target, _ in reply.head])) or (
                 reply.commit is not None and not self.told <= reply.commit < min(places[:1] + [2 ** 32])) or (
@@ -861,7 +911,7 @@ class Client:
                 versions.setdefault(target, {})[item.position] = value
         kind, *fields = request = self.outstanding[0]
         if kind == "observe":
-            reply.seen = {target: below(reply.last + 1, target) for target in fields[0]}
+            reply.seen = reply.values = {target: below(reply.last + 1, target) for target in fields[0]}
         self.told = self.told if reply.commit is None else reply.commit
         for target, held in versions.items():
             last = max((place for place in held if place <= self.told), default=0)

@@ -46,12 +46,12 @@ def play(path, number, port, count=6):
     client.finish()
     for place in range(count if interest else 0):
         target = obj(interest[place % len(interest)])
-        client.make(action(target.attr(0).set(target.attr(0) + 1)))
+        client.act(action(target.attr(0).set(target.attr(0) + 1)))
         while len(client.pending) > 3:
             client.take()
     client.finish()
     for first in range(0, len(interest), 16):
-        client.make(action(reads=interest[first:first + 16]))
+        client.act(action(reads=interest[first:first + 16]))
     client.leave()
     print(f"client {number} made {client.made} actions; the last commit that it was told is {client.told}")
 

@@ -34,7 +34,7 @@ def play(me, port):
     def look(values, changed):
         left, turn = values[0]
         if left > 0 and turn == me:
-            client.make(digging(me, (left % 4 or 1) if me == 0 else random.randint(1, min(3, left))))
+            client.act(digging(me, (left % 4 or 1) if me == 0 else random.randint(1, min(3, left))))
         return left == 0
 
     client.watch((0, 1, 2), look)

@@ -483,6 +483,11 @@ document.addEventListener("click", (event) => {
   if (at.dataset.more === "list") actionTable(100000);
 });
 
+// What `serve` prints tells of no guess.
+const guesses = actions.some((each) => each.k !== null);
+const SHOWN = { all: "all", acts: "all but looks", looks: "looks", dropped: "dropped", corrected: "guessed wrong", open: "not finished", waited: "waited for another", repeated: "asked again" };
+byId("kind").innerHTML = Object.entries(SHOWN).filter(([kind]) => guesses || kind !== "corrected").map(([kind, name]) => `<option value="${kind}">${name}</option>`).join("");
+
 function icon(inside) { return `<svg width="16" height="14" viewBox="0 0 16 14">${inside}</svg>`; }
 byId("legend").innerHTML = [
   [`<circle cx="8" cy="7" r="4" fill="#fff" stroke="#2f6fed" stroke-width="2"/>`, "made"],
@@ -500,11 +505,10 @@ byId("legend").innerHTML = [
   [`<rect x="0" y="1" width="16" height="12" fill="#c7770022"/><path d="M0 2h16" stroke="#c77700" stroke-width="2"/>`, "waited for"],
   [`<rect x="0" y="2" width="16" height="10" fill="#fff1d6"/>`, "not finished"],
   [`<rect x="0" y="2" width="16" height="10" fill="#d9f0e4"/>`, "finished"],
-].map(([inside, name]) => `<span>${icon(inside)}${name}</span>`).join("");
+].filter(([, name]) => guesses || name !== "guess was wrong").map(([inside, name]) => `<span>${icon(inside)}${name}</span>`).join("");
 const NAMES = { clients: "clients", sessions: "sessions", entries: "entries", made: "made", accepted: "accepted", dropped: "dropped", denied: "denied", looks: "looks", commit: "finished", corrected: "guessed wrong", unguessed: "no guess", rejoined: "joined again", observed: "observed", refused: "refused" };
 const ONE = { clients: "client", sessions: "session", entries: "entry" };
 const CLASSES = { dropped: "bad", denied: "bad", refused: "bad", corrected: "warn" };
-const guesses = actions.some((each) => each.k !== null);
 byId("counts").innerHTML = Object.entries(NAMES).filter(([key]) => (guesses || key !== "corrected") && (counts[key] || !["denied", "looks", "unguessed", "rejoined", "observed", "refused"].includes(key))).map(([key, name]) => `<li class="${counts[key] ? CLASSES[key] || "" : ""}"><b id="count-${key}">${counts[key]}</b> ${counts[key] === 1 && ONE[key] || name}</li>`).join("");
 
 tell(null);

@@ -125,7 +125,7 @@ function tryActions() {
 class Repeating {
     constructor({ shape: [objects, attributes], number, interest }) {
         this.changes = [];
-        this.client = Client.from({ number, objects, attributes, interest, knows: true, life: 0, made: 0, told: 0,
+        this.client = Client.fromSaved({ number, objects, attributes, interest, knows: true, life: 0, made: 0, told: 0,
             versions: [], pending: [] }, { connect: () => { this.link = new TestLink(); return this.link; },
             onChange: (object, old, now) => this.changes.push([object, textsOf(old), textsOf(now)]) });
     }

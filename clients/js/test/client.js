@@ -369,6 +369,47 @@ async function tryWatching() {
     count.refuses(() => client.watch([0], () => {}), "outside", "nor after that");
 }
 
+/** Running ends where nothing is watched any more, and breaks where the client stops. */
+async function tryRunning() {
+    let found = await joined(), told = [];
+    await found.client.run();
+    const shown = [], handle = found.client.watch([1], () => { shown.push("other"); });
+    found.client.watch([0], values => {
+        shown.push(values.get(0)[0]);
+        return values.get(0)[0] === 9n || 1;
+    });
+    found.client.run().then(() => told.push("over"));
+    await pause(0);
+    found.say({ ...welcome(1, 9), kind: "seen", last: 1 });
+    await pause(0);
+    count.same([shown, told], [["other", 5n, 9n], []], "a callback that answers true is called no more; another truthy answer is none");
+    handle.stop();
+    await pause(0);
+    count.same(told, ["over"], "nothing is watched any more");
+
+    found = await joined();
+    found.client.watch([0], () => {});
+    const running = found.client.run();
+    count.same(found.client.run() === running, true, "one running for all");
+    found.client.poll();
+    found.say({ kind: "refused", code: 4, detail: 0 });
+    count.same((await count.breaks(running, "wrongkind", "the client stops")).refused.name, "over", "and says why");
+    count.refuses(() => found.client.run(), "outside", "then there is nothing to run");
+
+    found = await joined({ retry: { ...QUICK, tries: 1 } });
+    found.client.watch([0], () => {});
+    const last = found.client.run();
+    found.link.onClose(new Error("broken"));
+    count.same((await count.breaks(last, "closed", "no try is left")).reason.message, "broken", "the reason is kept");
+
+    found = await joined();
+    found.client.watch([0], () => {});
+    const left = found.client.run();
+    found.client.leave();
+    count.same(await left, undefined, "who leaves watches nothing");
+    found.client.close();
+}
+
 /** Each row: after how many milliseconds what comes, and when after that the next Observe is sent. The pause is 20. */
 const PACES = [
     ["news at once, of a server that may wait", 0, "news", 2], ["news soon", 1, "news", 1], ["an empty answer at once", 0, "seen", 20], ["news at once", 0, "news", 20], ["an empty answer soon", 7, "seen", 13],
@@ -603,7 +644,9 @@ function tryBuilder() {
         [action([when(a.equals(1), [when(a.equals(2), [], [b.set(1)])])]),
             "reads 3 300 writes 300 { if [@3.1 == 1] { if [@3.1 == 2] { } else { set @300.0 1; } } }"],
         [action([a.set(2n ** 63n - 1n)]), "reads 3 writes 3 { set @3.1 9223372036854775807; }"],
-        [action([], { reads: [2, 1], writes: [2] }), "reads 1 2 writes 2 { }"]]) {
+        [action([], { reads: [2, 1], writes: [2] }), "reads 1 2 writes 2 { }"], [action(a.set(1)), "reads 3 writes 3 { set @3.1 1; }"],
+        [action([a.set(1), [b.set(2)]]), "reads 3 300 writes 3 300 { set @3.1 1; set @300.0 2; }"],
+        [action(when(a.moreThan(1), a.set(1), b.set(2))), "reads 3 300 writes 3 300 { if [1 < @3.1] { set @3.1 1; } else { set @300.0 2; } }"]]) {
         count.same(String(made), text, text);
         count.same(made, parseAction(text), text);
     }
@@ -615,11 +658,23 @@ function tryBuilder() {
         "no attribute": () => action([obj(1).attr("x").set(1)]), "a statement as a value": () => action([a.set(b.set(1))]) })) {
         count.expect(isTypeError(wrong), `${name} is refused`);
     }
+    for (const [text, wrong] of [
+        ["the expression `+` stands where a statement belongs", () => action(a.plus(1))],
+        ["'reads 0 writes { }' stands where a statement belongs", () => action("reads 0 writes { }")],
+        ["null stands where a statement belongs", () => action(null)], ["an object stands where a statement belongs", () => action([{}])],
+        ["an attribute stands where a condition belongs", () => when(a, [])], ["true stands where a condition belongs", () => when(true, [])],
+        ["the condition `<` stands where an expression belongs", () => action(a.set(a.moreThan(1)))],
+        ["'5' stands where a term or a whole number belongs", () => a.set("5")],
+        ["only an attribute can be set, as obj(3).attr(0): 5 can't", () => number(5).set(3)],
+        ["'x' stands where a whole number belongs", () => action(obj(1).attr("x").set(1))],
+        ["an object stands where an action, or its text, belongs", () => clientOf().client.act([a.set(1)])]]) {
+        count.refuses(wrong, text, text);
+    }
     const fault = count.refuses(() => parseAction("reads 0 writes 1 { }"), "text 15 4", "a text that is no action");
     count.same([fault.place, fault.cause, fault.word, fault instanceof Fault], [15, 4, "text", true], "its place and cause");
 }
 
 const tests = [tryTakingUp, tryPushedOut, tryJoiningAgain, tryPauses, tryLimits, tryOutcomes, tryLeaving, tryObserving, tryWatching,
-    tryPaces, tryCallbacks, tryWatchingMore, tryFarLives, tryKeys, trySaving, tryFaultyCallbacks, tryPatience, tryLargeAndDeep, tryBuilder];
+    tryRunning, tryPaces, tryCallbacks, tryWatchingMore, tryFarLives, tryKeys, trySaving, tryFaultyCallbacks, tryPatience, tryLargeAndDeep, tryBuilder];
 for (const each of tests) await each();
 count.close();

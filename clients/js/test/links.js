@@ -130,11 +130,54 @@ async function tryNodeLink() {
     server.close();
     await once(server, "close");
 
-    const nobody = new Client({ ...WORLD, connect: () => nodeLink(port), retry: { first: 4, tries: 3 } });
-    await count.breaks(nobody.join(), "closed", "nobody listens");
-    count.same(nobody.life, 0, "no life is taken");
+    const nobody = new Client({ ...WORLD, connect: () => nodeLink(port, "127.0.0.1", 0), retry: { first: 4, tries: 3 } });
+    const { reason } = await count.breaks(nobody.join(), "closed", "nobody listens");
+    count.same([nobody.life, reason.code], [0, "ECONNREFUSED"], "no life is taken, and the fault has the reason");
+    const broken = nodeLink(port);
+    broken.onClose = fault => told.push(fault.message);
+    broken.close();
+    await until(() => told.length > 2);
+    await tryLate(port);
+}
+
+/** A server that comes later: what is sent meanwhile waits. */
+async function tryLate(port) {
+    const [first, second] = [nodeLink(port), nodeLink(port)], sockets = [];
+    for (const link of [first, second]) link.send(Uint8Array.of(4));
+    await new Promise(done => { setTimeout(done, 250); });
+    count.same([first.wasOpen, second.wasOpen], [false, false], "nobody listens yet");
+    const server = createServer(socket => { socket.once("data", said => sockets.push([socket, hexOf(said)])); });
+    server.listen(port, "127.0.0.1");
+    await until(() => sockets.length > 1);
+    count.same(sockets.map(([, said]) => said), ["0000000104", "0000000104"], "what was sent before comes");
+    const told = [];
+    first.onClose = fault => told.push(fault.message);
+    first.close();
+    second.onClose = fault => told.push(fault.message);
+    for (const [socket] of sockets) socket.destroy();
+    server.close();
+    await until(() => told.length > 1);
+    count.same(told, ["closed", "closed"], "a link that broke once it was open is not made again");
+}
+
+/** A player who closes its own link joins again, though nothing else keeps the program alive. */
+async function tryOwnCut() {
+    const { server, port, next } = await serving(), statuses = [];
+    const client = new Client({ ...WORLD, connect: () => nodeLink(port), retry: { first: 4 }, onStatus: status => statuses.push(status) });
+    const entry = client.join();
+    (await next()).write(frame(WELCOME));
+    await entry;
+    client.link.close();
+    const socket = await next();
+    socket.write(frame(WELCOME));
+    await until(() => client.status === "joined");
+    count.same([statuses, client.life], [["joining", "joined", "lost", "joining", "joined"], 2], "an own cut");
+    client.close();
+    socket.destroy();
+    server.close();
 }
 
 await tryWebSocket();
 await tryNodeLink();
+await tryOwnCut();
 count.close();

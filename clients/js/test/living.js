@@ -27,7 +27,7 @@ function playerOf(port, number, more = {}, saved = null) {
     const player = { calls: [], statuses: [] };
     const options = { connect: () => nodeLink(port), retry: { first: 10, longest: 50, tries: 200 }, pause: 50, wait: 5000,
         onStatus: (status, fault) => player.statuses.push(fault?.refused ? `${status} ${fault.refused.name}` : status), ...more };
-    player.client = saved ? Client.from(saved, options) : new Client({ number, objects: 2, attributes: 1, ...options });
+    player.client = saved ? Client.fromSaved(saved, options) : new Client({ number, objects: 2, attributes: 1, ...options });
     player.watch = objects => player.client.watch(objects, (values, changed) => player.calls.push([numbersOf(values), changed]));
     return player;
 }

@@ -45,7 +45,7 @@ watching.stop();
 
 await writeFile(path, JSON.stringify(client.saved()));
 client.close();
-const again = Client.from(JSON.parse(await readFile(path, "utf8")), { connect: () => links.shift() });
+const again = Client.fromSaved(JSON.parse(await readFile(path, "utf8")), { connect: () => links.shift() });
 await again.join();
 console.log(`life ${again.life}, ${again.made} actions made, sees ${again.view(3)}`);
 await again.leave();

@@ -34,7 +34,7 @@ const view = second.view(0);
 second.act(ADD_ONE);
 second.act(ADD_ONE);
 const saved = JSON.stringify(second.saved());
-const third = Client.from(JSON.parse(saved), options(2));
+const third = Client.fromSaved(JSON.parse(saved), options(2));
 const seen = third.view(0);
 second.close();
 await third.join();

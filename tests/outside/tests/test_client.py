@@ -34,7 +34,7 @@ from tests.random_scenario import Maker, scenario_text
 
 sys.path.insert(1, CLIENTS)
 import dimboetu
-from dimboetu import Action, Client, Fault, Payload, action, action_of, first_payload, obj, request_bytes, text_of, when
+from dimboetu import Action, Client, Fault, Payload, action, action_of, first_payload, number, obj, parse_action, request_bytes, text_of, when
 
 LONGEST = 90
 CAUSE_NUMBERS = {name: number for number, name in enumerate(wire.CAUSES, 1)}
@@ -241,6 +241,15 @@ def test_actions(count):
             count.same(mine.result(list(values.values())), evaluate(act, values), f"{text} on {values}")
 
 
+def wrong_of(wrong):
+    """What a TypeError says, or a word that says that none came."""
+    try:
+        wrong()
+    except TypeError as fault:
+        return str(fault)
+    return "nothing"
+
+
 def test_builder(count):
     """Actions that are made with Python's operators, the numbers of arithmetic, and the eleven causes."""
     a, b = obj(3).attr(1), obj(300).attr(0)
@@ -252,8 +261,13 @@ def test_builder(count):
              "reads 3 300 writes 300 at 1 -2 { if ([1 < @3.1] and not not [@300.0 == 5]) "
              "{ set @300.0 (@3.1 * -3); } else { set @300.0 ((@300.0 / 2) % 7); } }"),
             (action(when((a <= 1) | (5 >= b), [])), "reads 3 300 writes { if ([@3.1 <= 1] or [@300.0 <= 5]) { } }"),
-            (action(reads=(1, 2), writes=(2,)), "reads 1 2 writes 2 { }")):
-        count.same(made, act_of(text), text)
+            (action(reads=(1, 2), writes=(2,)), "reads 1 2 writes 2 { }"),
+            (action([a.set(1), [b.set(2)]], at=[3, 4]), "reads 3 300 writes 3 300 at 3 4 { set @3.1 1; set @300.0 2; }"),
+            (action(one.set(1) for one in (a, b)), "reads 3 300 writes 3 300 { set @3.1 1; set @300.0 1; }"), (action([]), "reads writes { }"),
+            (action(when(a > 1, a.set(1), b.set(2))), "reads 3 300 writes 3 300 { if [1 < @3.1] { set @3.1 1; } else { set @300.0 2; } }"),
+            (action(a.set(number(5).min(b))), "reads 3 300 writes 3 { set @3.1 (5 min @300.0); }")):
+        count.same(made, act_of(text) if "reads writes" not in text else Action((), 0, (0, 0), ()), text)
+        count.same((str(made), f"{made}"), (text,) * 2, f"the text of {text}")
     for text, before, after in (("/ 2", -7, -3), ("% 2", -7, -1), ("/ -2", 7, -3), ("% -2", 7, 1), ("/ 0", 5, 5),
                                 ("% 0", 5, 5), ("/ -1", LEAST, LEAST), ("% -1", LEAST, LEAST), ("% -1", 9, 0),
                                 ("+ 1", GREATEST, GREATEST), ("* -1", LEAST, LEAST), ("- 1", LEAST, LEAST)):
@@ -261,12 +275,28 @@ def test_builder(count):
         count.same(act.result([(42,)]), ((42 if after == before else after,),), f"{before} {text}")
     for wrong in (lambda: action(a.set(a > 1)), lambda: action(a.set(2 ** 63)), lambda: action(a.set(0.5)),
                   lambda: action(when(a + 1, [a.set(1)])), lambda: action(a.set((a > 1) + 1)), lambda: action(a + 1)):
-        try:
-            wrong()
-        except (TypeError, AttributeError):
-            count.expect(True, "a wrong node")
-        else:
-            count.expect(False, "a wrong node is no action")
+        count.expect("belongs" in wrong_of(wrong), "a wrong node is no action")
+    for text, wrong in (
+            ("the expression `+` stands where a statement belongs, as gold.set(5) or ", lambda: action(a + 1)),
+            ("the condition `<` stands where a statement belongs, as ", lambda: action([a.set(1), a > 1])),
+            ("'reads 0 writes { }' stands where a statement belongs", lambda: action("reads 0 writes { }")),
+            ("None stands where a statement belongs", lambda: action(None)), ("an attribute stands where a statement", lambda: action([[a]])),
+            ("{} stands where a statement belongs", lambda: action({})), ("5 stands where a statement belongs", lambda: when(a > 1, [5])),
+            ("the expression `*` stands where a statement belongs", lambda: when(a > 1, [], a * 2)),
+            ("True stands where a condition belongs, as gold > 5", lambda: when(True, [])), ("an attribute stands where a condition", lambda: when(a, [])),
+            ("an attribute stands where a condition belongs", lambda: action(when((a > 1) & b, []))),
+            ("the condition `<` stands where an expression belongs", lambda: action(a.set(a > 1))),
+            ("'5' stands where a term or a whole number of 64 bits belongs", lambda: a.set("5")),
+            ("the statement `set` stands where a term", lambda: a.set(b.set(1))), ("None stands where a term", lambda: a + None),
+            ("9223372036854775808 stands where a term", lambda: a.set(2 ** 63)), ("True stands where a term", lambda: a.set(True)),
+            ("only an attribute can be set, as obj(3).attr(0): the expression `+` can't", lambda: (a + 1).set(3)),
+            ("only an attribute can be set, as obj(3).attr(0): 5 can't", lambda: number(5).set(3)),
+            ("'3' stands where a whole number belongs", lambda: action(obj("3").attr(0).set(1))),
+            ("-1 stands where a whole number belongs", lambda: action(obj(-1).attr(0).set(1))),
+            ("reads=3: a list of whole numbers belongs there", lambda: action(a.set(1), reads=3)),
+            ("writes='12': a list of whole", lambda: action(a.set(1), writes="12")), ("at=5: a list of", lambda: action(a.set(1), at=5)),
+            ("[('set', 3, 1, ('number', 1))] stands where an action belongs", lambda: Client(0, 4, 2).act([a.set(1)]))):
+        count.same(wrong_of(wrong)[:len(text)], text, f"what is wrong: {text}")
     for name, wrong in (
             ("and", lambda: when(a > 1 and b > 1, [])), ("or", lambda: when(a > 1 or b > 1, [])),
             ("not", lambda: when(not a > 1, [])), ("a chain", lambda: when(0 < a < 5, [])),
@@ -327,6 +357,10 @@ def test_texts(count):
     count.refuses(lambda: client.make("reads 1 writes { }"), "action 4", "a text that the world refuses")
     count.refuses(lambda: client.make("reads 1"), "text 7 3", "a text that is none")
     count.same(client.made, 1, "nothing was made then")
+    client.act(ADD_ONE)
+    client.make(ADD_ONE)
+    count.same(client.made, 3, "an action is made by both of its words")
+    count.same(parse_action(ADD_ONE), action_of(ADD_ONE), "both words for reading one")
 
 
 # Beside the clients of the simulation.
@@ -911,15 +945,16 @@ def test_refusals(count):
             try:
                 client.say(reply(f"refused {code} 77"))
             except Fault as fault:
-                found = (str(fault), fault.code, fault.detail, fault.name, client.link)
-                count.same(found, ("wrongkind", int(code), 77, name, None), f"refusal {code} to {asked}")
+                found = (str(fault), fault.word, fault.code, fault.detail, fault.name, client.link)
+                count.same(found, ("wrongkind", "wrongkind", int(code), 77, name, None), f"refusal {code} to {asked}")
+                count.same(vars(fault.refused), {"code": int(code), "detail": 77, "name": name}, "the refusal as a whole")
             else:
                 count.expect(False, f"refusal {code} to {asked} is no fault")
     client = asked_so("poll")
     try:
         client.say(reply("bye"))
     except Fault as fault:
-        count.same((str(fault), fault.code, fault.detail, fault.name), ("wrongkind", None, None, None), "no refusal")
+        count.same((str(fault), fault.code, fault.detail, fault.name, fault.refused), ("wrongkind", *(None,) * 4), "no refusal")
 
 
 def again(client, **more):
@@ -1238,7 +1273,7 @@ def test_programs(count):
         other.leave()
         server.communicate(timeout=LONGEST)
     size = sum(1 for _ in open(os.path.join(CLIENTS, "dimboetu.py"), encoding="utf-8"))
-    count.expect(size <= 880, f"the client has {size} lines")
+    count.expect(size <= 940, f"the client has {size} lines")
     count.expect(dimboetu.__doc__.count("\n") > 3, "the client says how it is used")
 
 

@@ -27,9 +27,11 @@ from concurrent.futures import ThreadPoolExecutor
 
 sys.path.insert(0, os.path.dirname(os.path.dirname(os.path.abspath(__file__))))
 
+from doubles.holding import Holding
 from doubles.programs import free_port
 from doubles.stand_in import StandIn
 from rules.actions import read_action
+from rules.report import Reply
 from rules.scenario import scenario_of
 from tests import js_cases, test_client
 from tests.counting import BUILT, CLIENTS, ROOT, STAND_IN as STAND_IN_FILE, Count
@@ -268,6 +270,17 @@ def test_mine(count, server, programs):
             count.same([each[-1] for each in seen], wanted, f"what player {number} sees at last")
 
 
+def test_stopped(count):
+    """The game of the mine ends, with a line that says why, where its client stops."""
+    for code, line in ((4, "stopped: wrongkind: refused 4 0, over\n"), (0, "stopped: closed: closed\n")):
+        server = Holding(scenario([[21, 0], [0, 0], [0, 0]], 8, (0,)), cuts=[] if code else [("before", 2)])
+        if code:
+            server.refusals.append((lambda connection, request: request.kind == "observe", Reply("refused", code=code, detail=0)))
+        done = node(os.path.join(JS, "mine.js"), "1", str(server.port))
+        count.same((done.returncode, done.stderr), (1, line), f"the game stops: {done.stdout}")
+        server.stop()
+
+
 MEMBERS = """
 const all = await import("./dimboetu.js"), world = { number: 0, objects: 1, attributes: 1 };
 const made = { Client: new all.Client({ ...world, connect: () => null }), Knowledge: new all.Knowledge(world),
@@ -276,7 +289,7 @@ const names = one => [...Object.getOwnPropertyNames(one), ...Object.getOwnProper
 console.log(JSON.stringify({ exported: Object.keys(all),
     members: Object.fromEntries(Object.entries(made).map(([name, one]) => [name, names(one)])) }));
 """
-WITHIN = {"Client": {"from"}, "Term": {"constructor"}, "Action": {"constructor"}, "Knowledge": {"constructor"}}
+WITHIN = {"Client": {"from", "fromSaved"}, "Term": {"constructor"}, "Action": {"constructor"}, "Knowledge": {"constructor"}}
 
 
 def members_of(block):
@@ -343,7 +356,7 @@ def tests_in(room):
     for words in (("cases.js", cases), ("client.js",), ("links.js",)):
         yield lambda count, words=words: run_tests(count, *words)
     yield from [lambda count, seed=seed: test_random_run(count, room, seed) for seed in range(RUNS)]
-    yield from [test_taking_up, test_types]
+    yield from [test_taking_up, test_stopped, test_types]
     yield from [lambda count, test=test: test(count, room) for test in (test_page, test_pip, test_npm)]
     if os.access(PROGRAM, os.X_OK):
         yield lambda count: test_replayed(count, room)

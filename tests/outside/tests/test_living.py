@@ -575,6 +575,15 @@ def test_own_links(count):
     count.same((found, calls, client.made), (["joining", "joined", "lost", "joining", "joined"], [(0,), (1,)], 1), "an own cut")
     client.leave()
     server.stop()
+    server = Holding(scenario([[0], [0]], 8, (0,)))
+    player = Player(server, 0)
+    player.client.join()
+    player.watch((0,))
+    threading.Timer(0.2, lambda: player.client.link.shutdown(socket.SHUT_RDWR)).start()
+    player.client.run(1.5)
+    count.same(player.statuses, ["joining", "joined", "lost", "joining", "joined"], "a cut by another thread, while the client waits")
+    player.client.leave()
+    server.stop()
     for ends in (1, 2):
         found.clear()
         links = [socket.socketpair() for _ in range(ends)]

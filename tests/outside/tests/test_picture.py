@@ -267,6 +267,8 @@ class Checker(Count):
             said = plain(shown[part])
             for line in lines:
                 self.expect(line in said, f"served: {part}: no {line!r} in {said!r}")
+        for part, word in (("legend", "guess was wrong"), ("kind", "guessed wrong"), ("counts", "guessed wrong")):
+            self.expect(word not in shown[part] and len(plain(shown[part])) > 60, f"served: {part} offers what nothing tells: {shown[part]!r}")
         self.same((body, strokes["fillRect"]), ({"drawn": 6, "ready": "1"}, 4), "served: drawn: one field where client 0 slept, and the results of three actions")
 
     def check_endings(self):
@@ -325,6 +327,8 @@ class Checker(Count):
         self.expect('data-ready="1"' in body, f"{name}: the page's script did not come to its end")
         drawn = re.search(r'data-drawn="([0-9]+)"', body)
         self.expect(drawn and int(drawn[1]) == expected["made"], f"{name}: drew {drawn and drawn[1]} actions")
+        offered = all(word in shown for word in ("guess was wrong", "guessed wrong"))
+        self.expect(offered or expected["made"] == 0, f"{name}: wrong guesses are offered")
         count = sum(0 in each for each in writes)
         self.expect(f"Object 0 was written {count} times" in shown, f"{name}: the history of object 0")
         rows = len(re.findall(r'data-why="[0-9]+"', shown))

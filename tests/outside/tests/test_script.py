@@ -191,11 +191,50 @@ def test_places(script):
         script.same(told.count("\n"), 1, f"{path}: no text")
 
 
+# Texts that are no JSON, with `~` before the fault's place, and what is wrong there.
+FAULTS = (
+    ("~", "the file is empty"), ("  \n ~", "the file is empty"), ('{"attrs": 1, "objects": [[5]~', "a comma or ] is missing where the file ends"),
+    ('{"attrs": 1,\n "objects": [[5],~]}', "no comma may stand before ]"), ('{"bound": 4,\n\n~}\n', "no comma may stand before }"),
+    ('{"attrs" ~1}', "a colon belongs here"), ('{"attrs": 1\n  ~"objects": 2}', "a comma or } belongs here"), ("[1 ~2]", "a comma or ] belongs here"),
+    ("[~,1]", "a value belongs here"), ("{~attrs: 1}", "a key in double quotes belongs here"), ("[1]\n~]", "nothing may stand behind the last bracket"),
+    ("[~'a']", "texts stand in double quotes"), ("[1, ~// one\n2]", "JSON has no comments"), ('["a~\n"]', "the text that began here before has no end on its line"),
+    ('["a~\tb"]', "no tab may stand in a text: write \\t"), ('["~\\x"]', "this may not stand behind \\ in a text"), ("[0~1]", "a comma or ] belongs here"),
+    ("[~+1]", "a value belongs here"), ("[1~.]", "a comma or ] belongs here"), ("[~NaN]", "a value belongs here"), ("[~tru", "a value belongs here"), ("~\ufeff{}", "a value belongs here"),
+    ('{"é": "ü" ~5}', "a comma or } belongs here"), ("[" * 127 + "~[", "more than 127 lists and objects inside one another"),
+    ('{"a": [true, false, null, -0.5e+3, "\\u00e4\\n\\/"], "b": {}, "c": [],~}', "no comma may stand before }"), ('{"a": ~}', "a value belongs here"), ("[1~}", "a comma or ] belongs here"))
+
+
+def test_json(script):
+    """The line and the column where a file is no JSON text, with what is wrong, and a mark under the place."""
+    for marked, why in FAULTS:
+        place, text = marked.index("~"), marked.replace("~", "", 1)
+        path = script.path("world.json")
+        with open(path, "w", encoding="utf-8") as file:
+            file.write(text)
+        line, column = text[:place].count("\n") + 1, place - (text.rfind("\n", 0, place) + 1) + 1
+        if why == "the file is empty":
+            line, column = 1, 1
+        told = script.says("scenario: : json", 3, "replay", path, "scenario: : json", "3").split("\n")
+        script.same((len(told), told[1:2]), (5, [f"  line {line}, column {column}: {why}"]), f"{marked!r}")
+        shown = text.split("\n")[line - 1] if text.strip() else ""
+        wanted = [f"  {shown}".replace("\t", " "), "  " + "^".rjust(column)]
+        if column <= 60:
+            script.same([each.rstrip() for each in told[2:4]], [each.rstrip() for each in wanted], f"{marked!r}: the mark")
+    for text in ("{}", '{"a": [1, -0, 1e999]}', '[' * 9 + ']' * 9):
+        with open(script.path("world.json"), "w", encoding="utf-8") as file:
+            file.write(text)
+        told = script.says("scenario: : json", 3, "replay", script.path("world.json"), "scenario: : json", "3")
+        script.same(told.count("\n"), 1, f"{text}: no place")
+    for path in (script.path("missing"), script.room):
+        told = script.says("scenario: : json", 3, "replay", path, "scenario: : json", "3")
+        script.same(told.count("\n"), 1, f"{path}: no place")
+
+
 def main():
     """The status of all tests."""
     with tempfile.TemporaryDirectory() as room:
         script = Script(room)
-        for test in (test_passing, test_signals, test_lines, test_words, test_places):
+        for test in (test_passing, test_signals, test_lines, test_words, test_places, test_json):
             test(script)
         return script.close()
 
