@@ -24,7 +24,13 @@ const CAUSES: [BadAction; 11] = [
 ];
 
 /// Whether a Submit of such an action is printed as the line.
-fn is_printed(alloc: Global, shape: Shape, request: &Request, detail: u32, line: &str) -> Result<bool, Fail> {
+fn is_printed(
+    alloc: Global,
+    shape: Shape,
+    request: &Request,
+    detail: u32,
+    line: &str,
+) -> Result<bool, Fail> {
     let mut lines = LineBuffer::new(alloc);
     let reply = Reply::Refused { code: 6, detail };
     lines.append_line(shape, 4, 3, request, &reply)?;

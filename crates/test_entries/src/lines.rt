@@ -50,7 +50,8 @@ fn seen(
 #[test]
 fn joins(rt: HostRuntime) -> Result<(), Fail> {
     let alloc = rt.alloc();
-    let greatest = "1 s0 join c65535 4294967295 [0 69] -> welcome 7 [0=(5,-1) 69=(9223372036854775807,-9223372036854775808)]\n";
+    let greatest =
+        "1 s0 join c65535 4294967295 [0 69] -> welcome 7 [0=(5,-1) 69=(9223372036854775807,-9223372036854775808)]\n";
     let request = join(alloc, 65535, u32::MAX, &[0, 69])?;
     let reply = welcome(alloc, &[(0, [5, -1]), (69, [i64::MAX, i64::MIN])])?;
     check(alloc, place(1, 0), request, reply, greatest)?;
@@ -68,15 +69,11 @@ fn joins(rt: HostRuntime) -> Result<(), Fail> {
 #[test]
 fn relays(rt: HostRuntime) -> Result<(), Fail> {
     let alloc = rt.alloc();
-    let greatest = "18446744073709551615 s18446744073709551614 submit 9 reads 0 3 writes 3 at -2 7 { set @3.1 (@0.0 + 1); } \
+    let greatest =
+        "18446744073709551615 s18446744073709551614 submit 9 reads 0 3 writes 3 at -2 7 { set @3.1 (@0.0 + 1); } \
         -> relay 9 at 4 [0=(1,2)] [5:c0.1 6:c65535.4294967295]\n";
     let request = submit(alloc, 9)?;
-    let reply = relay(
-        alloc,
-        9,
-        &[(0, [1, 2])],
-        &[(5, 0, 1), (6, 65535, u32::MAX)],
-    )?;
+    let reply = relay(alloc, 9, &[(0, [1, 2])], &[(5, 0, 1), (6, 65535, u32::MAX)])?;
     check(
         alloc,
         place(u64::MAX, u64::MAX - 1),
@@ -96,7 +93,9 @@ fn relays(rt: HostRuntime) -> Result<(), Fail> {
 
 /// A Submit of the action of these tests, by the text of its reply.
 fn check_outcome(alloc: Global, reply: Reply, text: &str) -> Result<(), Fail> {
-    let line = format!(in alloc; "12 s3 submit 8 reads 0 3 writes 3 at -2 7 {{ set @3.1 (@0.0 + 1); }} -> {text}\n")?;
+    let line = format!(in alloc;
+        "12 s3 submit 8 reads 0 3 writes 3 at -2 7 {{ set @3.1 (@0.0 + 1); }} -> {text}\n"
+    )?;
     let request = submit(alloc, 8)?;
     check(alloc, place(12, 3), request, reply, line.as_str())
 }
@@ -129,10 +128,7 @@ fn outcomes(rt: HostRuntime) -> Result<(), Fail> {
 #[test]
 fn reports(rt: HostRuntime) -> Result<(), Fail> {
     let alloc = rt.alloc();
-    let request = done(
-        alloc,
-        &[(1, &[[6, 0]]), (2, &[[7, 1], [8, -2]]), (3, &[])],
-    )?;
+    let request = done(alloc, &[(1, &[[6, 0]]), (2, &[[7, 1], [8, -2]]), (3, &[])])?;
     let noted = Reply::Noted { commit: 3 };
     let line = "1000 s64 done [1:(6,0) 2:(7,1)(8,-2) 3:] -> noted 3\n";
     check(alloc, place(1000, 64), request, noted, line)?;

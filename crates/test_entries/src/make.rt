@@ -86,9 +86,6 @@ pub fn observe(alloc: Global, wait: u16, observed: &[u16]) -> Result<Request, Fa
 }
 
 pub fn submit(alloc: Global, seq: u32) -> Result<Request, Fail> {
-    let action = parse_action(
-        alloc,
-        "reads 0 3 writes 3 at -2 7 { set @3.1 (@0.0 + 1); }",
-    )?;
+    let action = parse_action(alloc, "reads 0 3 writes 3 at -2 7 { set @3.1 (@0.0 + 1); }")?;
     Ok(Request::Submit { seq, action })
 }
