@@ -1,8 +1,7 @@
 //! The rights of a world file.
 
-ghost use Rattle.std.specs.Prelude.{◌≡◌, []};
+ghost use Rattle.std.specs.Prelude.{◌≡◌, [], codes};
 ghost use Rattle.serde_json.specs.View.{view, items_view};
-ghost use Rattle.std.specs.Prelude.{codes};
 ghost use Rattle.sv_scenario.specs.Faults.{Gives, each};
 ghost use Rattle.sv_scenario.specs.Keys.{value_at};
 ghost use Rattle.sv_worldfile.specs.Rights.{next_client, pair_of, clients_of, objects_of, right_of, rights_of};
@@ -31,7 +30,8 @@ fn next_client(alloc: Global, least: u16, value: &Value) -> Result<u16, ReadFaul
     }
 }
 
-#[tactic(auto, unfolding(crate::specs::Rights::pair_of))]
+/// The first and the last of a list of two.
+#[tactic(auto, unfolding(crate::specs::Rights::pair_of), using(crate::proofs::Pairs::too_few, crate::proofs::Pairs::too_many))]
 fn pair_of(alloc: Global, value: &Value) -> Result<(&Value, &Value), ReadFault>
     ensures { Gives (λ p. (view p.0.now, view p.1.now)) result (pair_of (view value.now)) }
 {
@@ -40,6 +40,7 @@ fn pair_of(alloc: Global, value: &Value) -> Result<(&Value, &Value), ReadFault>
     };
     match items.as_slice() {
         [first, last] => Ok((first, last)),
+        [_, _, _, ..] => Err(refuse(alloc, ScenarioCause::Range)),
         _ => Err(refuse(alloc, ScenarioCause::Range)),
     }
 }

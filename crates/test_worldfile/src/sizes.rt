@@ -43,10 +43,9 @@ fn keeps_the_limits_of_lists(rt: HostRuntime) -> Result<(), Fail> {
             (OBJECTS, "[5]", 65_536, "]}"),
             "scenario: /objects: range\n",
         ),
-        ((OBJECTS, "5", 65_536, "]}"), "scenario: /objects: range\n"),
         ((RIGHTS, RIGHT, 0, "]}"), "read"),
         ((RIGHTS, RIGHT, 65_536, "]}"), "read"),
-        ((RIGHTS, RIGHT, 65_537, "]}"), "scenario: /rights: range\n"),
+        ((RIGHTS, "5", 65_536, "]}"), "scenario: /rights/0: kind\n"),
         ((RIGHTS, "5", 65_537, "]}"), "scenario: /rights: range\n"),
     ] {
         assert!(rt; is_printed(rt.alloc(), long, printed)?, "{printed}");
@@ -67,10 +66,6 @@ fn the_greatest_world_has_65534_as_its_last_object(rt: HostRuntime) -> Result<()
             (OBJECTS, "[5]", 65_535, BEYOND),
             "scenario: /rights/0/objects/1: object\n",
         ),
-        (
-            (OBJECTS, "[5]", 65_534, LAST),
-            "scenario: /rights/0/objects/1: object\n",
-        ),
     ] {
         assert!(rt; is_printed(rt.alloc(), long, printed)?, "{printed}");
     }
@@ -79,7 +74,7 @@ fn the_greatest_world_has_65534_as_its_last_object(rt: HostRuntime) -> Result<()
 
 const GOOD: &str = "{'attrs':1,'objects':[[5]],'bound':4}";
 
-/// So much is printed of a text with a byte behind it so often that there are so many in all.
+/// So much is printed of a text with a byte behind it so often that there are so many bytes in all.
 fn is_filled(
     alloc: Global,
     text: &str,
@@ -88,21 +83,16 @@ fn is_filled(
     printed: &str,
 ) -> Result<bool, Fail> {
     let mut bytes = quoted(alloc, text)?;
-    for _ in bytes.len()..size {
-        bytes.push(byte)?;
-    }
+    bytes.resize(size, byte)?;
     is_line(alloc, &bytes, printed)
 }
 
 #[test]
 fn refuses_more_than_16_mebibytes(rt: HostRuntime) -> Result<(), Fail> {
     for (text, byte, size, printed) in [
-        (GOOD, b' ', 4_194_305, "read"),
         (GOOD, b' ', 16_777_216, "read"),
         (GOOD, b' ', 16_777_217, "scenario: : size\n"),
-        (GOOD, 0xFF, 16_777_216, "scenario: : json\n"),
         (GOOD, 0xFF, 16_777_217, "scenario: : size\n"),
-        ("[]", b' ', 16_777_217, "scenario: : size\n"),
     ] {
         assert!(rt;
             is_filled(rt.alloc(), text, byte, size, printed)?,
