@@ -126,8 +126,8 @@ impl LeanClient {
         requires some { 0 < sessions }
         ensures ok { OnOk result (self.new ≡ record self.old { events = only_joins sessions }) }
     {
-        let awaited = awaited_at_join(self.alloc, 0)?;
-        self.awaited = awaited;
+        let begun = awaited_at_join(self.alloc, 0)?;
+        self.awaited = begun;
         self.past = Past::new(sessions);
         self.sessions = sessions;
         self.joined = true;
