@@ -115,12 +115,7 @@ pub(crate) fn text_of(rt: &impl Abort, alloc: Global, folder: &mut MemFolder) ->
 }
 
 // Appends a line behind the text, which stands there then whatever a crash loses.
-fn go_on(
-    rt: &impl Abort,
-    alloc: Global,
-    mut log: Log<MemFolder>,
-    text: &[u8],
-) -> Result<(), Fail>
+fn go_on(rt: &impl Abort, alloc: Global, mut log: Log<MemFolder>, text: &[u8]) -> Result<(), Fail>
     requires sizes { HasSizes log.segment }
     requires open { IsOpenLog disk_in_memory log }
 {
@@ -155,8 +150,10 @@ pub(crate) fn found_in(
     if let Some(found) = known(seen, &files) {
         return Ok(found.text.len());
     }
-    let mut log = open(rt, alloc, left, spare);
-    let found = text_of(rt, alloc, &mut log.segment.folder);
+    let log = open(rt, alloc, left, spare);
+    let opened = &log.segment.folder;
+    let mut copy = opened.crashed(opened.asked(), Loss::Nothing)?;
+    let found = text_of(rt, alloc, &mut copy);
     assert!(rt; text.starts_with(&found));
     crash_again(rt, alloc, &log.segment.folder, spare, &found)?;
     go_on(rt, alloc, log, &found)?;

@@ -64,7 +64,13 @@ fn reads_an_empty_log(rt: HostRuntime) -> Result<(), Fail> {
 fn reads_what_stands_before_the_first_zero(rt: HostRuntime) -> Result<(), Fail> {
     let alloc = rt.alloc();
     is_read(&rt, alloc, with_one(alloc, "1 a\n2 b\n")?, "1 a\n2 b\n", 3);
-    is_read(&rt, alloc, with_one(alloc, "1 a\n2 b\n\0\0")?, "1 a\n2 b\n", 3);
+    is_read(
+        &rt,
+        alloc,
+        with_one(alloc, "1 a\n2 b\n\0\0")?,
+        "1 a\n2 b\n",
+        3,
+    );
     is_read(&rt, alloc, with_one(alloc, "1 a\n2 b")?, "1 a\n", 2);
     is_read(&rt, alloc, with_one(alloc, "1 a\n2 \0\n3 c\n")?, "1 a\n", 2);
     is_read(&rt, alloc, with_one(alloc, "1 a\n\0\02 b\n")?, "1 a\n", 2);

@@ -75,12 +75,7 @@ pub(crate) const LARGE: Plan = Plan {
             Sync,
             Append("5 dddd\n6 e\n7 f\n"),
         ],
-        &[
-            Append("5 g\n"),
-            Append("6 h\n"),
-            Sync,
-            Append("7 i\n"),
-        ],
+        &[Append("5 g\n"), Append("6 h\n"), Sync, Append("7 i\n")],
         &[],
         &[Append("7 j\n8 k\n"), Sync],
     ],

@@ -62,7 +62,12 @@ const ROWS: &[Row] = &[
         cause: Cause::Missing,
     },
     Row {
-        files: &[WORLD, ONE, TWO, ("journal-00000000000000000004.txt", "4 d\n")],
+        files: &[
+            WORLD,
+            ONE,
+            TWO,
+            ("journal-00000000000000000004.txt", "4 d\n"),
+        ],
         file: "journal-00000000000000000003.txt",
         line: 0,
         cause: Cause::Missing,
@@ -137,19 +142,31 @@ const ROWS: &[Row] = &[
     },
     // Zeros in the middle of a segment, zeros at its end, and a torn line, where another segment follows.
     Row {
-        files: &[WORLD, ("journal-00000000000000000001.txt", "1 a\n\0\0\0\0\n2 b\n"), THREE],
+        files: &[
+            WORLD,
+            ("journal-00000000000000000001.txt", "1 a\n\0\0\0\0\n2 b\n"),
+            THREE,
+        ],
         file: "journal-00000000000000000001.txt",
         line: 2,
         cause: Cause::Behind,
     },
     Row {
-        files: &[WORLD, ("journal-00000000000000000001.txt", "1 a\n2 b\n\0"), THREE],
+        files: &[
+            WORLD,
+            ("journal-00000000000000000001.txt", "1 a\n2 b\n\0"),
+            THREE,
+        ],
         file: "journal-00000000000000000001.txt",
         line: 3,
         cause: Cause::Behind,
     },
     Row {
-        files: &[WORLD, ("journal-00000000000000000001.txt", "1 a\n2 b"), THREE],
+        files: &[
+            WORLD,
+            ("journal-00000000000000000001.txt", "1 a\n2 b"),
+            THREE,
+        ],
         file: "journal-00000000000000000001.txt",
         line: 2,
         cause: Cause::Behind,
@@ -170,7 +187,12 @@ const ROWS: &[Row] = &[
         cause: Cause::Sum,
     },
     Row {
-        files: &[WORLD, ONE, THREE, ("state-00000000000000000002.txt", "state 2\n")],
+        files: &[
+            WORLD,
+            ONE,
+            THREE,
+            ("state-00000000000000000002.txt", "state 2\n"),
+        ],
         file: "state-00000000000000000002.txt",
         line: 0,
         cause: Cause::Sum,
@@ -306,10 +328,16 @@ const KEPT: &[Kept] = &[
     },
     // Bytes behind zeros are, from the first zero to the last byte that is not zero.
     Kept {
-        files: &[WORLD, ("journal-00000000000000000001.txt", "1 a\n2\0\0b\n\0x\0\0")],
+        files: &[
+            WORLD,
+            ("journal-00000000000000000001.txt", "1 a\n2\0\0b\n\0x\0\0"),
+        ],
         text: "1 a\n",
         rest: Some(("rest-00000000000000000002.txt", "\0\0b\n\0x")),
-        last: ("journal-00000000000000000001.txt", "1 a\n\0\0\0\0\0\0\0\0\0"),
+        last: (
+            "journal-00000000000000000001.txt",
+            "1 a\n\0\0\0\0\0\0\0\0\0",
+        ),
     },
     Kept {
         files: &[
@@ -359,7 +387,14 @@ const KEPT: &[Kept] = &[
     },
     // Older segments may be gone, and other files may stand there.
     Kept {
-        files: &[WORLD, TWO, THREE, ("lock", ""), ("notes", "journal-1"), ("new", "st")],
+        files: &[
+            WORLD,
+            TWO,
+            THREE,
+            ("lock", ""),
+            ("notes", "journal-1"),
+            ("new", "st"),
+        ],
         text: "3 c\n",
         rest: None,
         last: THREE,

@@ -133,24 +133,51 @@ fn take(
 ) -> Result<Option<FileFault>, AllocError>
     requires sizes { HasSizes log.old.segment }
     requires open { IsOpenLog disk_in_memory log.old }
-    ensures sizes { IfOk result (λ fault. fault ≡ None → HasSizes log.new.segment) }
+    ensures sizes { IfOk result (λ fault. HasSizes log.new.segment) }
     ensures open { IfOk result (λ fault. fault ≡ None → IsOpenLog disk_in_memory log.new) }
 {
     let before = text.len();
-    let fault = match step {
-        Step::Append(lines) => {
-            text.extend_from_slice(lines.as_bytes())?;
-            append(log, lines.as_bytes())
-        }
-        Step::Sync => sync(log),
-    };
-    let synced = match (step, fault, marks.last()) {
-        (Step::Sync, None, _) => before,
-        (_, _, Some(mark)) => mark.synced,
-        _ => 0,
+    let fault = done(log, step, text)?;
+    let synced = match fault {
+        None => synced_by(step, before, marks),
+        Some(_) => synced_before(marks),
     };
     marks.push(mark_of(log.segment.folder.asked(), synced, text.len()))?;
     Ok(fault)
+}
+
+// How many bytes are synced behind a step that went well.
+fn synced_by(step: Step, before: usize, marks: &[Mark]) -> usize {
+    match step {
+        Step::Sync => before,
+        Step::Append(_) => synced_before(marks),
+    }
+}
+
+fn synced_before(marks: &[Mark]) -> usize {
+    match marks.last() {
+        Some(mark) => mark.synced,
+        None => 0,
+    }
+}
+
+fn done(
+    log: &mut Log<MemFolder>,
+    step: Step,
+    text: &mut Vec<u8>,
+) -> Result<Option<FileFault>, AllocError>
+    requires sizes { HasSizes log.old.segment }
+    requires open { IsOpenLog disk_in_memory log.old }
+    ensures sizes { IfOk result (λ fault. HasSizes log.new.segment) }
+    ensures open { IfOk result (λ fault. fault ≡ None → IsOpenLog disk_in_memory log.new) }
+{
+    match step {
+        Step::Append(lines) => {
+            text.extend_from_slice(lines.as_bytes())?;
+            Ok(append(log, lines.as_bytes()))
+        }
+        Step::Sync => Ok(sync(log)),
+    }
 }
 
 pub(crate) fn append(log: &mut Log<MemFolder>, lines: &[u8]) -> Option<FileFault>

@@ -5,4 +5,4 @@ use Rattle.sv_log.specs.OpenLogs.{IsOpenLog}
 use Rattle.test_log.proofs.runs.go_on.Given as goal
 
 abbrev pub invariant-loop-step : goal.invariant-loop-step
-invariant-loop-step l = record { sizes : HasSizes l.log.segment; open : IsOpenLog disk_in_memory l.log; }
+invariant-loop-step l = record { sizes : HasSizes l.log.segment; «open» : IsOpenLog disk_in_memory l.log }
