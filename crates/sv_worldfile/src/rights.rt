@@ -40,6 +40,7 @@ fn pair_of(alloc: Global, value: &Value) -> Result<(&Value, &Value), ReadFault>
     };
     match items.as_slice() {
         [first, last] => Ok((first, last)),
+        // More than two and fewer are proved apart.
         [_, _, _, ..] => Err(refuse(alloc, ScenarioCause::Range)),
         _ => Err(refuse(alloc, ScenarioCause::Range)),
     }
