@@ -1,0 +1,60 @@
+//! Connections that come and go.
+use crate::guest::Guest;
+use crate::halt::Halt;
+use crate::host::Host;
+use sv_log::Folder;
+use sv_ports::{Accepted, Ports};
+
+/// How many connections there are at most.
+const MOST_GUESTS: usize = 1024;
+
+/// How many connections are accepted in one turn.
+const MOST_ACCEPTS: u32 = 64;
+
+impl<F: Folder> Host<F> {
+    // Takes a connection in, or closes it where there are too many.
+    fn admit<P: Ports>(&mut self, ports: &mut P, number: u64) {
+        if self.guests.len() >= MOST_GUESTS {
+            self.counts.refuse();
+            ports.close(number);
+            return;
+        }
+        let guest = Guest::new(self.alloc, self.now);
+        if self.guests.push(number, guest).is_err() {
+            ports.close(number);
+        }
+    }
+
+    /// Accepts connections, as long as some wait.
+    pub fn accept<P: Ports>(&mut self, ports: &mut P) {
+        if !self.ready.door {
+            return;
+        }
+        self.door_fails = false;
+        for _ in 0..MOST_ACCEPTS {
+            match ports.accept() {
+                Accepted::One(number) => self.admit(ports, number),
+                Accepted::NotYet => {
+                    self.ready.door = false;
+                    return;
+                }
+                // It is tried again later.
+                Accepted::Failed => {
+                    self.door_fails = true;
+                    return;
+                }
+            }
+        }
+    }
+
+    /// Closes a connection, whose session has its End.
+    pub fn depart<P: Ports>(&mut self, ports: &mut P, number: u64) -> Result<(), Halt> {
+        let Some(mut guest) = self.guests.take(number) else {
+            return Ok(());
+        };
+        let ended = self.end(&mut guest);
+        self.guests.remove(number);
+        ports.close(number);
+        ended
+    }
+}

@@ -1,0 +1,199 @@
+//! A world that is kept on a log.
+use crate::fault::KeepFault;
+use crate::settled::Settled;
+use std::alloc::Global;
+use sv_entries::append_line;
+use sv_living::{LivingCore, StepFault};
+use sv_log::{Folder, Log};
+use sv_wire::{Reply, Request};
+use sv_world::{ClientId, ObjectId, Shape, Value};
+
+/// What is done before anything is sent.
+#[derive(Clone, Copy, Debug, Drop, PartialEq, Eq)]
+pub enum Syncing {
+    /// Lines are appended and synced.
+    Batch,
+    /// Lines are appended: they outlive the process, and not the machine.
+    Append,
+}
+
+/// A living world whose entries stand in a log.
+///
+/// The lines of what was stepped and is not appended stand in `group`. They are the entries of the core from number `next` less their count on.
+#[derive(Drop)]
+pub struct Keeper<F: Folder> {
+    pub(crate) core: LivingCore,
+    pub(crate) shape: Shape,
+    pub(crate) log: Log<F>,
+    pub(crate) group: String,
+    /// The number of the next line.
+    pub(crate) next: u64,
+    pub(crate) syncing: Syncing,
+    pub(crate) syncs: u64,
+    pub(crate) log_bytes: u64,
+    /// The log is not what the core says it is.
+    pub(crate) is_broken: bool,
+}
+
+fn fault_of(fault: StepFault) -> KeepFault {
+    match fault {
+        StepFault::NotOpen => KeepFault::NotOpen,
+        StepFault::NoRoom => KeepFault::NoRoom,
+        StepFault::Memory => KeepFault::Memory,
+    }
+}
+
+impl<F: Folder> Keeper<F> {
+    /// Answers a request of a session, and puts its line into the group. Its reply may be sent once the keeper is settled.
+    pub fn step(&mut self, session: u64, request: &Request) -> Result<Reply, KeepFault> {
+        if self.is_broken {
+            return Err(KeepFault::Broken);
+        }
+        // No log has as many lines as that.
+        let Some(next) = self.next.checked_add(1) else {
+            return Err(KeepFault::Broken);
+        };
+        match self.core.step(session, request) {
+            Ok(answer) => self.enter(session, request, answer.reply, next),
+            Err(fault) => Err(fault_of(fault)),
+        }
+    }
+
+    // Puts the line of what was stepped into the group. Where there is no memory for it, the keeper is broken.
+    fn enter(
+        &mut self,
+        session: u64,
+        request: &Request,
+        reply: Reply,
+        next: u64,
+    ) -> Result<Reply, KeepFault> {
+        match append_line(
+            self.shape,
+            self.next,
+            session,
+            request,
+            &reply,
+            &mut self.group,
+        ) {
+            Ok(()) => {
+                self.next = next;
+                Ok(reply)
+            }
+            Err(_) => {
+                self.is_broken = true;
+                Err(KeepFault::Broken)
+            }
+        }
+    }
+
+    /// Appends all lines that are not appended, with one write, and syncs them. Then what was answered may be sent.
+    ///
+    /// After an `Err` the keeper is broken.
+    pub fn settle(&mut self) -> Result<Settled<'_>, KeepFault> {
+        if self.is_broken {
+            return Err(KeepFault::Broken);
+        }
+        if !self.group.is_empty() {
+            self.is_broken = true;
+            self.put()?;
+            self.is_broken = false;
+        }
+        Ok(Settled { next: &self.next })
+    }
+
+    // Appends the group, and syncs it.
+    fn put(&mut self) -> Result<(), KeepFault> {
+        if self.log.append(self.group.as_bytes()).is_err() {
+            return Err(KeepFault::Broken);
+        }
+        self.log_bytes = self.log_bytes.saturating_add(self.group.len() as u64);
+        self.group.clear();
+        if self.syncing == Syncing::Batch {
+            self.syncs = self.syncs.saturating_add(1);
+            if self.log.sync().is_err() {
+                return Err(KeepFault::Broken);
+            }
+        }
+        Ok(())
+    }
+
+    /// Whether all lines are settled.
+    pub fn is_settled(&self) -> bool {
+        self.group.is_empty()
+    }
+
+    /// The name of the file that is appended to.
+    pub fn file(&self) -> &str {
+        self.log.segment.name.as_str()
+    }
+
+    /// How many lines there are, of all segments.
+    pub fn entries(&self) -> u64 {
+        self.next.saturating_sub(1)
+    }
+
+    /// How often the log was synced.
+    pub fn syncs(&self) -> u64 {
+        self.syncs
+    }
+
+    /// How many bytes the lines have that were read and appended.
+    pub fn log_bytes(&self) -> u64 {
+        self.log_bytes
+    }
+
+    pub fn shape(&self) -> Shape {
+        self.shape
+    }
+
+    /// The number of the next session.
+    pub fn next_session(&self) -> u64 {
+        self.core.next()
+    }
+
+    pub fn open_count(&self) -> usize {
+        self.core.open_count()
+    }
+
+    /// The least number of a session that is open.
+    pub fn first_open(&self) -> Option<u64> {
+        self.core.first_open()
+    }
+
+    /// The last accepted position.
+    pub fn last(&self) -> u32 {
+        self.core.last()
+    }
+
+    /// The greatest position up to which all results that count are installed.
+    pub fn commit(&self) -> u32 {
+        self.core.commit()
+    }
+
+    /// How many client numbers ever joined.
+    pub fn client_count(&self) -> usize {
+        self.core.client_count()
+    }
+
+    /// How many actions of a client have an outcome.
+    pub fn outcome_count(&self, client: ClientId) -> u32 {
+        self.core.outcome_count(client)
+    }
+
+    /// The value of an object at the commit.
+    pub fn committed(&self, object: ObjectId) -> Option<&Value> {
+        if object.0 < self.shape.objects {
+            Some(self.core.committed(object))
+        } else {
+            None
+        }
+    }
+
+    /// What an Observe of an open session would be answered, where that shows nothing. It is no entry. Where the keeper is broken nothing is told.
+    pub fn quiet_answer(&self, session: u64, request: &Request) -> Option<Reply> {
+        if self.is_broken {
+            return None;
+        }
+        self.core.quiet_answer(session, request)
+    }
+}

@@ -1,0 +1,2 @@
+-- The lemmas on world files.
+pub mod Kept
