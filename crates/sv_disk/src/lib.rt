@@ -1,6 +1,10 @@
-//! A stand-in for the crate of this name that another branch writes: a folder of the system.
+//! A folder of the system, as the log of a long-lived server sees it.
 #![tactic(auto)]
 
+mod calls;
 mod folder;
+#[cfg(test)]
+mod tests;
 
-pub use folder::{DiskFolder, DiskOpen, open_folder};
+pub use calls::SyncMode;
+pub use folder::{DiskFolder, OpenFault};

@@ -29,22 +29,31 @@ impl Ages {
 
     /// Notes that this is the last accepted position at a time.
     pub fn note(&mut self, last: u32, time: u64) -> Result<(), AllocError> {
-        match self.marks.last() {
-            Some(mark) if mark.last == last => Ok(()),
-            _ => {
-                self.marks.push(Mark { last, time })?;
-                Ok(())
-            }
+        let is_noted = match self.marks.last() {
+            Some(mark) => mark.last == last,
+            None => false,
+        };
+        if !is_noted {
+            self.marks.push(Mark { last, time })?;
+        }
+        Ok(())
+    }
+
+    // Whether the next mark is at or below the commit.
+    fn is_past(&self, commit: u32) -> bool {
+        match self.marks.get(self.past) {
+            Some(mark) => mark.last <= commit,
+            None => false,
         }
     }
 
     /// When the lowest position above the commit was accepted, where there is one.
     pub fn oldest(&mut self, commit: u32) -> Option<u64> {
-        for _ in 0..u64::MAX {
-            match self.marks.get(self.past) {
-                Some(mark) if mark.last <= commit => self.past = self.past.saturating_add(1),
-                _ => break,
+        for _ in 0..self.marks.len() {
+            if !self.is_past(commit) {
+                break;
             }
+            self.past = self.past.saturating_add(1);
         }
         if self.past >= MANY && self.past <= self.marks.len() {
             self.marks.drain(..self.past);

@@ -15,7 +15,8 @@ pub enum FolderFault {
 pub trait Folders {
     type F: Folder + Drop;
 
-    fn open(&mut self, name: &str) -> Result<Self::F, FolderFault>;
+    /// Opens a folder. A sync of it waits for the disk, or does nothing.
+    fn open(&mut self, name: &str, syncs: bool) -> Result<Self::F, FolderFault>;
 }
 
 /// Why a door is not opened.

@@ -95,6 +95,13 @@ impl<F: Folder> Host<F> {
             return Ok(());
         }
         guest.has_more = false;
+        if guest.peer.is_paused() {
+            self.take_piece(outside.files, guest, &[]);
+            guest.has_more = guest.peer.is_paused();
+            if guest.has_more {
+                return Ok(());
+            }
+        }
         let mut left = MOST_REQUESTS;
         for _ in 0..MOST_READS {
             if self.take_requests(outside, guest, &mut left)? == Course::Over {
@@ -125,7 +132,8 @@ impl<F: Folder> Host<F> {
             self.end(guest)?;
             return Ok(Course::Over);
         }
-        if count == 0 {
+        if count == 0 || guest.peer.is_paused() {
+            guest.has_more = guest.peer.is_paused();
             return Ok(Course::Over);
         }
         Ok(Course::On)

@@ -5,6 +5,17 @@ use crate::host::Host;
 use sv_log::Folder;
 use sv_wire::Request;
 
+/// How a held Observe stands.
+#[derive(Clone, Copy, Debug, Drop, PartialEq, Eq)]
+enum Waiting {
+    /// It waits until this time, or until there is news.
+    Until(u64),
+    /// It is to be answered now.
+    Due,
+    /// There is none.
+    Nothing,
+}
+
 impl<F: Folder> Host<F> {
     /// Until when a request of a connection is held, where it is: an Observe with a wait, as long as its answer would show nothing.
     pub fn holds_until(&self, guest: &Guest, request: &Request) -> Option<u64> {
@@ -40,41 +51,44 @@ impl<F: Folder> Host<F> {
         Ok(())
     }
 
-    // Whether a held Observe is to be answered now.
-    fn is_due(&self, guest: &Guest) -> bool {
-        match &guest.held {
-            Some(held) => {
-                held.until <= self.now || self.quiet_answer(guest, &held.request).is_none()
-            }
-            None => false,
+    // How the held Observe of a connection stands.
+    fn standing_of_held(&self, number: u64) -> Waiting {
+        let Some(guest) = self.guests.get(number) else {
+            return Waiting::Nothing;
+        };
+        let Some(held) = &guest.held else {
+            return Waiting::Nothing;
+        };
+        if held.until <= self.now || self.quiet_answer(guest, &held.request).is_none() {
+            return Waiting::Due;
         }
+        Waiting::Until(held.until)
     }
 
     // Looks at a connection of the list. True where it stays in it.
     fn look_at(&mut self, number: u64) -> Result<bool, Halt> {
-        let Some(mut guest) = self.guests.take(number) else {
-            return Ok(false);
-        };
-        let looked = self.look_at_guest(number, &mut guest);
-        self.guests.put(number, guest);
-        looked
-    }
-
-    fn look_at_guest(&mut self, number: u64, guest: &mut Guest) -> Result<bool, Halt> {
-        if self.is_due(guest) {
-            self.touched.push(number)?;
-            self.release(guest)?;
-        }
-        match &guest.held {
-            Some(held) => {
-                self.held_until = self.held_until.min(held.until);
+        match self.standing_of_held(number) {
+            Waiting::Until(time) => {
+                self.held_until = self.held_until.min(time);
                 Ok(true)
             }
-            None => {
-                guest.is_listed = false;
+            Waiting::Due | Waiting::Nothing => {
+                self.take_off(number)?;
                 Ok(false)
             }
         }
+    }
+
+    // Takes a connection off the list, and answers its held Observe, where it has one.
+    fn take_off(&mut self, number: u64) -> Result<(), Halt> {
+        let Some(mut guest) = self.guests.take(number) else {
+            return Ok(());
+        };
+        guest.is_listed = false;
+        let released = self.release(&mut guest);
+        self.guests.put(number, guest);
+        self.touched.push(number)?;
+        released
     }
 
     /// Answers the held Observes for which there is news, or whose time has passed.

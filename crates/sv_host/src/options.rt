@@ -2,7 +2,6 @@
 use std::alloc::{AllocError, Global};
 use std::net::SocketAddr;
 use sv_command::number_in;
-use sv_keeper::Syncing;
 
 /// What the words ask for.
 #[derive(Drop)]
@@ -18,7 +17,8 @@ pub struct Options<'a> {
     /// In milliseconds.
     pub report_within: u64,
     pub has_steward: bool,
-    pub syncing: Syncing,
+    /// Lines are synced before replies are sent.
+    pub syncs: bool,
     pub state_every: u64,
     pub stops: bool,
 }
@@ -54,10 +54,10 @@ pub fn is_local(text: &str) -> bool {
     }
 }
 
-fn syncing_of(word: &str) -> Option<Syncing> {
+fn syncs_by(word: &str) -> Option<bool> {
     match word {
-        "batch" => Some(Syncing::Batch),
-        "none" => Some(Syncing::Append),
+        "batch" => Some(true),
+        "none" => Some(false),
         _ => None,
     }
 }
@@ -74,7 +74,7 @@ impl<'a> Options<'a> {
             idle: 60_000,
             report_within: 250,
             has_steward: true,
-            syncing: Syncing::Batch,
+            syncs: true,
             state_every: 1_000_000,
             stops: false,
         }
@@ -108,7 +108,7 @@ impl<'a> Options<'a> {
             "--idle" => self.idle = number_in(value, 1, 1_000_000)? as u64 * 1000,
             "--report-within" => self.report_within = number_in(value, 0, 1_000_000)? as u64,
             "--state-every" => self.state_every = number_in(value, 1, 4_000_000_000)? as u64,
-            "--sync" => self.syncing = syncing_of(value)?,
+            "--sync" => self.syncs = syncs_by(value)?,
             _ => return None,
         }
         Some(())

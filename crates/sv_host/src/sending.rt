@@ -81,9 +81,12 @@ fn send_to<P: Ports>(
 impl<F: Folder> Host<F> {
     /// Settles, and sends to each connection that was touched. Those that are over then are closed.
     pub fn send<P: Ports>(&mut self, ports: &mut P) -> Result<(), Halt> {
-        let touched = std::mem::replace(&mut self.touched, Vec::new(self.alloc));
+        let mut touched = std::mem::replace(&mut self.touched, Vec::new(self.alloc));
         let mut gone = Vec::new(self.alloc);
-        let Ok(settled) = self.keeper.settle() else {
+        if self.keeper.settle().is_err() {
+            return Err(Halt::Log);
+        }
+        let Some(settled) = self.keeper.settled() else {
             return Err(Halt::Log);
         };
         for number in &touched {
@@ -94,6 +97,9 @@ impl<F: Folder> Host<F> {
             }
         }
         drop(settled);
+        // Its room is used again.
+        touched.clear();
+        self.touched = touched;
         for number in &gone {
             self.depart(ports, *number)?;
         }

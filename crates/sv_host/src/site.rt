@@ -3,7 +3,7 @@ use crate::figures::{Figures, append_figures};
 use crate::origins::is_welcome;
 use crate::paths::{KindOfFile, kind_of, path_in};
 use bytes::Bytes;
-use http::{HeaderValue, Method, Request, StatusCode, header};
+use http::{HeaderName, HeaderValue, Method, Request, StatusCode, header};
 use http_server::{Response, Service};
 use std::alloc::{AllocError, Global};
 use sv_bytes::{FileFault, Files, read_all};
@@ -50,7 +50,7 @@ fn put(response: &mut Response, kind: KindOfFile, body: Bytes) -> Result<(), All
 }
 
 /// The bytes of a header of a request, where it has it.
-fn header_of<'a>(request: &'a Request<Bytes>, name: header::HeaderName) -> Option<&'a [u8]> {
+fn header_of<'a>(request: &'a Request<Bytes>, name: HeaderName) -> Option<&'a [u8]> {
     let value = request.headers().get(name)?;
     Some(value.as_bytes())
 }

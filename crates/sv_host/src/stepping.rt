@@ -8,7 +8,7 @@ use sv_wire::{Refusal, Reply, Request};
 use sv_world::ClientId;
 
 /// The client number of the steward.
-pub const STEWARD: u16 = 65_535;
+pub const STEWARD_NUMBER: u16 = 65_535;
 
 /// How a world stood before a request.
 #[derive(Clone, Copy, Debug, Drop, PartialEq, Eq)]
@@ -39,7 +39,7 @@ impl<F: Folder> Host<F> {
     // Whether a connection may ask this: where keys are wanted it showed one, it joins under no number but its key's, and never under the steward's.
     fn admits(&self, guest: &Guest, request: &Request) -> bool {
         let client = joining(request);
-        if client == Some(ClientId(STEWARD)) {
+        if client == Some(ClientId(STEWARD_NUMBER)) {
             return false;
         }
         let Some(keys) = &self.keys else {

@@ -1,6 +1,6 @@
 //! The steward: an honest client within the server.
 use crate::halt::Halt;
-use crate::stepping::STEWARD;
+use crate::stepping::STEWARD_NUMBER;
 use std::alloc::{AllocError, Global};
 use sv_client::{LeanClient, PollFault, TakeFault};
 use sv_keeper::Keeper;
@@ -36,7 +36,7 @@ fn results_in(request: &Request) -> u64 {
 impl Steward {
     pub fn new(alloc: Global, shape: Shape) -> Result<Steward, AllocError> {
         Ok(Steward {
-            client: LeanClient::new(alloc, ClientId(STEWARD), shape, List::new(alloc))?,
+            client: LeanClient::new(alloc, ClientId(STEWARD_NUMBER), shape, List::new(alloc))?,
             session: None,
         })
     }

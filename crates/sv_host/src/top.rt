@@ -10,7 +10,7 @@ use crate::keys::{Keys, KeysFault, tell as tell_keys};
 use crate::options::{OptionFault, Options, is_local, options_of};
 use crate::outside::Outside;
 use crate::steward::Steward;
-use crate::stepping::STEWARD;
+use crate::stepping::STEWARD_NUMBER;
 use crate::telling::{tell_plain, tell_standing};
 use std::alloc::{AllocError, Global};
 use std::hash::RandomState;
@@ -108,21 +108,20 @@ fn keeper_of<D: Folders>(
     file: WorldFile,
     bytes: &[u8],
 ) -> Result<Keeper<D::F>, HostEnd> {
-    let folder = match folders.open(options.folder) {
+    let folder = match folders.open(options.folder, options.syncs) {
         Ok(folder) => folder,
         Err(FolderFault::Busy) => return Err(HostEnd::Busy(owned(alloc, options.folder)?)),
         Err(FolderFault::Failed) => return Err(HostEnd::Disk(owned(alloc, options.folder)?)),
         Err(FolderFault::Memory) => return Err(HostEnd::Memory),
     };
     let stewards = Stewards {
-        steward: Some(STEWARD),
+        steward: Some(STEWARD_NUMBER),
         authority: file.results == Results::Authority,
     };
     let opening = Opening {
         opened: Opened::living(file.world, file.bound, file.reach, file.rights),
         stewards,
         world: bytes,
-        syncing: options.syncing,
         spare: SPARE,
     };
     match Keeper::open(alloc, folder, opening) {
@@ -274,12 +273,15 @@ fn serve_at<R: Wait, D: Doors, S, C: Clock, L: Files, E: Sink, F: Folder>(
         address = owned(place.alloc, options.at)?;
     }
     tell_standing("listening", address.as_str(), &host.keeper, place.err);
-    let mut outside = Outside {
-        ports: &mut ports,
-        files: &mut *place.files,
-        err: &mut *place.err,
+    let served = {
+        let mut outside = Outside {
+            ports: &mut ports,
+            files: &mut *place.files,
+            err: &mut *place.err,
+        };
+        host.serve(place.rt, &mut outside, place.clock)
     };
-    match host.serve(place.rt, &mut outside, place.clock) {
+    match served {
         Ok(()) => {
             tell_standing("stop", options.folder, &host.keeper, place.err);
             Ok(())

@@ -50,7 +50,7 @@ impl<F: Folder> Host<F> {
         &mut self,
         outside: &mut Outside<'_, P, L, E>,
     ) -> Result<(), Halt> {
-        let busy = std::mem::replace(&mut self.busy, Vec::new(self.alloc));
+        let mut busy = std::mem::replace(&mut self.busy, Vec::new(self.alloc));
         for number in &busy {
             self.hear(outside, *number)?;
         }
@@ -58,7 +58,10 @@ impl<F: Folder> Host<F> {
         for number in &ready {
             self.hear(outside, *number)?;
         }
+        // Their room is used again.
         self.ready.numbers = ready;
+        busy.clear();
+        self.busy = busy;
         Ok(())
     }
 

@@ -1,21 +1,15 @@
 //! A world that is kept on a log.
+ghost use Rattle.std.specs.Prelude.{◌≡◌, ◌⊎◌, true, false, Err, IfOk, IfSome, OnOk, OnErr};
+ghost use Rattle.sv_keeper.specs.Keeping.{IsKept, Stepped, AreSettled};
+ghost use Rattle.sv_keeper.specs.declared.fault.KeepFault.TheVariants as faults;
+
 use crate::fault::KeepFault;
 use crate::settled::Settled;
-use std::alloc::Global;
-use sv_entries::append_line;
+use sv_entries::LineBuffer;
 use sv_living::{LivingCore, StepFault};
 use sv_log::{Folder, Log};
 use sv_wire::{Reply, Request};
 use sv_world::{ClientId, ObjectId, Shape, Value};
-
-/// What is done before anything is sent.
-#[derive(Clone, Copy, Debug, Drop, PartialEq, Eq)]
-pub enum Syncing {
-    /// Lines are appended and synced.
-    Batch,
-    /// Lines are appended: they outlive the process, and not the machine.
-    Append,
-}
 
 /// A living world whose entries stand in a log.
 ///
@@ -25,10 +19,9 @@ pub struct Keeper<F: Folder> {
     pub(crate) core: LivingCore,
     pub(crate) shape: Shape,
     pub(crate) log: Log<F>,
-    pub(crate) group: String,
+    pub(crate) group: LineBuffer,
     /// The number of the next line.
     pub(crate) next: u64,
-    pub(crate) syncing: Syncing,
     pub(crate) syncs: u64,
     pub(crate) log_bytes: u64,
     /// The log is not what the core says it is.
@@ -45,7 +38,13 @@ fn fault_of(fault: StepFault) -> KeepFault {
 
 impl<F: Folder> Keeper<F> {
     /// Answers a request of a session, and puts its line into the group. Its reply may be sent once the keeper is settled.
-    pub fn step(&mut self, session: u64, request: &Request) -> Result<Reply, KeepFault> {
+    pub fn step(&mut self, session: u64, request: &Request) -> Result<Reply, KeepFault>
+        requires kept { self.old.is_broken ≡ false → IsKept F.disk F.is_honest self.old }
+        ensures kept { self.new.is_broken ≡ false → IsKept F.disk F.is_honest self.new }
+        ensures ok { IfOk result (Stepped F.disk F.is_honest self.old self.new session request.now) }
+        ensures err { OnErr result ((self.new.core ≡ self.old.core) ⊎ (self.new.is_broken ≡ true)) }
+        ensures broken { self.old.is_broken ≡ true → (self.new ≡ self.old) × (result ≡ Err faults.Broken) }
+    {
         if self.is_broken {
             return Err(KeepFault::Broken);
         }
@@ -67,14 +66,10 @@ impl<F: Folder> Keeper<F> {
         reply: Reply,
         next: u64,
     ) -> Result<Reply, KeepFault> {
-        match append_line(
-            self.shape,
-            self.next,
-            session,
-            request,
-            &reply,
-            &mut self.group,
-        ) {
+        match self
+            .group
+            .append_line(self.shape, self.next, session, request, &reply)
+        {
             Ok(()) => {
                 self.next = next;
                 Ok(reply)
@@ -89,7 +84,14 @@ impl<F: Folder> Keeper<F> {
     /// Appends all lines that are not appended, with one write, and syncs them. Then what was answered may be sent.
     ///
     /// After an `Err` the keeper is broken.
-    pub fn settle(&mut self) -> Result<Settled<'_>, KeepFault> {
+    pub fn settle(&mut self) -> Result<(), KeepFault>
+        requires kept { self.old.is_broken ≡ false → IsKept F.disk F.is_honest self.old }
+        ensures kept { self.new.is_broken ≡ false → IsKept F.disk F.is_honest self.new }
+        ensures ok { OnOk result (AreSettled F.disk F.is_honest self.new) }
+        ensures whole { OnOk result (self.new.is_broken ≡ false) }
+        ensures err { OnErr result (self.new.is_broken ≡ true) }
+        ensures core { self.new.core ≡ self.old.core }
+    {
         if self.is_broken {
             return Err(KeepFault::Broken);
         }
@@ -98,7 +100,18 @@ impl<F: Folder> Keeper<F> {
             self.put()?;
             self.is_broken = false;
         }
-        Ok(Settled { next: &self.next })
+        Ok(())
+    }
+
+    /// The leave to send, where all lines are settled. Nothing can be stepped while it lives.
+    pub fn settled(&self) -> Option<Settled<'_>>
+        requires kept { self.now.is_broken ≡ false → IsKept F.disk F.is_honest self.now }
+        ensures { IfSome result (λ _. AreSettled F.disk F.is_honest self.now) }
+    {
+        if self.is_broken || !self.group.is_empty() {
+            return None;
+        }
+        Some(Settled { next: &self.next })
     }
 
     // Appends the group, and syncs it.
@@ -108,11 +121,9 @@ impl<F: Folder> Keeper<F> {
         }
         self.log_bytes = self.log_bytes.saturating_add(self.group.len() as u64);
         self.group.clear();
-        if self.syncing == Syncing::Batch {
-            self.syncs = self.syncs.saturating_add(1);
-            if self.log.sync().is_err() {
-                return Err(KeepFault::Broken);
-            }
+        self.syncs = self.syncs.saturating_add(1);
+        if self.log.sync().is_err() {
+            return Err(KeepFault::Broken);
         }
         Ok(())
     }

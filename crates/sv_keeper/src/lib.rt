@@ -10,6 +10,6 @@ mod settled;
 mod walking;
 
 pub use fault::{KeepFault, LineCause, OpenFault};
-pub use keeper::{Keeper, Syncing};
+pub use keeper::Keeper;
 pub use opening::Opening;
 pub use settled::Settled;

@@ -1,10 +1,11 @@
 //! Opening a world that is kept on a log.
 use crate::fault::{KeepFault, OpenFault};
-use crate::keeper::{Keeper, Syncing};
+use crate::keeper::Keeper;
 use crate::place::place_of;
 use crate::walking::{Walk, WalkStop};
 use std::alloc::Global;
 use sv_bytes::FileFault;
+use sv_entries::LineBuffer;
 use sv_living::{LivingCore, Stewards};
 use sv_log::{Folder, Log, Reading, read_log};
 use sv_sequencer::Opened;
@@ -17,7 +18,6 @@ pub struct Opening<'a> {
     pub opened: Opened,
     pub stewards: Stewards,
     pub world: &'a [u8],
-    pub syncing: Syncing,
     /// How many zeros are kept ahead of the text.
     pub spare: usize,
 }
@@ -34,7 +34,7 @@ fn walked(
         shape,
         core,
         next: reading.state.saturating_add(1),
-        line: String::new(alloc),
+        line: LineBuffer::new(alloc),
     };
     match walk.take_all(&reading.text) {
         Ok(()) => Ok(walk),
@@ -67,30 +67,34 @@ impl<F: Folder + Drop> Keeper<F> {
         mut folder: F,
         opening: Opening<'_>,
     ) -> Result<Keeper<F>, OpenFault> {
-        let reading = match read_log(alloc, &mut folder, opening.world) {
+        let Opening {
+            opened,
+            stewards,
+            world,
+            spare,
+        } = opening;
+        let reading = match read_log(alloc, &mut folder, world) {
             Ok(reading) => reading,
             Err(refusal) => return Err(OpenFault::Refused(refusal)),
         };
-        let shape = opening.opened.world().shape;
-        let core = LivingCore::new(alloc, opening.opened, opening.stewards)?;
-        let walk = walked(alloc, shape, core, &reading)?;
+        let shape = opened.world().shape;
+        let core = LivingCore::new(alloc, opened, stewards)?;
+        let Walk { core, next, .. } = walked(alloc, shape, core, &reading)?;
         let log_bytes = reading.text.len() as u64;
-        let log = match Log::open(alloc, folder, reading, opening.world, opening.spare) {
+        let log = match Log::open(alloc, folder, reading, world, spare) {
             Ok(log) => log,
             Err((fault, _)) => return Err(fault_of(fault)),
         };
         let mut keeper = Keeper {
-            core: walk.core,
+            core,
             shape,
             log,
-            group: walk.line,
-            next: walk.next,
-            syncing: opening.syncing,
+            group: LineBuffer::new(alloc),
+            next,
             syncs: 0,
             log_bytes,
             is_broken: false,
         };
-        keeper.group.clear();
         keeper.end_all()?;
         Ok(keeper)
     }

@@ -4,13 +4,16 @@
 
 mod choice;
 mod commands;
+mod hall;
 mod help;
 mod notices;
 
 use crate::choice::command;
 use crate::commands::Command;
+use crate::hall::{OsDoors, OsFolders};
 use crate::notices::{notice, print_text, text_of};
 use std::alloc::Global;
+use std::hash::RandomState;
 use std::net::{Net as Sockets, TcpListener, TcpStream};
 use std::process::ExitCode;
 use std::rt::Clock;
@@ -22,8 +25,10 @@ use sv_audit::run_check;
 use sv_bytes::{Files, OsFiles, OsSink, Sink};
 use sv_command::{Ending, status_of, tell};
 use sv_door::TcpDoor;
+use sv_host::{Place, run_host};
 use sv_join::run_join;
 use sv_link::{OpenGate, TcpNet, ThreadCrew};
+use sv_mio::OsClock;
 use sv_serve::run_serve;
 use sv_snapshot::run_looks;
 use sv_witness::run_witness;
@@ -79,6 +84,36 @@ where
     )
 }
 
+/// The status of `host`, to whoever connects.
+fn host_here<L: Files, E: Sink>(
+    rt: &HostRuntime,
+    call: &Call<'_>,
+    files: &mut L,
+    err: &mut E,
+) -> u8 {
+    let Ok(random) = RandomState::new(rt) else {
+        tell(&Ending::Memory, b"", None, err);
+        return status_of(&Ending::Memory);
+    };
+    let mut doors = OsDoors {
+        rt,
+        alloc: call.alloc,
+    };
+    let mut folders = OsFolders { rt };
+    let mut clock = OsClock::new(rt);
+    let mut place = Place {
+        rt,
+        alloc: call.alloc,
+        random,
+        doors: &mut doors,
+        folders: &mut folders,
+        clock: &mut clock,
+        files,
+        err,
+    };
+    run_host(&mut place, call.words)
+}
+
 /// The status of `join`, at a server on this machine.
 fn join_here<R, F: Files, K: Sink, E: Sink>(
     rt: &R,
@@ -95,21 +130,19 @@ where
 }
 
 /// The status of the call that the words are for.
-fn answer<R, F: Files, K: Sink, E: Sink>(
-    rt: &R,
+fn answer<F: Files, K: Sink, E: Sink>(
+    rt: &HostRuntime,
     call: &Call<'_>,
     files: &mut F,
     out: &mut K,
     err: &mut E,
-) -> u8
-where
-    R: Threads + Wait + Sync + Clock + Sockets<Listener = TcpListener, Stream = TcpStream>,
-{
+) -> u8 {
     match command(call.words) {
         Command::Run => run_here(rt, call, files, out, err),
         Command::Looks => run_looks(call.alloc, call.words, files, out, err),
         Command::Witness => run_witness(call.alloc, call.words, files, out, err),
         Command::Serve => serve_here(rt, call, files, out, err),
+        Command::Host => host_here(rt, call, files, err),
         Command::Join => join_here(rt, call, files, out, err),
         Command::Check => run_check(call.alloc, call.words, files, out, err),
     }

@@ -2,13 +2,15 @@
 use crate::desk::Desk;
 use crate::hello::heard_of;
 use crate::socket::Socket;
-use crate::web::{Became, hear_web, new_web};
-use http_server::Connection;
+use crate::web::{Became, Web};
 use std::alloc::{AllocError, Global};
 use std::hash::RandomState;
 use sv_frame::{FrameReader, Next, put_frame};
 use sv_wire::{Reply, Request, encode_reply_into};
 use websocket::protocol::CloseCode;
+
+/// How many bytes of HTTP are taken in at once.
+const PIECE: usize = 4096;
 
 /// How a connection is spoken.
 #[derive(Drop)]
@@ -17,7 +19,7 @@ enum Voice {
     Unknown,
     /// Frames.
     Plain(FrameReader),
-    Web(Connection),
+    Web(Web),
     Socket(Socket),
     /// Nothing more is taken.
     Closed,
@@ -83,25 +85,31 @@ impl Peer {
     /// How many bytes may come now.
     pub fn spare(&self) -> usize {
         match &self.voice {
-            Voice::Unknown | Voice::Web(_) => 4096,
+            Voice::Unknown => PIECE,
+            Voice::Web(web) if web.is_paused() => 0,
+            Voice::Web(_) => PIECE,
             Voice::Plain(reader) => reader.spare(),
             Voice::Socket(socket) => socket.spare(),
             Voice::Closed => 0,
         }
     }
 
-    // How what begins with a byte is spoken: HTTP, where it is a letter, and else frames.
-    fn voice_for(&self, first: u8, keys: RandomState) -> Result<Voice, AllocError> {
+    // The first byte tells how the connection is spoken: HTTP, where it is a letter, and else frames.
+    fn begin(&mut self, first: u8, keys: RandomState) -> Result<(), AllocError> {
+        let Voice::Unknown = &self.voice else {
+            return Ok(());
+        };
         if is_letter(first) {
-            Ok(Voice::Web(new_web(self.alloc, keys)))
+            self.voice = Voice::Web(Web::new(self.alloc, keys));
         } else {
-            Ok(Voice::Plain(FrameReader::new(self.alloc)?))
+            self.voice = Voice::Plain(FrameReader::new(self.alloc)?);
         }
+        Ok(())
     }
 
     fn turn_into(&mut self, became: Became) {
         match became {
-            Became::Web(connection) => self.voice = Voice::Web(connection),
+            Became::Web(web) => self.voice = Voice::Web(web),
             Became::Socket(socket, shown) => {
                 self.voice = Voice::Socket(socket);
                 self.shown = shown;
@@ -117,8 +125,8 @@ impl Peer {
         keys: RandomState,
         desk: &mut D,
     ) -> Result<(), AllocError> {
-        if let (Voice::Unknown, Some(first)) = (&self.voice, piece.first()) {
-            self.voice = self.voice_for(*first, keys)?;
+        if let Some(first) = piece.first() {
+            self.begin(*first, keys)?;
         }
         match std::mem::replace(&mut self.voice, Voice::Closed) {
             Voice::Unknown => self.voice = Voice::Unknown,
@@ -128,8 +136,8 @@ impl Peer {
                 reader.feed(&piece[..count]);
                 self.voice = Voice::Plain(reader);
             }
-            Voice::Web(connection) => {
-                let became = hear_web(self.alloc, connection, desk, piece, &mut self.output)?;
+            Voice::Web(web) => {
+                let became = web.hear(self.alloc, desk, piece, &mut self.output)?;
                 self.turn_into(became);
             }
             Voice::Socket(mut socket) => {
@@ -138,6 +146,14 @@ impl Peer {
             }
         }
         Ok(())
+    }
+
+    /// Whether HTTP requests may be left that came and are not answered, since too much waits to be sent.
+    pub fn is_paused(&self) -> bool {
+        match &self.voice {
+            Voice::Web(web) => web.is_paused(),
+            _ => false,
+        }
     }
 
     /// Takes what came next.

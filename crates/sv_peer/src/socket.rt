@@ -2,7 +2,7 @@
 use crate::hello::heard_of;
 use crate::peer::Heard;
 use std::alloc::{AllocError, Global};
-use websocket::Error;
+use websocket::error::Error;
 use websocket::protocol::{
     CloseCode, CloseFrame, FrameStatus, Message, NoMask, Role, WebSocketConfig, WebSocketContext,
 };

@@ -1,29 +1,32 @@
 //! Folders and doors of the system, for the server of a living world.
 use std::alloc::Global;
-use std::fs::File;
 use std::io::ErrorKind;
-use std::net::{Net, SocketAddr};
-use std::rt::{Files, Stdin};
-use sv_disk::{DiskFolder, DiskOpen, open_folder};
+use std::net::SocketAddr;
+use std::rt::Stdin;
+use sv_disk::{DiskFolder, OpenFault, SyncMode};
 use sv_host::{DoorFault, Doors, FolderFault, Folders};
 use sv_mio::MioPorts;
 
 /// The folders of the system.
 #[derive(Drop)]
-pub struct OsFolders<'r, R: Files<File = File> + Alloc + Clone + Drop> {
-    pub rt: &'r R,
-    pub alloc: Global,
+pub struct OsFolders<'r> {
+    pub rt: &'r HostRuntime,
 }
 
-impl<'r, R: Files<File = File> + Alloc + Clone + Drop> Folders for OsFolders<'r, R> {
-    type F = DiskFolder<'r, R>;
+impl<'r> Folders for OsFolders<'r> {
+    type F = DiskFolder<'r>;
 
-    fn open(&mut self, name: &str) -> Result<DiskFolder<'r, R>, FolderFault> {
-        match open_folder(self.rt, self.alloc, name) {
+    fn open(&mut self, name: &str, syncs: bool) -> Result<DiskFolder<'r>, FolderFault> {
+        let mode = if syncs {
+            SyncMode::Waits
+        } else {
+            SyncMode::Never
+        };
+        match DiskFolder::open(self.rt, name, mode) {
             Ok(folder) => Ok(folder),
-            Err(DiskOpen::Busy) => Err(FolderFault::Busy),
-            Err(DiskOpen::Failed) => Err(FolderFault::Failed),
-            Err(DiskOpen::Memory) => Err(FolderFault::Memory),
+            Err(OpenFault::Busy) => Err(FolderFault::Busy),
+            Err(OpenFault::Failed) => Err(FolderFault::Failed),
+            Err(OpenFault::Memory) => Err(FolderFault::Memory),
         }
     }
 }

@@ -29,10 +29,7 @@ fn main(rt: HostRuntime) -> ExitCode {
     };
     let mut files = OsFiles::new(&rt);
     let mut err = OsSink::new(rt.stderr());
-    let mut folders = OsFolders {
-        rt: &rt,
-        alloc: rt.alloc(),
-    };
+    let mut folders = OsFolders { rt: &rt };
     let mut doors = OsDoors {
         rt: &rt,
         alloc: rt.alloc(),
