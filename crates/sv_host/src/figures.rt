@@ -37,11 +37,26 @@ pub fn append_figures(figures: &Figures, out: &mut String) -> Result<(), AllocEr
     let syncs = figures.syncs;
     let refused = figures.counts.refused_connections;
     let seconds = figures.seconds;
-    write!(out, "{{\"clients\":{clients},\"sessions\":{sessions},\"open\":{open},")?;
-    write!(out, "\"entries\":{entries},\"accepted\":{accepted},\"dropped\":{dropped},")?;
-    write!(out, "\"denied\":{denied},\"commit\":{commit},\"uncommitted\":{uncommitted},")?;
-    write!(out, "\"reported_by_steward\":{reported},\"bytes_in\":{came},\"bytes_out\":{went},")?;
-    write!(out, "\"log_bytes\":{log},\"syncs\":{syncs},\"refused_connections\":{refused},")?;
+    write!(
+        out,
+        "{{\"clients\":{clients},\"sessions\":{sessions},\"open\":{open},"
+    )?;
+    write!(
+        out,
+        "\"entries\":{entries},\"accepted\":{accepted},\"dropped\":{dropped},"
+    )?;
+    write!(
+        out,
+        "\"denied\":{denied},\"commit\":{commit},\"uncommitted\":{uncommitted},"
+    )?;
+    write!(
+        out,
+        "\"reported_by_steward\":{reported},\"bytes_in\":{came},\"bytes_out\":{went},"
+    )?;
+    write!(
+        out,
+        "\"log_bytes\":{log},\"syncs\":{syncs},\"refused_connections\":{refused},"
+    )?;
     write!(out, "\"seconds\":{seconds}}}\n")
 }
 

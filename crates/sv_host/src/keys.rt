@@ -148,13 +148,7 @@ pub fn tell<E: Sink>(fault: KeysFault, file: &str, err: &mut E) {
             let number = digits.format(number);
             write_pieces(
                 err,
-                &[
-                    b"keys: ",
-                    file.as_bytes(),
-                    b":",
-                    number.as_bytes(),
-                    b"\n",
-                ],
+                &[b"keys: ", file.as_bytes(), b":", number.as_bytes(), b"\n"],
             );
         }
         KeysFault::File | KeysFault::Memory => {

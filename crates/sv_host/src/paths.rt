@@ -55,7 +55,11 @@ pub fn path_in(alloc: Global, folder: &str, path: &str) -> Result<Option<String>
     let Some(below) = path.strip_prefix('/') else {
         return Ok(None);
     };
-    if !below.as_bytes().split(|byte| *byte == b'/').all(|part| is_plain(part)) {
+    if !below
+        .as_bytes()
+        .split(|byte| *byte == b'/')
+        .all(|part| is_plain(part))
+    {
         return Ok(None);
     }
     let mut name = String::from_str(alloc, folder)?;

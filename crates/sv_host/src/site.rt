@@ -63,10 +63,19 @@ fn may_upgrade(request: &Request<Bytes>, origins: &[String]) -> bool {
     is_welcome(origin, header_of(request, header::HOST), origins)
 }
 
-/// The digest of the key in a query, `key=` and hexadecimal digits.
+/// What a query has under the name `key`.
+fn key_part(query: &str) -> Option<&str> {
+    for part in query.split('&') {
+        if let Some(digits) = part.strip_prefix("key=") {
+            return Some(digits);
+        }
+    }
+    None
+}
+
+/// The digest of the key that a query has in hexadecimal.
 fn key_in(alloc: Global, query: &str) -> Option<[u8; 32]> {
-    let digits = query.strip_prefix("key=")?;
-    let key = hex::decode(alloc, digits).ok()?;
+    let key = hex::decode(alloc, key_part(query)?).ok()?;
     digest_of(&key)
 }
 
@@ -159,7 +168,11 @@ impl<L: Files> Service for Site<'_, L> {
 
     ghost answers = { λ _ _ _ _. ⊤ };
 
-    fn call(&mut self, request: &Request<Bytes>, response: &mut Response) -> Result<(), AllocError> {
+    fn call(
+        &mut self,
+        request: &Request<Bytes>,
+        response: &mut Response,
+    ) -> Result<(), AllocError> {
         self.calls = self.calls.saturating_add(1);
         if self.answer(request, response).is_err() {
             response.clear();

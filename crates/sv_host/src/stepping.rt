@@ -14,7 +14,7 @@ pub const STEWARD_NUMBER: u16 = 65_535;
 #[derive(Clone, Copy, Debug, Drop, PartialEq, Eq)]
 struct Before {
     last: u32,
-    outcomes: u32,
+    outcomes: Option<u32>,
 }
 
 /// Whether a session ends by a reply.
@@ -124,31 +124,32 @@ impl<F: Folder> Host<F> {
         }
     }
 
-    // What a request may change: the last position, and how many outcomes its client has.
+    // What a request may change: the last position, and by a Submit how many outcomes its client has.
     fn standing_of(&mut self, guest: &mut Guest, request: &Request) -> Before {
         if let Request::Join { client, .. } = request {
             guest.client = Some(*client);
         }
+        let submits = match request {
+            Request::Submit { .. } => true,
+            _ => false,
+        };
         Before {
             last: self.keeper.last(),
-            outcomes: self.outcomes_of(guest),
+            outcomes: if submits {
+                self.outcomes_of(guest)
+            } else {
+                None
+            },
         }
     }
 
-    fn outcomes_of(&self, guest: &Guest) -> u32 {
-        match guest.client {
-            Some(client) => self.keeper.outcome_count(client),
-            None => 0,
-        }
+    fn outcomes_of(&self, guest: &Guest) -> Option<u32> {
+        let client = guest.client?;
+        Some(self.keeper.outcome_count(client))
     }
 
-    fn take_reply(
-        &mut self,
-        guest: &mut Guest,
-        reply: &Reply,
-        before: Before,
-    ) -> Result<(), Halt> {
-        if self.outcomes_of(guest) != before.outcomes {
+    fn take_reply(&mut self, guest: &mut Guest, reply: &Reply, before: Before) -> Result<(), Halt> {
+        if before.outcomes.is_some() && self.outcomes_of(guest) != before.outcomes {
             self.counts.answer(reply);
         }
         self.tell(guest, reply);

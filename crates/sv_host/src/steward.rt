@@ -42,11 +42,7 @@ impl Steward {
     }
 
     // Asks, in its session or the next one.
-    fn ask<F: Folder>(
-        &mut self,
-        keeper: &mut Keeper<F>,
-        request: &Request,
-    ) -> Result<Reply, Halt> {
+    fn ask<F: Folder>(&mut self, keeper: &mut Keeper<F>, request: &Request) -> Result<Reply, Halt> {
         let session = match self.session {
             Some(session) => session,
             None => keeper.next_session(),

@@ -5,12 +5,7 @@ use sv_keeper::Keeper;
 use sv_log::Folder;
 
 /// Writes a line that begins with a word and a name, and tells the last entry and the commit.
-pub fn tell_standing<F: Folder, E: Sink>(
-    word: &str,
-    name: &str,
-    keeper: &Keeper<F>,
-    err: &mut E,
-) {
+pub fn tell_standing<F: Folder, E: Sink>(word: &str, name: &str, keeper: &Keeper<F>, err: &mut E) {
     let mut entry = Buffer::new();
     let mut commit = Buffer::new();
     write_pieces(

@@ -9,8 +9,8 @@ use crate::input::InputLines;
 use crate::keys::{Keys, KeysFault, tell as tell_keys};
 use crate::options::{OptionFault, Options, is_local, options_of};
 use crate::outside::Outside;
-use crate::steward::Steward;
 use crate::stepping::STEWARD_NUMBER;
+use crate::steward::Steward;
 use crate::telling::{tell_plain, tell_standing};
 use std::alloc::{AllocError, Global};
 use std::hash::RandomState;
@@ -236,11 +236,7 @@ fn halted<F: Folder>(alloc: Global, host: &Host<F>, halt: Halt) -> Result<HostEn
     }
 }
 
-fn door_of<D: Doors>(
-    alloc: Global,
-    options: &Options<'_>,
-    doors: &mut D,
-) -> Result<D::P, HostEnd> {
+fn door_of<D: Doors>(alloc: Global, options: &Options<'_>, doors: &mut D) -> Result<D::P, HostEnd> {
     match doors.open(options.at, options.stops) {
         Ok(ports) => Ok(ports),
         Err(DoorFault::Busy) => Err(HostEnd::Busy(owned(alloc, options.at)?)),

@@ -22,7 +22,7 @@ module _ {F : Type 0} (disk : F → Disk) (is_honest : F → Type 0) where
     pub sizes : HasSizes keeper.log.segment
     pub shape : keeper.shape ≡ keeper.core.rules.world.shape
     pub next : keeper.next ≡ length keeper.core.history + 1
-    pub open : is_honest keeper.log.segment.folder → IsOpenLog disk keeper.log
+    pub opened : is_honest keeper.log.segment.folder → IsOpenLog disk keeper.log
     pub text : is_honest keeper.log.segment.folder → log_text disk keeper.log ++ keeper.group ≡ lines_of keeper.core
     pub synced : is_honest keeper.log.segment.folder → keeper.group ≡ [] → log_synced disk keeper.log ≡ log_text disk keeper.log
 
@@ -30,7 +30,7 @@ module _ {F : Type 0} (disk : F → Disk) (is_honest : F → Type 0) where
   pub record Stepped (old new : Keeper F) (s : ℕ) (request : Request) (reply : Reply) : Type 0 where
     pub world : new.core ≡ after old.core s request
     pub reply : reply ≡ full_reply (accepted new.core.history) (reply_in old.core s request)
-    pub log : new.log ≡ old.log
+    pub same : new.log ≡ old.log
 
   -- All lines are on the disk.
   abbrev pub AreSettled : Keeper F → Type 0

@@ -170,11 +170,10 @@ impl<I: Read + Drop> Ports for MioPorts<I> {
         let answer = read_of(read_again(input, into));
         let fd = STANDARD_INPUT;
         // An input with more is told again.
-        let _ = self.poll.registry().reregister(
-            &mut SourceFd(&fd),
-            INPUT,
-            Interest::READABLE,
-        );
+        let _ = self
+            .poll
+            .registry()
+            .reregister(&mut SourceFd(&fd), INPUT, Interest::READABLE);
         answer
     }
 }

@@ -116,7 +116,10 @@ impl Socket {
 
     /// Puts a payload behind the output as one message.
     pub fn say(&mut self, payload: &[u8], output: &mut Vec<u8>) -> Result<(), AllocError> {
-        match self.context.write(Message::Binary(payload), output, &mut NoMask) {
+        match self
+            .context
+            .write(Message::Binary(payload), output, &mut NoMask)
+        {
             Ok(()) => Ok(()),
             Err(_) => Err(AllocError),
         }

@@ -109,7 +109,9 @@ impl Web {
             return Ok(Became::Closed);
         }
         let Web {
-            connection, rest, ..
+            connection,
+            rest,
+            ..
         } = self;
         let (unread, _) = connection.into_buffers();
         let mut socket = Socket::new(alloc);

@@ -4,10 +4,9 @@
 mod hall;
 
 use crate::hall::{OsDoors, OsFolders};
-use std::env;
 use std::hash::RandomState;
-use std::io;
 use std::process::ExitCode;
+use std::{env, io};
 use sv_bytes::{OsFiles, OsSink};
 use sv_host::{Place, run_host};
 use sv_mio::OsClock;
