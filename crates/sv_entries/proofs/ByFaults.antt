@@ -1,6 +1,6 @@
 -- What a Submit is answered whose action is refused.
 use Rattle.std.proofs.Common.{◌≡◌, ℕ, Bool, true, false, cond, ◌⊎◌, inl, inr, List, Option, Some, None, refl, sym, ap, ◌∙◌}
-use Rattle.std.specs.Prelude.{nat_le, ◌==◌, ⊥}
+use Rattle.std.specs.Prelude.{nat_le, ◌==◌}
 use Rattle.sv_world.specs.declared.action.Action.{Action}
 use Rattle.sv_world.specs.declared.check.BadAction.{BadAction}
 use Rattle.sv_world.specs.Faults.{first_fault_of_action}
@@ -23,7 +23,7 @@ both P false x x2 y y2 p q = q
 
 module _ (w : Stewardship) (r : Rules) (h : List Entry) (s seq : ℕ) (a b : Action) (fault other : BadAction)
     (bad : first_fault_of_action r.world.shape a ≡ Some fault) (worse : first_fault_of_action r.world.shape b ≡ Some other) where
-  g : List Entry
+  abbrev g : List Entry
   g = (living w).kept h
 
   abbrev IsEach : Logged → Logged → Type 0

@@ -1,5 +1,5 @@
 -- The first fault of each of the actions that are refused.
-use Rattle.std.proofs.Common.{◌≡◌, ℕ, zero, suc, ◌+◌, ◌*◌, ◌<◌, ◌≤◌, ltb, leb, max, Bool, true, false, ◌&&◌, ◌||◌, not, ℤ, pos, List, [], ◌∷◌, length, replicate, Some, refl, sym, ap, ◌∙◌, arith}
+use Rattle.std.proofs.Common.{◌≡◌, ℕ, zero, suc, ◌+◌, ◌*◌, ◌<◌, ◌≤◌, ltb, leb, max, Bool, true, false, ◌&&◌, ◌||◌, not, ℤ, pos, List, [], ◌∷◌, length, Some, Result, Ok, Err, IfOk, refl, sym, ap, ◌∙◌, arith}
 use Rattle.std.proofs.lemmas.Bool.Decides.{nat_tests}
 use Rattle.sv_world.specs.declared.world.ObjectId.{ObjectId}
 use Rattle.sv_world.specs.declared.world.Shape.{Shape}
@@ -7,6 +7,7 @@ use Rattle.sv_world.specs.declared.action.Action.{Action}
 use Rattle.sv_world.specs.declared.action.Expr.{Expr}
 use Rattle.sv_world.specs.declared.action.Expr.TheVariants as expr
 use Rattle.sv_world.specs.declared.action.Stmt.TheVariants as stmt
+use Rattle.sv_world.specs.declared.check.BadAction.{BadAction}
 use Rattle.sv_world.specs.declared.check.BadAction.TheVariants.{NoReads, TooManyReads, NotAscending, NoSuchObject, BadMask, BadSlot, NotWritable, BadAttr, TooLarge, TooDeep, BadOrigin}
 use Rattle.sv_world.specs.declared.node.Operator.TheVariants as ops
 use Rattle.sv_world.specs.Sets.{object_numbered, is_in_mask}
@@ -87,14 +88,18 @@ module _ (reads : List ObjectId) (mask : ℕ) (x : ℤ) (slot attr levels : ℕ)
 
 -- ---- The causes
 
-abbrev first : ObjectId
+abbrev pub first : ObjectId
 first = object_numbered 0
 
 pub no_reads : (shape : Shape) → first_fault_of_action shape (single [] 0 (pos 0) 0 0 0) ≡ Some NoReads
 unfolding first_fault_of_action has_no_reads
 no_reads shape = refl
 
-pub too_many_reads : (shape : Shape) → first_fault_of_action shape (single (replicate 17 first) 0 (pos 0) 0 0 0) ≡ Some TooManyReads
+-- One object too many.
+abbrev pub many : List ObjectId
+many = first ∷ first ∷ first ∷ first ∷ first ∷ first ∷ first ∷ first ∷ first ∷ first ∷ first ∷ first ∷ first ∷ first ∷ first ∷ first ∷ first ∷ []
+
+pub too_many_reads : (shape : Shape) → first_fault_of_action shape (single many 0 (pos 0) 0 0 0) ≡ Some TooManyReads
 unfolding first_fault_of_action has_no_reads has_too_many_reads
 too_many_reads shape = refl
 
@@ -178,3 +183,9 @@ module _ (shape : Shape) (objects : 1 ≤ shape.objects) where
 
     pub bad_origin : first_fault_of_action shape (single (first ∷ []) 1 (pos 1000001) 0 0 0) ≡ Some BadOrigin
     bad_origin = tests 1 (pos 1000001) 0 0 0 ∙ rw (some_attr, far) refl
+
+-- What is made as an action that is refused is refused as that.
+pub made_is_refused : {E : Type 0} (r : Result Action E) (a : Action) (shape : Shape) (cause : BadAction) → IfOk r (λ b. b ≡ a) → first_fault_of_action shape a ≡ Some cause →
+    IfOk r (λ b. first_fault_of_action shape b ≡ Some cause)
+made_is_refused (Ok b) a shape cause e f = ap (first_fault_of_action shape) e ∙ f
+made_is_refused (Err x) a shape cause e f = tt

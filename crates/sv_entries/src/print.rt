@@ -55,12 +55,7 @@ fn put_shown(shape: Shape, action: &Action, out: &mut String) -> Result<(), Allo
     }
 }
 
-fn put_submit(
-    shape: Shape,
-    seq: u32,
-    action: &Action,
-    out: &mut String,
-) -> Result<(), AllocError>
+fn put_submit(shape: Shape, seq: u32, action: &Action, out: &mut String) -> Result<(), AllocError>
     ensures { OnOk result (string_bytes out.new ≡ string_bytes out.old ++ codes "submit " ++ decimal seq ++ codes " " ++ action_text shape action.now) }
 {
     put_behind("submit ", seq as u64, out)?;
@@ -245,9 +240,7 @@ fn put_reply(reply: &Reply, out: &mut String) -> Result<(), AllocError>
         Reply::Settled { seq, pos } => put_two("settled ", *seq, " at ", *pos, out),
         Reply::Noted { commit } => put_behind("noted ", *commit as u64, out),
         Reply::Idle => out.push_str("idle"),
-        Reply::Refused { code, detail } => {
-            put_two("refused ", *code as u32, " ", *detail, out)
-        }
+        Reply::Refused { code, detail } => { put_two("refused ", *code as u32, " ", *detail, out) }
         Reply::Bye => out.push_str("bye"),
     }
 }

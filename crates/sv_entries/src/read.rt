@@ -17,10 +17,7 @@ use sv_world::{BadAction, Shape};
 pub enum LineRequest {
     Whole(Request),
     /// A Submit whose action was refused, and is left out. `cause` is why, where the line's reply tells it.
-    BadSubmit {
-        seq: u32,
-        cause: Option<BadAction>,
-    },
+    BadSubmit { seq: u32, cause: Option<BadAction> },
 }
 
 /// What a line tells, but for its reply.

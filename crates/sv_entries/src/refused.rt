@@ -66,9 +66,13 @@ pub fn bad_action(alloc: Global, shape: Shape, cause: BadAction) -> Result<Actio
 {
     let first = ObjectId(0);
     let beyond = ObjectId(shape.objects);
+    let many = [
+        first, first, first, first, first, first, first, first, first, first, first, first, first,
+        first, first, first, first,
+    ];
     match cause {
         BadAction::NoReads => single(alloc, &[], 0, 0, (0, 0), 0),
-        BadAction::TooManyReads => single(alloc, &[first; 17], 0, 0, (0, 0), 0),
+        BadAction::TooManyReads => single(alloc, &many, 0, 0, (0, 0), 0),
         BadAction::NotAscending => single(alloc, &[first, first], 0, 0, (0, 0), 0),
         BadAction::NoSuchObject => single(alloc, &[beyond], 0, 0, (0, 0), 0),
         BadAction::BadMask => single(alloc, &[first], 2, 0, (0, 0), 0),

@@ -1,7 +1,7 @@
 //! Folders and doors of the system, for the server of a living world.
 use std::alloc::Global;
 use std::io::ErrorKind;
-use std::net::SocketAddr;
+use std::net::{Net, SocketAddr};
 use std::rt::Stdin;
 use sv_disk::{DiskFolder, OpenFault, SyncMode};
 use sv_host::{DoorFault, Doors, FolderFault, Folders};
@@ -31,21 +31,23 @@ impl<'r> Folders for OsFolders<'r> {
     }
 }
 
-/// Doors over TCP. The input is the standard one.
+/// Doors over TCP.
 #[derive(Drop)]
-pub struct OsDoors<'r> {
-    pub rt: &'r HostRuntime,
+pub struct OsDoors<'r, R: Net> {
+    pub rt: &'r R,
     pub alloc: Global,
+    /// The standard input.
+    pub input: Stdin,
 }
 
-impl<'r> Doors for OsDoors<'r> {
+impl<'r, R: Net> Doors for OsDoors<'r, R> {
     type P = MioPorts<Stdin>;
 
     fn open(&mut self, address: &str, input: bool) -> Result<MioPorts<Stdin>, DoorFault> {
         let Ok(address) = address.parse::<SocketAddr>() else {
             return Err(DoorFault::Failed);
         };
-        let input = if input { Some(self.rt.stdin()) } else { None };
+        let input = if input { Some(self.input) } else { None };
         match MioPorts::open(self.rt, self.alloc, address, input) {
             Ok(ports) => Ok(ports),
             Err(error) if error.kind() == ErrorKind::AddrInUse => Err(DoorFault::Busy),

@@ -16,7 +16,7 @@ use std::alloc::Global;
 use std::hash::RandomState;
 use std::net::{Net as Sockets, TcpListener, TcpStream};
 use std::process::ExitCode;
-use std::rt::Clock;
+use std::rt::{Clock, Stdin};
 use std::sync::Wait;
 use std::thread::Threads;
 use std::{env, io};
@@ -84,29 +84,39 @@ where
     )
 }
 
+/// What a living world's server takes of the system.
+#[derive(Drop)]
+struct Hosting<'a> {
+    folders: OsFolders<'a>,
+    input: Stdin,
+    /// None where the system has no random bytes.
+    random: Option<RandomState>,
+}
+
 /// The status of `host`, to whoever connects.
-fn host_here<L: Files, E: Sink>(
-    rt: &HostRuntime,
+fn host_here<R: Wait + Sockets + Clock, F: Files, E: Sink>(
+    rt: &R,
     call: &Call<'_>,
-    files: &mut L,
+    hosting: &mut Hosting<'_>,
+    files: &mut F,
     err: &mut E,
 ) -> u8 {
-    let Ok(random) = RandomState::new(rt) else {
+    let Some(random) = hosting.random else {
         tell(&Ending::Memory, b"", None, err);
         return status_of(&Ending::Memory);
     };
     let mut doors = OsDoors {
         rt,
         alloc: call.alloc,
+        input: hosting.input,
     };
-    let mut folders = OsFolders { rt };
     let mut clock = OsClock::new(rt);
     let mut place = Place {
         rt,
         alloc: call.alloc,
         random,
         doors: &mut doors,
-        folders: &mut folders,
+        folders: &mut hosting.folders,
         clock: &mut clock,
         files,
         err,
@@ -130,19 +140,23 @@ where
 }
 
 /// The status of the call that the words are for.
-fn answer<F: Files, K: Sink, E: Sink>(
-    rt: &HostRuntime,
+fn answer<R, F: Files, K: Sink, E: Sink>(
+    rt: &R,
     call: &Call<'_>,
+    hosting: &mut Hosting<'_>,
     files: &mut F,
     out: &mut K,
     err: &mut E,
-) -> u8 {
+) -> u8
+where
+    R: Threads + Wait + Sync + Clock + Sockets<Listener = TcpListener, Stream = TcpStream>,
+{
     match command(call.words) {
         Command::Run => run_here(rt, call, files, out, err),
         Command::Looks => run_looks(call.alloc, call.words, files, out, err),
         Command::Witness => run_witness(call.alloc, call.words, files, out, err),
         Command::Serve => serve_here(rt, call, files, out, err),
-        Command::Host => host_here(rt, call, files, err),
+        Command::Host => host_here(rt, call, hosting, files, err),
         Command::Join => join_here(rt, call, files, out, err),
         Command::Check => run_check(call.alloc, call.words, files, out, err),
     }
@@ -168,5 +182,10 @@ fn main(rt: HostRuntime) -> ExitCode {
         alloc: rt.alloc(),
         words: &words,
     };
-    ExitCode::from(answer(&rt, &call, &mut files, &mut out, &mut err))
+    let mut hosting = Hosting {
+        folders: OsFolders { rt: &rt },
+        input: rt.stdin(),
+        random: RandomState::new(&rt).ok(),
+    };
+    ExitCode::from(answer(&rt, &call, &mut hosting, &mut files, &mut out, &mut err))
 }

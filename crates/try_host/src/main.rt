@@ -32,6 +32,7 @@ fn main(rt: HostRuntime) -> ExitCode {
     let mut doors = OsDoors {
         rt: &rt,
         alloc: rt.alloc(),
+        input: rt.stdin(),
     };
     let mut clock = OsClock::new(&rt);
     let mut place = Place {
