@@ -1,6 +1,6 @@
 //! The standing of the server, as it is told.
 use crate::counts::Counts;
-use crate::host::Host;
+use crate::office::Office;
 use std::alloc::AllocError;
 use sv_log::Folder;
 
@@ -60,7 +60,7 @@ pub fn append_figures(figures: &Figures, out: &mut String) -> Result<(), AllocEr
     write!(out, "\"seconds\":{seconds}}}\n")
 }
 
-impl<F: Folder> Host<F> {
+impl<F: Folder> Office<F> {
     pub fn figures(&self) -> Figures {
         Figures {
             clients: self.keeper.client_count() as u64,

@@ -2,6 +2,7 @@
 use crate::guest::{Guest, Standing};
 use crate::halt::Halt;
 use crate::host::Host;
+use crate::office::Office;
 use crate::outside::Outside;
 use crate::site::Site;
 use sv_bytes::{Files, Sink};
@@ -68,28 +69,30 @@ impl<F: Folder> Host<F> {
         outside: &mut Outside<'_, P, L, E>,
         number: u64,
     ) -> Result<(), Halt> {
-        let Some(mut guest) = self.guests.take(number) else {
+        let Some(mut guest) = self.room.guests.take(number) else {
             return Ok(());
         };
-        if guest.had_turn {
-            self.guests.put(number, guest);
-            return Ok(());
-        }
-        guest.had_turn = true;
-        let heard = self.hear_guest(outside, number, &mut guest);
-        let listed = self.list(number, &mut guest);
-        self.guests.put(number, guest);
-        self.touched.push(number)?;
+        let heard = if guest.had_turn {
+            Ok(())
+        } else {
+            self.office.hear(outside, number, &mut guest)
+        };
+        let listed = self.room.list(number, &mut guest);
+        self.room.put_back(number, guest)?;
         heard?;
         listed
     }
+}
 
-    fn hear_guest<P: Ports, L: Files, E: Sink>(
+impl<F: Folder> Office<F> {
+    // The turn of a connection that is taken out.
+    fn hear<P: Ports, L: Files, E: Sink>(
         &mut self,
         outside: &mut Outside<'_, P, L, E>,
         number: u64,
         guest: &mut Guest,
     ) -> Result<(), Halt> {
+        guest.had_turn = true;
         if guest.standing != Standing::Open {
             drain(outside.ports, number, guest);
             return Ok(());
@@ -98,10 +101,20 @@ impl<F: Folder> Host<F> {
         if guest.peer.is_paused() {
             self.take_piece(outside.files, guest, &[]);
             guest.has_more = guest.peer.is_paused();
-            if guest.has_more {
-                return Ok(());
-            }
         }
+        if guest.has_more {
+            return Ok(());
+        }
+        self.take_all(outside, number, guest)
+    }
+
+    // Takes requests and reads on, as long as more may be taken.
+    fn take_all<P: Ports, L: Files, E: Sink>(
+        &mut self,
+        outside: &mut Outside<'_, P, L, E>,
+        number: u64,
+        guest: &mut Guest,
+    ) -> Result<(), Halt> {
         let mut left = MOST_REQUESTS;
         for _ in 0..MOST_READS {
             if self.take_requests(outside, guest, &mut left)? == Course::Over {

@@ -2,6 +2,7 @@
 use crate::guest::Guest;
 use crate::halt::Halt;
 use crate::host::Host;
+use crate::office::Office;
 use sv_log::Folder;
 use sv_wire::Request;
 
@@ -16,7 +17,7 @@ enum Waiting {
     Nothing,
 }
 
-impl<F: Folder> Host<F> {
+impl<F: Folder> Office<F> {
     /// Until when a request of a connection is held, where it is: an Observe with a wait, as long as its answer would show nothing.
     pub fn holds_until(&self, guest: &Guest, request: &Request) -> Option<u64> {
         let Request::Observe { wait, .. } = request else {
@@ -38,24 +39,8 @@ impl<F: Folder> Host<F> {
         self.answer(guest, &held.request)
     }
 
-    /// Puts a connection with a held Observe into the list of them.
-    pub fn list(&mut self, number: u64, guest: &mut Guest) -> Result<(), Halt> {
-        let Some(held) = &guest.held else {
-            return Ok(());
-        };
-        self.held_until = self.held_until.min(held.until);
-        if !guest.is_listed {
-            self.held.push(number)?;
-            guest.is_listed = true;
-        }
-        Ok(())
-    }
-
-    // How the held Observe of a connection stands.
-    fn standing_of_held(&self, number: u64) -> Waiting {
-        let Some(guest) = self.guests.get(number) else {
-            return Waiting::Nothing;
-        };
+    /// How the held Observe of a connection stands.
+    fn standing_of_held(&self, guest: &Guest) -> Waiting {
         let Some(held) = &guest.held else {
             return Waiting::Nothing;
         };
@@ -64,12 +49,17 @@ impl<F: Folder> Host<F> {
         }
         Waiting::Until(held.until)
     }
+}
 
+impl<F: Folder> Host<F> {
     // Looks at a connection of the list. True where it stays in it.
     fn look_at(&mut self, number: u64) -> Result<bool, Halt> {
-        match self.standing_of_held(number) {
+        let Some(guest) = self.room.guests.get(number) else {
+            return Ok(false);
+        };
+        match self.office.standing_of_held(guest) {
             Waiting::Until(time) => {
-                self.held_until = self.held_until.min(time);
+                self.room.held_until = self.room.held_until.min(time);
                 Ok(true)
             }
             Waiting::Due | Waiting::Nothing => {
@@ -81,27 +71,28 @@ impl<F: Folder> Host<F> {
 
     // Takes a connection off the list, and answers its held Observe, where it has one.
     fn take_off(&mut self, number: u64) -> Result<(), Halt> {
-        let Some(mut guest) = self.guests.take(number) else {
+        let Some(mut guest) = self.room.guests.take(number) else {
             return Ok(());
         };
         guest.is_listed = false;
-        let released = self.release(&mut guest);
-        self.guests.put(number, guest);
-        self.touched.push(number)?;
+        let released = self.office.release(&mut guest);
+        self.room.put_back(number, guest)?;
         released
     }
 
     /// Answers the held Observes for which there is news, or whose time has passed.
     pub fn look_at_held(&mut self) -> Result<(), Halt> {
-        if self.keeper.last() == self.seen_last && self.now < self.held_until {
+        if self.office.keeper.last() == self.room.seen_last
+            && self.office.now < self.room.held_until
+        {
             return Ok(());
         }
-        self.seen_last = self.keeper.last();
-        self.held_until = u64::MAX;
-        let listed = std::mem::replace(&mut self.held, Vec::new(self.alloc));
+        self.room.seen_last = self.office.keeper.last();
+        self.room.held_until = u64::MAX;
+        let listed = std::mem::replace(&mut self.room.held, Vec::new(self.alloc));
         for number in &listed {
             if self.look_at(*number)? {
-                self.held.push(*number)?;
+                self.room.held.push(*number)?;
             }
         }
         Ok(())

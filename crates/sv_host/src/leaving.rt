@@ -14,33 +14,33 @@ const MOST_ACCEPTS: u32 = 64;
 impl<F: Folder> Host<F> {
     // Takes a connection in, or closes it where there are too many.
     fn admit<P: Ports>(&mut self, ports: &mut P, number: u64) {
-        if self.guests.len() >= MOST_GUESTS {
-            self.counts.refuse();
+        if self.room.guests.len() >= MOST_GUESTS {
+            self.office.counts.refuse();
             ports.close(number);
             return;
         }
-        let guest = Guest::new(self.alloc, self.now);
-        if self.guests.push(number, guest).is_err() {
+        let guest = Guest::new(self.alloc, self.office.now);
+        if self.room.guests.push(number, guest).is_err() {
             ports.close(number);
         }
     }
 
     /// Accepts connections, as long as some wait.
     pub fn accept<P: Ports>(&mut self, ports: &mut P) {
-        if !self.ready.door {
+        if !self.room.ready.door {
             return;
         }
-        self.door_fails = false;
+        self.room.door_fails = false;
         for _ in 0..MOST_ACCEPTS {
             match ports.accept() {
                 Accepted::One(number) => self.admit(ports, number),
                 Accepted::NotYet => {
-                    self.ready.door = false;
+                    self.room.ready.door = false;
                     return;
                 }
                 // It is tried again later.
                 Accepted::Failed => {
-                    self.door_fails = true;
+                    self.room.door_fails = true;
                     return;
                 }
             }
@@ -49,11 +49,11 @@ impl<F: Folder> Host<F> {
 
     /// Closes a connection, whose session has its End.
     pub fn depart<P: Ports>(&mut self, ports: &mut P, number: u64) -> Result<(), Halt> {
-        let Some(mut guest) = self.guests.take(number) else {
+        let Some(mut guest) = self.room.guests.take(number) else {
             return Ok(());
         };
-        let ended = self.end(&mut guest);
-        self.guests.remove(number);
+        let ended = self.office.end(&mut guest);
+        self.room.guests.remove(number);
         ports.close(number);
         ended
     }

@@ -81,25 +81,31 @@ fn send_to<P: Ports>(
 impl<F: Folder> Host<F> {
     /// Settles, and sends to each connection that was touched. Those that are over then are closed.
     pub fn send<P: Ports>(&mut self, ports: &mut P) -> Result<(), Halt> {
-        let mut touched = std::mem::replace(&mut self.touched, Vec::new(self.alloc));
+        let mut touched = std::mem::replace(&mut self.room.touched, Vec::new(self.alloc));
         let mut gone = Vec::new(self.alloc);
-        if self.keeper.settle().is_err() {
+        if self.office.keeper.settle().is_err() {
             return Err(Halt::Log);
         }
-        let Some(settled) = self.keeper.settled() else {
+        let Some(settled) = self.office.keeper.settled() else {
             return Err(Halt::Log);
         };
         for number in &touched {
-            match send_to(ports, &mut self.guests, *number, &mut self.counts, &settled) {
+            match send_to(
+                ports,
+                &mut self.room.guests,
+                *number,
+                &mut self.office.counts,
+                &settled,
+            ) {
                 Then::Waits => {}
-                Then::GoesOn => self.busy.push(*number)?,
+                Then::GoesOn => self.room.busy.push(*number)?,
                 Then::Goes => gone.push(*number)?,
             }
         }
         drop(settled);
         // Its room is used again.
         touched.clear();
-        self.touched = touched;
+        self.room.touched = touched;
         for number in &gone {
             self.depart(ports, *number)?;
         }

@@ -34,12 +34,12 @@ impl<F: Folder> Host<F> {
     // Touches all connections, and answers whether something is to be sent to one of them.
     fn touch_all(&mut self) -> Result<bool, Halt> {
         let mut waits = false;
-        for place in 0..self.guests.len() {
-            let Some(number) = self.guests.number_at(place) else {
+        for place in 0..self.room.guests.len() {
+            let Some(number) = self.room.guests.number_at(place) else {
                 break;
             };
-            self.touched.push(number)?;
-            if let Some(guest) = self.guests.get(number) {
+            self.room.touched.push(number)?;
+            if let Some(guest) = self.room.guests.get(number) {
                 waits = waits || !guest.peer.output().is_empty();
             }
         }
@@ -54,8 +54,8 @@ impl<F: Folder> Host<F> {
             if !waits {
                 return Ok(());
             }
-            self.ready.clear();
-            let _ = ports.wait(LAST_WAIT, &mut self.ready);
+            self.room.ready.clear();
+            let _ = ports.wait(LAST_WAIT, &mut self.room.ready);
         }
         Ok(())
     }
@@ -64,14 +64,14 @@ impl<F: Folder> Host<F> {
     pub fn stop<P: Ports>(&mut self, ports: &mut P) -> Result<(), Halt> {
         self.send_rest(ports)?;
         for _ in 0..2000 {
-            let Some(session) = self.keeper.first_open() else {
+            let Some(session) = self.office.keeper.first_open() else {
                 break;
             };
-            if self.keeper.step(session, &Request::End).is_err() {
+            if self.office.keeper.step(session, &Request::End).is_err() {
                 return Err(Halt::Log);
             }
         }
-        match self.keeper.settle() {
+        match self.office.keeper.settle() {
             Ok(_) => Ok(()),
             Err(_) => Err(Halt::Log),
         }

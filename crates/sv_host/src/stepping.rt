@@ -1,7 +1,7 @@
 //! A request: it is refused a connection, held, answered without an entry, or stepped.
 use crate::guest::{Guest, Held, Standing};
 use crate::halt::Halt;
-use crate::host::Host;
+use crate::office::Office;
 use sv_keeper::KeepFault;
 use sv_log::Folder;
 use sv_wire::{Refusal, Reply, Request};
@@ -35,7 +35,7 @@ fn joining(request: &Request) -> Option<ClientId> {
     }
 }
 
-impl<F: Folder> Host<F> {
+impl<F: Folder> Office<F> {
     // Whether a connection may ask this: where keys are wanted it showed one, it joins under no number but its key's, and never under the steward's.
     fn admits(&self, guest: &Guest, request: &Request) -> bool {
         let client = joining(request);

@@ -4,11 +4,12 @@ use crate::counts::Counts;
 use crate::ending::{HostEnd, status_of, tell};
 use crate::hall::{DoorFault, Doors, FolderFault, Folders};
 use crate::halt::Halt;
-use crate::host::{Host, Manners};
-use crate::input::InputLines;
+use crate::host::Host;
 use crate::keys::{Keys, KeysFault, tell as tell_keys};
+use crate::office::{Manners, Office};
 use crate::options::{OptionFault, Options, is_local, options_of};
 use crate::outside::Outside;
+use crate::room::Room;
 use crate::stepping::STEWARD_NUMBER;
 use crate::steward::Steward;
 use crate::telling::{tell_plain, tell_standing};
@@ -19,7 +20,7 @@ use sv_bytes::{FileFault, Files, Sink, read_all};
 use sv_keeper::{Keeper, LineCause, OpenFault, Opening};
 use sv_living::Stewards;
 use sv_log::{Cause, Folder, Refusal};
-use sv_ports::{Clock, Numbered, Ports, Ready};
+use sv_ports::Clock;
 use sv_sequencer::Opened;
 use sv_worldfile::{MOST_BYTES, ReadFault, Results, WorldFile, append_fault_line, read_world};
 
@@ -182,9 +183,8 @@ fn host_of<F: Folder + Drop>(
     } else {
         None
     };
-    let mut host = Host {
+    let mut office = Office {
         alloc,
-        guests: Numbered::new(alloc),
         manners: Manners {
             idle: options.idle,
             report_within: options.report_within,
@@ -195,42 +195,24 @@ fn host_of<F: Folder + Drop>(
         steward,
         keys,
         ages: Ages::new(alloc),
-        input: InputLines::new(alloc),
         now: 0,
-        ready: Ready::new(alloc),
-        busy: Vec::new(alloc),
-        touched: Vec::new(alloc),
-        held: Vec::new(alloc),
-        held_until: u64::MAX,
-        seen_last: keeper.last(),
-        next_look: 0,
         random,
         site: owned_of(alloc, options.site)?,
         origins: origins_of(alloc, options)?,
-        door_fails: false,
         keeper,
     };
-    host.begin()?;
-    Ok(host)
-}
-
-impl<F: Folder> Host<F> {
-    // The steward joins and reports, before anybody is served.
-    fn begin(&mut self) -> Result<(), Halt> {
-        if let Some(steward) = &mut self.steward {
-            steward.join(&mut self.keeper)?;
-        }
-        self.report_all()?;
-        match self.keeper.settle() {
-            Ok(_) => Ok(()),
-            Err(_) => Err(Halt::Log),
-        }
-    }
+    office.begin()?;
+    let room = Room::new(alloc, office.keeper.last());
+    Ok(Host {
+        alloc,
+        office,
+        room,
+    })
 }
 
 fn halted<F: Folder>(alloc: Global, host: &Host<F>, halt: Halt) -> Result<HostEnd, AllocError> {
     match halt {
-        Halt::Log => Ok(HostEnd::Disk(owned(alloc, host.keeper.file())?)),
+        Halt::Log => Ok(HostEnd::Disk(owned(alloc, host.office.keeper.file())?)),
         Halt::Ports => Ok(HostEnd::Link),
         Halt::Memory | Halt::Steward => Ok(HostEnd::Memory),
     }
@@ -268,7 +250,12 @@ fn serve_at<R: Wait, D: Doors, S, C: Clock, L: Files, E: Sink, F: Folder>(
     if !place.doors.address(&ports, &mut address) {
         address = owned(place.alloc, options.at)?;
     }
-    tell_standing("listening", address.as_str(), &host.keeper, place.err);
+    tell_standing(
+        "listening",
+        address.as_str(),
+        &host.office.keeper,
+        place.err,
+    );
     let served = {
         let mut outside = Outside {
             ports: &mut ports,
@@ -279,7 +266,7 @@ fn serve_at<R: Wait, D: Doors, S, C: Clock, L: Files, E: Sink, F: Folder>(
     };
     match served {
         Ok(()) => {
-            tell_standing("stop", options.folder, &host.keeper, place.err);
+            tell_standing("stop", options.folder, &host.office.keeper, place.err);
             Ok(())
         }
         Err(halt) => Err(halted(place.alloc, host, halt)?),
