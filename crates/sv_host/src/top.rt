@@ -73,8 +73,11 @@ fn word_of_line(cause: LineCause) -> &'static str {
     }
 }
 
-fn refused(alloc: Global, refusal: &Refusal) -> Result<HostEnd, AllocError> {
-    let file = refusal.file.as_str();
+fn refused(alloc: Global, folder: &str, refusal: &Refusal) -> Result<HostEnd, AllocError> {
+    let file = match refusal.file.as_str() {
+        "" => folder,
+        file => file,
+    };
     let word = word_of(refusal.cause);
     match refusal.cause {
         Cause::Failed => Ok(HostEnd::Disk(owned(alloc, file)?)),
@@ -90,7 +93,7 @@ fn refused(alloc: Global, refusal: &Refusal) -> Result<HostEnd, AllocError> {
 /// How it ends where the log is not opened.
 fn unopened(alloc: Global, folder: &str, fault: OpenFault) -> Result<HostEnd, AllocError> {
     match fault {
-        OpenFault::Refused(refusal) => refused(alloc, &refusal),
+        OpenFault::Refused(refusal) => refused(alloc, folder, &refusal),
         OpenFault::Line { file, line, cause } => {
             let word = word_of_line(cause);
             let file = file.as_str();

@@ -34,7 +34,7 @@ actions need, and keeps the one world that comes out.
   dimboetu serve FILE PORT       waits for the players of a world at a port of this machine, and serves them
                                  dimboetu serve examples/conflict.json 4000
   dimboetu host WORLD DIR        serves a world without end, and keeps its log in the folder DIR
-                                 dimboetu host examples/living.json world --stdin
+                                 dimboetu host world.json world --at 127.0.0.1:4000
   dimboetu join FILE K PORT      plays client K of a scenario at such a server
                                  dimboetu join examples/conflict.json 0 4000
   dimboetu check SCENARIO REPORT
