@@ -40,10 +40,10 @@ KEY, OTHER_KEY = b"0123456789abcdef", b"fedcba9876543210"
 class Host:
     """A running `host`, with its standard input, and the lines that it told."""
 
-    def __init__(self, test, world, folder, *words, port=None):
+    def __init__(self, test, world, folder, *words, port=None, **kinds):
         self.port = port or free_port()
         self.run = Run(test.program, ["host", world, folder, "--stdin", "--at", f"127.0.0.1:{self.port}", *map(str, words)],
-                       stdin=subprocess.PIPE, stdout=subprocess.DEVNULL)
+                       stdin=subprocess.PIPE, stdout=subprocess.DEVNULL, **kinds)
         self.process, self.lines = self.run.process, []
         for line in self.process.stderr:
             self.lines.append(line.decode())
@@ -645,8 +645,48 @@ def test_crashes(test):
     test.same(opened, set(), "crashes: Ends")
 
 
+def test_full_disk(test):
+    """A file that can't grow: no reply is sent that is not in the log, and the status is 5."""
+    def limited(size):
+        def limit():
+            signal.signal(signal.SIGXFSZ, signal.SIG_IGN)
+            resource.setrlimit(resource.RLIMIT_FSIZE, (size, size))
+        return {"preexec_fn": limit}
+
+    world, folder = test.world("full"), test.folder("full-dir")
+    given = Run(test.program, ["host", world, test.folder("no-room"), "--at", f"127.0.0.1:{free_port()}"], **limited(50_000)).end()
+    test.expect(given[0] == 5 and given[2].startswith("log: "), f"full disk: at the start: {given}")
+    host = Host(test, world, folder, **limited((1 << 20) + 10_000))
+    link = Wire(host.port)
+    link.ask("join", 1, 1, (0,))
+    long = action(*[obj(0).attr(0).set(obj(0).attr(0) + 1_000_000_000_000_000_000 + place) for place in range(10)])
+    asked = wire.frame(request_bytes("submit", 1, long))
+    replies = [0]
+
+    def read():
+        while link.next(LONGEST):
+            replies[0] += 1
+
+    reader = threading.Thread(target=read, daemon=True)
+    reader.start()
+    try:
+        for _ in range(3000):
+            link.link.sendall(asked)
+    except OSError:
+        pass
+    status = host.process.wait(2 * LONGEST)
+    reader.join(5)
+    host.reader.join(5)
+    name = next(one for one in os.listdir(folder) if one.startswith("journal-"))
+    test.same((status, host.lines[-1:]), (5, [f"log: {name}\n"]), "full disk: it stops")
+    entered = sum(" submit 1 " in line for line in journal(folder).splitlines())
+    test.expect(0 < replies[0] <= entered, f"full disk: {replies[0]} replies, {entered} lines")
+    host = Host(test, world, folder)
+    test.same(host.stop(), 0, "full disk: it goes on once there is room")
+
+
 TESTS = (test_words, test_play, test_only_one, test_refused, test_bad_peers, test_many, test_held, test_steward, test_keys, test_web,
-         test_crashes)
+         test_crashes, test_full_disk)
 
 
 def main(words):
