@@ -88,7 +88,7 @@ class Wire:
     def send(self, *payloads):
         self.link.sendall(b"".join(map(wire.frame, payloads)))
 
-    def next(self, seconds=5):
+    def next(self, seconds=LONGEST):
         """The next reply, or None where the connection ends or nothing comes in time."""
         self.link.settimeout(seconds)
         while (payload := first_payload(self.came)) is None:
@@ -101,11 +101,11 @@ class Wire:
             self.came += piece
         return Payload(payload).reply()
 
-    def ask(self, *request, seconds=5):
+    def ask(self, *request, seconds=LONGEST):
         self.send(request_bytes(*request))
         return self.next(seconds)
 
-    def is_closed(self, seconds=5):
+    def is_closed(self, seconds=LONGEST):
         """Whether the other side closes, whatever it sends before."""
         self.link.settimeout(seconds)
         try:
@@ -135,7 +135,7 @@ class Test(Room):
         self.same((given[0], given[2]), (status, line), name)
 
 
-def http(port, text, seconds=5):
+def http(port, text, seconds=LONGEST):
     """The status and the body of an answer."""
     link = connect(port)
     link.settimeout(seconds)
@@ -670,7 +670,7 @@ def test_full_disk(test):
     reader = threading.Thread(target=read, daemon=True)
     reader.start()
     try:
-        for _ in range(3000):
+        for _ in range(2400):
             link.link.sendall(asked)
     except OSError:
         pass
