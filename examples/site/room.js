@@ -37,7 +37,8 @@ const DEEDS = {
         return found ? { label: `Take coin ${found.coin + 1}`, says: `you take coin ${found.coin + 1}`, coin: found.coin, action: rules.take(me, found.coin) } : null;
     },
     give: () => {
-        const own = view(me), mine = coinsOf(me), other = own && figures().find(each => each.player !== me && distance(each.at, own) <= 1);
+        const own = view(me), mine = coinsOf(me), near = own ? figures().filter(each => each.player !== me && distance(each.at, own) <= 1) : [];
+        const other = near.find(each => isHere(each.player)) ?? near[0];
         if (!other || !mine.length) return null;
         return { label: `Give to ${other.name}`, says: `you give coin ${mine[0].coin + 1} to ${other.name}`, coin: mine[0].coin, action: rules.give(me, mine[0].coin, other.player) };
     },
@@ -79,10 +80,9 @@ async function act(action, says, coin = null) {
     }
     const time = performance.now() - start;
     byId("latency").textContent = time < 1000 ? `${Math.round(time)} ms` : `${(time / 1000).toFixed(1)} s`;
-    const isRight = outcome.kind === "accepted" && action.writes.every(object => {
-        const found = client.knowledge.versions.get(object)?.get(outcome.position);
-        return !found || String(found) === expected.get(object);
-    });
+    // What the action gave; where it was settled while the line was gone, what is seen now.
+    const isRight = outcome.kind === "accepted" && action.writes.every(object =>
+        String(client.knowledge.versions.get(object)?.get(outcome.position) ?? client.view(object)) === expected.get(object));
     if (entry) settle(entry, isRight ? "right" : "wrong", isRight ? `right, ${byId("latency").textContent}` : "put right");
     if (!isRight && says) correct(says, coin, outcome);
     draw();
@@ -134,6 +134,12 @@ function settle(entry, kind, more) {
     entry.querySelector("small").textContent = more;
 }
 
+/** How far to the side a figure is shown, in parts of a cell: those in one place stand side by side. */
+function asideOf(player) {
+    const at = view(player), mates = figures().filter(each => at && distance(each.at, at) === 0), order = mates.findIndex(each => each.player === player);
+    return mates.length > 1 ? (order - (mates.length - 1) / 2) * Math.min(0.42, 0.9 / mates.length) : 0;
+}
+
 const things = new Map();
 const CHEST_PICTURE = `<svg viewBox="0 0 40 34" class="body"><rect x="2" y="12" width="36" height="20" rx="3" fill="#8a5a2b"/><path d="M2 14a18 12 0 0 1 36 0z" fill="#a56c35"/>
 <path d="M2 14h36" stroke="#5b3816" stroke-width="3"/><rect x="16" y="11" width="8" height="9" rx="2" fill="#f2b632" stroke="#a86f00"/></svg>`;
@@ -159,8 +165,11 @@ function drawFigures() {
         const element = thing(player, "figure", `<div class="body">${name[0]}</div>`);
         element.style.setProperty("--colour", COLOURS[player]);
         put(element, at);
+        const aside = asideOf(player);
+        element.style.setProperty("--aside", aside / 0.54 * 100);
+        element.classList.toggle("together", aside !== 0 || figures().some(each => each.player !== player && distance(each.at, at) === 0));
         element.classList.toggle("mine", player === me);
-        element.classList.toggle("away", !isHere(player));
+        element.classList.toggle("away", client.status === "joined" && !isHere(player));
         element.classList.toggle("guess", isGuess(player));
     }
 }
@@ -171,7 +180,7 @@ function drawCoins() {
         const place = isHeld ? view(owner) : owner === IN_CHEST ? view(CHEST) : [x, y];
         if (place) put(element, place);
         const mates = isHeld ? coinsOf(owner) : [], order = mates.findIndex(each => each.coin === coin);
-        element.style.setProperty("--shift", `${(order - (mates.length - 1) / 2) * 55}%`);
+        element.style.setProperty("--aside", isHeld ? ((order - (mates.length - 1) / 2) * 0.16 + asideOf(owner)) / 0.3 * 100 : 0);
         element.classList.toggle("held", isHeld);
         element.classList.toggle("kept", owner === IN_CHEST && !isGuess(coinObject(coin)));
         element.classList.toggle("guess", isGuess(coinObject(coin)));

@@ -1,9 +1,9 @@
 #!/usr/bin/env python3
 """Tests of examples/site, the game in browser tabs, with Chromium.
 
-    python3 tests/outside/tests/test_site.py [--shots FOLDER] [HOST]
+    python3 tests/outside/tests/test_site.py [--shots FOLDER] [PROGRAM]
 
-Two tabs play against each other over the double of doubles/holding.py, or over the program HOST: what one picks up the other
+Two tabs play against each other over the double of doubles/holding.py, or over `host` of PROGRAM: what one picks up the other
 sees; a guess that was wrong is put right, and said; a line that is gone comes back; and where the server is stopped and started
 again both go on by themselves. Where Chromium (Debian's package chromium) is not there, only the files are looked at. --shots
 takes pictures of both tabs, as on a phone and on a desktop. Closes with `N passed, M failed`.
@@ -69,10 +69,10 @@ class Double:
 
 
 class Host:
-    """The program `host`, which serves the files too."""
+    """The command `host` of a program, which serves the files too."""
 
     def __init__(self, program, folder, room):
-        self.words = [program, WORLD, os.path.join(room, "world"), "--site", folder, "--stdin", "--at", f"127.0.0.1:{free_port()}"]
+        self.words = [program, "host", WORLD, os.path.join(room, "world"), "--site", folder, "--stdin", "--at", f"127.0.0.1:{free_port()}"]
         self.address, self.process = f"http://{self.words[-1]}/?player=", None
         self.start()
 
