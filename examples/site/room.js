@@ -84,11 +84,11 @@ async function act(action, says, coin = null) {
     const isRight = outcome.kind === "accepted" && action.writes.every(object =>
         String(client.knowledge.versions.get(object)?.get(outcome.position) ?? client.view(object)) === expected.get(object));
     if (entry) settle(entry, isRight ? "right" : "wrong", isRight ? `right, ${byId("latency").textContent}` : "put right");
-    if (!isRight && says) correct(says, coin, outcome);
+    if (!isRight && says) entry.firstChild.textContent = `${says}, but ${correct(says, coin, outcome)}`;
     draw();
 }
 
-/** Says what was guessed wrong, and shows it. */
+/** Says what was guessed wrong, and shows it; answers why. */
 function correct(says, coin, { kind, object }) {
     const owner = coin === null ? null : view(coinObject(coin))?.[2];
     const cause = kind === "denied" ? `object ${object} is not yours to change` : kind === "dropped" ? "too much was going on, so it never happens"
@@ -100,6 +100,7 @@ function correct(says, coin, { kind, object }) {
         element?.classList.add(mark);
         setTimeout(() => element?.classList.remove(mark), 1400);
     }
+    return cause;
 }
 
 const walk = (across, down) => client?.knows && act(rules.step(me, across, down), null);

@@ -140,7 +140,8 @@ def play(count, first, second):
                  f"a wrong guess is put right, and said: {second.run('document.body.innerText')}")
     for tab in (first, second):
         count.expect(tab.until("room.coinsOf(0).length === 2 && !room.coinsOf(1).length", LONGEST), "the coin is hers who came first")
-    count.same(second.run("document.querySelectorAll('#log .wrong').length"), 1, "one wrong guess")
+    count.same(second.run("[...document.querySelectorAll('#log .wrong')].map(one => one.textContent)"), ["you take coin 2, but Ann was firstput right"],
+               "one wrong guess")
 
 
 def cut(count, first, second, server):
