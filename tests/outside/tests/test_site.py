@@ -132,10 +132,14 @@ def play(count, first, second):
     for tab in (first, second):
         count.expect(tab.until("String(room.view(0).slice(0, 2)) === '5,2' && String(room.view(1).slice(0, 2)) === '5,2' && !room.client.pending", LONGEST),
                      "both stand on a coin")
-    second.run("room.slow(2000)")
-    second.run("room.deed('take')")
-    count.same(second.run("[room.coinsOf(1).length, document.querySelectorAll('.coin.guess').length]"), [1, 1], "over a slow line a guess is shown at once")
+    second.run("room.slow(200), room.walk(1, 0), room.walk(-1, 0), 0")
+    count.expect(second.until("!room.client.pending && parseFloat(document.querySelector('#latency').textContent) * "
+                              "(document.querySelector('#latency').textContent.endsWith('ms') ? 1 : 1000) >= 199", LONGEST), "a slow line is slow")
+    second.run("room.slow(Infinity), room.deed('take'), 0")
+    count.same(second.run("[room.coinsOf(1).length, document.querySelectorAll('.coin.guess').length]"), [1, 1], "a guess is shown at once, without a line")
     first.run("room.deed('take')")
+    count.expect(first.until("!room.client.pending", LONGEST) and first.run("room.coinsOf(0).length") == 2, "she takes it meanwhile")
+    second.run("room.slow(0)")
     count.expect(second.until("document.querySelector('#told').textContent.startsWith('Put right: you take coin 2, but Ann was first')", LONGEST),
                  f"a wrong guess is put right, and said: {second.run('document.body.innerText')}")
     for tab in (first, second):
