@@ -402,7 +402,7 @@ fn put_origin(out: &mut String, origin: Point) -> Result<(), AllocError>
 }
 
 #[tactic(auto, unfolding(crate::specs::Canonical::canonical))]
-fn put_action(out: &mut String, action: &Action) -> Result<(), AllocError>
+pub fn put_action(out: &mut String, action: &Action) -> Result<(), AllocError>
     ensures { OnOk result (string_bytes out.new ≡ string_bytes out.old ++ canonical action.now) }
 {
     let reads = action.reads.as_slice();
