@@ -58,7 +58,6 @@ fn single(
 }
 
 /// An action that is refused in a shape for a cause, and for none before it.
-#[tactic(auto, using(crate::proofs::Faulty::no_reads, crate::proofs::Faulty::too_many_reads, crate::proofs::Faulty::not_ascending, crate::proofs::Faulty::no_such_object, crate::proofs::Faulty::bad_mask, crate::proofs::Faulty::bad_slot, crate::proofs::Faulty::not_writable, crate::proofs::Faulty::bad_attr, crate::proofs::Faulty::too_large, crate::proofs::Faulty::too_deep, crate::proofs::Faulty::bad_origin))]
 pub fn bad_action(alloc: Global, shape: Shape, cause: BadAction) -> Result<Action, AllocError>
     requires objects { 1 ≤ shape.objects }
     requires attrs { 1 ≤ shape.attrs }
