@@ -24,7 +24,7 @@ use Rattle.sv_pilot.specs.declared.trouble.Trouble.TheVariants as troubles
 use Rattle.sv_pilot.specs.Troubles.{trouble_of_make, trouble_of_poll, trouble_of_observe}
 use Rattle.sv_pilot.specs.Lines.{Line, IsCalm}
 use Rattle.sv_pilot.specs.Sending.{IsSendFault, IsSent}
-use Rattle.sv_pilot.specs.Doings.{PilotView, Did, NoReplyIsDue, StopsBy, Stopped, StoppedMake}
+use Rattle.sv_pilot.specs.Doings.{PilotView, Did, IsSettled, StopsBy, BrokeOff, Stopped, StoppedMake}
 use Rattle.sv_pilot.proofs.Taking.{calm_same, calm_more, stops_later, sending_stops_it}
 
 -- The one request that an event asks is a message.
@@ -62,13 +62,17 @@ not_of_game old new troubles.Game why e = why
 
 -- ---- Behind a part that went well
 
-pub settled_later : (old mid new : PilotView) (r : Result Unit Trouble) → IsCalm old.line mid.line → OnOk r (NoReplyIsDue new × IsCalm mid.line new.line) → OnOk r (NoReplyIsDue new × IsCalm old.line new.line)
+pub settled_later : (old mid new : PilotView) (r : Result Unit Trouble) → IsCalm old.line mid.line → OnOk r (IsSettled new × IsCalm mid.line new.line) → OnOk r (IsSettled new × IsCalm old.line new.line)
 settled_later old mid new (Ok x) calm s = (s.0, calm_more old.line mid.line new.line calm s.1)
 settled_later old mid new (Err t) calm s = tt
 
 pub stopped_later : (old mid new : PilotView) (r : Result Unit Trouble) → IsCalm old.line mid.line → IfErr r (StopsBy mid new) → IfErr r (StopsBy old new)
 stopped_later old mid new (Ok x) calm why = tt
 stopped_later old mid new (Err t) calm why = stops_later old mid new t calm why
+
+-- What stopped it is told from a state with the same connection.
+pub stopped_same : (old mid new : PilotView) (r : Result Unit Trouble) → mid.line ≡ old.line → IfErr r (StopsBy mid new) → IfErr r (StopsBy old new)
+stopped_same old mid new r same why = stopped_later old mid new r (calm_same old.line mid.line same) why
 
 pub calm_later : {X : Type 0} (a b c : Line) (r : Result X Trouble) → IsCalm a b → OnOk r (IsCalm b c) → OnOk r (IsCalm a c)
 calm_later a b c (Ok x) calm s = calm_more a b c calm s
@@ -105,12 +109,12 @@ make_nothing old new action make_faults.Busy same = inl refl
 make_nothing old new action make_faults.Memory same = inr (inl (same, refl))
 
 pub made_fine : (old new : PilotView) (action : Action) (r : Result Unit Trouble) → IsReadyToMake old.client.who old.client.events action
-    → OnOk r (Did (events.Make action) old new × NoReplyIsDue new × IsCalm old.line new.line)
-    → OnOk r (IsReadyToMake old.client.who old.client.events action × Did (events.Make action) old new × NoReplyIsDue new × IsCalm old.line new.line)
+    → OnOk r (Did (events.Make action) old new [] × IsSettled new × IsCalm old.line new.line)
+    → OnOk r (IsReadyToMake old.client.who old.client.events action × Did (events.Make action) old new [] × IsSettled new × IsCalm old.line new.line)
 made_fine old new action (Ok x) may s = (may, s.0, s.1, s.2)
 made_fine old new action (Err t) may s = tt
 
 pub made_stops : (old new : PilotView) (action : Action) (r : Result Unit Trouble) → IsReadyToMake old.client.who old.client.events action
-    → IfErr r (λ (trouble : Trouble). Did (events.Make action) old new × StopsBy old new trouble) → IfErr r (λ (trouble : Trouble). (trouble ≡ troubles.Game) ⊎ StoppedMake action old new trouble)
+    → IfErr r (BrokeOff (events.Make action) old new) → IfErr r (λ (trouble : Trouble). (trouble ≡ troubles.Game) ⊎ StoppedMake action old new trouble)
 made_stops old new action (Ok x) may why = tt
-made_stops old new action (Err t) may why = inr (inr (may, why.0, why.1))
+made_stops old new action (Err t) may why = inr (inr (may, why))
