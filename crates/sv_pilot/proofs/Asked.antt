@@ -14,17 +14,17 @@ use Rattle.sv_client.specs.declared.fault.PollFault.{PollFault}
 use Rattle.sv_client.specs.declared.fault.PollFault.TheVariants as poll_faults
 use Rattle.sv_client.specs.declared.trace.Event.{Event}
 use Rattle.sv_client.specs.declared.trace.Event.TheVariants as events
-use Rattle.sv_client.specs.Taking.{Identity}
+use Rattle.sv_client.specs.Taking.{Identity, outstanding}
 use Rattle.sv_client.specs.Traces.{makes}
 use Rattle.sv_client.specs.Proper.{MayCome, IsReadyToMake, most_numbers}
 use Rattle.sv_client.specs.Answers.{IsServed, IsMakeFault}
-use Rattle.sv_client.specs.Seen.{newly_asked}
+use Rattle.sv_client.specs.Seen.{ClientView, newly_asked}
 use Rattle.sv_pilot.specs.declared.trouble.Trouble.{Trouble}
 use Rattle.sv_pilot.specs.declared.trouble.Trouble.TheVariants as troubles
 use Rattle.sv_pilot.specs.Troubles.{trouble_of_make, trouble_of_poll, trouble_of_observe}
 use Rattle.sv_pilot.specs.Lines.{Line, IsCalm}
 use Rattle.sv_pilot.specs.Sending.{IsSendFault, IsSent}
-use Rattle.sv_pilot.specs.Doings.{PilotView, Did, IsSettled, StopsBy, BrokeOff, Stopped, StoppedMake}
+use Rattle.sv_pilot.specs.Doings.{PilotView, Did, NoReplyIsDue, IsSettled, StopsBy, BrokeOff, Stopped, StoppedMake}
 use Rattle.sv_pilot.proofs.Taking.{calm_same, calm_more, stops_later, sending_stops_it}
 
 -- The one request that an event asks is a message.
@@ -85,6 +85,13 @@ sent_calm old new (Err t) s = tt
 pub sent_why : (old new : PilotView) (r : Result Unit Trouble) → IsSent old.line new.line r → IfErr r (StopsBy old new)
 sent_why old new (Ok x) s = tt
 sent_why old new (Err t) s = sending_stops_it old new t s
+
+-- No reply is due, and then all that waits is sent.
+pub settled_by : (old mid new : PilotView) (r : Result Unit Trouble) → NoReplyIsDue mid → new.client ≡ mid.client → IsCalm old.line mid.line → IsSent mid.line new.line r → OnOk r (new.line.waits ≡ [])
+    → OnOk r (IsSettled new × IsCalm old.line new.line)
+settled_by old mid new (Ok x) due same calm sent none =
+    (record { due = subst (λ (v : ClientView). outstanding v.who v.events ≡ []) (sym same) due; waits = none }, calm_more old.line mid.line new.line calm sent)
+settled_by old mid new (Err t) due same calm sent none = tt
 
 -- A world of another shape has no results that could be told.
 pub stops_for_shape : (p : PilotView) → (IsGoodShape p.client.who.shape → ⊥) → StopsBy p p troubles.Reply

@@ -1,7 +1,7 @@
 -- What a connection's calls change of it.
-use Rattle.std.proofs.Common.{◌≡◌, ◌≢◌, ℕ, ◌+◌, ◌<◌, inl, inr, false, List, [], ◌∷◌, ◌++◌, length, take, drop, Some, Result, Ok, Err, refl, sym, ap, subst, ◌∙◌, arith, append-nil, append_assoc}
+use Rattle.std.proofs.Common.{◌≡◌, ◌≢◌, ℕ, ◌+◌, ◌<◌, inl, inr, false, List, [], ◌∷◌, ◌++◌, length, take, drop, get_or, Some, Result, Ok, Err, refl, sym, ap, subst, ◌∙◌, arith, append-nil, append_assoc}
 use Rattle.std.specs.Prelude.{IsErrAnd, OnOk}
-use Rattle.std.proofs.lemmas.List.{length-append, take-append-drop, drop_all}
+use Rattle.std.proofs.lemmas.List.{length-append, take-append-drop, take_more, drop_all}
 use Rattle.sv_frame.specs.Frames.{frame}
 use Rattle.sv_frame.specs.Answers.{ReadsInto}
 use Rattle.sv_link.specs.Ends.{Told, Sends as TellsSent, sending, receiving, EndReadCause, SentCause}
@@ -42,12 +42,15 @@ posted old new request answer r is p same = subst (Sends (asking old (request �
   where
     one : request_frames (request ∷ []) ≡ frame (request_bytes request)
     one = append-nil (frame (request_bytes request))
+
     before : (rest : List ℕ) → (sent : List ℕ) → sent ++ rest ≡ old.waits → sent ++ (rest ++ request_frames (request ∷ [])) ≡ old.waits ++ request_frames (request ∷ [])
     before rest sent e = sym (append_assoc sent rest (request_frames (request ∷ []))) ∙ ap (λ (s : List ℕ). s ++ request_frames (request ∷ [])) e
+
     broken : (a : Sent) → (q : Posts old.told old.waits (frame (request_bytes request)) a new.told new.waits) → a ≢ answers.Whole → (unsent : List ℕ) × HasSent (asking old (request ∷ [])) new unsent
     broken a q not =
         let front = q.part not in
         (front.0 ++ request_frames (request ∷ []), sent_on (asking old (request ∷ [])) new q.sent (front.0 ++ request_frames (request ∷ [])) q.told same (before front.0 q.sent front.1))
+
     by : (a : Sent) → Posts old.told old.waits (frame (request_bytes request)) a new.told new.waits → Sends (asking old (request ∷ [])) new (trouble_of_sent a)
     by answers.Whole q = (new.waits, sent_on (asking old (request ∷ [])) new q.sent new.waits q.told same (q.whole refl ∙ ap (λ (s : List ℕ). old.waits ++ s) (sym one)), refl)
     by answers.Failed q = let b = broken answers.Failed q (λ e. cc) in (b.0, b.1, tt)
@@ -60,6 +63,7 @@ flushed old new answer r is s left same = subst (Sends old new) (sym is) (by ans
   where
     some_sent : (a : Sent) (q : TellsSent old.told old.waits a new.told) → HasSent old new (drop q.size old.waits)
     some_sent a q = sent_on old new (take q.size old.waits) (drop q.size old.waits) q.grew same (take-append-drop q.size old.waits)
+
     by : (a : Sent) → TellsSent old.told old.waits a new.told → LeavesUnsent a old.waits new.waits → Sends old new (trouble_of_sent a)
     by answers.Whole q none = (drop q.size old.waits, some_sent answers.Whole q, let full = q.whole refl in drop_all q.size old.waits (omega (arith, full)) ∙ sym none)
     by answers.Failed q none = (drop q.size old.waits, some_sent answers.Failed q, tt)
@@ -125,6 +129,17 @@ fault_later old mid new troubles.Link calm why = subst (λ (n : ℕ). n < new.fa
 fault_later old mid new troubles.Reply calm why = absurd why
 fault_later old mid new troubles.Game calm why = absurd why
 fault_later old mid new troubles.Memory calm why = calm_more old mid new calm why
+
+module _ (a b c : Line) (requests : List Request) (i : ℕ) (request : Request) (unsent : List ℕ) (within : i < length requests) where
+  -- The next of several requests was put.
+  pub sent_step : HasSent (asking a (take i requests)) b b.waits → HasSent (asking b (get_or requests i request ∷ [])) c unsent → HasSent (asking a (take (i + 1) requests)) c unsent
+  sent_step h k = subst (λ (rs : List Request). HasSent (asking a rs) c unsent) (sym (take_more requests i request within)) (sent_next a b c (take i requests) (get_or requests i request ∷ []) unsent h k)
+
+  -- The next of several requests was not put, and so none behind it.
+  pub sent_until : HasSent (asking a (take i requests)) b b.waits → HasSent (asking b (get_or requests i request ∷ [])) c unsent
+      → HasSent (asking a requests) c (unsent ++ request_frames (drop (i + 1) requests))
+  sent_until h k = subst (λ (rs : List Request). HasSent (asking a rs) c (unsent ++ request_frames (drop (i + 1) requests))) (take-append-drop (i + 1) requests)
+      (sent_before a c (take (i + 1) requests) (drop (i + 1) requests) unsent (sent_step h k))
 
 -- ---- Reading
 

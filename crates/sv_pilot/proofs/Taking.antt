@@ -128,19 +128,21 @@ line_taken old new unsent c h = record {
 -- Requests were to be sent, and were not.
 pub none_posted : (p : PilotView) (requests : List Request) (trouble : Trouble) → Takes {X = Unit} (posting p requests) p (Err trouble)
 none_posted p requests trouble =
-    let put = asking p.line requests in
-    (put.waits,
-    line_taken (posting p requests) p put.waits refl
-    (record { sent = []; received = []; line = record { sends = sym (append-nil p.line.told.sent); receives = sym (append-nil p.line.told.received); pair = refl; side = refl }; in_order = refl; came = sym (append-nil p.line.came) }),
-    tt)
+    let put = asking p.line requests in (
+      put.waits,
+      line_taken (posting p requests) p put.waits refl
+          (record { sent = []; received = []; line = record { sends = sym (append-nil p.line.told.sent); receives = sym (append-nil p.line.told.received); pair = refl; side = refl }; in_order = refl; came = sym (append-nil p.line.came) }),
+      tt,
+    )
 
 -- No request was to be sent.
 pub nothing_to_post : (p : PilotView) → Takes {X = Unit} (posting p []) p (Ok tt)
-nothing_to_post p =
-    (p.line.waits,
-    line_taken (posting p []) p p.line.waits refl
-    (record { sent = []; received = []; line = record { sends = sym (append-nil p.line.told.sent); receives = sym (append-nil p.line.told.received); pair = refl; side = refl }; in_order = sym (append-nil p.line.waits); came = sym (append-nil p.line.came) }),
-    refl)
+nothing_to_post p = (
+  p.line.waits,
+  line_taken (posting p []) p p.line.waits refl
+      (record { sent = []; received = []; line = record { sends = sym (append-nil p.line.told.sent); receives = sym (append-nil p.line.told.received); pair = refl; side = refl }; in_order = sym (append-nil p.line.waits); came = sym (append-nil p.line.came) }),
+  refl,
+)
 
 -- The reply at the front was taken, and what it asks for waits to be sent.
 pub one_taken : (old new : PilotView) (payload : List ℕ) (reply : Reply) → new.client.who ≡ old.client.who → new.client.events ≡ got_now old.client.events reply ∷ old.client.events
