@@ -130,14 +130,16 @@ fault_later old mid new troubles.Reply calm why = absurd why
 fault_later old mid new troubles.Game calm why = absurd why
 fault_later old mid new troubles.Memory calm why = calm_more old mid new calm why
 
-module _ (a b c : Line) (requests : List Request) (i : ℕ) (request : Request) (unsent : List ℕ) (within : i < length requests) where
+module _ (a b c : Line) (requests : List Request) (i : ℕ) (request : Request) (unsent : List ℕ) (within : i < length requests) (is : request ≡ get_or requests i request) where
+  next : take (i + 1) requests ≡ take i requests ++ request ∷ []
+  next = take_more requests i request within ∙ ap (λ (r : Request). take i requests ++ r ∷ []) (sym is)
+
   -- The next of several requests was put.
-  pub sent_step : HasSent (asking a (take i requests)) b b.waits → HasSent (asking b (get_or requests i request ∷ [])) c unsent → HasSent (asking a (take (i + 1) requests)) c unsent
-  sent_step h k = subst (λ (rs : List Request). HasSent (asking a rs) c unsent) (sym (take_more requests i request within)) (sent_next a b c (take i requests) (get_or requests i request ∷ []) unsent h k)
+  pub sent_step : HasSent (asking a (take i requests)) b b.waits → HasSent (asking b (request ∷ [])) c unsent → HasSent (asking a (take (i + 1) requests)) c unsent
+  sent_step h k = subst (λ (rs : List Request). HasSent (asking a rs) c unsent) (sym next) (sent_next a b c (take i requests) (request ∷ []) unsent h k)
 
   -- The next of several requests was not put, and so none behind it.
-  pub sent_until : HasSent (asking a (take i requests)) b b.waits → HasSent (asking b (get_or requests i request ∷ [])) c unsent
-      → HasSent (asking a requests) c (unsent ++ request_frames (drop (i + 1) requests))
+  pub sent_until : HasSent (asking a (take i requests)) b b.waits → HasSent (asking b (request ∷ [])) c unsent → HasSent (asking a requests) c (unsent ++ request_frames (drop (i + 1) requests))
   sent_until h k = subst (λ (rs : List Request). HasSent (asking a rs) c (unsent ++ request_frames (drop (i + 1) requests))) (take-append-drop (i + 1) requests)
       (sent_before a c (take (i + 1) requests) (drop (i + 1) requests) unsent (sent_step h k))
 

@@ -22,7 +22,7 @@ returns-in_err-send-clause-taken g c =
     let asked = c.args.request.now ∷ [] in
     let trouble = c.in_err-send.field-0.0 in
     failed_by c.from_residual-in_err-send.result trouble c.from_residual-in_err-send.ensures.1 (Takes (posting c.args.self.now asked) mid)
-    (subst (λ (p : PilotView). Takes {X = Unit} (posting p asked) mid (Err trouble)) c.self.view_is (line_takes (posting old asked) mid (Err trouble) refl c.in_err-send.ensures.sent))
+    (subst (λ (p : PilotView). Takes {X = Unit} (posting p asked) mid (Err trouble)) c.self.view_is (line_takes {X = Unit} (posting old asked) mid (Err trouble) refl c.in_err-send.ensures.sent))
 
 pub returns-in_err-send-clause-why : goal.returns-in_err-send-clause-why
 returns-in_err-send-clause-why g c =
@@ -36,7 +36,7 @@ returns-clause-taken g c =
     let old : PilotView = record { client = c.self.inside.client; line = c.self.inside.connection } in
     let mid : PilotView = record { client = c.self.inside.client; line = c.send.new.self } in
     let asked = c.args.request.now ∷ [] in
-    let sent = all_taken (posting old asked) mid tt (line_takes (posting old asked) mid (Ok tt) refl c.in_ok-send.ensures.sent) in
+    let sent = all_taken (posting old asked) mid tt (line_takes {X = Unit} (posting old asked) mid (Ok tt) refl c.in_ok-send.ensures.sent) in
     subst (λ (p : PilotView). Takes (posting p asked) c.settle.new.self c.settle.result) c.self.view_is (then_taken (posting old asked) mid c.settle.new.self c.settle.result sent c.settle.ensures.taken)
 
 pub returns-clause-settled : goal.returns-clause-settled

@@ -13,7 +13,7 @@ pub returns-in_err-take_next-clause-taken : goal.returns-in_err-take_next-clause
 returns-in_err-take_next-clause-taken g c =
     let trouble = c.in_err-take_next.field-0.0 in
     failed_by c.from_residual.result trouble c.from_residual.ensures.1 (Takes c.args.self.now c.take_next.new.self)
-    (then_taken c.args.self.now c.loop-self.self c.take_next.new.self (Err trouble) c.loop-self.invariant.taken c.in_err-take_next.ensures.taken)
+    (then_taken {X = Unit} c.args.self.now c.loop-self.self c.take_next.new.self (Err trouble) c.loop-self.invariant.taken c.in_err-take_next.ensures.taken)
 
 pub returns-in_err-take_next-clause-why : goal.returns-in_err-take_next-clause-why
 returns-in_err-take_next-clause-why g c =

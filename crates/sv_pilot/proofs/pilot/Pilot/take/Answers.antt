@@ -51,7 +51,7 @@ returns-in_err-answer-clause-taken g c =
     let first : HasTaken old mid mid.line.waits = skip_takes old mid c.args.reply.now front c.in_ok-done.ensures.who c.in_ok-done.ensures.got c.skip.ensures.told waits c.skip.ensures.came in
     let trouble = c.in_err-answer.field-0.0 in
     failed_by c.from_residual-in_err-answer.result trouble c.from_residual-in_err-answer.ensures.1 (Takes c.args.self.now c.answer.new.self)
-    (subst (λ (p : PilotView). Takes {X = Unit} p c.answer.new.self (Err trouble)) c.self.view_is (then_taken old mid c.answer.new.self (Err trouble) first c.in_err-answer.ensures.taken))
+    (subst (λ (p : PilotView). Takes {X = Unit} p c.answer.new.self (Err trouble)) c.self.view_is (then_taken {X = Unit} old mid c.answer.new.self (Err trouble) first c.in_err-answer.ensures.taken))
 
 pub returns-in_err-answer-clause-why : goal.returns-in_err-answer-clause-why
 returns-in_err-answer-clause-why g c =
