@@ -17,7 +17,7 @@ returns-in_err-send-clause-sent g c =
     let rs = c.args.requests.now in
     let sent = c.in_err-send.ensures.sent in
     failed_by c.from_residual.result c.in_err-send.field-0.0 c.from_residual.ensures.1 (Sends (asking a rs) c.send.new.self)
-    (sent.0 ++ request_frames (drop (i + 1) rs), sent_until a b c.send.new.self rs i c.request-item.result.now sent.0 c.loop-request-test.true c.request-item.is c.loop-request.invariant.sent sent.1, tt)
+    (sent.0 ++ request_frames (drop (i + 1) rs), sent_until a b c.send.new.self rs i c.request-item.result sent.0 c.loop-request-test.true c.request-item.is c.loop-request.invariant.sent sent.1, tt)
 
 pub returns-in_err-send-clause-answer : goal.returns-in_err-send-clause-answer
 returns-in_err-send-clause-answer g c =
@@ -30,6 +30,6 @@ loop-request-preserved g c =
     let b = c.loop-request.self in
     let new = c.send.new.self in
     record {
-      sent = sent_step a b new c.args.requests.now c.loop-request.request-index c.request-item.result.now new.waits c.loop-request-test.true c.request-item.is c.loop-request.invariant.sent (all_sent _ new tt c.in_ok-send.ensures.sent);
+      sent = sent_step a b new c.args.requests.now c.loop-request.request-index c.request-item.result new.waits c.loop-request-test.true c.request-item.is c.loop-request.invariant.sent (all_sent _ new tt c.in_ok-send.ensures.sent);
       calm = calm_more a b new c.loop-request.invariant.calm c.in_ok-send.ensures.answer;
     }

@@ -26,3 +26,10 @@ loop-self-preserved g c = record {
       (all_taken c.loop-self.self c.take_next.new.self tt c.in_ok-take_next.ensures.taken);
   calm = calm_more c.args.self.now.line c.loop-self.self.line c.take_next.new.self.line c.loop-self.invariant.calm c.in_ok-take_next.ensures.calm;
 }
+
+pub returns-clause-taken : goal.returns-clause-taken
+returns-clause-taken g c =
+    let mid : PilotView = record { client = c.self.inside.client; line = c.self.inside.connection } in
+    let new : PilotView = record { client = c.self.inside.client; line = c.flush.new.self } in
+    then_taken c.args.self.now c.loop-self.self new c.flush.result c.loop-self.invariant.taken
+    (subst (λ (p : PilotView). Takes p new c.flush.result) c.self.view_is (line_takes mid new c.flush.result refl c.flush.ensures.sent))
