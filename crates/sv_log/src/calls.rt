@@ -1,0 +1,21 @@
+//! What was asked of a folder, as a double in memory keeps it.
+
+/// A change of a folder, or a sync.
+#[derive(Drop)]
+pub(crate) enum Asked {
+    Make(String, usize),
+    Grow(String, usize),
+    Write(String, usize, Vec<u8>),
+    Cut(String, usize),
+    Rename(String, String),
+    Remove(String),
+    Sync(String),
+    SyncFolder,
+}
+
+/// What was asked, and whether it was answered Ok.
+#[derive(Drop)]
+pub(crate) struct Kept {
+    pub(crate) call: Asked,
+    pub(crate) done: bool,
+}
