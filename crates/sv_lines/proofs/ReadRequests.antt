@@ -155,7 +155,7 @@ request_is_read shape requests.Bad x f = absurd f
 
 -- ---- Lines
 
-asking_parts : (shape : Shape) (n session : ℕ) (r : Request) (reply : List ℕ) → asking_text shape n session r ++ reply
+pub asking_parts : (shape : Shape) (n session : ℕ) (r : Request) (reply : List ℕ) → asking_text shape n session r ++ reply
     ≡ decimal n ++ (codes " s" ++ (decimal session ++ (32 ∷ (request_text shape r ++ arrow reply))))
 asking_parts shape n session r reply =
     let two = decimal n ++ codes " s" in

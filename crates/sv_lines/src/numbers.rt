@@ -16,7 +16,7 @@ fn width(text: &[u8]) -> usize
 }
 
 /// The first bytes that are digits or a minus, and what comes after them.
-fn numeral_at(text: &[u8]) -> (&str, &[u8])
+pub fn numeral_at(text: &[u8]) -> (&str, &[u8])
     ensures numeral { result.0.now ≡ numeral text.now }
     ensures rest { result.1.now ≡ behind_numeral text.now }
 {

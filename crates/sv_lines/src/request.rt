@@ -128,7 +128,7 @@ fn plain_at(text: &[u8]) -> Result<Request, Unread>
 
 /// The request that a text begins with. A payload that is no request, and an action that is refused, are not read.
 #[tactic(auto, unfolding(crate::specs::Asking::request_read))]
-fn request_at(alloc: Global, shape: Shape, text: &[u8]) -> Result<Request, Unread>
+pub fn request_at(alloc: Global, shape: Shape, text: &[u8]) -> Result<Request, Unread>
     ensures { Gives (λ request. request) result (request_read shape text.now) }
 {
     if let Some(rest) = behind(text, b"join c") {
