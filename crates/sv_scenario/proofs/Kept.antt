@@ -39,7 +39,7 @@ use Rattle.sv_scenario.proofs.Parts.{bound, keyed_ok, given_ok, chosen, at_key_o
 
 -- ---- the world
 
-value_ok : (attrs : ℕ) (d : Data) (v : List ℤ) → value_of attrs d ≡ Ok v → length v ≡ attrs
+pub value_ok : (attrs : ℕ) (d : Data) (v : List ℤ) → value_of attrs d ≡ Ok v → length v ≡ attrs
 unfolding value_of
 value_ok attrs d v is =
     let p = bound (list_within attrs attrs d) (each attribute_of []) v is in
@@ -106,7 +106,7 @@ shown_ok shape d os is =
     let high : count_items p.0 ≤ 16 = size.1 in
     record { some = omega arith; few = omega arith; known = r.0 }
 
-next_ok : (objects least : ℕ) (d : Data) (o : ObjectId) → next_object objects least d ≡ Ok o → (least ≤ o.0) × (o.0 < objects)
+pub next_ok : (objects least : ℕ) (d : Data) (o : ObjectId) → next_object objects least d ≡ Ok o → (least ≤ o.0) × (o.0 < objects)
 unfolding next_object
 next_ok objects least d o is =
     let p = bound (number_within 0 65535 d) (λ n. not_below least n >>= λ m. known objects m) o is in
@@ -216,10 +216,10 @@ abbrev IsStep : Shape → Bool → Step → Type 0
 IsStep shape is_last step = IsGoodStep shape step × (is_last ≡ false → goes_on step ≡ true)
 
 module _ {A : Type 0} (P : A → Type 0) (y : A) where
-  just : (x : A) → P x → ◌≡◌ {A = Read A} (Ok x) (Ok y) → P y
+  pub just : (x : A) → P x → ◌≡◌ {A = Read A} (Ok x) (Ok y) → P y
   just x p is = let e : x ≡ y = cc in subst P e p
 
-  either : (b : Bool) (left right : Read A) → (left ≡ Ok y → P y) → (right ≡ Ok y → P y) → cond b left right ≡ Ok y → P y
+  pub either : (b : Bool) (left right : Read A) → (left ≡ Ok y → P y) → (right ≡ Ok y → P y) → cond b left right ≡ Ok y → P y
   either true left right f g is = f is
   either false left right f g is = g is
 
@@ -383,10 +383,10 @@ turns_ok clients sessions d ts is =
 
 -- ---- the whole
 
-abbrev IsReach : Option ℕ → Type 0
+abbrev pub IsReach : Option ℕ → Type 0
 IsReach reach = IfSome reach (λ n. n ≤ 2000000)
 
-reach_ok : (d : Data) (reach : Option ℕ) → reach_of d ≡ Ok reach → IsReach reach
+pub reach_ok : (d : Data) (reach : Option ℕ) → reach_of d ≡ Ok reach → IsReach reach
 unfolding reach_of
 reach_ok d reach is =
     let p = bound (number_within 0 2000000 d) (λ n. Ok (Some n)) reach is in

@@ -47,7 +47,7 @@ Gives view (Ok x) read = read ≡ Ok (view x)
 Gives view (Err (faults.Scenario fault)) read = read ≡ Err fault
 Gives view (Err faults.Memory) read = Unit {0}
 
--- A fault with a key before its path, unless memory ran out; for private clauses.
+-- A fault with a key before its path, unless memory ran out.
 abbrev pub IsInside : List ℕ → ReadFault → ReadFault → Type 0
 IsInside key (faults.Scenario fault) after = (after ≡ faults.Memory) ⊎ (after ≡ faults.Scenario (inside key fault))
 IsInside key faults.Memory after = after ≡ faults.Memory

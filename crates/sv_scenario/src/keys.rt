@@ -58,7 +58,7 @@ fn no_key(alloc: Global, key: Option<&str>) -> Result<(), ReadFault>
 
 /// Refuses what is no object with all of the needed keys, and no other but those of a second list.
 #[tactic(auto, unfolding(crate::specs::Keys::keys_of))]
-pub(crate) fn keys_of(
+pub fn keys_of(
     alloc: Global,
     needed: &[&str],
     others: &[&str],
@@ -75,7 +75,7 @@ pub(crate) fn keys_of(
 
 /// The value of a key that must be there.
 #[tactic(auto, unfolding(crate::specs::Keys::needed))]
-pub(crate) fn needed<'a>(alloc: Global, key: &str, value: &'a Value) -> Result<&'a Value, ReadFault>
+pub fn needed<'a>(alloc: Global, key: &str, value: &'a Value) -> Result<&'a Value, ReadFault>
     ensures { Gives (λ v. view v.now) result (needed key.now (view value.now)) }
 {
     match value.get(key) {

@@ -16,8 +16,12 @@ mod steps;
 mod turns;
 
 pub use fault::{ReadFault, ScenarioCause, ScenarioFault};
+pub use keys::{keys_of, needed};
 pub use laws::scenarios_keep_the_limits;
 pub use line::append_fault_line;
-pub use read::{MOST_BYTES, read_scenario};
+pub use numbers::{each_value, list_within, number_within};
+pub use objects::next_object;
+pub use place::{at_key, at_place, refuse};
+pub use read::{MOST_BYTES, number_in, reach_in, read_scenario, value_in};
 pub use scenario::{Plan, Scenario, Step, Turn};
 pub use sessions::{sessions_of, sessions_of_plan};

@@ -28,12 +28,7 @@ fn whole_number(alloc: Global, value: &Value) -> Result<i128, ReadFault>
 
 /// A whole number in a range.
 #[tactic(auto, unfolding(crate::specs::Numbers::number_within))]
-pub(crate) fn number_within(
-    alloc: Global,
-    low: u32,
-    high: u32,
-    value: &Value,
-) -> Result<u32, ReadFault>
+pub fn number_within(alloc: Global, low: u32, high: u32, value: &Value) -> Result<u32, ReadFault>
     ensures reads { Gives (λ n. n) result (number_within low high (view value.now)) }
     ensures high { IfOk result (λ n. n ≤ high) }
 {
@@ -59,7 +54,7 @@ fn attribute_of(alloc: Global, value: &Value) -> Result<i64, ReadFault>
 
 /// The items of a list of low to high of them.
 #[tactic(auto, unfolding(crate::specs::Numbers::list_within), using(crate::proofs::Counts::count_items_is))]
-pub(crate) fn list_within(
+pub fn list_within(
     alloc: Global,
     low: usize,
     high: usize,
@@ -100,7 +95,12 @@ fn value_of(alloc: Global, attrs: u32, value: &Value) -> Result<ObjectValue, Rea
     Ok(ObjectValue::from_vec(attributes(alloc, numbers)?))
 }
 
-fn each_value(alloc: Global, attrs: u32, values: &[Value]) -> Result<Vec<ObjectValue>, ReadFault>
+/// The values of these objects, each of so many numbers.
+pub fn each_value(
+    alloc: Global,
+    attrs: u32,
+    values: &[Value],
+) -> Result<Vec<ObjectValue>, ReadFault>
     ensures reads { Gives (λ v. v.items) result (each (value_of attrs) [] (items_view values.now)) }
     ensures count { IfOk result (λ v. vec_len v ≡ length values.now) }
 {

@@ -66,8 +66,9 @@ fn not_below(alloc: Global, least: u32, number: u32) -> Result<u32, ReadFault>
     }
 }
 
+/// An object whose number is at least so great.
 #[tactic(auto, unfolding(crate::specs::Objects::next_object))]
-fn next_object(
+pub fn next_object(
     alloc: Global,
     objects: u16,
     least: u32,

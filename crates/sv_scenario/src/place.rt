@@ -8,7 +8,7 @@ use std::alloc::{AllocError, Global};
 use sv_world::Text;
 
 /// The value that is read is itself at fault. It takes no memory.
-pub(crate) fn refuse(alloc: Global, cause: ScenarioCause) -> ReadFault
+pub fn refuse(alloc: Global, cause: ScenarioCause) -> ReadFault
     ensures { result ≡ ReadFault.Scenario (record { path = []; cause = cause }) }
 {
     let path = Text::from_string(String::new(alloc));
@@ -42,11 +42,7 @@ pub(crate) fn moved(alloc: Global, key: &str, fault: ReadFault) -> ReadFault
 }
 
 /// What was read of the value at a key.
-pub(crate) fn at_key<T: Drop>(
-    alloc: Global,
-    key: &str,
-    read: Result<T, ReadFault>,
-) -> Result<T, ReadFault>
+pub fn at_key<T: Drop>(alloc: Global, key: &str, read: Result<T, ReadFault>) -> Result<T, ReadFault>
     ensures { IsAtKey key.now read result }
 {
     match read {
@@ -71,7 +67,7 @@ fn moved_to(alloc: Global, place: usize, fault: ReadFault) -> ReadFault
 }
 
 /// What was read of the value at a place.
-pub(crate) fn at_place<T: Drop>(
+pub fn at_place<T: Drop>(
     alloc: Global,
     place: usize,
     read: Result<T, ReadFault>,

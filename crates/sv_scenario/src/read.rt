@@ -27,7 +27,14 @@ use sv_world::{List, MOST_ATTRS, MOST_BOUND, MOST_REACH, Shape, Value as ObjectV
 /// The bytes that a file may have.
 pub const MOST_BYTES: usize = 4_194_304;
 
-fn number_in(alloc: Global, key: &str, low: u32, high: u32, value: &Value) -> Result<u32, ReadFault>
+/// The whole number of a key, in a range.
+pub fn number_in(
+    alloc: Global,
+    key: &str,
+    low: u32,
+    high: u32,
+    value: &Value,
+) -> Result<u32, ReadFault>
     ensures reads { Gives (λ n. n) result (value_at key.now (number_within low high) (view value.now)) }
     ensures high { IfOk result (λ n. n ≤ high) }
 {
@@ -67,7 +74,8 @@ fn reach_of(alloc: Global, value: &Value) -> Result<Option<u32>, ReadFault>
     Ok(Some(reach))
 }
 
-fn reach_in(alloc: Global, value: &Value) -> Result<Option<u32>, ReadFault>
+/// The reach, where there is one.
+pub fn reach_in(alloc: Global, value: &Value) -> Result<Option<u32>, ReadFault>
     ensures { Gives (λ n. n) result (value_if (codes "reach") None reach_of (view value.now)) }
 {
     match value.get("reach") {
@@ -136,7 +144,7 @@ fn fault_of(alloc: Global, error: &serde_json::Error) -> ReadFault
 }
 
 /// The JSON value that a text is.
-fn value_in(alloc: Global, text: &str) -> Result<Value, ReadFault>
+pub fn value_in(alloc: Global, text: &str) -> Result<Value, ReadFault>
     ensures { Gives (λ v. view v) result (value_in text.now) }
 {
     match Value::from_str(alloc, text) {

@@ -1,0 +1,3 @@
+-- The lemmas on world files.
+pub mod Kept
+pub mod Pairs
