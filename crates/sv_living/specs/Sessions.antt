@@ -1,6 +1,6 @@
 -- The sessions of a world without end: which are open, and which may make a request.
 -- A history is the list of all entries with the latest first.
-use Rattle.std.specs.Prelude.{◌≡◌, ℕ, suc, Bool, true, ◌&&◌, ◌||◌, not, ◌==◌, nat_lt, List, [], ◌∷◌, filter, length, if◌then◌else◌}
+use Rattle.std.specs.Prelude.{◌≡◌, ℕ, suc, Bool, true, ◌&&◌, ◌||◌, not, ◌==◌, nat_lt, List, [], ◌∷◌, filter, length, if◌then◌else◌, Option, Some, None}
 use Rattle.sv_world.specs.Control.{below}
 use Rattle.sv_world.specs.Limits.{most_open}
 use Rattle.sv_journal.specs.declared.entry.Entry.{Entry}
@@ -36,3 +36,8 @@ may_ask h s = is_open h s || ((s == next_session h) && may_begin h)
 abbrev pub AreInOrder : List Entry → Type 0
 AreInOrder [] = Unit {0}
 AreInOrder (e ∷ h) = (may_ask h e.session ≡ true) × AreInOrder h
+
+-- The least number of the sessions that are open.
+abbrev pub IsFirstOpen : List Entry → Option ℕ → Type 0
+IsFirstOpen h None = open_sessions h ≡ []
+IsFirstOpen h (Some s) = (rest : List ℕ) × (open_sessions h ≡ s ∷ rest)

@@ -4,7 +4,7 @@ ghost use Rattle.sv_world.specs.Limits.{most_open, most_positions};
 ghost use Rattle.sv_world.specs.Worlds.{IsGoodWorld};
 ghost use Rattle.sv_journal.specs.declared.entry.Entry.{Entry};
 ghost use Rattle.sv_living.specs.Keeping.{rules_at, stewardship_of, stewardship_at, KeepsLiving};
-ghost use Rattle.sv_living.specs.Sessions.{is_open, next_session, open_sessions, most_session, may_begin};
+ghost use Rattle.sv_living.specs.Sessions.{is_open, next_session, open_sessions, most_session, may_begin, IsFirstOpen};
 
 use crate::stewards::Stewards;
 use crate::table::OpenSessions;
@@ -54,6 +54,13 @@ impl Live {
         ensures { (h : List Entry) → KeepsLiving self.now h → result ≡ is_open h session }
     {
         self.table.seat_of(session).is_some()
+    }
+
+    /// The least number of a session that is open.
+    pub fn first_open(&self) -> Option<u64>
+        ensures { (h : List Entry) → KeepsLiving self.now h → IsFirstOpen h result }
+    {
+        self.table.first()
     }
 
     /// Whether one more session may begin.

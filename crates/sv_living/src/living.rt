@@ -10,7 +10,7 @@ ghost use Rattle.sv_journal.specs.Serving.{LegalFor};
 ghost use Rattle.sv_journal.specs.Living.{living};
 ghost use Rattle.sv_wire.specs.Grammar.{IsWireReply};
 ghost use Rattle.sv_living.specs.Keeping.{stewardship_of};
-ghost use Rattle.sv_living.specs.Sessions.{is_open, next_session, open_sessions, may_begin, may_ask, AreInOrder};
+ghost use Rattle.sv_living.specs.Sessions.{is_open, next_session, open_sessions, may_begin, may_ask, AreInOrder, IsFirstOpen};
 ghost use Rattle.sv_living.specs.World.{heeded_in, Answered, IsStepFault};
 
 use crate::fault::StepFault;
@@ -120,6 +120,13 @@ impl LivingCore {
         ensures { result ≡ may_begin self.now.history }
     {
         self.live.may_begin()
+    }
+
+    /// The least number of a session that is open.
+    pub fn first_open(&self) -> Option<u64>
+        ensures { IsFirstOpen self.now.history result }
+    {
+        self.live.first_open()
     }
 
     /// The last accepted position.
