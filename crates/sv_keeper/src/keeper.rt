@@ -9,7 +9,7 @@ use sv_entries::LineBuffer;
 use sv_living::{LivingCore, StepFault};
 use sv_log::{Folder, Log};
 use sv_wire::{Reply, Request};
-use sv_world::{ClientId, ObjectId, Shape, Value};
+use sv_world::{ObjectId, Shape, Value};
 
 /// A living world whose entries stand in a log.
 ///
@@ -179,16 +179,6 @@ impl<F: Folder> Keeper<F> {
     /// The greatest position up to which all results that count are installed.
     pub fn commit(&self) -> u32 {
         self.core.commit()
-    }
-
-    /// How many client numbers ever joined.
-    pub fn client_count(&self) -> usize {
-        self.core.client_count()
-    }
-
-    /// How many actions of a client have an outcome.
-    pub fn outcome_count(&self, client: ClientId) -> u32 {
-        self.core.outcome_count(client)
     }
 
     /// The value of an object at the commit.
