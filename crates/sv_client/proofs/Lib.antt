@@ -5,6 +5,7 @@ pub mod Standing
 pub mod Within
 pub mod Lasts
 pub mod Keeping
+pub mod Begun
 pub mod Equal
 pub mod Faultless
 pub mod Looking

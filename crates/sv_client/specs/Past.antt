@@ -17,10 +17,7 @@ event_after t deeds.Left = events.Leave
 event_after t (deeds.Got reply) = events.Got (latest_session t) reply.value
 event_after t (deeds.Noted mark) = event_of_mark mark.value
 
+-- The events of deeds that are given in order, and are done after the events t.
 abbrev pub events_after : List Event → List (Deed × Unit {0}) → List Event
 events_after t [] = t
 events_after t (d ∷ ds) = events_after (event_after t d.0 ∷ t) ds
-
--- The events of deeds that are given in order.
-abbrev pub events_of : List (Deed × Unit {0}) → List Event
-events_of ds = events_after [] ds

@@ -1,5 +1,5 @@
 -- A client as its callers see it, and what its calls answer.
-use Rattle.std.specs.Prelude.{ℕ, ◌+◌, ◌<◌, List, [], ◌∷◌, map, reverse, Option, Some, None, unwrap_or}
+use Rattle.std.specs.Prelude.{ℕ, zero, suc, ◌+◌, ◌<◌, List, [], ◌∷◌, map, reverse, Option, Some, None, unwrap_or}
 use Rattle.sv_world.specs.declared.world.ClientId.{ClientId}
 use Rattle.sv_world.specs.declared.world.ObjectId.{ObjectId}
 use Rattle.sv_world.specs.declared.world.Shape.{Shape}
@@ -24,6 +24,15 @@ pub record ClientView : Type 0 where
 -- A client that did nothing yet.
 abbrev pub new_client : ClientId → Shape → List ObjectId → ClientView
 new_client id shape interest = record { who = record { client = id; interest = interest; shape = shape }; events = []; kept = [] }
+
+-- So many sessions were begun, and nothing else was done.
+abbrev pub only_joins : ℕ → List Event
+only_joins zero = []
+only_joins (suc n) = events.Join n ∷ only_joins n
+
+-- A client that began so many sessions, and did nothing else.
+abbrev pub begun_client : ClientId → Shape → List ObjectId → ℕ → ClientView
+begun_client id shape interest sessions = record { who = record { client = id; interest = interest; shape = shape }; events = only_joins sessions; kept = [] }
 
 -- With one more event, and the same values held.
 abbrev pub with_event : ClientView → Event → ClientView

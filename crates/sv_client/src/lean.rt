@@ -9,7 +9,7 @@ ghost use Rattle.sv_client.specs.Traces.{joins, makes, held_of, pending_of, view
 ghost use Rattle.sv_client.specs.Taking.{outstanding, observed_now, told, first_fault_of_reply};
 ghost use Rattle.sv_client.specs.Evaluating.{AreWithin};
 ghost use Rattle.sv_client.specs.Proper.{IsGoodInterest, IsReadyToMake, MayCome, MayPoll, MayObserve, MayLeave, AreInTurn, in_session, most_numbers};
-ghost use Rattle.sv_client.specs.Seen.{new_client, with_event, newly_asked, event_of_mark, latest_session};
+ghost use Rattle.sv_client.specs.Seen.{new_client, begun_client, only_joins, with_event, newly_asked, event_of_mark, latest_session};
 ghost use Rattle.sv_client.specs.Answers.{view_seen, IsMakeFault, IsPollFault, IsObserveFault, IsTakeFault, IsFine, IsServed, got_now};
 ghost use Rattle.sv_client.specs.declared.trace.Event.{Event};
 ghost use Rattle.sv_wire.specs.Grammar.{IsWireRequest};
@@ -90,12 +90,48 @@ impl LeanClient {
             versions: Versions::new(alloc, shape)?,
             pending: Pending::new(alloc, shape),
             awaited: Vec::new(alloc),
-            past: Past::new(),
+            past: Past::new(0),
             sessions: 0,
             made: 0,
             told: 0,
             joined: false,
         })
+    }
+
+    /// A client that began so many sessions in programs that are gone, made no action in them, and holds nothing of them. So its next Join has the life
+    /// after theirs.
+    ///
+    /// It is as one whose connection broke: before it asks anything, it is to join.
+    pub fn after(
+        alloc: Global,
+        id: ClientId,
+        shape: Shape,
+        interest: List<ObjectId>,
+        sessions: u32,
+    ) -> Result<LeanClient, AllocError>
+        requires { IsGoodInterest (record { client = id; interest = interest; shape = shape }) }
+        ensures client { IfOk result (λ client. client ≡ begun_client id shape interest sessions) }
+        ensures sessions { IfOk result (λ client. joins client.events ≡ sessions) }
+    {
+        let mut client = LeanClient::new(alloc, id, shape, interest)?;
+        if 0 < sessions {
+            client.skip(sessions)?;
+        }
+        Ok(client)
+    }
+
+    /// Takes it that so many sessions were begun.
+    fn skip(&mut self, sessions: u32) -> Result<(), AllocError>
+        requires fresh { self.old.events ≡ [] }
+        requires some { 0 < sessions }
+        ensures ok { OnOk result (self.new ≡ record self.old { events = only_joins sessions }) }
+    {
+        let begun = awaited_at_join(self.alloc, 0)?;
+        self.awaited = begun;
+        self.past = Past::new(sessions);
+        self.sessions = sessions;
+        self.joined = true;
+        Ok(())
     }
 
     pub fn id(&self) -> ClientId

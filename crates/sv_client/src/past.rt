@@ -1,15 +1,19 @@
 //! What a client did, for contracts alone.
-ghost use Rattle.std.specs.Prelude.{◌≡◌, [], ◌∷◌};
+ghost use Rattle.std.specs.Prelude.{◌≡◌, ◌∷◌};
 ghost use Rattle.sv_client.specs.Past.{event_after};
+ghost use Rattle.sv_client.specs.Seen.{only_joins};
 
 use crate::deed::Deed;
 use http_server::Log;
 use std::fmt::{Debug, Error, Formatter, Write};
 use std::marker::Model;
+use std::snapshot::Snapshot;
 
-/// All that a client did. It takes no memory: contracts alone see the events of the client's trace, with the latest first.
+/// All that a client did, and how many sessions it had begun before. It takes no memory: contracts alone see the events of the client's trace, with
+/// the latest first.
 #[derive(Drop)]
 pub(crate) struct Past {
+    before: Snapshot<u32>,
     log: Log<Deed, ()>,
 }
 
@@ -23,17 +27,21 @@ impl Model for Past {
 
     ghost coded = { Prim.hlevel (codes, event_rows.the_row.coded) };
 
-    ghost use Rattle.sv_client.specs.Past.{events_of};
+    ghost use Rattle.sv_client.specs.Seen.{only_joins};
+    ghost use Rattle.sv_client.specs.Past.{events_after};
 
-    ghost view = { λ p. events_of p.log.items };
+    ghost view = { λ p. events_after (only_joins p.before.value) p.log.items };
 }
 
 impl Past {
-    /// Nothing was done.
-    pub(crate) fn new() -> Past
-        ensures { result ≡ [] }
+    /// Nothing was done but to begin so many sessions.
+    pub(crate) fn new(before: u32) -> Past
+        ensures { result ≡ only_joins before }
     {
-        Past { log: Log::new() }
+        Past {
+            before: Snapshot::of(&before),
+            log: Log::new(),
+        }
     }
 
     /// One thing more was done.

@@ -5,14 +5,12 @@ use Rattle.sv_world.specs.declared.action.Action.{Action}
 use Rattle.sv_world.specs.declared.check.BadAction.{BadAction}
 use Rattle.sv_world.specs.Faults.{first_fault_of_action}
 use Rattle.sv_wire.specs.declared.message.Request.TheVariants as requests
-use Rattle.sv_wire.specs.declared.refusal.Refusal.TheVariants as refusals
 use Rattle.sv_journal.specs.declared.entry.Entry.{Entry}
 use Rattle.sv_journal.specs.declared.entry.Logged.{Logged}
-use Rattle.sv_journal.specs.declared.entry.Logged.TheVariants as logged
-use Rattle.sv_journal.specs.History.{client_of, Outcome, Accepted, Dropped, Denied, actions_of, next_seq, commit_of}
+use Rattle.sv_journal.specs.History.{client_of, Outcome, Accepted, Dropped, Denied, next_seq, commit_of}
 use Rattle.sv_journal.specs.Sessions.{is_over, asked_in, kept_outcome}
-use Rattle.sv_journal.specs.Answer.{Rules, refused_as, relay_of, reply_to_checked, reply_to_submit, reply_to_member, reply_to_new, is_spent}
-use Rattle.sv_journal.specs.Serving.{Keeping, with_last_rows}
+use Rattle.sv_journal.specs.Answer.{Rules, reply_to_checked, reply_to_submit, reply_to_member, is_spent}
+use Rattle.sv_journal.specs.Serving.{with_last_rows}
 use Rattle.sv_journal.specs.Living.{Stewardship, living}
 use Rattle.sv_entries.specs.Laws.{submit_reply, refused_for, FaultsDecide}
 

@@ -3,7 +3,6 @@ use Rattle.std.proofs.Common.{◌≡◌, ℕ, ◌^◌, ◌<◌, eqb, List, [], �
 use Rattle.std.specs.Prelude.{codes}
 use Rattle.std.proofs.lemmas.Bool.{eqb-true}
 use Rattle.sv_world.specs.declared.world.Shape.{Shape}
-use Rattle.sv_world.specs.declared.world.ObjectId.{ObjectId}
 use Rattle.sv_world.specs.declared.action.Action.{Action}
 use Rattle.sv_world.specs.declared.check.BadAction.{BadAction}
 use Rattle.sv_world.specs.declared.check.BadAction.TheVariants.{NoReads, TooManyReads, NotAscending, NoSuchObject, BadMask, BadSlot, NotWritable, BadAttr, TooLarge, TooDeep, BadOrigin}
@@ -17,7 +16,7 @@ use Rattle.sv_wire.specs.Nodes.{among}
 use Rattle.sv_text.specs.Canonical.{canonical}
 use Rattle.sv_journal.specs.Text.{action_text, request_text}
 use Rattle.sv_lines.specs.declared.stop.Unread.{Unread}
-use Rattle.sv_lines.specs.Reading.{Gives, ◌>>=◌, when_read, behind_front, number_read}
+use Rattle.sv_lines.specs.Reading.{Gives, behind_front}
 use Rattle.sv_lines.specs.Asking.{request_read}
 use Rattle.sv_lines.specs.Told.{IsTold, asking_text}
 use Rattle.sv_lines.proofs.Numerals.{front_there, number_is_read}

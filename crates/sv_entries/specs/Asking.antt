@@ -1,5 +1,5 @@
 -- What a line asks. There is a definition for each function that reads.
-use Rattle.std.specs.Prelude.{ℕ, ◌^◌, ◌==◌, cond, if◌then◌else◌, List, [], ◌∷◌, map, Option, Some, None, is_none, codes}
+use Rattle.std.specs.Prelude.{ℕ, ◌^◌, ◌==◌, if◌then◌else◌, List, [], ◌∷◌, map, Option, Some, None, is_none, codes}
 use Rattle.sv_world.specs.declared.world.Shape.{Shape}
 use Rattle.sv_world.specs.declared.check.BadAction.{BadAction}
 use Rattle.sv_world.specs.declared.check.BadAction.TheVariants.{NoReads, TooManyReads, NotAscending, NoSuchObject, BadMask, BadSlot, NotWritable, BadAttr, TooLarge, TooDeep, BadOrigin}

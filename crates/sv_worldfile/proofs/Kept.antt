@@ -1,10 +1,10 @@
 -- A world file that was read keeps the limits.
-use Rattle.std.proofs.Common.{◌≡◌, ℕ, suc, ◌≤◌, ◌<◌, nat_le, nat_lt, ℤ, List, [], ◌∷◌, length, Option, Some, None, Result, Ok, Err, IfOk, IfSome, codes, refl, sym, ap, ◌∙◌, subst, arith}
+use Rattle.std.proofs.Common.{◌≡◌, ℕ, ◌≤◌, ◌<◌, nat_le, nat_lt, ℤ, List, [], ◌∷◌, length, Option, Some, None, Result, Ok, Err, IfOk, IfSome, codes, refl, arith}
 use Rattle.std.proofs.lemmas.Bool.{leb-true}
 use Rattle.std.proofs.lemmas.List.Elements.{All-from_recursion}
 use Rattle.std.specs.List.{AllByRecursion}
 use Rattle.std.specs.Str.{is_utf8}
-use Rattle.serde_json.specs.Data.{Data, Items}
+use Rattle.serde_json.specs.Data.{Data}
 use Rattle.serde_json.specs.Find.{get}
 use Rattle.sv_world.specs.declared.rights.NumberRange.{NumberRange}
 use Rattle.sv_world.specs.declared.rights.Right.{Right}
@@ -125,7 +125,6 @@ file_ok d f is =
     let s = bound (value_if (codes "rights") None (rights_of w.0.shape.objects) d) _ f r.2 in
     let t = bound (value_if (codes "results") results.First results_of d) _ f s.2 in
     let bv = at_key_of (codes "bound") (number_within 0 32) d b.0 b.1 in
-    let objects : ℕ = w.0.shape.objects in
     just IsGoodWorldFile f (record { world = w.0; bound = b.0; reach = r.0; rights = s.0; results = t.0 })
     (record {
       world = world_ok d w.0 w.1;

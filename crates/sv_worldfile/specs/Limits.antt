@@ -1,5 +1,5 @@
 -- The limits of world files.
-use Rattle.std.specs.Prelude.{ℕ, suc, ◌≤◌, ◌<◌, List, length, Option, IfSome}
+use Rattle.std.specs.Prelude.{ℕ, suc, ◌≤◌, ◌<◌, List, length, IfSome}
 use Rattle.std.specs.List.{AllByRecursion}
 use Rattle.sv_world.specs.declared.rights.NumberRange.{NumberRange}
 use Rattle.sv_world.specs.declared.rights.Right.{Right}

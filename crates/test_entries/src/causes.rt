@@ -73,7 +73,8 @@ fn check_cause(alloc: Global, shape: Shape, cause: BadAction, detail: u32) -> Re
     let request = Request::Submit { seq: 2, action };
     let printed = is_printed(alloc, shape, &request, detail, line.as_str());
     drop(request);
-    if !refused || !printed? {
+    let printed = printed?;
+    if !refused || !printed {
         return Err(Fail::new(format_args!("not printed: {line}")));
     }
     if !is_read(alloc, Some(cause), line.as_str())? {

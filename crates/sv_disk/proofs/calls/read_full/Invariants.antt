@@ -1,0 +1,9 @@
+-- The loop invariant and the measure of `read_full`.
+use Rattle.std.proofs.Common.{◌≤◌, ◌-◌, length}
+use Rattle.sv_disk.proofs.calls.read_full.Given as goal
+
+abbrev pub invariant-loop-done : goal.invariant-loop-done
+invariant-loop-done l = l.done ≤ length l.into
+
+abbrev pub decreases-loop-done : goal.decreases-loop-done
+decreases-loop-done l = length l.into - l.done
