@@ -45,7 +45,9 @@ impl OpenSessions {
     pub fn first(&self) -> Option<u64>
         ensures { MatchOption result (self.now ≡ []) (λ s. (rest : List ℕ) × (numbers_in self.now ≡ s ∷ rest)) }
     {
-        let seat = self.seats.first()?;
+        let [seat, ..] = self.seats.as_slice() else {
+            return None;
+        };
         Some(seat.session)
     }
 
