@@ -1,11 +1,19 @@
 //! A world that is kept on a log.
-ghost use Rattle.std.specs.Prelude.{◌≡◌, ◌⊎◌, true, false, Err, IfOk, IfSome, OnOk, OnErr};
-ghost use Rattle.sv_keeper.specs.Keeping.{IsKept, Stepped, AreSettled};
+ghost use Rattle.std.specs.Prelude.{◌≡◌, ◌+◌, ℕ, List, length, true, false, Some, IfOk, IfErr, IfSome, OnOk, OnErr};
+ghost use Rattle.sv_journal.specs.History.{accepted, full_reply};
+ghost use Rattle.sv_living.specs.World.{WorldView, after, reply_in, IsStepFault};
+ghost use Rattle.sv_living.specs.declared.fault.StepFault.TheVariants as causes;
+ghost use Rattle.sv_log.specs.Crashes.{LeavesOnly};
+ghost use Rattle.sv_log.specs.Names.{world_name};
+ghost use Rattle.sv_log.specs.OpenLogs.{shown, newest};
+ghost use Rattle.sv_keeper.specs.Histories.{HoldsFirst};
+ghost use Rattle.sv_keeper.specs.Keeping.{Keeps, IsKept, Stepped, IsStuck, WasNotStepped, AreSettled};
 ghost use Rattle.sv_keeper.specs.declared.fault.KeepFault.TheVariants as faults;
 
 use crate::fault::KeepFault;
 use crate::settled::Settled;
-use sv_entries::LineBuffer;
+use sv_bytes::FileFault;
+use sv_entries::{LineBuffer, replies_have_one_text};
 use sv_living::{LivingCore, StepFault};
 use sv_log::{Folder, Log};
 use sv_wire::{Reply, Request};
@@ -22,18 +30,12 @@ pub struct Keeper<F: Folder> {
     pub(crate) group: LineBuffer,
     /// The number of the next line.
     pub(crate) next: u64,
+    /// How many entries have lines that are synced.
+    pub(crate) synced: u64,
     pub(crate) syncs: u64,
     pub(crate) log_bytes: u64,
     /// The log is not what the core says it is.
     pub(crate) is_broken: bool,
-}
-
-fn fault_of(fault: StepFault) -> KeepFault {
-    match fault {
-        StepFault::NotOpen => KeepFault::NotOpen,
-        StepFault::NoRoom => KeepFault::NoRoom,
-        StepFault::Memory => KeepFault::Memory,
-    }
 }
 
 impl<F: Folder> Keeper<F> {
@@ -42,8 +44,9 @@ impl<F: Folder> Keeper<F> {
         requires kept { self.old.is_broken ≡ false → IsKept F.disk F.is_honest self.old }
         ensures kept { self.new.is_broken ≡ false → IsKept F.disk F.is_honest self.new }
         ensures ok { IfOk result (Stepped F.disk F.is_honest self.old self.new session request.now) }
-        ensures err { OnErr result ((self.new.core ≡ self.old.core) ⊎ (self.new.is_broken ≡ true)) }
-        ensures broken { self.old.is_broken ≡ true → (self.new ≡ self.old) × (result ≡ Err faults.Broken) }
+        ensures whole { OnOk result (self.new.is_broken ≡ false) }
+        ensures err { IfErr result (WasNotStepped F.disk F.is_honest self.old self.new session request.now) }
+        ensures broken { self.old.is_broken ≡ true → self.new ≡ self.old }
     {
         if self.is_broken {
             return Err(KeepFault::Broken);
@@ -54,7 +57,9 @@ impl<F: Folder> Keeper<F> {
         };
         match self.core.step(session, request) {
             Ok(answer) => self.enter(session, request, answer.reply, next),
-            Err(fault) => Err(fault_of(fault)),
+            Err(StepFault::NotOpen) => Err(KeepFault::NotOpen),
+            Err(StepFault::NoRoom) => Err(KeepFault::NoRoom),
+            Err(StepFault::Memory) => Err(KeepFault::Memory),
         }
     }
 
@@ -65,7 +70,23 @@ impl<F: Folder> Keeper<F> {
         request: &Request,
         reply: Reply,
         next: u64,
-    ) -> Result<Reply, KeepFault> {
+    ) -> Result<Reply, KeepFault>
+        ghost v: { WorldView }
+        requires kept { Keeps F.disk F.is_honest v self.old }
+        requires world { self.old.core ≡ after v session request.now }
+        requires reply { reply ≡ full_reply (accepted self.old.core.history) (reply_in v session request.now) }
+        requires next { next ≡ self.old.next + 1 }
+        requires whole { self.old.is_broken ≡ false }
+        ensures kept { OnOk result (IsKept F.disk F.is_honest self.new) }
+        ensures whole { OnOk result (self.new.is_broken ≡ false) }
+        ensures ok { IfOk result (λ r. r ≡ reply) }
+        ensures err { IfErr result (λ e. e ≡ faults.Broken) }
+        ensures broken { OnErr result (self.new.is_broken ≡ true) }
+        ensures core { self.new.core ≡ self.old.core }
+        ensures log { self.new.log ≡ self.old.log }
+        ensures synced { self.new.synced ≡ self.old.synced }
+    {
+        replies_have_one_text();
         match self
             .group
             .append_line(self.shape, self.next, session, request, &reply)
@@ -89,18 +110,31 @@ impl<F: Folder> Keeper<F> {
         ensures kept { self.new.is_broken ≡ false → IsKept F.disk F.is_honest self.new }
         ensures ok { OnOk result (AreSettled F.disk F.is_honest self.new) }
         ensures whole { OnOk result (self.new.is_broken ≡ false) }
-        ensures err { OnErr result (self.new.is_broken ≡ true) }
+        ensures err { IfErr result (λ e. (e ≡ faults.Broken) × (self.new.is_broken ≡ true)) }
+        ensures any_moment { F.is_honest self.new.log.segment.folder → self.old.is_broken ≡ false → (world : List ℕ)
+            → shown F.disk self.old.log world_name ≡ Some world
+            → LeavesOnly (F.disk self.old.log.segment.folder) (F.disk self.new.log.segment.folder)
+            (HoldsFirst self.old.shape world (newest F.disk self.old.log) self.old.core.history self.old.synced) }
+        ensures newest { F.is_honest self.new.log.segment.folder → OnOk result (newest F.disk self.new.log ≡ newest F.disk self.old.log) }
+        ensures world { F.is_honest self.new.log.segment.folder
+            → OnOk result (shown F.disk self.new.log world_name ≡ shown F.disk self.old.log world_name) }
+        ensures honest { F.is_honest self.new.log.segment.folder → F.is_honest self.old.log.segment.folder }
         ensures core { self.new.core ≡ self.old.core }
+        ensures next { self.new.next ≡ self.old.next }
     {
         if self.is_broken {
             return Err(KeepFault::Broken);
         }
-        if !self.group.is_empty() {
-            self.is_broken = true;
-            self.put()?;
-            self.is_broken = false;
+        if self.group.is_empty() {
+            return Ok(());
         }
-        Ok(())
+        match self.put() {
+            Ok(()) => Ok(()),
+            Err(_) => {
+                self.is_broken = true;
+                Err(KeepFault::Broken)
+            }
+        }
     }
 
     /// The leave to send, where all lines are settled. Nothing can be stepped while it lives.
@@ -115,16 +149,27 @@ impl<F: Folder> Keeper<F> {
     }
 
     // Appends the group, and syncs it.
-    fn put(&mut self) -> Result<(), KeepFault> {
-        if self.log.append(self.group.as_bytes()).is_err() {
-            return Err(KeepFault::Broken);
-        }
+    fn put(&mut self) -> Result<(), FileFault>
+        requires kept { IsKept F.disk F.is_honest self.old }
+        ensures kept { OnOk result (IsKept F.disk F.is_honest self.new) }
+        ensures ok { OnOk result (AreSettled F.disk F.is_honest self.new) }
+        ensures any_moment { F.is_honest self.new.log.segment.folder → (world : List ℕ) → shown F.disk self.old.log world_name ≡ Some world
+            → LeavesOnly (F.disk self.old.log.segment.folder) (F.disk self.new.log.segment.folder)
+            (HoldsFirst self.old.shape world (newest F.disk self.old.log) self.old.core.history self.old.synced) }
+        ensures newest { F.is_honest self.new.log.segment.folder → OnOk result (newest F.disk self.new.log ≡ newest F.disk self.old.log) }
+        ensures world { F.is_honest self.new.log.segment.folder
+            → OnOk result (shown F.disk self.new.log world_name ≡ shown F.disk self.old.log world_name) }
+        ensures honest { F.is_honest self.new.log.segment.folder → F.is_honest self.old.log.segment.folder }
+        ensures core { self.new.core ≡ self.old.core }
+        ensures shape { self.new.shape ≡ self.old.shape }
+        ensures next { self.new.next ≡ self.old.next }
+    {
+        self.log.append(self.group.as_bytes())?;
         self.log_bytes = self.log_bytes.saturating_add(self.group.len() as u64);
         self.group.clear();
         self.syncs = self.syncs.saturating_add(1);
-        if self.log.sync().is_err() {
-            return Err(KeepFault::Broken);
-        }
+        self.log.sync()?;
+        self.synced = self.next.saturating_sub(1);
         Ok(())
     }
 

@@ -91,6 +91,7 @@ impl<F: Folder + Drop> Keeper<F> {
             log,
             group: LineBuffer::new(alloc),
             next,
+            synced: next.saturating_sub(1),
             syncs: 0,
             log_bytes,
             is_broken: false,

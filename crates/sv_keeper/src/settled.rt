@@ -1,4 +1,5 @@
 //! The leave to send.
+ghost use Rattle.std.specs.Prelude.{◌≡◌};
 
 /// All lines of a kept world stand in its log, and by `Syncing::Batch` are synced. Only a [`Keeper`](crate::Keeper) makes one, and while it lives
 /// nothing can be stepped.
