@@ -1,8 +1,11 @@
 //! Taking the lines of a log again.
+ghost use Rattle.std.specs.Prelude.{◌≡◌, ◌≤◌, ◌++◌, [], IfOk, IfErr, OnOk, length};
+ghost use Rattle.sv_keeper.specs.Walks.{IsTaken, AreTaken, IsWalk, WhyNone, WhyStopped};
+
 use crate::fault::LineCause;
 use std::alloc::{AllocError, Global};
 use sv_entries::{LineAsked, LineBuffer, LineRequest, bad_action, line_at};
-use sv_lines::Unread;
+use sv_lines::{Unread, take_line};
 use sv_living::{LivingCore, StepFault};
 use sv_wire::Request;
 use sv_world::{BadAction, Shape};
@@ -40,9 +43,15 @@ impl Walk {
         }
     }
 
-    /// Takes the next line: steps its request, prints its entry and compares.
-    fn take_line(&mut self, line: &[u8]) -> Result<(), WalkStop> {
-        let asked = match line_at(self.alloc, self.shape, line) {
+    /// Takes the first line of a text: steps its request, prints its entry and compares. Gives what stands behind it.
+    fn take_first<'a>(&mut self, text: &'a [u8]) -> Result<&'a [u8], WalkStop>
+        requires walk { IsWalk self.old }
+        ensures walk { OnOk result (IsWalk self.new) }
+        ensures taken { IfOk result (λ rest. IsTaken self.old.core self.new.core text.now rest.now) }
+        ensures why { IfErr result (WhyNone self.old.core text.now) }
+        ensures next { IfErr result (λ _. self.new.next ≡ self.old.next) }
+    {
+        let asked = match line_at(self.alloc, self.shape, text) {
             Ok(asked) => asked,
             Err(Unread::Wrong) => return Err(WalkStop::Wrong(LineCause::Unread)),
             Err(Unread::Memory) => return Err(WalkStop::Memory),
@@ -53,13 +62,18 @@ impl Walk {
             asked,
         } = asked;
         match self.request_of(asked) {
-            Ok(request) => self.step(session, &request, line),
+            Ok(request) => self.step(session, &request, text),
             Err(_) => Err(WalkStop::Memory),
         }
     }
 
     // Steps a request, prints its entry, and compares.
-    fn step(&mut self, session: u64, request: &Request, line: &[u8]) -> Result<(), WalkStop> {
+    fn step<'a>(
+        &mut self,
+        session: u64,
+        request: &Request,
+        text: &'a [u8],
+    ) -> Result<&'a [u8], WalkStop> {
         let answer = match self.core.step(session, request) {
             Ok(answer) => answer,
             Err(StepFault::Memory) => return Err(WalkStop::Memory),
@@ -70,32 +84,38 @@ impl Walk {
             .line
             .append_line(self.shape, self.next, session, request, &answer.reply)
         {
-            Ok(()) => self.compare(line),
+            Ok(()) => self.compare(text),
             Err(_) => Err(WalkStop::Memory),
         }
     }
 
-    // A line is that which was printed, which has its end too.
-    fn compare(&mut self, line: &[u8]) -> Result<(), WalkStop> {
+    // The text begins with the line that was printed, which has its end too.
+    fn compare<'a>(&mut self, text: &'a [u8]) -> Result<&'a [u8], WalkStop> {
         let Some(next) = self.next.checked_add(1) else {
             return Err(WalkStop::Memory);
         };
-        match self.line.as_bytes() {
-            [printed @ .., b'\n'] if printed == line => {
+        match take_line(text, self.line.as_bytes()) {
+            Ok(rest) => {
                 self.next = next;
-                Ok(())
+                Ok(rest)
             }
-            _ => Err(WalkStop::Wrong(LineCause::Other)),
+            Err(_) => Err(WalkStop::Wrong(LineCause::Other)),
         }
     }
 
-    /// Takes all lines of a text, in which each has its end.
-    pub(crate) fn take_all(&mut self, text: &[u8]) -> Result<(), WalkStop> {
-        let [lines @ .., b'\n'] = text else {
-            return Ok(());
-        };
-        for line in lines.split(|byte| *byte == b'\n') {
-            self.take_line(line)?;
+    /// Takes all lines of a text.
+    pub(crate) fn take_all(&mut self, text: &[u8]) -> Result<(), WalkStop>
+        requires walk { IsWalk self.old }
+        ensures walk { OnOk result (IsWalk self.new) }
+        ensures taken { OnOk result (AreTaken self.old.core self.new.core text.now []) }
+        ensures why { IfErr result (WhyStopped self.old.core text.now self.new.next) }
+    {
+        let mut rest = text;
+        for _ in 0..text.len() {
+            if rest.is_empty() {
+                break;
+            }
+            rest = self.take_first(rest)?;
         }
         Ok(())
     }
