@@ -45,7 +45,7 @@ nothing_left (b ∷ t) more e = absurd cc
 -- What a line begins with, and has a line end, is the line.
 ends_whole : (s t more : List ℕ) → IsShown s → t ++ more ≡ s ++ 10 ∷ [] → has_line t ≡ true → t ≡ s ++ 10 ∷ []
 ends_whole s [] more f e ends = absurd cc
-ends_whole [] (b ∷ t) more f e ends = 
+ends_whole [] (b ∷ t) more f e ends =
     ap (λ (n : ℕ). n ∷ t) (first_is b 10 (t ++ more) [] e) ∙ ap (λ (l : List ℕ). 10 ∷ l) (nothing_left t more (others_are b 10 (t ++ more) [] e))
 ends_whole (c ∷ s) (b ∷ t) more f e ends =
     let parts = shown_first c s f in
