@@ -18,6 +18,31 @@ use Rattle.sv_keeper.specs.Keeping.{Keeps}
 use Rattle.sv_keeper.specs.declared.keeper.Keeper.{Keeper}
 use Rattle.sv_keeper.proofs.Fronts.{line_text, line_long, first_less}
 
+-- A world before its latest entry.
+abbrev behind : List Entry → List Entry
+behind [] = []
+behind (e ∷ h) = h
+
+abbrev pub earlier : WorldView → WorldView
+earlier w = record { rules = w.rules; stewardship = w.stewardship; history = behind w.history }
+
+pub earlier_is : (v w : WorldView) (s : ℕ) (request : Request) → w ≡ after v s request → earlier w ≡ v
+earlier_is v w s request is = ap earlier is
+
+-- The core went on, and nothing else.
+pub moved : {F : Type 0} (disk : F → Disk) (is_honest : F → Type 0) (v w : WorldView) (old : Keeper F) → Keeps disk is_honest v old → Keeps disk is_honest v (record old { core = w })
+moved disk is_honest v w old is = record {
+  sizes = is.sizes;
+  shape = is.shape;
+  next = is.next;
+  lines = is.lines;
+  part = is.part;
+  settled = is.settled;
+  opened = is.opened;
+  text = is.text;
+  on_disk = is.on_disk;
+}
+
 module _ {F : Type 0} (disk : F → Disk) (is_honest : F → Type 0) (v : WorldView) (s : ℕ) (request : Request) (old : Keeper F) (group : List ℕ) (next : ℕ) where
   abbrev entry : Entry
   entry = entry_of s request (reply_in v s request)

@@ -1,5 +1,5 @@
 //! Opening a world that is kept on a log.
-use crate::fault::{KeepFault, OpenFault};
+use crate::fault::{KeepFault, LineCause, OpenFault};
 use crate::keeper::Keeper;
 use crate::place::place_of;
 use crate::walking::{Walk, WalkStop};
@@ -7,7 +7,7 @@ use std::alloc::Global;
 use sv_bytes::FileFault;
 use sv_entries::LineBuffer;
 use sv_living::{LivingCore, Stewards};
-use sv_log::{Folder, Log, Reading, read_log};
+use sv_log::{Folder, Log, Reading, read_log, state_name};
 use sv_sequencer::Opened;
 use sv_wire::Request;
 use sv_world::Shape;
@@ -29,11 +29,19 @@ fn walked(
     core: LivingCore,
     reading: &Reading,
 ) -> Result<Walk, OpenFault> {
+    // What a core holds is not read from a state, so nothing that stands behind one can be judged.
+    if reading.state != 0 {
+        return Err(OpenFault::Line {
+            file: state_name(alloc, reading.state)?,
+            line: 1,
+            cause: LineCause::Unread,
+        });
+    }
     let mut walk = Walk {
         alloc,
         shape,
         core,
-        next: reading.state.saturating_add(1),
+        next: 1,
         line: LineBuffer::new(alloc),
     };
     match walk.take_all(&reading.text) {
