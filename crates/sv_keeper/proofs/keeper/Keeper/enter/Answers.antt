@@ -16,4 +16,4 @@ returns-in-Ok-clause-kept g c =
     let reply_is = c.requires.1.1.1.0 ∙ ap (λ (w : WorldView). full_reply (accepted w.history) (reply_in g.v s request)) c.requires.1.1.0 in
     let put = c.in-Ok.ensures.ok ∙ ap (λ (r : Reply). old.group ++ living_line old.shape old.next s request r) reply_is in
     let kept = entered g.F.Folder.disk g.F.Folder.is_honest g.v s request old c.append_line.new.self c.args.next c.requires.1.0 c.replies_have_one_text.ensures.lines c.requires.1.1.1.1.0 put in
-    subst (λ (w : WorldView). Keeps g.F.Folder.disk g.F.Folder.is_honest w _) (sym c.requires.1.1.0) kept
+    subst (λ (w : WorldView). Keeps g.F.Folder.disk g.F.Folder.is_honest w (record old { group = c.append_line.new.self; next = c.args.next })) (sym c.requires.1.1.0) kept

@@ -1,5 +1,5 @@
 -- What is proved by hand of `step`.
-use Rattle.std.proofs.Common.{◌≡◌, sym, subst, ◌∙◌, ap}
+use Rattle.std.proofs.Common.{◌≡◌, sym, subst, ◌∙◌, ap, arith}
 use Rattle.sv_journal.specs.History.{accepted, full_reply}
 use Rattle.sv_living.specs.World.{WorldView, after, reply_in}
 use Rattle.sv_keeper.specs.Keeping.{Keeps}
@@ -20,4 +20,4 @@ enter-requires g c κs within =
     let world = ok.world ∙ ap (λ (v : WorldView). after v s request) before in
     let grown = sym (ap (λ (w : WorldView). accepted w.history) ok.world) in
     let reply = ok.whole ∙ ap (λ A. full_reply A (reply_in old.core s request)) grown ∙ ap (λ (v : WorldView). full_reply (accepted new.history) (reply_in v s request)) before in
-    (search, (kept, (world, (reply, (search, c.if-self.false)))))
+    (search, (kept, (world, (reply, (omega (arith, c.in-Some.ensures), c.if-self.false)))))
