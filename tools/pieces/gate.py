@@ -128,6 +128,7 @@ class Gate:
         rt.read_files(crate)
         built = f"{STORE}/bin/{crate.sum[:24]}/{crate.name}"
         ends = [end for end in rt.BACKENDS.values() if os.path.isfile(built + end)]
+        os.makedirs(f"{crate.folder}/out", exist_ok=True)
         for end in ends:
             shutil.copy(built + end, f"{crate.folder}/out/{crate.name}{end}")
         well = all(rt.run(crate, False, end) for end in ends)
