@@ -2,7 +2,7 @@
 ghost use Rattle.std.specs.Prelude.{◌≡◌, ℕ, ◌<◌, nat_eq, List, option_map, OnOk, OnErr, if◌then◌else◌};
 ghost use Rattle.sv_journal.specs.History.{Outcome as OutcomeValue};
 ghost use Rattle.sv_world.specs.Limits.{most_positions};
-ghost use Rattle.sv_clients.specs.Clients.{client_row, no_client, outcome_value, KeepsOutcomes, settled, kept_among};
+ghost use Rattle.sv_clients.specs.Clients.{client_row, row_count, no_client, outcome_value, KeepsOutcomes, settled, kept_among};
 
 use crate::{ClientRow, Outcome};
 use indexmap::IndexMap;
@@ -28,6 +28,13 @@ impl Clients {
     /// Where their memory is taken from.
     pub fn alloc(&self) -> Global {
         self.alloc
+    }
+
+    /// How many clients ever joined.
+    pub fn len(&self) -> usize
+        ensures { result ≡ row_count self.now }
+    {
+        self.rows.len()
     }
 
     /// The greatest life that a client joined with, 0 where it never did.

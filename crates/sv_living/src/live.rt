@@ -3,14 +3,16 @@ ghost use Rattle.std.specs.Prelude.{◌≡◌, ◌<◌, ◌≤◌, List, true, [
 ghost use Rattle.sv_world.specs.Limits.{most_open, most_positions};
 ghost use Rattle.sv_world.specs.Worlds.{IsGoodWorld};
 ghost use Rattle.sv_journal.specs.declared.entry.Entry.{Entry};
-ghost use Rattle.sv_living.specs.Keeping.{rules_at, stewardship_of, stewardship_at, KeepsLiving};
+ghost use Rattle.sv_living.specs.Keeping.{Course, rules_at, stewardship_of, stewardship_at, KeepsLiving};
+ghost use Rattle.sv_living.specs.Quiet.{IsFirstOpen, IsQuiet};
 ghost use Rattle.sv_living.specs.Sessions.{is_open, next_session, open_sessions, most_session, may_begin};
 
 use crate::stewards::Stewards;
 use crate::table::OpenSessions;
 use std::alloc::{AllocError, Global};
 use sv_sequencer::{Core, Opened};
-use sv_world::MOST_OPEN;
+use sv_wire::{Reply, Request};
+use sv_world::{MOST_OPEN, missing_influences_only_shrink};
 
 /// A core with the table of its open sessions. It has no history: its contracts speak of the one that it keeps.
 #[derive(Drop)]
@@ -54,6 +56,28 @@ impl Live {
         ensures { (h : List Entry) → KeepsLiving self.now h → result ≡ is_open h session }
     {
         self.table.seat_of(session).is_some()
+    }
+
+    /// The least number of a session that is open.
+    pub fn first_open(&self) -> Option<u64>
+        ensures { (h : List Entry) → KeepsLiving self.now h → IsFirstOpen h result }
+    {
+        self.table.first()
+    }
+
+    /// What an Observe of an open session would be answered, where that shows nothing. `g` is the history of all entries.
+    pub fn quiet_answer(&self, session: u64, request: &Request) -> Option<Reply>
+        ghost g: { Course }
+        requires keeps { KeepsLiving self.now g.h }
+        requires stewards { g.w ≡ stewardship_at self.now }
+        ensures { IsQuiet (rules_at self.now) g.w g.h session request.now result }
+    {
+        missing_influences_only_shrink();
+        let seat = self.table.seat_of(session)?;
+        match request {
+            Request::End => None,
+            _ => self.core.quiet_answer(seat, request),
+        }
     }
 
     /// Whether one more session may begin.
