@@ -1,0 +1,15 @@
+-- The lemmas of this crate, file by file.
+pub mod Shown
+pub mod Fronts
+pub mod Entered
+pub mod Synced
+pub mod Settling
+pub mod Kept
+pub mod Asking
+pub mod Lines
+pub mod Judged
+pub mod Taken
+pub mod Placed
+pub mod Ended
+pub mod Grown
+pub mod Begun

@@ -1,0 +1,18 @@
+//! One connection of a client, with no input or output of its own: bytes in and requests out, replies in and bytes out.
+#![tactic(auto)]
+
+mod desk;
+mod heard;
+mod hello;
+pub mod laws;
+mod manner;
+mod past;
+mod peer;
+mod socket;
+mod web;
+
+pub use desk::Desk;
+pub use heard::Heard;
+pub use hello::digest_of;
+pub use manner::Manner;
+pub use peer::Peer;
