@@ -19,4 +19,4 @@ pub use laws::{
     what_is_read_is_a_text_of_it,
 };
 pub use parser::parse_action;
-pub use printer::{append_action, print_action};
+pub use printer::{append_action, print_action, put_action};

@@ -401,8 +401,9 @@ fn put_origin(out: &mut String, origin: Point) -> Result<(), AllocError>
     write!(out, " at {x} {y}")
 }
 
+/// Appends the canonical text of an action, with no memory but the line's own. Where that is wanting a part of the text may stand.
 #[tactic(auto, unfolding(crate::specs::Canonical::canonical))]
-fn put_action(out: &mut String, action: &Action) -> Result<(), AllocError>
+pub fn put_action(out: &mut String, action: &Action) -> Result<(), AllocError>
     ensures { OnOk result (string_bytes out.new ≡ string_bytes out.old ++ canonical action.now) }
 {
     let reads = action.reads.as_slice();
