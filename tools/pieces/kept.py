@@ -1,13 +1,17 @@
 """The crates of a clone with a sum of what each is made from, and a store of what was proved for such a sum.
 
 A kit whose `rt ci` keeps nothing from run to run proves each crate anew in each clone. Here a library stands in the store under the sum of
-its text and of all below it, so each clone on the machine takes it where its own text is the same.
+its text and of all below it, so each clone on the machine takes it where its own text is the same. Where `rt ci` keeps what it proved, the
+library is taken from there.
 """
 
+import contextlib
 import hashlib
 import importlib.machinery
 import importlib.util
+import json
 import os
+import shutil
 import sys
 
 KIT = "/opt/rattle"
@@ -57,7 +61,43 @@ def crates_of(root):
     for crate in crates:
         crate.sum = whole(crate)
         crate.rlib = f"{STORE}/lib/{crate.sum[:24]}/{crate.name}.rlib"
-    return sorted(crates, key=lambda it: len(it.below()))
+    crates = sorted(crates, key=lambda it: len(it.below()))
+    with contextlib.suppress(AttributeError):
+        take_from_gate(crates)
+    return crates
+
+
+def take_from_gate(crates):
+    """Puts the libraries that `rt ci` keeps of just this text into the store."""
+    gate = rt.Kept([])
+    for crate in crates:
+        if crate.is_program or any(it.name not in gate.rlibs for it in crate.below()):
+            continue
+        at = gate.place(crate, False, gate.key(crate))
+        try:
+            with open(f"{at}/made.json", encoding="utf-8") as file:
+                files = json.load(file)["files"]
+        except (OSError, ValueError, KeyError):
+            continue
+        gate.rlibs[crate.name] = hashlib.sha256(repr([(path, total) for path, total in files]).encode()).hexdigest()
+        if not os.path.exists(mark_of(crate, "proof")):
+            take_library(crate, at, [path for path, _ in files])
+
+
+def take_library(crate, at, paths):
+    """Links the files of a kept library into the store, and marks its proof as done."""
+    room = f"{STORE}/new-{os.getpid()}-{crate.name}"
+    for number, path in enumerate(paths):
+        whole = f"{room}/{path.removeprefix('rlib/')}"
+        os.makedirs(os.path.dirname(whole), exist_ok=True)
+        rt.link_or_copy(f"{at}/{number}", whole)
+    os.makedirs(os.path.dirname(crate.rlib), exist_ok=True)
+    os.makedirs(f"{STORE}/done", exist_ok=True)
+    with contextlib.suppress(OSError):
+        os.rename(f"{room}/{crate.name}.rlib", crate.rlib)
+    shutil.rmtree(room, ignore_errors=True)
+    with open(mark_of(crate, "proof"), "w", encoding="utf-8"):
+        pass
 
 
 def mark_of(crate, step):
