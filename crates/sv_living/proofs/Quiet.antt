@@ -26,7 +26,7 @@ use Rattle.sv_living.proofs.Heeding.{accepted_heeded}
 
 -- ---- relays fit
 
-acts : List Authored → List Action
+abbrev acts : List Authored → List Action
 acts A = map (λ (x : Authored). x.action) A
 
 pub relays-fit : SizeWithin → (w : Stewardship) (r : Rules) (h : List Entry) → r.bound ≤ most_bound → LegalFor (living w) r h → RelaysFit (heeded w h)
@@ -92,7 +92,7 @@ module _ (w : Stewardship) (r : Rules) (h : List Entry) (s : ℕ) (q : Request) 
       let same = for-quiet more is.0 in (
         and_from (is_open h s) (shows_nothing (reply_for (living w) r h s q)) here (ap shows_nothing same ∙ is.0),
         is.1 ∙ ap (λ (A : List Authored). full_reply A (reply_to_request r (heeded w h) s q)) (accepted_heeded w h)
-        ∙ ap (full_reply (accepted h)) (sym same),
+            ∙ ap (full_reply (accepted h)) (sym same),
       )
 
   -- Nothing is told of a session that is not open, or of its End.

@@ -58,7 +58,7 @@ held-none : (v : QueueView) (xs : List ℕ) → held_in v xs ≡ [] → xs ≡ [
 held-none v [] none = refl
 held-none v (x ∷ xs) none = cc
 
-last_in : Logged → ℕ
+abbrev last_in : Logged → ℕ
 last_in (logged.Seen last commit head positions) = last
 last_in reply = 0
 

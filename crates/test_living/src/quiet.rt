@@ -60,12 +60,14 @@ const REPORTED_ROWS: &[Row] = &[
 ];
 
 fn shown(reply: Option<Reply>) -> Option<(u32, u32)> {
-    let Some(Reply::Seen {
-        last,
-        commit,
-        head,
-        items,
-    }) = reply
+    let Some(
+        Reply::Seen {
+            last,
+            commit,
+            head,
+            items,
+        },
+    ) = reply
     else {
         return None;
     };
