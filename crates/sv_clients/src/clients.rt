@@ -30,6 +30,11 @@ impl Clients {
         self.alloc
     }
 
+    /// How many clients ever joined.
+    pub fn len(&self) -> usize {
+        self.rows.len()
+    }
+
     /// The greatest life that a client joined with, 0 where it never did.
     pub fn life(&self, client: u16) -> u32
         ensures { result ≡ (client_row self.now client).life }

@@ -3,6 +3,7 @@ pub mod Deciding
 pub mod Invariant
 pub mod Keeping
 pub mod Past
+pub mod Quiet
 pub mod Sessions
 pub mod Table
 pub mod World

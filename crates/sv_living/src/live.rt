@@ -4,12 +4,14 @@ ghost use Rattle.sv_world.specs.Limits.{most_open, most_positions};
 ghost use Rattle.sv_world.specs.Worlds.{IsGoodWorld};
 ghost use Rattle.sv_journal.specs.declared.entry.Entry.{Entry};
 ghost use Rattle.sv_living.specs.Keeping.{rules_at, stewardship_of, stewardship_at, KeepsLiving};
+ghost use Rattle.sv_living.specs.Quiet.{IsFirstOpen, IsQuiet};
 ghost use Rattle.sv_living.specs.Sessions.{is_open, next_session, open_sessions, most_session, may_begin};
 
 use crate::stewards::Stewards;
 use crate::table::OpenSessions;
 use std::alloc::{AllocError, Global};
 use sv_sequencer::{Core, Opened};
+use sv_wire::{Reply, Request};
 use sv_world::MOST_OPEN;
 
 /// A core with the table of its open sessions. It has no history: its contracts speak of the one that it keeps.
@@ -54,6 +56,24 @@ impl Live {
         ensures { (h : List Entry) → KeepsLiving self.now h → result ≡ is_open h session }
     {
         self.table.seat_of(session).is_some()
+    }
+
+    /// The least number of a session that is open.
+    pub fn first_open(&self) -> Option<u64>
+        ensures { (h : List Entry) → KeepsLiving self.now h → IsFirstOpen h result }
+    {
+        self.table.first()
+    }
+
+    /// What an Observe of an open session would be answered, where that shows nothing.
+    pub fn quiet_answer(&self, session: u64, request: &Request) -> Option<Reply>
+        ensures { (h : List Entry) → KeepsLiving self.now h → IsQuiet (rules_at self.now) (stewardship_at self.now) h session request.now result }
+    {
+        let seat = self.table.seat_of(session)?;
+        if let Request::End = request {
+            return None;
+        }
+        self.core.quiet_answer(seat, request)
     }
 
     /// Whether one more session may begin.

@@ -1,15 +1,16 @@
 //! A living world's core, and what it tells.
-ghost use Rattle.std.specs.Prelude.{◌≡◌, List, ◌<◌, ◌≤◌, true, [], None, length, slice_index_or, All, IfOk, IfErr, IsOk, MatchResult};
+ghost use Rattle.std.specs.Prelude.{◌≡◌, ◌+◌, List, ◌<◌, ◌≤◌, true, [], None, length, slice_index_or, All, IfOk, IfErr, IsOk, MatchResult};
 ghost use Rattle.sv_world.specs.Limits.{most_positions};
 ghost use Rattle.sv_world.specs.Worlds.{IsGoodWorld};
 ghost use Rattle.sv_journal.specs.declared.entry.Entry.{Entry};
-ghost use Rattle.sv_journal.specs.History.{accepted, commit_of, committed_of, full_reply};
+ghost use Rattle.sv_journal.specs.History.{accepted, commit_of, committed_of, full_reply, next_seq};
 ghost use Rattle.sv_journal.specs.Laws.{AreWithinLimits, IsRightful};
 ghost use Rattle.sv_journal.specs.Sessions.{is_end};
 ghost use Rattle.sv_journal.specs.Serving.{LegalFor};
 ghost use Rattle.sv_journal.specs.Living.{living};
 ghost use Rattle.sv_wire.specs.Grammar.{IsWireReply};
 ghost use Rattle.sv_living.specs.Keeping.{stewardship_of};
+ghost use Rattle.sv_living.specs.Quiet.{IsFirstOpen, IsQuiet};
 ghost use Rattle.sv_living.specs.Sessions.{is_open, next_session, open_sessions, may_begin, may_ask, AreInOrder};
 ghost use Rattle.sv_living.specs.World.{heeded_in, Answered, IsStepFault};
 
@@ -21,8 +22,8 @@ use std::alloc::{AllocError, Global};
 use std::marker::Model;
 use sv_journal::{accepted_actions_are_rightful, served_replies_are_messages};
 use sv_sequencer::{Answer, Opened};
-use sv_wire::Request;
-use sv_world::{ObjectId, Value};
+use sv_wire::{Reply, Request};
+use sv_world::{ClientId, ObjectId, Value};
 
 /// The core of a living world's server: it answers the requests of sessions without end, and keeps just what is live.
 ///
@@ -120,6 +121,33 @@ impl LivingCore {
         ensures { result ≡ may_begin self.now.history }
     {
         self.live.may_begin()
+    }
+
+    /// The least number of a session that is open.
+    pub fn first_open(&self) -> Option<u64>
+        ensures { IsFirstOpen self.now.history result }
+    {
+        self.live.first_open()
+    }
+
+    /// What an Observe of an open session would be answered, where that shows nothing: no head value and no item. Nothing is entered or changed:
+    /// it is what the answer table gives after the entries so far.
+    pub fn quiet_answer(&self, session: u64, request: &Request) -> Option<Reply>
+        ensures { IsQuiet self.now.rules self.now.stewardship self.now.history session request.now result }
+    {
+        self.live.quiet_answer(session, request)
+    }
+
+    /// How many client numbers ever joined.
+    pub fn client_count(&self) -> usize {
+        self.live.core.client_count()
+    }
+
+    /// How many actions of a client have an outcome.
+    pub fn outcome_count(&self, client: ClientId) -> u32
+        ensures { result + 1 ≡ next_seq (heeded_in self.now) client.0 }
+    {
+        self.live.core.outcome_count(client)
     }
 
     /// The last accepted position.

@@ -1,5 +1,5 @@
 //! The sessions that are open, by their numbers.
-ghost use Rattle.std.specs.Prelude.{◌≡◌, List, ◌∷◌, ◌++◌, [], false, true, filter, length, not, nat_eq, MatchOption, OnOk, OnErr};
+ghost use Rattle.std.specs.Prelude.{◌≡◌, ℕ, List, ◌∷◌, ◌++◌, [], false, true, filter, length, not, nat_eq, MatchOption, OnOk, OnErr};
 ghost use Rattle.sv_world.specs.Control.{is_in};
 ghost use Rattle.sv_sequencer.specs.declared.seats.Seat.{Seat};
 ghost use Rattle.sv_living.specs.Table.{seat_of, numbers_in, ends_below, IsByNumber, IsPlaceOf};
@@ -39,6 +39,14 @@ impl OpenSessions {
         ensures { result ≡ length self.now }
     {
         self.seats.len()
+    }
+
+    /// The least number of a session.
+    pub fn first(&self) -> Option<u64>
+        ensures { MatchOption result (self.now ≡ []) (λ s. (rest : List ℕ) × (numbers_in self.now ≡ s ∷ rest)) }
+    {
+        let seat = self.seats.first()?;
+        Some(seat.session)
     }
 
     /// The slot of a session, where it is open.

@@ -8,5 +8,6 @@ pub mod Invariant
 pub mod Orphans
 pub mod Relays
 pub mod Rows
+pub mod Seeing
 pub mod Shared
 pub mod Step

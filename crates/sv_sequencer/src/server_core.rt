@@ -1,7 +1,7 @@
 //! What any server keeps of what it was asked: a queue, and a row for each session and each client. It has no journal.
 //!
 //! Its contracts speak of a history, which the caller names: that of its journal, or one that its journal gives.
-ghost use Rattle.std.specs.Prelude.{◌≡◌, ℕ, List, suc, ◌<◌, ◌≤◌, false, not, Some, [], ◌∷◌, length, slice_index_or, option_map, unwrap_or, nat_le, IfOk, IfSome, MatchOption};
+ghost use Rattle.std.specs.Prelude.{◌≡◌, ◌+◌, ℕ, List, suc, ◌<◌, ◌≤◌, false, not, Some, [], ◌∷◌, length, slice_index_or, option_map, unwrap_or, nat_le, IfOk, IfSome, MatchOption};
 ghost use Rattle.std.specs.List.{list_any};
 ghost use Rattle.sv_world.specs.Control.{chain_length, influence_distance};
 ghost use Rattle.sv_world.specs.Faults.{IsGoodAction};
@@ -25,7 +25,7 @@ use sv_clients::{Clients, Outcome};
 use sv_influence::{Chain, chain};
 use sv_queue::Queue;
 use sv_wire::Done1;
-use sv_world::{Action, ObjectId, Shape, Value, World, copy_values};
+use sv_world::{Action, ClientId, ObjectId, Shape, Value, World, copy_values};
 
 /// The core of a server: it puts the actions of all sessions in one order, decides what is done on each request, and does it.
 ///
@@ -96,6 +96,18 @@ impl Core {
         ensures { (h : List Entry) → Keeps self.now h → result ≡ is_ended h seat.session }
     {
         self.sessions[seat.slot as usize].ended
+    }
+
+    /// How many client numbers ever joined.
+    pub fn client_count(&self) -> usize {
+        self.clients.len()
+    }
+
+    /// How many actions of a client have an outcome.
+    pub fn outcome_count(&self, client: ClientId) -> u32
+        ensures { (h : List Entry) → Keeps self.now h → result + 1 ≡ next_seq h client.0 }
+    {
+        self.clients.count(client.0)
     }
 
     /// The actions that it has not committed, and what was sent of them.

@@ -1,0 +1,20 @@
+-- What an Observe is answered that shows nothing.
+use Rattle.std.specs.Prelude.{◌≡◌, ℕ, Bool, true, false, List, [], ◌∷◌, Option, Some, None}
+use Rattle.sv_wire.specs.declared.message.Request.{Request}
+use Rattle.sv_wire.specs.declared.message.Reply.{Reply}
+use Rattle.sv_journal.specs.declared.entry.Entry.{Entry}
+use Rattle.sv_journal.specs.declared.entry.Logged.{Logged}
+use Rattle.sv_journal.specs.declared.entry.Logged.TheVariants as logged
+use Rattle.sv_journal.specs.History.{accepted, full_reply}
+use Rattle.sv_journal.specs.Answer.{Rules, reply_to_request}
+
+-- A reply shows nothing: it is what an Observe is answered, with no head value and no item.
+abbrev pub shows_nothing : Logged → Bool
+shows_nothing (logged.Seen last commit [] []) = true
+shows_nothing reply = false
+
+-- What a request would be answered, where that shows nothing.
+abbrev pub IsQuietAnswer : Rules → List Entry → ℕ → Request → Option Reply → Type 0
+IsQuietAnswer r h s request None = shows_nothing (reply_to_request r h s request) ≡ false
+IsQuietAnswer r h s request (Some reply) = (shows_nothing (reply_to_request r h s request) ≡ true)
+    × (reply ≡ full_reply (accepted h) (reply_to_request r h s request))
