@@ -3,6 +3,7 @@
 
 mod full;
 mod outcomes;
+mod quiet;
 mod rights;
 mod room;
 mod sessions;

@@ -1,0 +1,1 @@
+-- An open session sits at its slot, and its core answers.
