@@ -1,5 +1,5 @@
 -- What a session would be shown: nothing by the table of a living world exactly where nothing by its core.
-use Rattle.std.proofs.Common.{◌≡◌, ℕ, ◌<◌, ◌≤◌, Bool, true, false, ◌&&◌, List, [], ◌∷◌, map, length, Option, Some, None, refl, sym, ◌∙◌, ap, subst, arith, true≢false}
+use Rattle.std.proofs.Common.{◌≡◌, ℕ, ◌+◌, ◌<◌, ◌≤◌, Bool, true, false, ◌&&◌, List, [], ◌∷◌, map, length, Option, Some, None, refl, sym, ◌∙◌, ap, subst, arith, true≢false}
 use Rattle.std.specs.Prelude.{if◌then◌else◌}
 use Rattle.std.proofs.lemmas.Bool.{cond_both, and_left, and_right, and_from}
 use Rattle.sv_world.specs.Control.{needed_for}
@@ -86,7 +86,7 @@ module _ (w : Stewardship) (r : Rules) (h : List Entry) (s : ℕ) (q : Request) 
 
   -- An open session is answered as its core would.
   pub quiet-open : SizeWithin → LegalFor (living w) r h → is_open h s ≡ true → is_end q ≡ false → (o : Option Reply) → IsQuietAnswer r (heeded w h) s q o → IsQuiet r w h s q o
-  quiet-open size legal here more None is bound =
+  quiet-open size legal here more None is = λ bound.
       and_right (is_open h s) (shows_nothing (reply_for (living w) r h s q)) (for-shown more (is (relays-fit size w r h bound legal)))
   quiet-open size legal here more (Some reply) is =
       let same = for-quiet more is.0 in (
