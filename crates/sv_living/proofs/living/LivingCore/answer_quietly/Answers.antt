@@ -1,14 +1,14 @@
 -- As what is live would answer.
-use Rattle.std.proofs.Common.{List, sym, ◌∙◌, ap, subst}
+use Rattle.std.proofs.Common.{List, refl, sym, ◌∙◌, ap, subst}
 use Rattle.sv_journal.specs.declared.entry.Entry.{Entry}
 use Rattle.sv_living.specs.Keeping.{KeepsLiving}
 use Rattle.sv_living.specs.Quiet.{IsQuiet}
 use Rattle.sv_living.specs.World.{WorldView}
 use Rattle.sv_living.proofs.living.LivingCore.answer_quietly.Goals as goal
 
-pub quiet_answer-requires-clause-keeps : goal.quiet_answer-requires-clause-keeps
-quiet_answer-requires-clause-keeps g c =
-    subst (λ (h : List Entry). KeepsLiving c.self.inside.live h) (ap (λ (v : WorldView). v.history) c.self.view_is ∙ sym c.requires) c.self.invariant
+pub quiet_answer-requires : goal.quiet_answer-requires
+quiet_answer-requires g c =
+    (subst (λ (h : List Entry). KeepsLiving c.self.inside.live h) (ap (λ (v : WorldView). v.history) c.self.view_is ∙ sym c.requires) c.self.invariant, refl)
 
 pub returns : goal.returns
 returns g c =

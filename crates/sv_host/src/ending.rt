@@ -1,0 +1,78 @@
+//! How the server ends.
+use std::alloc::AllocError;
+use sv_bytes::{Sink, write_pieces};
+
+/// How a call of `host` ends.
+#[derive(Drop)]
+pub enum HostEnd {
+    Done,
+    /// The words are none that the call knows.
+    Words,
+    /// The file is no world. The line tells where and why.
+    World(String),
+    /// This file can't be read.
+    File(String),
+    /// The door could not be opened, or the waiting failed.
+    Link,
+    Memory,
+    /// This file of the log could not be written or synced.
+    Disk(String),
+    /// The log is refused. The line tells the file and the cause.
+    Log(String),
+    /// Another one has this folder or address.
+    Busy(String),
+}
+
+impl From<AllocError> for HostEnd {
+    ghost use Rattle.std.specs.Prelude.{◌≡◌};
+    ghost use Rattle.sv_host.specs.declared.ending.HostEnd.TheVariants as endings;
+
+    ghost from_gives = { λ _ e. e ≡ endings.Memory };
+
+    fn from(_e: AllocError) -> HostEnd {
+        HostEnd::Memory
+    }
+}
+
+/// Writes the line that tells of an ending. At `Done` there is none.
+pub fn tell<E: Sink>(ending: &HostEnd, err: &mut E) {
+    match ending {
+        HostEnd::Done => {}
+        HostEnd::Words => {
+            write_pieces(err, &[b"words: host WORLD DIR [OPTION ..]\n"]);
+        }
+        HostEnd::World(line) => {
+            write_pieces(err, &[line.as_bytes()]);
+        }
+        HostEnd::File(name) => {
+            write_pieces(err, &[b"file: ", name.as_bytes(), b"\n"]);
+        }
+        HostEnd::Link => {
+            write_pieces(err, &[b"link\n"]);
+        }
+        HostEnd::Memory => {
+            write_pieces(err, &[b"memory\n"]);
+        }
+        HostEnd::Disk(name) | HostEnd::Log(name) => {
+            write_pieces(err, &[b"log: ", name.as_bytes(), b"\n"]);
+        }
+        HostEnd::Busy(name) => {
+            write_pieces(err, &[b"busy: ", name.as_bytes(), b"\n"]);
+        }
+    }
+}
+
+/// The status with which the program ends.
+pub fn status_of(ending: &HostEnd) -> u8 {
+    match ending {
+        HostEnd::Done => 0,
+        HostEnd::Words => 2,
+        HostEnd::World(_) => 3,
+        HostEnd::File(_) => 4,
+        HostEnd::Disk(_) => 5,
+        HostEnd::Link => 6,
+        HostEnd::Memory => 8,
+        HostEnd::Log(_) => 13,
+        HostEnd::Busy(_) => 14,
+    }
+}

@@ -1,0 +1,39 @@
+//! What opens folders and doors.
+use sv_log::Folder;
+use sv_ports::Ports;
+
+/// Why a folder is not opened.
+#[derive(Clone, Copy, Debug, Drop, PartialEq, Eq)]
+pub enum FolderFault {
+    /// Another process has it.
+    Busy,
+    Failed,
+    Memory,
+}
+
+/// Opens folders, each of them locked.
+pub trait Folders {
+    type F: Folder + Drop;
+
+    /// Opens a folder. A sync of it waits for the disk, or does nothing.
+    fn open(&mut self, name: &str, syncs: bool) -> Result<Self::F, FolderFault>;
+}
+
+/// Why a door is not opened.
+#[derive(Clone, Copy, Debug, Drop, PartialEq, Eq)]
+pub enum DoorFault {
+    /// Another program has the address.
+    Busy,
+    Failed,
+}
+
+/// Opens doors.
+pub trait Doors {
+    type P: Ports + Drop;
+
+    /// Opens a door at an address, and looks at the input where it is wanted.
+    fn open(&mut self, address: &str, input: bool) -> Result<Self::P, DoorFault>;
+
+    /// The address at which a door is open, as text. It may have another port than was asked for.
+    fn address(&self, ports: &Self::P, out: &mut String) -> bool;
+}

@@ -1,0 +1,65 @@
+//! The connections.
+use crate::input::InputLines;
+use std::alloc::Global;
+use sv_ports::{Numbered, Ready};
+use sv_office::{Guest, Halt};
+
+/// The connections, and which of them are to be looked at.
+#[derive(Drop)]
+pub struct Room {
+    pub guests: Numbered<Guest>,
+    pub input: InputLines,
+    pub ready: Ready,
+    /// Connections that had more than was taken of them in their turn.
+    pub busy: Vec<u64>,
+    /// Connections to which something may be sent in this turn.
+    pub touched: Vec<u64>,
+    /// Connections with a held Observe.
+    pub held: Vec<u64>,
+    /// No held Observe is to be answered before.
+    pub held_until: u64,
+    /// The last position when the held Observes were looked at.
+    pub seen_last: u32,
+    /// When the connections are looked at for those that are idle.
+    pub next_look: u64,
+    /// The last accept failed. Others may wait still.
+    pub door_fails: bool,
+}
+
+impl Room {
+    /// Nobody is there. `last` is the last position.
+    pub fn new(alloc: Global, last: u32) -> Room {
+        Room {
+            guests: Numbered::new(alloc),
+            input: InputLines::new(alloc),
+            ready: Ready::new(alloc),
+            busy: Vec::new(alloc),
+            touched: Vec::new(alloc),
+            held: Vec::new(alloc),
+            held_until: u64::MAX,
+            seen_last: last,
+            next_look: 0,
+            door_fails: false,
+        }
+    }
+
+    /// Puts a connection back that was taken out. Something may be sent to it.
+    pub fn put_back(&mut self, number: u64, guest: Guest) -> Result<(), Halt> {
+        self.guests.put(number, guest);
+        self.touched.push(number)?;
+        Ok(())
+    }
+
+    /// Puts a connection with a held Observe into the list of them.
+    pub fn list(&mut self, number: u64, guest: &mut Guest) -> Result<(), Halt> {
+        let Some(held) = &guest.held else {
+            return Ok(());
+        };
+        self.held_until = self.held_until.min(held.until);
+        if !guest.is_listed {
+            self.held.push(number)?;
+            guest.is_listed = true;
+        }
+        Ok(())
+    }
+}

@@ -1,0 +1,78 @@
+//! The loop, and its orderly end.
+use crate::host::Host;
+use crate::turn::Turned;
+use std::sync::Wait;
+use sv_bytes::{Files, Sink};
+use sv_log::Folder;
+use sv_ports::{Clock, Ports};
+use sv_wire::Request;
+use sv_office::{Halt, Outside};
+
+/// For how many turns it is waited at an orderly end for connections to take what they are sent.
+const LAST_TURNS: u32 = 20;
+
+/// For how long such a turn waits.
+const LAST_WAIT: u64 = 25;
+
+impl<F: Folder> Host<F> {
+    /// Serves until it is told to stop.
+    pub fn serve<R: Wait, P: Ports, C: Clock, L: Files, E: Sink>(
+        &mut self,
+        rt: &R,
+        outside: &mut Outside<'_, P, L, E>,
+        clock: &mut C,
+    ) -> Result<(), Halt> {
+        for _ in rt.forever() {
+            if self.turn(outside, clock)? == Turned::Stops {
+                return self.stop(outside.ports);
+            }
+        }
+        unreachable!()
+    }
+
+    // Touches all connections, and answers whether something is to be sent to one of them.
+    fn touch_all(&mut self) -> Result<bool, Halt> {
+        let mut waits = false;
+        for place in 0..self.room.guests.len() {
+            let Some(number) = self.room.guests.number_at(place) else {
+                break;
+            };
+            self.room.touched.push(number)?;
+            if let Some(guest) = self.room.guests.get(number) {
+                waits = waits || !guest.peer.output().is_empty();
+            }
+        }
+        Ok(waits)
+    }
+
+    // Sends what was stepped, as far as connections take it.
+    fn send_rest<P: Ports>(&mut self, ports: &mut P) -> Result<(), Halt> {
+        for _ in 0..LAST_TURNS {
+            let waits = self.touch_all()?;
+            self.send(ports)?;
+            if !waits {
+                return Ok(());
+            }
+            self.room.ready.clear();
+            let _ = ports.wait(LAST_WAIT, &mut self.room.ready);
+        }
+        Ok(())
+    }
+
+    /// Sends what was stepped, and enters the End of each session.
+    pub fn stop<P: Ports>(&mut self, ports: &mut P) -> Result<(), Halt> {
+        self.send_rest(ports)?;
+        for _ in 0..2000 {
+            let Some(session) = self.office.keeper.first_open() else {
+                break;
+            };
+            if self.office.keeper.step(session, &Request::End).is_err() {
+                return Err(Halt::Log);
+            }
+        }
+        match self.office.keeper.settle() {
+            Ok(_) => Ok(()),
+            Err(_) => Err(Halt::Log),
+        }
+    }
+}

@@ -1,0 +1,55 @@
+-- A walk over the lines of a log.
+use Rattle.std.specs.Prelude.{◌≡◌, ℕ, ◌+◌, ◌<◌, ◌^◌, true, List, [], ◌++◌, length}
+use Rattle.sv_wire.specs.Ranges.{RequestFits}
+use Rattle.sv_wire.specs.declared.message.Request.{Request}
+use Rattle.sv_sequencer.specs.Step.{entry_of}
+use Rattle.sv_living.specs.Sessions.{may_ask}
+use Rattle.sv_living.specs.World.{WorldView, after, reply_in}
+use Rattle.sv_keeper.specs.Histories.{last_line}
+use Rattle.sv_keeper.specs.declared.walking.Walk.{Walk}
+use Rattle.sv_keeper.specs.declared.walking.WalkStop.{WalkStop}
+use Rattle.sv_keeper.specs.declared.walking.WalkStop.TheVariants as stops
+
+-- The line of a request that a session makes next, by the answer table.
+abbrev pub next_line : WorldView → ℕ → Request → List ℕ
+next_line v s request = last_line v.rules.world.shape (entry_of s request (reply_in v s request)) v.history
+
+-- One line is taken from a text: that of a request of a session that may make one.
+pub record IsTaken (v w : WorldView) (text rest : List ℕ) : Type 0 where
+  pub session : ℕ
+  pub request : Request
+  pub asks : may_ask v.history session ≡ true
+  pub world : w ≡ after v session request
+  pub line : text ≡ next_line v session request ++ rest
+
+-- Lines are taken from a text, until the rest is left.
+pub data AreTaken : WorldView → WorldView → List ℕ → List ℕ → Type 0 where
+  none : {v : WorldView} {text : List ℕ} → AreTaken v v text text
+  some : {v w x : WorldView} {text middle rest : List ℕ} → IsTaken v w text middle → AreTaken w x middle rest → AreTaken v x text rest
+
+-- The text does not begin with the line of any request that may be made next.
+abbrev pub IsNoLine : WorldView → List ℕ → Type 0
+IsNoLine v text = (s : ℕ) → (request : Request) → (rest : List ℕ) → s < 2 ^ 64 → RequestFits request → may_ask v.history s ≡ true
+    → text ≡ next_line v s request ++ rest → ⊥
+
+-- What a walk is: its shape is that of its core, whose next entry has the next number.
+pub record IsWalk (walk : Walk) : Type 0 where
+  pub shape : walk.shape ≡ walk.core.rules.world.shape
+  pub next : walk.next ≡ length walk.core.history + 1
+
+-- Why no line is taken, unless memory was wanting.
+abbrev pub WhyNone : WorldView → List ℕ → WalkStop → Type 0
+WhyNone v text (stops.Wrong cause) = IsNoLine v text
+WhyNone v text stops.Memory = Unit {0}
+
+-- Some lines are right, and what comes after them begins with none that is.
+pub record IsWrong (v : WorldView) (text : List ℕ) (number : ℕ) : Type 0 where
+  pub reached : WorldView
+  pub rest : List ℕ
+  pub right : AreTaken v reached text rest
+  pub wrong : IsNoLine reached rest
+  pub is_next : number ≡ length reached.history + 1
+
+abbrev pub WhyStopped : WorldView → List ℕ → ℕ → WalkStop → Type 0
+WhyStopped v text number (stops.Wrong cause) = IsWrong v text number
+WhyStopped v text number stops.Memory = Unit {0}

@@ -1,0 +1,23 @@
+//! What answers one connection of a living world: the kept world, who may join, and an honest client within the server as its steward.
+#![tactic(auto)]
+
+mod ages;
+mod guest;
+mod halt;
+mod hearing;
+mod holding;
+mod office;
+mod outside;
+mod reporting;
+mod stepping;
+mod steward;
+
+pub use ages::Ages;
+pub use guest::{Guest, Held, Standing};
+pub use halt::Halt;
+pub use hearing::FULL;
+pub use holding::Waiting;
+pub use office::{Manners, Office};
+pub use outside::Outside;
+pub use stepping::STEWARD_NUMBER;
+pub use steward::Steward;
