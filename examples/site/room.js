@@ -15,7 +15,7 @@ const server = words.get("server") ?? `${location.protocol === "https:" ? "wss" 
 
 const line = new Line();
 let client = null, me = -1, ticking = 0;
-/** When each player's count went on last. */
+/** When each player did something last, or its count went on. */
 const beats = new Map();
 
 // What is seen.
@@ -234,7 +234,7 @@ function look(values, changed) {
     for (const object of changed) {
         const old = before.get(object), now = values.get(object)?.map(Number);
         if (!now) continue;
-        if (object < FIGURES && old && old[2] !== now[2]) beats.set(object, performance.now());
+        if (object < FIGURES && old && String(old) !== String(now)) beats.set(object, performance.now());
         if (object >= FIGURES && object < CHEST && old && old[2] !== now[2] && !isGuess(object)) sayOf(object - FIGURES, old[2], now[2]);
         before.set(object, now);
     }
