@@ -11,8 +11,10 @@ import base64
 import hashlib
 import json
 import os
+import random
 import re
 import resource
+import shutil
 import signal
 import socket
 import struct
@@ -26,10 +28,11 @@ sys.path.insert(0, os.path.dirname(os.path.dirname(os.path.abspath(__file__))))
 
 from doubles.programs import Run, connect, finish, free_port, reset, stop_all
 from rules import wire
-from tests.counting import CLIENTS, Room, program_in
-
-sys.path.insert(1, CLIENTS)
-from dimboetu import Client, Fault, Payload, action, first_payload, obj, request_bytes
+from rules.living import check_log, log_text, world_in
+from rules.report import Fault as Wrong
+from tests.counting import Room, program_in
+from tests.test_client import Client, Fault, Payload, action, first_payload, obj, request_bytes
+from tests.test_living import NODE, PLAYED, Player, Summing, calls_of, check_calls, move
 
 WORDS = "words: host WORLD DIR [OPTION ..]\n"
 MANY_FILES = 4096
@@ -169,27 +172,16 @@ def make(client, *targets):
     client.make(add(*targets))
 
 
-def journal(folder):
-    """The text of all segments."""
-    text = b""
-    for name in sorted(os.listdir(folder)):
-        if name.startswith("journal-"):
-            with open(os.path.join(folder, name), "rb") as file:
-                text += file.read().split(b"\0")[0]
-    return text.decode()
-
-
-def stands(test, folder, name):
-    """The entries' numbers go on, each session has its End, and no line is cut off; gives the lines."""
-    text = journal(folder)
-    lines = text.splitlines()
-    test.expect(text.endswith("\n") or not text, f"{name}: the log ends with a line")
-    test.same([int(line.split()[0]) for line in lines], list(range(1, len(lines) + 1)), f"{name}: numbers")
-    opened = set()
-    for line in lines:
-        session = line.split()[1]
-        opened.add(session) if not line.endswith(" end -> bye") else opened.discard(session)
-    return lines, opened
+def judge(test, world, folder, name, is_honest=True):
+    """The log is that of one legal history, in which each session has its End; gives the history and the serial world."""
+    text = log_text(folder)
+    try:
+        history, serial = check_log(world_in(world), text, is_honest)
+    except Wrong as fault:
+        test.expect(False, f"{name}: {fault}: {text.splitlines()[fault.line - 1] if fault.line else ''}")
+        return None, None
+    test.same(list(history.sessions), [], f"{name}: all sessions have their End")
+    return history, serial
 
 
 def test_words(test):
@@ -257,9 +249,8 @@ def test_play(test):
         test.same({target: client.view(target) for target in range(4)}, wanted, f"play: what {name} sees")
     looker.leave()
     test.same(host[0].stop(), 0, "play: stops")
-    lines, opened = stands(test, folder, "play")
-    test.same(opened, set(), "play: all sessions have their End")
-    test.same(sum(" submit " in line and " -> relay " in line and " relay 0 " not in line for line in lines) > 0, True, "play")
+    history, _ = judge(test, world, folder, "play")
+    test.same({target: history.committed[target] for target in range(4)}, wanted, "play: the world of the log")
     host[0] = Host(test, world, folder)
     test.expect(any(line.startswith("start ") for line in host[0].lines), "play: it tells its start")
     again = player(5, host)
@@ -427,7 +418,7 @@ def test_many(test):
         time.sleep(0.1)
     test.same((status["open"], status["refused_connections"] >= 77), (1, True), f"many: they are gone, and counted: {status}")
     test.same(host.stop(), 0, "many: stops")
-    stands(test, folder, "many")
+    judge(test, world, folder, "many")
 
 
 def test_held(test):
@@ -458,7 +449,7 @@ def test_held(test):
     test.same([watcher.next().kind, watcher.next().kind], ["seen", "idle"], "held: another request comes")
     test.same(host[0].status()["entries"], entries + 1, "held: what shows nothing is no entry")
     test.same(host[0].stop(), 0, "held: stops")
-    test.same(stands(test, folder, "held")[1], set(), "held: Ends")
+    judge(test, world, folder, "held")
 
 
 def test_steward(test):
@@ -497,6 +488,7 @@ def test_steward(test):
     status = host.status()
     test.same((status["denied"], status["dropped"], status["clients"]), (1, 0, 3), f"authority: status: {status}")
     test.same(host.stop(), 0, "authority: stops")
+    judge(test, world, folder, "authority", False)
 
 
 def test_keys(test):
@@ -524,10 +516,18 @@ def test_keys(test):
     test.same(tried(OTHER_KEY, 4), "welcome", "keys: the file has changed")
     test.file("keys", b"what\n")
     test.expect(tried(KEY, 3) == "refused", "keys: the last good file holds")
-    test.same(host.status()["refused_connections"], 3, "keys: counted")
+    link = Wire(host.port)
+    link.send(request_bytes("hello", KEY), request_bytes("hello", KEY))
+    test.same((link.next().code, link.is_closed()), (1, True), "keys: a Hello twice")
+    for key, wanted in ((KEY.hex(), 101), (KEY.hex() + "0", 101)):
+        status, link = upgrade(host.port, f"/play?key={key}")
+        test.same(status, wanted, f"keys: a WebSocket with {key}")
+        link.sendall(masked(2, request_bytes("join", 3, 2, ())))
+        test.same((unframed(link, 2) or (8,))[0], 2 if key == KEY.hex() else 8, f"keys: joins by {key}")
+    test.same(host.status()["refused_connections"], 4, "keys: counted")
     test.same(host.stop(), 0, "keys: stops")
     test.expect(any(line.startswith("keys: ") for line in host.lines), "keys: a wrong file is told")
-    told = journal(folder) + "".join(host.lines)
+    told = log_text(folder) + "".join(host.lines)
     test.expect(KEY.hex() not in told and KEY.decode() not in told and hashlib.sha256(KEY).hexdigest() not in told, "keys: told nowhere")
     bad = test.file("bad-keys", b"3 zz\n")
     given = Run(test.program, ["host", world, folder, "--keys", bad]).end()
@@ -621,7 +621,7 @@ def test_web(test):
         link.sendall(data)
         test.same(unframed(link), (8, struct.pack(">H", code)), f"web: {name}")
     test.same(host.stop(), 0, "web: stops")
-    test.same(stands(test, folder, "web")[1], set(), "web: Ends")
+    judge(test, world, folder, "web")
 
 
 def test_crashes(test):
@@ -641,8 +641,111 @@ def test_crashes(test):
     test.same(client.view(0), (32,), "crashes: each action once")
     client.leave()
     test.same(host[0].stop(), 0, "crashes: stops")
-    lines, opened = stands(test, folder, "crashes")
-    test.same(opened, set(), "crashes: Ends")
+    judge(test, world, folder, "crashes")
+
+
+def any_request(chance):
+    """A request of any kind, right or wrong."""
+    objects = tuple(sorted(chance.sample(range(9), chance.randrange(4))))
+    act = action(*[obj(target).attr(0).set(chance.choice((obj(target).attr(0) + 1, 7))) for target in objects[:2]], reads=objects)
+    results = tuple((place, ((chance.randrange(9),),)) for place in sorted(chance.sample(range(40), chance.randrange(3))))
+    return chance.choice((
+        lambda: request_bytes("join", chance.randrange(9), chance.randrange(6), objects), lambda: request_bytes("poll"),
+        lambda: request_bytes("submit", chance.randrange(9), act), lambda: request_bytes("submit", chance.randrange(4), act),
+        lambda: request_bytes("done", results), lambda: request_bytes("observe", objects, chance.randrange(30)),
+        lambda: request_bytes("leave") if chance.random() < 0.1 else request_bytes("poll"),
+        lambda: chance.randbytes(chance.randrange(40)) if chance.random() < 0.1 else request_bytes("observe", (0, 1), 0)))()
+
+
+def test_any_requests(test):
+    """Requests of all kinds in any order over 100 connections at once; and 1,000 connections one after the other: the log is legal, and
+    nothing is kept of who is gone."""
+    world, folder, chance = test.world("any"), test.folder("any-dir"), random.Random(5)
+    host = Host(test, world, folder, "--sync", "none")
+    opened = len(os.listdir(f"/proc/{host.process.pid}/fd"))
+    links = [Wire(host.port) for _ in range(100)]
+    for _ in range(30):
+        for link in links:
+            try:
+                link.send(any_request(chance))
+            except OSError:         # its session was over
+                pass
+    for number, link in enumerate(links):
+        (reset if number % 2 else finish)(link.link)
+    for number in range(1000):
+        link = Wire(host.port)
+        if number % 3 == 0:
+            link.send(request_bytes("poll"))
+        (reset if number % 2 else socket.socket.close)(link.link)
+    latest = time.monotonic() + LONGEST
+    while (host.status()["open"] > 1 or len(os.listdir(f"/proc/{host.process.pid}/fd")) > opened + 1) and time.monotonic() < latest:
+        time.sleep(0.05)
+    test.same(host.status()["open"], 1, "any requests: nobody is there")
+    test.expect(len(os.listdir(f"/proc/{host.process.pid}/fd")) <= opened + 1, "any requests: no file is left open")
+    test.same(host.stop(), 0, "any requests: stops")
+    judge(test, world, folder, "any requests", False)
+
+
+def test_mixed(test):
+    """Eight clients in Python, and where node is eight in JavaScript over WebSockets, whose connections break, over a server that is
+    killed: the sum is kept, and all see the same at last."""
+    world, folder, port, chance = test.world("mixed", objects=[[100]] * 8), test.folder("mixed-dir"), free_port(), random.Random(8)
+    host = Host(test, world, folder, port=port)
+    barrier, is_over, faults = threading.Barrier(9), threading.Event(), []
+    players = [Player(host, number, objects=8, kind=Summing) for number in range(8)]
+
+    def work(place, player):
+        try:
+            move(player, random.Random(place), barrier, is_over)
+        except (Fault, OSError, threading.BrokenBarrierError) as fault:
+            faults.append(f"{type(fault).__name__}: {fault}")
+            barrier.abort()
+
+    other = subprocess.Popen([*NODE, PLAYED, "many", str(port), "8", "0.3"], stdin=subprocess.PIPE, stdout=subprocess.PIPE,
+                             text=True) if shutil.which("node") else None
+    threads = [threading.Thread(target=work, args=each, daemon=True) for each in enumerate(players)]
+    for thread in threads:
+        thread.start()
+    for place in range(24):
+        time.sleep(0.01)
+        try:
+            chance.choice(players).client.link.shutdown(socket.SHUT_RDWR)
+        except (OSError, AttributeError):       # it was none at that moment
+            pass
+        if place == 12:
+            host.kill()
+            host = Host(test, world, folder, port=port)
+    ready = other.stdout.readline() if other else "ready\n"
+    try:
+        barrier.wait(LONGEST)
+    except threading.BrokenBarrierError:
+        test.expect(False, f"mixed: {faults}")
+    latest = time.monotonic() + LONGEST
+    while time.monotonic() < latest and len({str([each.client.view(target) for target in range(8)]) for each in players}) > 1:
+        time.sleep(0.01)
+    found = json.loads(other.communicate("end\n", timeout=LONGEST)[0]) if other else []
+    is_over.set()
+    for thread in threads:
+        thread.join(LONGEST)
+    test.same((ready, faults, not other or other.returncode == 0), ("ready\n", [], True), "mixed: all come to their end")
+    test.same(host.stop(), 0, "mixed: stops")
+    history, serial = judge(test, world, folder, "mixed")
+    if not history:
+        return
+    last = [serial.value(target, len(history.accepted)) for target in range(8)]
+    test.same((sum(value[0] for value in last), history.commit, history.committed), (800, len(history.accepted), last), "mixed: the sum is kept")
+    for each in players:
+        client = each.client
+        test.same([client.view(target) for target in range(8)], last, f"mixed: what client {client.number} sees at last")
+        test.same((set(client.sums) | {800}, client.made, client.status), ({800}, 8, "left"), f"mixed: each cut of client {client.number}")
+        check_calls(test, f"mixed: client {client.number}", each.calls)
+    for each in found:
+        test.same([[value for _, value in each[name]] for name in ("last", "views")], [[value[0] for value in last]] * 2,
+                  f"mixed: what client {each['number']} sees at last")
+        test.same({sum(value for _, value in cut) for cut in each["cuts"]}, {800}, f"mixed: each cut of client {each['number']}")
+        check_calls(test, f"mixed: client {each['number']}", calls_of(each["calls"]))
+    for number in range(8 + len(found)):
+        test.same(len(history.outcomes.get(number, [])), 8, f"mixed: an outcome for each action of client {number}")
 
 
 def test_full_disk(test):
@@ -679,14 +782,14 @@ def test_full_disk(test):
     host.reader.join(5)
     name = next(one for one in os.listdir(folder) if one.startswith("journal-"))
     test.same((status, host.lines[-1:]), (5, [f"log: {name}\n"]), "full disk: it stops")
-    entered = sum(" submit 1 " in line for line in journal(folder).splitlines())
+    entered = sum(" submit 1 " in line for line in log_text(folder).splitlines())
     test.expect(0 < replies[0] <= entered, f"full disk: {replies[0]} replies, {entered} lines")
     host = Host(test, world, folder)
     test.same(host.stop(), 0, "full disk: it goes on once there is room")
 
 
 TESTS = (test_words, test_play, test_only_one, test_refused, test_bad_peers, test_many, test_held, test_steward, test_keys, test_web,
-         test_crashes, test_full_disk)
+         test_crashes, test_any_requests, test_mixed, test_full_disk)
 
 
 def main(words):

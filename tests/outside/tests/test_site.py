@@ -3,10 +3,11 @@
 
     python3 tests/outside/tests/test_site.py [--shots FOLDER] [PROGRAM]
 
-Two tabs play against each other over the double of doubles/holding.py, or over `host` of PROGRAM: what one picks up the other
-sees; a guess that was wrong is put right, and said; a line that is gone comes back; and where the server is stopped and started
-again both go on by themselves. Where Chromium (Debian's package chromium) is not there, only the files are looked at. --shots
-takes pictures of both tabs, as on a phone and on a desktop. Closes with `N passed, M failed`.
+Two tabs play against each other over `host` of PROGRAM, if none is named of the repository's own, and where that is not built over
+the double of doubles/holding.py: what one picks up the other sees, within 100 ms; a guess that was wrong is put right, and said; a
+line that is gone comes back; and where the server is killed and started again both go on by themselves. Where Chromium (Debian's
+package chromium) is not there, only the files are looked at. --shots takes pictures of both tabs, as on a phone and on a desktop.
+Closes with `N passed, M failed`.
 """
 
 import functools
@@ -26,7 +27,7 @@ from doubles import chromium
 from doubles.holding import Holding
 from doubles.programs import free_port
 from rules.scenario import scenario_of
-from tests.counting import ROOT, Count
+from tests.counting import BUILT, ROOT, Count
 
 WORLD = os.path.join(ROOT, "examples", "room.json")
 FILL = os.path.join(ROOT, "tools", "site")
@@ -83,8 +84,9 @@ class Host:
             pass
 
     def stop(self):
-        """Stops it in order."""
-        self.process.communicate("", timeout=LONGEST)
+        """Kills it."""
+        self.process.kill()
+        self.process.communicate(timeout=LONGEST)
 
     close = stop
 
@@ -148,6 +150,22 @@ def play(count, first, second):
                "one wrong guess")
 
 
+# Notes when a tab shows that Ann stands elsewhere; walks to and fro, and answers when each step was made.
+NOTE = """(() => { const place = () => String(room.view(0).slice(0, 2)); let last = place(); window.sights = [];
+    new MutationObserver(() => { if (place() !== last) { last = place(); sights.push(performance.timeOrigin + performance.now()); } })
+        .observe(document.querySelector('#board'), { subtree: true, attributes: true }); })()"""
+WALK = """(async () => { const times = []; for (let step = 0; step < %d; step++) { times.push(performance.timeOrigin + performance.now());
+    room.walk(step %% 2 ? 1 : -1, 0); do await new Promise(done => setTimeout(done, 60)); while (room.client.pending); } return times; })()"""
+
+
+def sights(count, first, second, steps=20):
+    """How long it takes, in milliseconds, until the other tab shows a step, sorted."""
+    second.run(NOTE)
+    made = first.run(WALK % steps)
+    count.expect(second.until(f"sights.length === {steps}", LONGEST), "each step is seen")
+    return sorted(seen - begun for begun, seen in zip(made, second.run("sights")))
+
+
 def cut(count, first, second, server):
     """A line that is gone, and a server that is."""
     second.run("room.slow(Infinity)")
@@ -176,7 +194,7 @@ def cut(count, first, second, server):
 def main(words):
     """The status of all tests."""
     count, shots = Count(), words.pop(1) if words[:1] == ["--shots"] else None
-    programs = [word for word in words if word != "--shots"]
+    programs = [word for word in words if word != "--shots"] or [BUILT] * os.access(BUILT, os.X_OK)
     with tempfile.TemporaryDirectory() as room:
         folder = os.path.join(room, "site")
         subprocess.run([FILL, folder], check=True)
@@ -192,6 +210,8 @@ def main(words):
             if shots:
                 first.shot(os.path.join(shots, "site-phone.png"))
                 second.shot(os.path.join(shots, "site-desktop.png"))
+            times = sights(count, first, second)
+            count.expect(times[len(times) // 2] <= 100, f"within 100 ms: {times}")
             cut(count, first, second, server)
             count.same(browser.thrown, [], "nothing is thrown")
         finally:
