@@ -39,7 +39,7 @@ by the word behind its opening fence:
                     adds 1 to the object was `sent` to all of these
     file PATH       lines that stand together in that file of the repository
     python          lines of Python, which must be read
-    text, sh, ini   not checked
+    text, sh, ini, js       not checked
 
 Where no document is named, it looks at more:
 
@@ -486,7 +486,7 @@ class Checker(Count):
     def check_block(self, words, lines, name):
         """One block."""
         word, more = words[0], words[1:]
-        if word in ("text", "sh", "ini"):
+        if word in ("text", "sh", "ini", "js"):
             return
         if word == "python":
             self.expect(compile("\n".join(lines), name, "exec") is not None, name)
