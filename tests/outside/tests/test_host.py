@@ -30,7 +30,7 @@ from doubles.programs import Run, connect, finish, free_port, reset, stop_all
 from rules import wire
 from rules.living import check_log, log_text, world_in
 from rules.report import Fault as Wrong
-from tests.counting import Room, program_in
+from tests.counting import ROOT, Room, program_in
 from tests.test_client import Client, Fault, Payload, action, first_payload, obj, request_bytes
 from tests.test_living import NODE, PLAYED, Player, Summing, calls_of, check_calls, move
 
@@ -644,6 +644,57 @@ def test_crashes(test):
     judge(test, world, folder, "crashes")
 
 
+def test_backup(test):
+    """A folder that is copied while clients play: the copy is the world as it was, with all that was answered before."""
+    world, folder, copy = test.world("backup"), test.folder("backup-dir"), test.folder("backup-copy")
+    host = [Host(test, world, folder)]
+    is_over, players = threading.Event(), [player(number, host) for number in range(4)]
+
+    def play(client):
+        while not is_over.is_set():
+            make(client, client.number)
+            client.go_on(0.01)
+        client.finish()
+
+    for each in players:
+        each.join()
+    threads = [threading.Thread(target=play, args=(each,), daemon=True) for each in players]
+    for thread in threads:
+        thread.start()
+    time.sleep(0.5)
+    before = host[0].status()
+    shutil.copytree(folder, copy)
+    time.sleep(0.2)
+    is_over.set()
+    for thread in threads:
+        thread.join(LONGEST)
+    test.same(host[0].stop(), 0, "backup: stops")
+    other = Host(test, world, copy)
+    status = other.status()
+    test.expect(before["entries"] <= status["entries"] and before["accepted"] <= status["accepted"], f"backup: {before}, then {status}")
+    test.same(other.stop(), 0, "backup: the copy stops")
+    history, _ = judge(test, world, copy, "backup")
+    judge(test, world, folder, "backup: the folder itself")
+    test.expect(history and len(history.accepted) >= before["accepted"] > 0, "backup: what was answered is in it")
+
+
+def test_page(test):
+    """The example of docs/HOSTING.md: twice, with a kill between."""
+    with open(os.path.join(ROOT, "docs", "HOSTING.md"), encoding="utf-8") as file:
+        page = file.read()
+    world = test.file("page.json", re.search(r"^echo '(\{.*\})' >world.json$", page, re.M)[1].encode())
+    folder, text = test.folder("page-dir"), re.search(r"```python\n(.*?)```", page, re.S)[1]
+    for wanted in ("(95,) (5,)\n", "(90,) (10,)\n"):
+        host = Host(test, world, folder)
+        done = subprocess.run([sys.executable, "-c", text.replace("4000", str(host.port))], cwd=ROOT, capture_output=True, text=True,
+                              timeout=LONGEST, check=False)
+        test.same((done.stdout, done.stderr), (wanted, ""), "page: the player")
+        test.expect(wanted.strip() in page, f"page: it tells {wanted}")
+        told = [line.split(", entry")[1] for line in host.lines[:2]]
+        test.expect(wanted[:3] != "(95" or told == [" 0, commit 0\n", " 2, commit 0\n"], f"page: its lines: {host.lines}")
+        host.kill()
+
+
 def any_request(chance):
     """A request of any kind, right or wrong."""
     objects = tuple(sorted(chance.sample(range(9), chance.randrange(4))))
@@ -788,8 +839,8 @@ def test_full_disk(test):
     test.same(host.stop(), 0, "full disk: it goes on once there is room")
 
 
-TESTS = (test_words, test_play, test_only_one, test_refused, test_bad_peers, test_many, test_held, test_steward, test_keys, test_web,
-         test_crashes, test_any_requests, test_mixed, test_full_disk)
+TESTS = (test_words, test_play, test_only_one, test_refused, test_bad_peers, test_many, test_held, test_steward, test_keys, test_web, test_crashes,
+         test_backup, test_page, test_any_requests, test_mixed, test_full_disk)
 
 
 def main(words):
