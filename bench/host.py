@@ -31,7 +31,7 @@ class Server:
 
     def __init__(self, kind, program, peer, world, folder):
         self.kind, self.folder, self.port = kind, folder, free_port()
-        words = [program, "host", world, folder, "--stdin", "--at", f"127.0.0.1:{self.port}", "--sync", kind] if kind in ("batch", "none") \
+        words = [program, "host", world, folder, "--stdin", "--at", f"127.0.0.1:{self.port}", "--sync", kind, "--idle", "3600"] if kind in ("batch", "none") \
             else [peer, "host", str(self.port), world, *(["--threads"] if kind == "threads" else [])]
         self.begun = time.perf_counter()
         self.process = subprocess.Popen(words, stdin=subprocess.PIPE, stdout=subprocess.DEVNULL, stderr=subprocess.PIPE, text=True)
@@ -79,7 +79,8 @@ def main(program, sources, disk, rounds, actions):
             for clients in CLIENTS:
                 for kind in SERVERS:
                     server = Server(kind, program, peer, world, os.path.join(folders, f"{kind}-{clients}-{place}"))
-                    found = driven(peer, server.port, clients, actions)
+                    # With one client each action waits for the disk twice.
+                    found = driven(peer, server.port, clients, actions // 20 if (kind, clients) == ("batch", 1) else actions)
                     rates[kind, clients].append(found)
                     if kind in ("batch", "none"):
                         found["status"], found["memory"] = server.status(), server.memory()

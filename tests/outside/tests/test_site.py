@@ -154,15 +154,16 @@ def play(count, first, second):
 NOTE = """(() => { const place = () => String(room.view(0).slice(0, 2)); let last = place(); window.sights = [];
     new MutationObserver(() => { if (place() !== last) { last = place(); sights.push(performance.timeOrigin + performance.now()); } })
         .observe(document.querySelector('#board'), { subtree: true, attributes: true }); })()"""
-WALK = """(async () => { const times = []; for (let step = 0; step < %d; step++) { times.push(performance.timeOrigin + performance.now());
-    room.walk(step %% 2 ? 1 : -1, 0); do await new Promise(done => setTimeout(done, 60)); while (room.client.pending); } return times; })()"""
+WALK = """(() => { const time = performance.timeOrigin + performance.now(); room.walk(%d, 0); return time; })()"""
 
 
 def sights(count, first, second, steps=20):
     """How long it takes, in milliseconds, until the other tab shows a step, sorted."""
     second.run(NOTE)
-    made = first.run(WALK % steps)
-    count.expect(second.until(f"sights.length === {steps}", LONGEST), "each step is seen")
+    made = []
+    for step in range(steps):
+        made.append(first.run(WALK % (1 if step % 2 else -1)))
+        count.expect(second.until(f"sights.length > {step}", LONGEST) and first.until("!room.client.pending", LONGEST), "each step is seen")
     return sorted(seen - begun for begun, seen in zip(made, second.run("sights")))
 
 
