@@ -31,14 +31,17 @@ export class Line {
         return link;
     }
 
-    /** Does one thing after the other, each after half the time there and back. */
+    /** Does one thing after the other, each after half the time there and back. (Timers alone would not keep the order: they cut
+     * off parts of milliseconds.) */
     queue() {
-        let last = 0;
+        const waiting = [];
+        const go = () => {
+            while (waiting.length && waiting[0].due <= performance.now()) waiting.shift().task();
+            if (waiting.length) setTimeout(go, waiting[0].due - performance.now());
+        };
         return task => {
-            const due = Math.max(performance.now() + Math.min(this.delay, 10_000) / 2, last);
-            last = due;
-            if (due <= performance.now()) task();
-            else setTimeout(task, due - performance.now());
+            waiting.push({ task, due: performance.now() + Math.min(this.delay, 10_000) / 2 });
+            if (waiting.length === 1) go();
         };
     }
 }

@@ -15,6 +15,7 @@ import http.server
 import json
 import os
 import re
+import shutil
 import subprocess
 import sys
 import tempfile
@@ -112,6 +113,29 @@ def look_at_files(count, folder):
     count.same((done.returncode, done.stderr), (2, "words: tools/site FOLDER\n"), "tools/site without a folder")
 
 
+LINE = """import { Line } from "./line.js";
+const line = new Line(), found = [];
+for (const delay of [0, 20, 100]) {
+    line.set(delay);
+    const put = line.queue(), seen = [], begun = performance.now();
+    for (let place = 0; place < 60; place += 1) {
+        if (place === 40) line.set(0);
+        put(() => seen.push([place, performance.now() - begun]));
+        if (place % 9 === 0) await new Promise(done => setTimeout(done, 1));
+    }
+    while (seen.length < 60) await new Promise(done => setTimeout(done, 5));
+    found.push(seen.every(([place, time], order) => place === order && time >= delay / 2 - 1));
+}
+console.log(JSON.stringify(found));"""
+
+
+def try_line(count, folder):
+    """A slow line keeps the order of what goes over it, also where it gets fast meanwhile. Where there is no node, nothing is tried."""
+    if shutil.which("node"):
+        done = subprocess.run(["node", "--no-warnings", "--input-type=module", "--eval", LINE], cwd=folder, capture_output=True, text=True, check=False)
+        count.same((done.stdout, done.stderr), ("[true,true,true]\n", ""), "a slow line keeps the order")
+
+
 def at(tab, target):
     """What a tab sees of an object."""
     return tab.run(f"room.view({target})")
@@ -200,6 +224,7 @@ def main(words):
         folder = os.path.join(room, "site")
         subprocess.run([FILL, folder], check=True)
         look_at_files(count, folder)
+        try_line(count, folder)
         if not chromium.path():
             print("Chromium is not there: nobody plays")
             return count.close()
