@@ -97,9 +97,10 @@ def entries_of(text):
         yield served_entry(lines, lines.number, inf)
 
 
-def check_log(world, text, is_honest=True, each=lambda entry: None):
+def check_log(world, text, is_honest=True, each=lambda entry: None, is_serial=True):
     """The history of a log in which each reply is the one due, and the serial world. All values that were told are serial; where not all
-    clients are honest, of those that were reported only the results that count. `each` is called with each entry."""
+    clients are honest, of those that were reported only the results that count. Where liars' results count nothing is asked of values, and
+    `is_serial` is False. `each` is called with each entry."""
     history, entries = LivingHistory(world), []
     for entry in entries_of(text):
         try:
@@ -114,7 +115,8 @@ def check_log(world, text, is_honest=True, each=lambda entry: None):
         if entry.reply.kind != "refused":
             entries.append(entry)
     serial = SerialWorld(world.opening, history.accepted)
-    check_serial_values(history, serial, entries)
+    if is_serial:
+        check_serial_values(history, serial, entries)
     pairs = {(one.author, one.number) for one in history.accepted}
     if len(pairs) != len(history.accepted):
         raise Fault(0, "an action was accepted twice")

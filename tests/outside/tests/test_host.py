@@ -172,11 +172,11 @@ def make(client, *targets):
     client.make(add(*targets))
 
 
-def judge(test, world, folder, name, is_honest=True):
+def judge(test, world, folder, name, is_honest=True, is_serial=True):
     """The log is that of one legal history, in which each session has its End; gives the history and the serial world."""
     text = log_text(folder)
     try:
-        history, serial = check_log(world_in(world), text, is_honest)
+        history, serial = check_log(world_in(world), text, is_honest, is_serial=is_serial)
     except Wrong as fault:
         test.expect(False, f"{name}: {fault}: {text.splitlines()[fault.line - 1] if fault.line else ''}")
         return None, None
@@ -734,7 +734,7 @@ def test_any_requests(test):
     test.same(host.status()["open"], 1, "any requests: nobody is there")
     test.expect(len(os.listdir(f"/proc/{host.process.pid}/fd")) <= opened + 1, "any requests: no file is left open")
     test.same(host.stop(), 0, "any requests: stops")
-    judge(test, world, folder, "any requests", False)
+    judge(test, world, folder, "any requests", is_serial=False)
 
 
 def test_mixed(test):
