@@ -18,6 +18,10 @@ HERE = os.path.dirname(os.path.abspath(__file__))
 TOP = os.path.normpath(os.path.join(HERE, "..", ".."))
 PAGE = os.path.join(TOP, "docs", "CALLS.md")
 WIDTH = 120
+# What is said of calls that end, refuse nothing but for want of memory, and change nothing. They are left out.
+PLAIN = (("yes", "no refusal", "nothing is changed"), ("yes", "memory alone", "nothing is changed"))
+# Doubles in memory, for tests.
+DOUBLE = re.compile(r"(Mem[A-Z]|CallPlan|HoldGate|FewCrew)")
 BEGIN, END = "<!-- calls: begin -->", "<!-- calls: end -->"
 WAITS = re.compile(r"\bR: [^,>{]*\bWait\b|impl Wait")
 SYSTEM = {"End", "Net", "Crew", "Door"}
@@ -208,8 +212,9 @@ def table():
         for owner, function, front, result, clauses, waiting in calls_of(crate):
             if not re.search(r"[&A-Za-z]", re.sub(r".*?\(", "", front, count=1).split(")")[0]) and not result:
                 continue
-            call = f"{owner}::{function}" if owner else function
-            rows.setdefault(columns(owner, function, front, result, clauses, waiting), []).append(f"`{call}`")
+            call, answers = f"{owner}::{function}" if owner else function, columns(owner, function, front, result, clauses, waiting)
+            if answers not in PLAIN and not DOUBLE.match(owner or ""):
+                rows.setdefault(answers, []).append(f"`{call}`")
         if rows:
             parts.append(f"**`{crate}`**\n\n" + "\n".join(line_of(answers, calls) for answers, calls in rows.items()))
     return "\n" + "\n\n".join(parts) + "\n"
