@@ -3,8 +3,12 @@
 
 mod counts;
 mod figures;
+mod keys;
+mod kinds;
 mod origins;
+mod parts;
 mod paths;
+mod route;
 mod site;
 
 pub use counts::Counts;

@@ -1,0 +1,5 @@
+//! Tests of connections in memory.
+#![tactic(auto)]
+
+#[cfg(test)]
+mod scripts;
