@@ -9,7 +9,7 @@ use Rattle.sv_client.specs.declared.trace.Event.TheVariants as events
 use Rattle.sv_client.specs.declared.trace.Trace.{Trace}
 use Rattle.sv_client.specs.Traces.{joins}
 use Rattle.sv_client.specs.Taking.{Identity}
-use Rattle.sv_client.specs.Proper.{AreInTurn, Proper, identity_of}
+use Rattle.sv_client.specs.Proper.{AreInTurn, AreProper, Proper, identity_of}
 use Rattle.sv_client.proofs.Sessions.{in_turn}
 use Rattle.sv_system.specs.Clients.{sessions_begun, AreClientEvents, IsClientTrace}
 use Rattle.sv_system.proofs.Every.{each-more}
@@ -45,9 +45,12 @@ turn-events who first (events.Cut ∷ t) p = (p.0, turn-events who first t p.1)
 turn-events who first (events.Quit ∷ t) p = (p.0, turn-events who first t p.1)
 turn-events who first (events.Show objects ∷ t) p = (p.0, turn-events who first t p.1)
 
+pub proper-events : (who : Identity) (first : ℕ) (t : List Event) → AreProper who first t → AreClientEvents who t
+proper-events who first t p = turn-events who first t (in_turn who first t p)
+
 pub client-trace : (shape : Shape) (L : Trace) → Proper shape L → IsClientTrace shape L
 client-trace shape L proper = record {
   client = (let few : L.client.0 < 32 = proper.who.client in omega (arith, few));
   interest = record { few = proper.who.few; ascending = proper.who.ascending; objects = proper.who.objects };
-  events = turn-events (identity_of shape L) L.first (reverse L.events) (in_turn (identity_of shape L) L.first (reverse L.events) proper.events);
+  events = proper-events (identity_of shape L) L.first (reverse L.events) proper.events;
 }

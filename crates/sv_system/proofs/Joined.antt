@@ -1,8 +1,8 @@
 -- Which session each Join of a trace began.
 use Rattle.std.proofs.Common.{◌≡◌, ℕ, suc, ◌+◌, ◌<◌, ◌≤◌, Bool, true, false, ◌==◌, inl, inr, List, [], ◌∷◌, Option, Some, None, refl, sym, ap, ◌∙◌, subst, arith, eqb-true, eq-eqb}
 use Rattle.std.specs.Prelude.{if◌then◌else◌, All}
-use Rattle.std.specs.List.{AllByRecursion}
-use Rattle.std.proofs.lemmas.Bool.{cond-true, cond-false, cases_Bool, ne_eqb}
+use Rattle.std.specs.List.{list_any, AllByRecursion}
+use Rattle.std.proofs.lemmas.Bool.{cond-true, cond-false, cases_Bool, ne_eqb, or_left, or_right}
 use Rattle.std.proofs.lemmas.List.Elements.{recursion_from_All}
 use Rattle.std.proofs.lemmas.Option.{none-some, same_Some}
 use Rattle.sv_client.specs.declared.trace.Event.{Event}
@@ -10,6 +10,7 @@ use Rattle.sv_client.specs.declared.trace.Event.TheVariants as events
 use Rattle.sv_client.specs.Traces.{joins, current_session}
 use Rattle.sv_client.specs.Taking.{Identity}
 use Rattle.sv_system.specs.Clients.{sessions_begun, AreClientEvents}
+use Rattle.sv_system.specs.Fits.{is_join_of}
 
 -- The session that the n-th Join began, counted from 1.
 abbrev pub session_at : List Event → ℕ → Option ℕ
@@ -63,6 +64,23 @@ current-at (events.Leave ∷ t) s c = current-at t s c
 current-at (events.Cut ∷ t) s c = current-at t s c
 current-at (events.Quit ∷ t) s c = current-at t s c
 current-at (events.Show objects ∷ t) s c = current-at t s c
+
+-- Each such session was joined.
+pub at-joined : (t : List Event) (n s : ℕ) → session_at t n ≡ Some s → list_any (is_join_of s) t ≡ true
+at-joined [] n s e = absurd (none-some s e)
+at-joined (events.Join m ∷ t) n s e =
+    elim (cases_Bool (n == suc (joins t))) [
+      | inl y ↦ or_left (m == s) (list_any (is_join_of s) t) (eq-eqb m s (same_Some m s (sym (cond-true (n == suc (joins t)) (Some m) (session_at t n) y) ∙ e)))
+      | inr f ↦ or_right (m == s) (list_any (is_join_of s) t) (at-joined t n s (sym (cond-false (n == suc (joins t)) (Some m) (session_at t n) f) ∙ e))
+    ]
+at-joined (events.Got m r ∷ t) n s e = at-joined t n s e
+at-joined (events.Make action ∷ t) n s e = at-joined t n s e
+at-joined (events.Poll ∷ t) n s e = at-joined t n s e
+at-joined (events.Observe objects wait ∷ t) n s e = at-joined t n s e
+at-joined (events.Leave ∷ t) n s e = at-joined t n s e
+at-joined (events.Cut ∷ t) n s e = at-joined t n s e
+at-joined (events.Quit ∷ t) n s e = at-joined t n s e
+at-joined (events.Show objects ∷ t) n s e = at-joined t n s e
 
 -- What holds of all sessions that were begun holds of each.
 each-begun : (P : ℕ → Type 0) (t : List Event) → AllByRecursion P (sessions_begun t) → (n s : ℕ) → session_at t n ≡ Some s → P s
