@@ -22,7 +22,7 @@ use Rattle.sv_system.specs.Clients.{MayComeNext, AreClientEvents}
 use Rattle.sv_system.specs.Fronts.{IsFront}
 use Rattle.sv_system.specs.Fits.{is_join_of}
 use Rattle.sv_system.proofs.Fronts.{front-all, front-then, front-append, get-push_cases}
-use Rattle.sv_system.proofs.Joined.{session_at, at-within, at-join, at-more, at-below}
+use Rattle.sv_system.proofs.Joined.{session_at, at-join, at-more, at-below}
 
 pub other-session : (o : Option ℕ) (s : ℕ) → (o ≡ Some s → ⊥) → is_session o s ≡ false
 other-session None s f = refl

@@ -1,6 +1,5 @@
 -- Proper traces, and those of clients in turn, are traces that an honest client can have.
-use Rattle.std.proofs.Common.{◌≡◌, ℕ, suc, ◌+◌, ◌<◌, List, [], ◌∷◌, reverse, sym, subst, arith}
-use Rattle.std.specs.Prelude.{All}
+use Rattle.std.proofs.Common.{ℕ, suc, ◌+◌, ◌<◌, List, [], ◌∷◌, reverse, sym, subst, arith}
 use Rattle.std.specs.List.{AllByRecursion}
 use Rattle.std.proofs.lemmas.List.Elements.{All-from_recursion}
 use Rattle.sv_world.specs.declared.world.Shape.{Shape}
@@ -15,7 +14,7 @@ use Rattle.sv_system.specs.Clients.{sessions_begun, AreClientEvents, IsClientTra
 use Rattle.sv_system.proofs.Every.{each-more}
 
 -- Each session that was begun is below the next one.
-turn-below : (who : Identity) (first : ℕ) (t : List Event) → AreInTurn who first t → AllByRecursion (λ n. n < first + joins t) (sessions_begun t)
+pub turn-below : (who : Identity) (first : ℕ) (t : List Event) → AreInTurn who first t → AllByRecursion (λ n. n < first + joins t) (sessions_begun t)
 turn-below who first [] p = tt
 turn-below who first (events.Join s ∷ t) p = (
   omega (arith, p.0),

@@ -32,6 +32,7 @@ pub mod NeverSent
 pub mod NextReply
 pub mod NonEmpty
 pub mod Numbering
+pub mod Numbers
 pub mod Observed
 pub mod Opened
 pub mod Order

@@ -24,7 +24,7 @@ use Rattle.sv_system.proofs.Entered.{entered}
 use Rattle.sv_system.proofs.Aligned.{drop-one}
 use Rattle.sv_system.proofs.Asking.{IsServed, same-allows, same-kind, same-items}
 use Rattle.sv_system.proofs.Trusted.{noted-serial}
-use Rattle.sv_system.proofs.Owned.{plain-served, owns-own, one-of}
+use Rattle.sv_system.proofs.Owned.{plain-served, owns-own}
 use Rattle.sv_system.proofs.Opened.{asks}
 use Rattle.sv_system.proofs.Allowed.{allowed}
 use Rattle.sv_system.proofs.Ordered.{ordered, complete}
