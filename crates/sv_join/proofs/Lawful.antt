@@ -40,7 +40,7 @@ use Rattle.sv_join.specs.Legal.{numbered_from, IsLegalServer}
 -- ---- The law
 
 module _ (law : NeverRefusedInScenarios) (messages : RepliesAreMessages) (scenario : Scenario) (good : IsGoodScenario scenario) (opening : All ValueFits scenario.world.values)
-    (L : Trace) (script : List Step) (few : length script ≤ 256) (proper : Proper scenario.world.shape L) (follows : Follows scenario.world.shape script L) (passages : List Passage)
+    (L : Trace) (script : List Step) (few : length script ≤ 256) (proper : Proper scenario.world.shape L) (first_is : L.first ≡ 0) (follows : Follows scenario.world.shape script L) (passages : List Passage)
     (server : IsLegalServer scenario L passages) (s : ℕ) (p : Passage) (there : slice_get passages s ≡ Some p) (session : IsOpenSession L s)
     (rest : List ℕ) (begins : BeginsWithReplies p.received (replies_of L s) rest) where
   abbrev own : Identity
@@ -73,7 +73,7 @@ module _ (law : NeverRefusedInScenarios) (messages : RepliesAreMessages) (scenar
   proper_up : Proper scenario.world.shape (numbered_from server.first L)
   proper_up = record {
     who = proper.who;
-    events = subst (AreProper own server.first) (sym up) (up_proper server.first own done proper.events);
+    events = subst (AreProper own server.first) (sym up) (up_proper server.first own done (subst (λ n. AreProper own n done) first_is proper.events));
   }
 
   current : current_session (reverse (numbered_from server.first L).events) ≡ Some (s + server.first)
