@@ -16,8 +16,8 @@ use Rattle.sv_client.specs.declared.trace.Event.{Event}
 use Rattle.sv_client.specs.declared.trace.Event.TheVariants as events
 use Rattle.sv_client.specs.Traces.{makes, held_of, with_reply, head_held, results_of, last_values, are_same, without_front, settled_by, has_news, pending_with, pending_of}
 use Rattle.sv_client.specs.Taking.{Identity, outstanding, allows, is_out_of_order, is_bad_head, is_for_front, ends_with_front, is_good_relay, is_bad_relay, has_bad_item, Unasked, fault_after}
-use Rattle.sv_client.specs.Proper.{AreProper}
 use Rattle.sv_client.proofs.Faultless.{kind-of, good-of}
+use Rattle.sv_system.specs.Clients.{AreClientEvents}
 use Rattle.law_journal.specs.Entries.{ForOldest, EachTaken}
 use Rattle.law_journal.specs.Numbered.{IsZeroForPolls, TakenRelaysOfZeroAnswerPolls}
 use Rattle.law_journal.specs.Brought.{HasItems, TakenRelaysHaveItems}
@@ -142,13 +142,13 @@ suits-items who t q replies.Idle kind good = tt
 suits-items who t q (replies.Refused code detail) kind good = tt
 suits-items who t q replies.Bye kind good = tt
 
-module _ (who : Identity) (first : ℕ) (P : Request → Reply → Type 0) (suits : (t : List Event) → Suits who t P) where
+module _ (who : Identity) (P : Request → Reply → Type 0) (suits : (t : List Event) → Suits who t P) where
   oldest : (t : List Event) (qs : List Request) (reply : Reply) → fault_after who t qs reply ≡ None → ForOldest P qs reply
   oldest t [] reply e = none-some Unasked (sym e)
   oldest t (q ∷ qs) reply e =
       suits t q reply (kind-of (allows q reply) _ e) (good-of (allows q reply) (is_out_of_order t reply) (has_bad_item who (pending_of t) q reply) _ e)
 
-  each-taken : (t : List Event) → AreProper who first t → EachTaken P who t
+  each-taken : (t : List Event) → AreClientEvents who t → EachTaken P who t
   each-taken [] p = tt
   each-taken (events.Got s reply ∷ t) p = (oldest t (outstanding who t) reply p.0.taken, each-taken t p.1)
   each-taken (events.Join s ∷ t) p = each-taken t p.1
@@ -161,7 +161,7 @@ module _ (who : Identity) (first : ℕ) (P : Request → Reply → Type 0) (suit
   each-taken (events.Show objects ∷ t) p = each-taken t p.1
 
 pub taken_zero : TakenRelaysOfZeroAnswerPolls
-taken_zero who first t p = each-taken who first IsZeroForPolls (λ u. suits-zero who u) t p
+taken_zero who t p = each-taken who IsZeroForPolls (λ u. suits-zero who u) t p
 
 pub taken_items : TakenRelaysHaveItems
-taken_items who first t p = each-taken who first (λ q reply. HasItems reply) (λ u. suits-items who u) t p
+taken_items who t p = each-taken who (λ q reply. HasItems reply) (λ u. suits-items who u) t p

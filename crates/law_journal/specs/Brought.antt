@@ -17,7 +17,7 @@ use Rattle.sv_journal.specs.Sessions.{sent_to}
 use Rattle.sv_journal.specs.Serving.{Keeping, plain}
 use Rattle.sv_client.specs.declared.trace.Event.{Event}
 use Rattle.sv_client.specs.Taking.{Identity}
-use Rattle.sv_client.specs.Proper.{AreProper}
+use Rattle.sv_system.specs.Clients.{AreClientEvents}
 use Rattle.law_journal.specs.Entries.{HoldsInLegal, HoldsInServed, EachTaken}
 
 -- ---- Positions
@@ -147,4 +147,4 @@ ServedSessionsInOrderGetItems = HoldsInServed (λ k. AsksForNews)
 
 -- Each relay that a client took has items, whoever sent it.
 abbrev pub TakenRelaysHaveItems : Type 0
-TakenRelaysHaveItems = (who : Identity) (first : ℕ) (t : List Event) → AreProper who first t → EachTaken (λ request reply. HasItems reply) who t
+TakenRelaysHaveItems = (who : Identity) (t : List Event) → AreClientEvents who t → EachTaken (λ request reply. HasItems reply) who t

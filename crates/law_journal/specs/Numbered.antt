@@ -8,7 +8,7 @@ use Rattle.sv_journal.specs.declared.entry.Entry.{Entry}
 use Rattle.sv_journal.specs.History.{accepted, full_reply}
 use Rattle.sv_client.specs.declared.trace.Event.{Event}
 use Rattle.sv_client.specs.Taking.{Identity}
-use Rattle.sv_client.specs.Proper.{AreProper}
+use Rattle.sv_system.specs.Clients.{AreClientEvents}
 use Rattle.law_journal.specs.Entries.{HoldsInLegal, HoldsInServed, EachTaken}
 
 -- The number that a relay tells is that of the Submit that it answers, which is not 0, or 0 where it answers a Poll. Nothing else is answered by
@@ -42,4 +42,4 @@ ServedRelaysTellTheirNumbers = HoldsInServed (λ k. OfEntry TellsNumber)
 
 -- The same of each reply that a client took, whoever sent it.
 abbrev pub TakenRelaysOfZeroAnswerPolls : Type 0
-TakenRelaysOfZeroAnswerPolls = (who : Identity) (first : ℕ) (t : List Event) → AreProper who first t → EachTaken IsZeroForPolls who t
+TakenRelaysOfZeroAnswerPolls = (who : Identity) (t : List Event) → AreClientEvents who t → EachTaken IsZeroForPolls who t

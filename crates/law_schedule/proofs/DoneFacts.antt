@@ -11,7 +11,7 @@ use Rattle.sv_journal.specs.History.{accepted}
 use Rattle.sv_client.specs.declared.trace.Event.{Event}
 use Rattle.sv_client.specs.Traces.{current_session, asked, got}
 use Rattle.sv_client.specs.Taking.{Identity, first_fault_of_reply}
-use Rattle.sv_client.specs.Proper.{AreProper, identity_of}
+use Rattle.sv_client.specs.Proper.{AreProper, Proper, identity_of}
 use Rattle.sv_scenario.specs.declared.scenario.Plan.{Plan}
 use Rattle.sv_scenario.specs.declared.scenario.Scenario.{Scenario}
 use Rattle.sv_scenario.specs.declared.scenario.Step.{Step}
@@ -107,10 +107,13 @@ module _ (scenario : Scenario) (good : IsGoodScenario scenario) (run : Run) (sou
   fit : FitsOne shape run.history (trace_of_player p)
   fit = each-at (FitsOne shape run.history) (traces_of run) i (trace_of_player p) (recursion_from_All (FitsOne shape run.history) (traces_of run) sound.fits.each) trace-at
 
+  proper-trace : Proper shape (trace_of_player p)
+  proper-trace = each-at (Proper shape) (traces_of run) i (trace_of_player p) (recursion_from_All (Proper shape) (traces_of run) sound.proper) trace-at
+
   proper-now : AreProper p.who p.first p.events
   proper-now =
       subst (λ (t : List Event). AreProper p.who p.first t) (same-events p)
-      (subst (λ (w : Identity). AreProper w p.first (reverse (trace_of_player p).events)) who-is fit.proper.events)
+      (subst (λ (w : Identity). AreProper w p.first (reverse (trace_of_player p).events)) who-is proper-trace.events)
 
   fit-in : (s : ℕ) → list_any (is_join_of s) p.events ≡ true → IsFit run.history p s
   fit-in s joined =
@@ -154,7 +157,7 @@ module _ (scenario : Scenario) (good : IsGoodScenario scenario) (run : Run) (sou
       subst (λ (t : List Event). first_fault_of_reply p.who t reply ≡ None) (same-events p)
       (subst (λ (w : Identity). first_fault_of_reply w (reverse L.events) reply ≡ None) who-is
       (honest scenario.world scenario.bound scenario.reach (session_count scenario) h (traces_of run) i L s reply good.world.objects
-      good.world.attrs good.bound positions-few sound.legal sound.fits trace-at
+      good.world.attrs good.bound positions-few sound.legal sound.fits trace-at proper-trace
       (subst (λ (t : List Event). current_session t ≡ Some s) back current)
       (subst (λ (t : List Event). length (asked p.who.client p.who.interest t s) ≤ 1024) back few)
       (subst (λ (t : List Event). slice_get (replies_in (accepted h) h s) (length (got t s)) ≡ Some reply) back next)))

@@ -14,6 +14,7 @@ use Rattle.sv_scenario.specs.declared.scenario.Step.TheVariants as steps
 use Rattle.sv_scenario.specs.Sessions.{cuts_by, cuts_in}
 use Rattle.sv_script.specs.Following.{must_join, is_welcomed}
 use Rattle.sv_system.proofs.Aligned.{aligned}
+use Rattle.sv_system.proofs.Clients.{proper-events}
 use Rattle.sv_system.proofs.Pendings.{key_of, keys, submits}
 use Rattle.law_schedule.specs.Players.{Player, does, if_free, is_calm, is_settled, last_steps, next_step, player_turn}
 use Rattle.law_schedule.proofs.DoneTakes.{IsOpen}
@@ -86,7 +87,7 @@ calm-settled p e = let none = ap length (settled-none p e) in lt-ltb (length (ou
 -- Nothing is pending then.
 room-settled : (p : Player) (s : ℕ) → AreProper p.who p.first p.events → IsOpen p s → is_settled p ≡ true → nat_lt (length (pending_of p.events)) 8 ≡ true
 room-settled p s proper o e =
-    let none : keys (pending_of p.events) ≡ [] = sym (aligned p.who p.first p.events proper s o.current) ∙ ap submits (sym (outstanding_in p.who p.events s o.current) ∙ settled-none p e) in
+    let none : keys (pending_of p.events) ≡ [] = sym (aligned p.who p.events (proper-events p.who p.first p.events proper) s o.current) ∙ ap submits (sym (outstanding_in p.who p.events s o.current) ∙ settled-none p e) in
     let count = ap length none in
     let same = length-map (pending_of p.events) key_of in
     lt-ltb (length (pending_of p.events)) 8 (omega (arith, count, same))

@@ -60,6 +60,7 @@ record-of scenario good run sound done =
     record {
       legal = sound.legal;
       fits = sound.fits;
+      proper = sound.proper;
       sessions = sound.sessions;
       ended = λ s l.
           let w = was-joined scenario good run sound (λ i p at. each-at (λ (q : Player). q.closed ≡ true) run.players i p closed at) s l in

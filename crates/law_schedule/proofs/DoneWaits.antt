@@ -34,6 +34,7 @@ use Rattle.sv_system.proofs.Fronts.{get-last}
 use Rattle.sv_system.proofs.Histories.{IsEarlier, same, after}
 use Rattle.sv_system.proofs.Entered.{is_of, as-many, replies-earlier}
 use Rattle.sv_system.proofs.Asked.{part-rest, asked-part, got-when, got-answers, begun-or_not, current-joined}
+use Rattle.sv_system.proofs.Clients.{proper-events}
 use Rattle.sv_system.proofs.Leaving.{leave-last}
 use Rattle.sv_system.specs.Laws.{NeverRefusedInScenarios}
 use Rattle.sv_system.proofs.Order.{leave-only, never-refused}
@@ -107,13 +108,14 @@ spent-answered who first t h s proper front all w =
     let within = slice_get_within (replies_in A h s) n reply there in
     let found = at_place (got t s) n (omega (arith, within, all)) in
     let took : slice_get (got t s) n ≡ Some reply = found.1 ∙ sym (front n found.0 found.1) ∙ there in
-    let g = got-when who first t s n reply took in
-    let a = got-answers who first t proper s n reply g in
+    let own = proper-events who first t proper in
+    let g = got-when who t s n reply took in
+    let a = got-answers who t own s n reply g in
     let leave : a.request ≡ requests.Leave = stops-leave a.request reply (ap (λ (l : Logged). is_some (stop_of l)) (logged-back A w.entry.reply) ∙ w.stop) a.kind in
     let at : slice_get (asked who.client who.interest t s) n ≡ Some requests.Leave =
-    asked-part who first g.before t (part-rest g.before (events.Got s reply) t g.part) s n requests.Leave
+    asked-part who g.before t (part-rest g.before (events.Got s reply) t g.part) s n requests.Leave
     (ap (slice_get (asked who.client who.interest g.before s)) g.place ∙ a.asked_there ∙ ap Some leave) in
-    let last = (leave-last who first t proper s n at).last in
+    let last = (leave-last who t own s n at).last in
     let many = as-many A h s in
     omega (arith, last, many, within)
 
@@ -209,7 +211,7 @@ module _ (scenario : Scenario) (good : IsGoodScenario scenario) (honest : NeverR
 
   some-asked : 0 < length (asks p p.events s)
   some-asked =
-      elim (begun-or_not p.who p.first p.events f.proper s) [
+      elim (begun-or_not p.who p.events (proper-events p.who p.first p.events f.proper) s) [
         | inl b ↦ absurd (b.1 o.current)
         | inr b ↦ (let n = ap length b.asked_are in omega (arith, n))
       ]

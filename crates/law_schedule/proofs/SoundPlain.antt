@@ -12,12 +12,14 @@ use Rattle.sv_journal.specs.Sessions.{is_end}
 use Rattle.sv_journal.specs.Answer.{Rules, Legal, reply_to}
 use Rattle.sv_client.specs.declared.trace.Trace.{Trace}
 use Rattle.sv_client.specs.Traces.{requests_of}
+use Rattle.sv_client.specs.Proper.{Proper}
 use Rattle.sv_scenario.specs.declared.scenario.Scenario.{Scenario}
 use Rattle.sv_scenario.specs.declared.scenario.Turn.{Turn}
 use Rattle.sv_scenario.specs.Limits.{IsGoodScenario, IsGoodTurn}
 use Rattle.sv_scenario.specs.Sessions.{session_count}
 use Rattle.sv_system.specs.Fronts.{IsFront}
 use Rattle.sv_system.specs.Fits.{requests_in, FitsOne, is_owned, has_session}
+use Rattle.sv_system.proofs.Clients.{client-trace}
 use Rattle.sv_system.proofs.Fronts.{front-then}
 use Rattle.sv_system.proofs.Histories.{same}
 use Rattle.sv_system.proofs.Entered.{is_of, requests-one, request-there}
@@ -66,13 +68,13 @@ front-heard r (e ∷ h) s qs f = (
 
 fits-plain : (r : Rules) (shape : Shape) (h : List Entry) (L : Trace) → FitsServer (plain_server r) shape h L → FitsOne shape h L
 fits-plain r shape h L f = record {
-  proper = f.proper;
+  trace = client-trace shape L f.proper;
   sessions = λ s j. let one = f.sessions s j in record { got = one.got; asked = heard-front r h s (requests_of L s) one.heard; ended = one.ended };
 }
 
-plain-fits : (r : Rules) (shape : Shape) (h : List Entry) (L : Trace) → FitsOne shape h L → FitsServer (plain_server r) shape h L
-plain-fits r shape h L f = record {
-  proper = f.proper;
+plain-fits : (r : Rules) (shape : Shape) (h : List Entry) (L : Trace) → Proper shape L → FitsOne shape h L → FitsServer (plain_server r) shape h L
+plain-fits r shape h L proper f = record {
+  proper = proper;
   sessions = λ s j. let one = f.sessions s j in record { got = one.got; heard = front-heard r h s (requests_of L s) one.asked; ended = one.ended };
 }
 
@@ -94,6 +96,7 @@ sound-plain scenario run a = record {
     owned = All-from_recursion (λ (e : Entry). is_owned (traces_of run) e ≡ true) run.history
         (owned-each run.players run.history (recursion_from_All (λ (e : Entry). begun_by run.players e.session ≡ true) run.history a.begun));
   };
+  proper = λ k d l. (a.fits k d l).proper;
   sessions = a.sessions;
   begun = a.begun;
   players = a.players;
@@ -102,7 +105,7 @@ sound-plain scenario run a = record {
 pub plain-sound : (scenario : Scenario) (run : Run) → IsSound scenario run → IsSoundOver (plain_server (rules_of scenario)) scenario run
 plain-sound scenario run a = record {
   served = legal-served (rules_of scenario) run.history a.legal;
-  fits = λ k d l. plain-fits (rules_of scenario) scenario.world.shape run.history (get_or (traces_of run) k d) (a.fits.each k d l);
+  fits = λ k d l. plain-fits (rules_of scenario) scenario.world.shape run.history (get_or (traces_of run) k d) (a.proper k d l) (a.fits.each k d l);
   apart = a.fits.apart;
   sessions = a.sessions;
   begun = a.begun;

@@ -8,6 +8,7 @@ use Rattle.sv_journal.specs.Answer.{Legal}
 use Rattle.sv_client.specs.declared.trace.Event.{Event}
 use Rattle.sv_client.specs.declared.trace.Event.TheVariants as events
 use Rattle.sv_client.specs.Taking.{outstanding}
+use Rattle.sv_client.specs.Proper.{Proper}
 use Rattle.sv_scenario.specs.declared.scenario.Plan.{Plan}
 use Rattle.sv_scenario.specs.declared.scenario.Scenario.{Scenario}
 use Rattle.sv_scenario.specs.declared.scenario.Step.{Step}
@@ -50,11 +51,12 @@ ArePlaying shape k s _ _ = ⊥
 abbrev pub has_joined : Player → ℕ → Bool
 has_joined p s = list_any (is_join_of s) p.events
 
--- The journal is legal and fits the traces; each of its entries, an End too, is of a session that a player joined; and each player did its
--- script so far.
+-- The journal is legal and fits the traces, each of which is one that a client of a scenario can have; each of its entries, an End too, is of a
+-- session that a player joined; and each player did its script so far.
 pub record IsSound (scenario : Scenario) (run : Run) : Type 0 where
   pub legal : Legal (rules_of scenario) run.history
   pub fits : Fits scenario.world.shape run.history (traces_of run)
+  pub proper : All (Proper scenario.world.shape) (traces_of run)
   pub sessions : All (λ (e : Entry). e.session < session_count scenario) run.history
   pub begun : All (λ (e : Entry). list_any (λ (p : Player). has_joined p e.session) run.players ≡ true) run.history
   pub players : ArePlaying scenario.world.shape 0 0 scenario.clients run.players

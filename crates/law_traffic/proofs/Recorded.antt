@@ -1,5 +1,5 @@
 -- A run that is done leaves a record.
-use Rattle.std.proofs.Common.{◌≡◌, ℕ, zero, suc, ◌+◌, ◌-◌, ◌<◌, ◌≤◌, true, inl, inr, List, [], ◌∷◌, ◌++◌, map, reverse, Some, slice_get, refl, sym, subst, ◌∙◌, arith}
+use Rattle.std.proofs.Common.{◌≡◌, ℕ, zero, suc, ◌+◌, ◌-◌, ◌<◌, true, inl, inr, List, [], ◌∷◌, ◌++◌, map, reverse, Some, slice_get, refl, sym, subst, ◌∙◌, arith}
 use Rattle.std.specs.List.{list_any, AllByRecursion}
 use Rattle.std.proofs.lemmas.Bool.{or_left, or_right}
 use Rattle.std.proofs.lemmas.List.Elements.{recursion_from_All, All-from_recursion}
@@ -12,7 +12,7 @@ use Rattle.sv_journal.specs.Sessions.{is_end}
 use Rattle.sv_journal.specs.Laws.{FullRepliesStay, LegalRelaysNameAccepted}
 use Rattle.sv_sequencer.specs.Step.{entry_of}
 use Rattle.sv_client.specs.declared.trace.Trace.{Trace}
-use Rattle.sv_client.specs.Traces.{joins, requests_of}
+use Rattle.sv_client.specs.Traces.{requests_of}
 use Rattle.sv_client.specs.Proper.{Proper, identity_of}
 use Rattle.sv_scenario.specs.declared.scenario.Plan.{Plan}
 use Rattle.sv_scenario.specs.declared.scenario.Scenario.{Scenario}
@@ -20,9 +20,10 @@ use Rattle.sv_scenario.specs.Sessions.{session_count}
 use Rattle.sv_system.specs.Fits.{is_join_of, has_session, is_owned, FitsIn, FitsOne, Fits}
 use Rattle.sv_system.specs.Records.{ends_in, EachTrace, IsRecordOf}
 use Rattle.sv_system.proofs.Asked.{begun-or_not, any-reverse}
+use Rattle.sv_system.proofs.Clients.{proper-events, client-trace}
+use Rattle.sv_system.proofs.Joined.{at-joined}
 use Rattle.sv_asked.specs.Asked.{RepliesAreMessages}
 use Rattle.sv_system.proofs.Every.{each-append, each-reverse}
-use Rattle.law_schedule.proofs.DoneCounts.{low-joined}
 use Rattle.law_traffic.specs.Sessions.{Over, IsSessionDone}
 use Rattle.law_traffic.specs.Runs.{IsRun, IsGoodRun}
 use Rattle.law_traffic.proofs.Ours.{mine, IsOurs, all_ours}
@@ -60,7 +61,7 @@ module _ (stay : FullRepliesStay) (name : LegalRelaysNameAccepted) (messages : R
   fits_each [] [] e = tt
   fits_each [] (L ∷ Ms) e = absurd e
   fits_each (plan ∷ plans) [] e = tt
-  fits_each (plan ∷ plans) (L ∷ Ms) e = (record { proper = e.0.proper; sessions = fits_session plan L e.0 }, fits_each plans Ms e.1)
+  fits_each (plan ∷ plans) (L ∷ Ms) e = (record { trace = client-trace scenario.world.shape L e.0.proper; sessions = fits_session plan L e.0 }, fits_each plans Ms e.1)
 
   -- ---- Each entry
 
@@ -68,12 +69,9 @@ module _ (stay : FullRepliesStay) (name : LegalRelaysNameAccepted) (messages : R
   asks_joined s o q more e =
       let who = identity_of scenario.world.shape o.trace in
       let whole = reverse o.trace.events in
-      let first : o.trace.first ≤ s = omega (arith, o.session) in
-      elim (begun-or_not who o.trace.first whole o.holds.proper.events s) [
+      elim (begun-or_not who whole (proper-events who o.trace.first whole o.holds.proper.events) s) [
         | inl none ↦ (let no : q ∷ more ≡ [] = e ∙ none.0 in cc)
-        | inr begun ↦
-            (let low : s < o.trace.first + joins whole = omega (arith, begun.numbered, begun.among) in
-            any-reverse (is_join_of s) o.trace.events (low-joined who o.trace.first whole s o.holds.proper.events first low))
+        | inr begun ↦ any-reverse (is_join_of s) o.trace.events (at-joined whole begun.life s begun.numbered)
       ]
 
   owned_in : (s : ℕ) → s < session_count scenario → AllByRecursion (λ (e : Entry). is_owned Ls e ≡ true) (mine s journal)
@@ -127,6 +125,7 @@ module _ (stay : FullRepliesStay) (name : LegalRelaysNameAccepted) (messages : R
       record {
         legal = run.legal;
         fits = fits;
+        proper = run.proper;
         sessions =
             All-from_recursion (λ (e : Entry). e.session < session_count scenario) (reverse journal)
             (each-reverse (λ (e : Entry). e.session < session_count scenario) journal (under stay name messages scenario journal Ls sessions good run));

@@ -22,6 +22,7 @@ use Rattle.sv_client.specs.Taking.{first_fault_of_reply}
 use Rattle.sv_client.specs.Proper.{Proper, identity_of}
 use Rattle.sv_world.specs.declared.world.Shape.{Shape}
 use Rattle.sv_system.proofs.Asked.{got-when, got-answers, part-rest, asked-part}
+use Rattle.sv_system.proofs.Clients.{proper-events}
 use Rattle.sv_system.proofs.Fronts.{get-last}
 use Rattle.sv_system.proofs.Leaving.{leave-last}
 use Rattle.sv_client.specs.declared.trace.Event.TheVariants as events
@@ -66,13 +67,14 @@ none_awaited shape L s proper stop =
     let whole = reverse L.events in
     let n = length stop.before in
     let is : slice_get (got whole s) n ≡ Some stop.last = ap (λ (l : List Reply). slice_get l n) stop.are ∙ get-last stop.before stop.last in
-    let g = got-when who L.first whole s n stop.last is in
-    let a = got-answers who L.first whole proper.events s n stop.last g in
+    let own = proper-events who L.first whole proper.events in
+    let g = got-when who whole s n stop.last is in
+    let a = got-answers who whole own s n stop.last g in
     let leave : a.request ≡ requests.Leave = stops-leave a.request stop.last stop.stop a.kind in
     let part = part-rest g.before (events.Got s stop.last) whole g.part in
     let there : slice_get (asked L.client L.interest g.before s) n ≡ Some requests.Leave =
     ap (slice_get (asked L.client L.interest g.before s)) g.place ∙ (a.asked_there ∙ ap Some leave) in
-    let last = leave-last who L.first whole proper.events s n (asked-part who L.first g.before whole part s n requests.Leave there) in
+    let last = leave-last who whole own s n (asked-part who g.before whole part s n requests.Leave there) in
     let count = ap (λ (l : List Reply). length l) stop.are ∙ length-append stop.before (stop.last ∷ []) in
     let all = last.last in
     omega (arith, count, all)

@@ -119,7 +119,7 @@ module _ (stay : FullRepliesStay) (name : LegalRelaysNameAccepted) (messages : R
         takeable stay name journal L s x open_done can_be_sent rest begins scenario.world.shape
         (λ reply there. law scenario.world scenario.bound scenario.reach (session_count scenario) (reverse journal) Ls o.place L s reply limits.objects limits.attrs limits.bound
         (few_accepted stay name messages scenario journal Ls sessions good run) run.legal
-        (fits stay name messages scenario journal Ls sessions good run) o.member o.session.current (omega (arith, few))
+        (fits stay name messages scenario journal Ls sessions good run) o.member w.proper o.session.current (omega (arith, few))
         (ap (λ (ws : List Reply). slice_get ws (length (got (reverse L.events) s))) (all_are stay name journal L s x open_done) ∙ there))
 
   -- ---- The ends of traces

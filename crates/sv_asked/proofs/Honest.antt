@@ -31,11 +31,11 @@ use Rattle.sv_journal.proofs.Plain.{plain-keeping, plain-legal}
 use Rattle.sv_client.specs.declared.trace.Event.{Event}
 use Rattle.sv_client.specs.declared.trace.Event.TheVariants as events
 use Rattle.sv_client.specs.declared.trace.Trace.{Trace}
-use Rattle.sv_client.specs.Traces.{joins, held_of, requests_of}
+use Rattle.sv_client.specs.Traces.{held_of, requests_of}
 use Rattle.sv_client.specs.Taking.{Identity, items_of}
-use Rattle.sv_client.specs.Proper.{AreProper, IsGoodIdentity, identity_of}
+use Rattle.sv_client.specs.Proper.{IsGoodInterest, identity_of}
 use Rattle.sv_client.proofs.Sendable.{wire_action}
-use Rattle.sv_client.proofs.Sessions.{few_makes}
+use Rattle.sv_system.specs.Clients.{AreClientEvents}
 use Rattle.sv_system.specs.Fits.{FitsOne}
 use Rattle.sv_system.specs.Served.{FitsButValues}
 use Rattle.sv_system.specs.Laws.{ReplicasAreSerial}
@@ -46,7 +46,7 @@ use Rattle.sv_system.proofs.Leaving.{join-asked}
 use Rattle.sv_system.proofs.Relays.{observed-within}
 use Rattle.sv_system.proofs.Allowed.{asked-good}
 use Rattle.sv_system.proofs.Window.{submit-most}
-use Rattle.sv_asked.specs.Asked.{EventFits, HasNumbers, RequestsAreMessages, ServedRequestsFit}
+use Rattle.sv_asked.specs.Asked.{EventFits, CountsFit, HasNumbers, RequestsAreMessages, ServedRequestsFit}
 use Rattle.sv_system.proofs.Every.{each-at, each-map, each-more, each-place, each-reverse}
 use Rattle.sv_asked.proofs.Worlds.{HasFit, IsGoodValue, serial_good}
 use Rattle.sv_asked.proofs.Made.{Makes, Asks, asked-have}
@@ -54,52 +54,38 @@ use Rattle.sv_asked.proofs.Owned.{actions-fit}
 use Rattle.sv_asked.proofs.Items.{got-items}
 use Rattle.sv_asked.proofs.Reported.{IsFineItem, done-is}
 
--- ---- Counts
-
-few-joins : (who : Identity) (first : ℕ) (t : List Event) → AreProper who first t → joins t ≤ 64
-few-joins who first [] p = omega arith
-few-joins who first (events.Join s ∷ t) p = omega (arith, p.0.few)
-few-joins who first (events.Make a ∷ t) p = few-joins who first t p.1
-few-joins who first (events.Poll ∷ t) p = few-joins who first t p.1
-few-joins who first (events.Observe objects wait ∷ t) p = few-joins who first t p.1
-few-joins who first (events.Leave ∷ t) p = few-joins who first t p.1
-few-joins who first (events.Got s reply ∷ t) p = few-joins who first t p.1
-few-joins who first (events.Cut ∷ t) p = few-joins who first t p.1
-few-joins who first (events.Quit ∷ t) p = few-joins who first t p.1
-few-joins who first (events.Show objects ∷ t) p = few-joins who first t p.1
-
 -- ---- Actions
 
 -- An action that may be made, with numbers of its types.
 abbrev IsMade : Shape → Action → Type 0
 IsMade shape a = (first_fault_of_action shape a ≡ None) × ActionFits a
 
-made : (who : Identity) (first : ℕ) (t : List Event) → AreProper who first t → AllByRecursion EventFits t → AllByRecursion (Makes (IsMade who.shape)) t
-made who first [] p f = tt
-made who first (events.Make a ∷ t) p f = ((p.0.good, f.0), made who first t p.1 f.1)
-made who first (events.Join s ∷ t) p f = (tt, made who first t p.1 f.1)
-made who first (events.Poll ∷ t) p f = (tt, made who first t p.1 f.1)
-made who first (events.Observe objects wait ∷ t) p f = (f.0, made who first t p.1 f.1)
-made who first (events.Leave ∷ t) p f = (tt, made who first t p.1 f.1)
-made who first (events.Got s reply ∷ t) p f = (tt, made who first t p.1 f.1)
-made who first (events.Cut ∷ t) p f = (tt, made who first t p.1 f.1)
-made who first (events.Quit ∷ t) p f = (tt, made who first t p.1 f.1)
-made who first (events.Show objects ∷ t) p f = (tt, made who first t p.1 f.1)
+made : (who : Identity) (t : List Event) → AreClientEvents who t → AllByRecursion EventFits t → AllByRecursion (Makes (IsMade who.shape)) t
+made who [] p f = tt
+made who (events.Make a ∷ t) p f = ((p.0.good, f.0), made who t p.1 f.1)
+made who (events.Join s ∷ t) p f = (tt, made who t p.1 f.1)
+made who (events.Poll ∷ t) p f = (tt, made who t p.1 f.1)
+made who (events.Observe objects wait ∷ t) p f = (f.0, made who t p.1 f.1)
+made who (events.Leave ∷ t) p f = (tt, made who t p.1 f.1)
+made who (events.Got s reply ∷ t) p f = (tt, made who t p.1 f.1)
+made who (events.Cut ∷ t) p f = (tt, made who t p.1 f.1)
+made who (events.Quit ∷ t) p f = (tt, made who t p.1 f.1)
+made who (events.Show objects ∷ t) p f = (tt, made who t p.1 f.1)
 
 -- ---- Each request
 
-join-is : (who : Identity) (life : ℕ) → IsGoodIdentity who → who.shape.objects ≤ 2 ^ 16 → life ≤ 64 → IsRequest (requests.Join who.client life who.interest)
-join-is who life good objects few =
+join-is : (who : Identity) (life : ℕ) → who.client.0 < 65536 → IsGoodInterest who → who.shape.objects ≤ 2 ^ 16 → life < 2 ^ 32 → IsRequest (requests.Join who.client life who.interest)
+join-is who life named good objects few =
     record {
       within = record { few = good.few; ascending = good.ascending };
       fits = (
-        omega (arith, good.client),
+        omega (arith, named),
         omega (arith, few),
         each-more (λ (o : ObjectId). o.0 < who.shape.objects) ObjectFits (λ o l. omega (arith, l, objects)) who.interest (recursion_from_All (λ (o : ObjectId). o.0 < who.shape.objects) who.interest good.objects),
       );
     }
 
-submit-is : (shape : Shape) (n : ℕ) (a : Action) → n ≤ 65536 → IsMade shape a → IsRequest (requests.Submit n a)
+submit-is : (shape : Shape) (n : ℕ) (a : Action) → n < 2 ^ 32 → IsMade shape a → IsRequest (requests.Submit n a)
 submit-is shape n a few m = record { within = wire_action shape a (good_of_none shape a m.0); fits = (omega (arith, few), m.1) }
 
 within-few : (n : ℕ) (xs : List ObjectId) → ((x : ℕ) → is_in x (numbers_of xs) ≡ true → x < n) → n ≤ 2 ^ 16 → AllByRecursion ObjectFits xs
@@ -134,6 +120,9 @@ module _ (r : Rules) (H : List Entry) (L : Trace) (s : ℕ) (limits : AreWithinL
   events-fit : AllByRecursion EventFits L.events
   events-fit = recursion_from_All EventFits L.events (recursion_from_All (λ (M : Trace). All EventFits M.events) (L ∷ []) numbers.made).0
 
+  counts : CountsFit L
+  counts = (recursion_from_All CountsFit (L ∷ []) numbers.counts).0
+
   good-actions : AllByRecursion (λ (a : Authored). IsGoodAction r.world.shape a.action) (accepted H)
   good-actions =
       each-more (λ (a : Authored). first_fault_of_action r.world.shape a.action ≡ None) (λ (a : Authored). IsGoodAction r.world.shape a.action)
@@ -154,26 +143,25 @@ module _ (r : Rules) (H : List Entry) (L : Trace) (s : ℕ) (limits : AreWithinL
 
   asks : (n : ℕ) (q : Request) → slice_get (requests_of L s) n ≡ Some q → Asks (IsMade r.world.shape) q
   asks n q there =
-      let makings = made who L.first whole one.proper.events (each-reverse EventFits L.events events-fit) in
+      let makings = made who whole one.trace.events (each-reverse EventFits L.events events-fit) in
       each-at (Asks (IsMade r.world.shape)) (requests_of L s) n q (asked-have (IsMade r.world.shape) L.client L.interest whole s makings) there
 
   each : (n : ℕ) (q : Request) → slice_get (requests_of L s) n ≡ Some q → IsRequest q
   each n (requests.Join client life interest) there =
-      let j = join-asked who L.first whole one.proper.events s n client life interest there in
-      let few = few-joins who L.first whole one.proper.events in
-      let is = join-is who life one.proper.who numbers.objects (omega (arith, j.among, few)) in
+      let j = join-asked who whole one.trace.events s n client life interest there in
+      let is = join-is who life one.trace.client one.trace.interest numbers.objects (omega (arith, j.among, counts.lives)) in
       subst (λ (c : ClientId). IsRequest (requests.Join c life interest)) (sym j.client_is) (subst (λ (o : List ObjectId). IsRequest (requests.Join who.client life o)) (sym j.interest_is) is)
   each n (requests.Submit seq a) there =
-      let most = submit-most who L.first whole one.proper.events s n seq a there in
-      submit-is r.world.shape seq a (omega (arith, most, few_makes who L.first whole one.proper.events)) (asks n (requests.Submit seq a) there)
+      let most = submit-most who whole one.trace.events s n seq a there in
+      submit-is r.world.shape seq a (omega (arith, most, counts.actions)) (asks n (requests.Submit seq a) there)
   each n (requests.Done results) there =
-      let d = done-when who L.first whole s n results there in
+      let d = done-when who whole s n results there in
       let items = got-items r H L one limits.bound numbers.positions named small (All-from_recursion (λ (a : Authored). IsGoodAction r.world.shape a.action) (accepted H) good-actions) s d.reply results d.before d.part d.asks in
       done-is r.world.shape.attrs r.world.values (actions_of H) limits.some_attrs limits.few_attrs good s d.reply results d.before whole d.part d.asks held-serial
       (subst (λ (n : ℕ). AllByRecursion (IsFineItem n) (items_of d.reply)) (sym limits.objects) items.each) items.some items.few
   each n requests.Poll there = record { within = tt; fits = tt }
   each n (requests.Observe objects wait) there =
-      observe-is r.world.shape.objects objects wait numbers.objects (asked-good who L.first whole one.proper.events s n objects wait there) (asks n (requests.Observe objects wait) there)
+      observe-is r.world.shape.objects objects wait numbers.objects (asked-good who whole one.trace.events s n objects wait there) (asks n (requests.Observe objects wait) there)
   each n requests.Leave there = record { within = tt; fits = tt }
   each n requests.Bad there = absurd (asks n requests.Bad there)
   each n requests.End there = absurd (asks n requests.End there)
@@ -193,6 +181,7 @@ for-one r h Ls i L numbers member =
       objects = numbers.objects;
       opening = numbers.opening;
       made = All-from_recursion P (L ∷ []) (each-at P Ls i L (recursion_from_All P Ls numbers.made) member, tt);
+      counts = All-from_recursion CountsFit (L ∷ []) (each-at CountsFit Ls i L (recursion_from_All CountsFit Ls numbers.counts) member, tt);
       positions = numbers.positions;
     }
 

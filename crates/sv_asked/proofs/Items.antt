@@ -98,8 +98,8 @@ module _ (r : Rules) (H : List Entry) (L : Trace) (fits : FitsButValues r.world.
   got-has s n reply is =
       let whole = reverse L.events in
       let who = identity_of r.world.shape L in
-      let g = got-when who L.first whole s n reply is in
-      let a = got-answers who L.first whole fits.proper.events s n reply g in
+      let g = got-when who whole s n reply is in
+      let a = got-answers who whole fits.trace.events s n reply g in
       any-reverse (is_join_of s) L.events (any-part (is_join_of s) g.before whole (part-rest g.before (events.Got s reply) whole g.part) (current-joined g.before s a.current))
 
   pub got-items : (s : ℕ) (reply : Reply) (results : List Done1) (before : List Event) → IsPart (events.Got s reply ∷ before) (reverse L.events) →
@@ -112,10 +112,10 @@ module _ (r : Rules) (H : List Entry) (L : Trace) (fits : FitsButValues r.world.
       let n = length (got before s) in
       let last : slice_get (got t s) n ≡ Some reply =
       ap (λ (l : List Reply). slice_get l n) (cond-true (s == s) (got before s ++ reply ∷ []) (got before s) (eq-eqb s s refl)) ∙ get-last (got before s) reply in
-      let there : slice_get (got whole s) n ≡ Some reply = got-part who L.first t whole part s n reply last in
+      let there : slice_get (got whole s) n ≡ Some reply = got-part who t whole part s n reply last in
       let x = entered (accepted H) H s n reply ((fits.sessions s (got-has s n reply there)).got n reply there) in
       let is : items ≡ map (item_at (accepted H)) (positions_in x.entry.reply) = ap items_of x.replied ∙ items-logged (accepted H) x.entry.reply in
-      let a = may-answer who L.first before s reply (proper-part who L.first t whole part fits.proper.events).0 in
+      let a = may-answer who before s reply (proper-part who t whole part fits.trace.events).0 in
       let count : length items ≡ length (positions_in x.entry.reply) = ap length is ∙ length-map (positions_in x.entry.reply) (item_at (accepted H)) in
       let among = entry-at (λ (e : Entry). NamesAccepted (length (accepted H)) e.reply) x.entry x.before H x.earlier (recursion_from_All (λ (e : Entry). NamesAccepted (length (accepted H)) e.reply) H named) in
       let few = entry-at (λ (e : Entry). length (positions_in e.reply) ≤ most_sent r e.reply) x.entry x.before H x.earlier (recursion_from_All (λ (e : Entry). length (positions_in e.reply) ≤ most_sent r e.reply) H small) in

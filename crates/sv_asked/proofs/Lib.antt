@@ -1,4 +1,5 @@
 -- The lemmas of this crate, file by file.
+pub mod Counts
 pub mod Evaluated
 pub mod Worlds
 pub mod Made

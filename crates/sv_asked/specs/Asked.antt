@@ -11,7 +11,7 @@ use Rattle.sv_journal.specs.Laws.{AreWithinLimits}
 use Rattle.sv_client.specs.declared.trace.Event.{Event}
 use Rattle.sv_client.specs.declared.trace.Event.TheVariants as events
 use Rattle.sv_client.specs.declared.trace.Trace.{Trace}
-use Rattle.sv_client.specs.Traces.{held_of, requests_of}
+use Rattle.sv_client.specs.Traces.{joins, makes, held_of, requests_of}
 use Rattle.sv_system.specs.Fits.{Fits}
 use Rattle.sv_system.specs.Served.{FitsButValues}
 use Rattle.sv_system.specs.Serial.{AreSerial}
@@ -22,12 +22,18 @@ EventFits (events.Make action) = ActionFits action
 EventFits (events.Observe objects wait) = wait < 2 ^ 16
 EventFits _ = Unit {0}
 
+-- There are numbers for a client's lives, and for its actions.
+pub record CountsFit (L : Trace) : Type 0 where
+  pub lives : joins (reverse L.events) < 2 ^ 32
+  pub actions : makes (reverse L.events) < 2 ^ 32
+
 -- What a run is given has numbers of their types: its objects, the values of its opening world, and the actions that clients made and what they
--- would wait. And there are numbers for the positions of the accepted actions.
+-- would wait. And there are numbers for the positions of the accepted actions, and for each client's lives and actions.
 pub record HasNumbers (r : Rules) (h : List Entry) (Ls : List Trace) : Type 0 where
   pub objects : r.world.shape.objects ≤ 2 ^ 16
   pub opening : All ValueFits r.world.values
   pub made : All (λ (L : Trace). All EventFits L.events) Ls
+  pub counts : All CountsFit Ls
   pub positions : length (accepted h) < 2 ^ 32
 
 -- Each request that an honest client asks in a session is a message, with numbers of its types.

@@ -19,7 +19,7 @@ use Rattle.sv_client.specs.declared.trace.Event.TheVariants as events
 use Rattle.sv_client.specs.declared.trace.Trace.{Trace}
 use Rattle.sv_client.specs.Traces.{requests_of}
 use Rattle.sv_client.specs.Taking.{Identity}
-use Rattle.sv_client.specs.Proper.{AreProper, identity_of}
+use Rattle.sv_client.specs.Proper.{AreProper, Proper, identity_of}
 use Rattle.sv_scenario.specs.declared.scenario.Plan.{Plan}
 use Rattle.sv_scenario.specs.declared.scenario.Scenario.{Scenario}
 use Rattle.sv_scenario.specs.declared.scenario.Step.{Step}
@@ -36,6 +36,7 @@ use Rattle.sv_asked.specs.Numbers.{StepFits, PlanFits, ScenarioFits}
 use Rattle.sv_system.proofs.Every.{each-at, each-left, each-reverse}
 use Rattle.sv_system.proofs.Limits.{limits_of, objects_few}
 use Rattle.sv_asked.proofs.Owned.{entry-at}
+use Rattle.sv_asked.proofs.Counts.{counts-each}
 use Rattle.sv_asked.proofs.Made.{Makes, Asks, asked-have}
 use Rattle.sv_replay.proofs.Scripts.{event_fits}
 use Rattle.sv_lines.specs.Told.{IsTold}
@@ -172,17 +173,21 @@ module _ (scenario : Scenario) (H : List Entry) (Ls : List Trace) (good : IsGood
     objects = objects_few scenario good;
     opening = numbers.values;
     made = All-from_recursion (λ (L : Trace). All EventFits L.events) Ls (all_made_fit order shape scenario.clients Ls w (recursion_from_All PlanFits scenario.clients numbers.plans));
+    counts = counts-each shape Ls g.proper;
     positions = (let most = few r H (session_count scenario) 1024 refl g.legal g.sessions in omega (arith, most, good.sessions));
   }
 
   one_of : (i : ℕ) (L : Trace) → slice_get Ls i ≡ Some L → FitsOne shape H L
   one_of i L there = each-at (FitsOne shape H) Ls i L (recursion_from_All (FitsOne shape H) Ls g.fits.each) there
 
+  proper_of : (i : ℕ) (L : Trace) → slice_get Ls i ≡ Some L → Proper shape L
+  proper_of i L there = each-at (Proper shape) Ls i L (recursion_from_All (Proper shape) Ls g.proper) there
+
   request_told : (i : ℕ) (L : Trace) → slice_get Ls i ≡ Some L → (s n : ℕ) (q : Request) → slice_get (requests_of L s) n ≡ Some q → IsTold shape q
   request_told i L there s n q at =
       let fits = each-at (λ (M : Trace). All EventFits M.events) Ls i L
       (all_made_fit order shape scenario.clients Ls w (recursion_from_All PlanFits scenario.clients numbers.plans)) there in
-      let made = made_checked (identity_of shape L) L.first (reverse L.events) (one_of i L there).proper.events
+      let made = made_checked (identity_of shape L) L.first (reverse L.events) (proper_of i L there).events
       (each-reverse EventFits L.events (recursion_from_All EventFits L.events fits)) in
       let checked = each-at (Asks (IsChecked shape)) (requests_of L s) n q (asked-have (IsChecked shape) L.client L.interest (reverse L.events) s made) at in
       let all = messages r H Ls i L s (limits_of scenario good) has_numbers g.legal g.fits there in

@@ -26,6 +26,7 @@ use Rattle.sv_script.proofs.Places.{finished-first}
 use Rattle.sv_system.specs.Fits.{is_join_of, has_session, is_owned, FitsIn, FitsOne, Fits, AreApart, AreAllApart}
 use Rattle.sv_system.specs.Records.{AreTracesOf, EachTrace, IsRecordOf, ScriptsAreFollowed, rules_of, ends_in}
 use Rattle.sv_system.proofs.Asked.{any-reverse}
+use Rattle.sv_system.proofs.Clients.{client-trace}
 use Rattle.law_schedule.proofs.DoneCounts.{joins-counted, joins-few, low-joined, one_if}
 use Rattle.law_schedule.proofs.DoneFacts.{any-turned}
 use Rattle.law_schedule.proofs.SoundTraces.{joined-within}
@@ -83,7 +84,13 @@ each_fits shape h [] [] w = All-nil (FitsOne shape h)
 each_fits shape h [] (L ∷ Ls) w = absurd w
 each_fits shape h (plan ∷ plans) [] w = absurd w
 each_fits shape h (plan ∷ plans) (L ∷ Ls) w =
-    All-cons (FitsOne shape h) L Ls (record { proper = w.0.proper; sessions = w.0.fits }) (each_fits shape h plans Ls w.1)
+    All-cons (FitsOne shape h) L Ls (record { trace = client-trace shape L w.0.proper; sessions = w.0.fits }) (each_fits shape h plans Ls w.1)
+
+each_proper : (shape : Shape) (h : List Entry) (plans : List Plan) (Ls : List Trace) → EachTrace (IsWholeTrace shape h) plans Ls → All (Proper shape) Ls
+each_proper shape h [] [] w = All-nil (Proper shape)
+each_proper shape h [] (L ∷ Ls) w = absurd w
+each_proper shape h (plan ∷ plans) [] w = absurd w
+each_proper shape h (plan ∷ plans) (L ∷ Ls) w = All-cons (Proper shape) L Ls w.0.proper (each_proper shape h plans Ls w.1)
 
 pub followed : (shape : Shape) (h : List Entry) (plans : List Plan) (Ls : List Trace) → EachTrace (IsWholeTrace shape h) plans Ls → ScriptsAreFollowed shape plans Ls
 followed shape h [] [] w = tt
@@ -149,6 +156,7 @@ is_record begun whole scenario h Ls good legal sessions ended t = record {
         (λ n l. some_has begun whole scenario.world.shape h 0 0 scenario.clients Ls t.clients t.whole good.plans n (omega arith) (omega (arith, l)))
         (recursion_from_All (λ (e : Entry). e.session < session_count scenario) h sessions));
   };
+  proper = each_proper scenario.world.shape h scenario.clients Ls t.whole;
   sessions = sessions;
   ended = ended;
   clients = t.clients;

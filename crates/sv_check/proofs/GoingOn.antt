@@ -64,7 +64,7 @@ module _ (scenario : Scenario) (entries : List Entry) where
   so_far plan L w = record { proper = w.proper; follows = w.follows.follows; got_is = λ s j. (w.fits s j).got }
 
   fine : (plan : Plan) (L : Trace) → IsWholeOf plan L → IsFine shape h plan L
-  fine plan L w = record { fits = record { proper = w.proper; sessions = w.fits }; follows = w.follows }
+  fine plan L w = record { proper = w.proper; sessions = w.fits; follows = w.follows }
 
   come_of : (plan : Plan) (L : Trace) (g : IsSoFarOf plan L) → ComeTo (identity_of shape L) L.first (journal_replies entries) [] plan.steps L.events g.follows.left
   come_of plan L g = come (identity_of shape L) L.first (journal_replies entries) plan.steps L.events g.follows.left (record {

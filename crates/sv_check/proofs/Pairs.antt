@@ -13,6 +13,7 @@ use Rattle.sv_client.specs.declared.trace.Trace.{Trace}
 use Rattle.sv_scenario.specs.declared.scenario.Scenario.{Scenario}
 use Rattle.sv_scenario.specs.Limits.{IsGoodScenario}
 use Rattle.sv_script.specs.Laws.{StepsAreDoneInOrder}
+use Rattle.sv_client.specs.Proper.{Proper}
 use Rattle.sv_system.specs.Fits.{FitsOne}
 use Rattle.sv_system.specs.Records.{EachTrace}
 use Rattle.sv_asked.specs.Asked.{RequestsAreMessages, AcceptedAreFew}
@@ -42,7 +43,8 @@ text_long shape es traces world =
 
 pub fine_of : (scenario : Scenario) (h : List Entry) (Ls : List Trace) → IsConsistent scenario h Ls → EachTrace (IsFine scenario.world.shape h) scenario.clients Ls
 fine_of scenario h Ls c =
-    all_fine scenario.world.shape h scenario.clients Ls (recursion_from_All (FitsOne scenario.world.shape h) Ls c.traffic.fits.each) c.scripts
+    all_fine scenario.world.shape h scenario.clients Ls (recursion_from_All (Proper scenario.world.shape) Ls c.traffic.proper)
+    (recursion_from_All (FitsOne scenario.world.shape h) Ls c.traffic.fits.each) c.scripts
 
 module _ (stay : FullRepliesStay) (names : LegalRelaysNameAccepted) (order : StepsAreDoneInOrder) (few : AcceptedAreFew) (messages : RequestsAreMessages)
     (scenario : Scenario) (good : IsGoodScenario scenario) (numbers : ScenarioFits scenario) where

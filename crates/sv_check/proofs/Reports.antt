@@ -57,7 +57,7 @@ whole_traces shape h [] [] f = tt
 whole_traces shape h [] (L ∷ Ls) f = absurd f
 whole_traces shape h (plan ∷ plans) [] f = absurd f
 whole_traces shape h (plan ∷ plans) (L ∷ Ls) f =
-    (record { proper = f.0.fits.proper; follows = f.0.follows; fits = f.0.fits.sessions }, whole_traces shape h plans Ls f.1)
+    (record { proper = f.0.proper; follows = f.0.follows; fits = f.0.sessions }, whole_traces shape h plans Ls f.1)
 
 -- A world part that has the values of all objects.
 pub record IsFullPart (scenario : Scenario) (text : List ℕ) : Type 0 where

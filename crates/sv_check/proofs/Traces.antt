@@ -13,11 +13,11 @@ use Rattle.sv_client.specs.declared.trace.Event.{Event}
 use Rattle.sv_client.specs.declared.trace.Trace.{Trace}
 use Rattle.sv_client.specs.Traces.{got}
 use Rattle.sv_client.specs.Taking.{Identity}
-use Rattle.sv_client.specs.Proper.{identity_of}
+use Rattle.sv_client.specs.Proper.{Proper, identity_of}
 use Rattle.sv_scenario.specs.declared.scenario.Plan.{Plan}
 use Rattle.sv_scenario.specs.Sessions.{sessions_of_plan}
 use Rattle.sv_script.specs.Following.{FollowsToEnd}
-use Rattle.sv_system.specs.Fits.{is_join_of, replies_in, has_session, FitsOne}
+use Rattle.sv_system.specs.Fits.{is_join_of, replies_in, has_session, FitsIn, FitsOne}
 use Rattle.sv_system.specs.Records.{AreTracesOf, EachTrace}
 use Rattle.law_schedule.proofs.DoneFacts.{any-turned}
 use Rattle.sv_report.specs.Report.{event_lines, trace_text}
@@ -42,24 +42,25 @@ trace_parts entries L x =
 pub line_behind : (a b : List ℕ) → 10 ∷ a ≡ 10 ∷ b → a ≡ b
 line_behind a b e = append_cancel_left (10 ∷ []) a b e
 
--- A trace that fits a journal, and follows its client's script to the end.
+-- A trace of a scenario's client that fits a journal, and follows its client's script to the end.
 pub record IsFine (shape : Shape) (h : List Entry) (plan : Plan) (L : Trace) : Type 0 where
-  pub fits : FitsOne shape h L
+  pub proper : Proper shape L
+  pub sessions : (s : ℕ) → has_session L s ≡ true → FitsIn h L s
   pub follows : FollowsToEnd shape plan.steps L
 
 module _ (shape : Shape) (h : List Entry) where
   abbrev R : ℕ → List Reply
   R s = replies_in (accepted h) h s
 
-  got_fronts : (L : Trace) → FitsOne shape h L → GotFronts R (reverse L.events)
-  got_fronts L f s j =
+  got_fronts : (plan : Plan) (L : Trace) → IsFine shape h plan L → GotFronts R (reverse L.events)
+  got_fronts plan L f s j =
       let has : has_session L s ≡ true =
       subst (λ (es : List Event). list_any (is_join_of s) es ≡ true) (reverse-reverse L.events) (any-turned (is_join_of s) (reverse L.events) j) in
       (f.sessions s has).got
 
   next_of : (plan : Plan) (L : Trace) → IsFine shape h plan L → AreNext (identity_of shape L) L.first R [] plan.steps L.events
   next_of plan L f = turned (identity_of shape L) L.first R plan.steps L.events f.follows.follows.left
-      (record { proper = f.fits.proper.events; follows = f.follows.follows.follows; gets = got_fronts L f.fits }) f.follows.finished
+      (record { proper = f.proper.events; follows = f.follows.follows.follows; gets = got_fronts plan L f }) f.follows.finished
 
   -- The part of a client tells its trace.
   pub trace_tells : (entries : List Entry) (plan : Plan) (L M : Trace) (x y : List ℕ) → L.client ≡ M.client → L.interest ≡ M.interest → L.first ≡ M.first →
@@ -96,9 +97,9 @@ module _ (shape : Shape) (h : List Entry) where
       (ap (λ (T : Trace). T ∷ Ls) one.0 ∙ ap (λ (Ts : List Trace). M ∷ Ts) more.0, more.1)
 
   -- All traces of a record are such.
-  pub all_fine : (plans : List Plan) (Ls : List Trace) → AllByRecursion (FitsOne shape h) Ls → EachTrace (λ (plan : Plan) (L : Trace). FollowsToEnd shape plan.steps L) plans Ls →
+  pub all_fine : (plans : List Plan) (Ls : List Trace) → AllByRecursion (Proper shape) Ls → AllByRecursion (FitsOne shape h) Ls → EachTrace (λ (plan : Plan) (L : Trace). FollowsToEnd shape plan.steps L) plans Ls →
       EachTrace (IsFine shape h) plans Ls
-  all_fine [] [] a w = tt
-  all_fine [] (L ∷ Ls) a w = absurd w
-  all_fine (plan ∷ plans) [] a w = absurd w
-  all_fine (plan ∷ plans) (L ∷ Ls) a w = (record { fits = a.0; follows = w.0 }, all_fine plans Ls a.1 w.1)
+  all_fine [] [] p a w = tt
+  all_fine [] (L ∷ Ls) p a w = absurd w
+  all_fine (plan ∷ plans) [] p a w = absurd w
+  all_fine (plan ∷ plans) (L ∷ Ls) p a w = (record { proper = p.0; sessions = a.0.sessions; follows = w.0 }, all_fine plans Ls p.1 a.1 w.1)

@@ -45,7 +45,7 @@ module _ (scenario : Scenario) (h : List Entry) where
   R s = replies_in (accepted h) h s
 
   fine : (plan : Plan) (L : Trace) → IsWholeTrace shape h plan L → IsFine shape h plan L
-  fine plan L w = record { fits = record { proper = w.proper; sessions = w.fits }; follows = w.follows }
+  fine plan L w = record { proper = w.proper; sessions = w.fits; follows = w.follows }
 
   all_fine : (plans : List Plan) (Ls : List Trace) → EachTrace (IsWholeTrace shape h) plans Ls → EachTrace (IsFine shape h) plans Ls
   all_fine [] [] w = tt

@@ -1,5 +1,5 @@
 -- No reply of a legal server is refused.
-use Rattle.std.proofs.Common.{◌≡◌, ℕ, ◌+◌, ◌≤◌, List, length, reverse, Some, None, option_map, slice_get, sym, ap, ◌∙◌, arith}
+use Rattle.std.proofs.Common.{◌≡◌, ℕ, ◌+◌, ◌≤◌, List, length, reverse, Some, None, option_map, slice_get, sym, ap, ◌∙◌, subst, arith}
 use Rattle.std.specs.Prelude.{All}
 use Rattle.std.specs.List.{AllByRecursion}
 use Rattle.std.proofs.lemmas.List.Elements.{recursion_from_All}
@@ -13,9 +13,9 @@ use Rattle.sv_client.specs.declared.trace.Trace.{Trace}
 use Rattle.sv_client.specs.Seen.{raised}
 use Rattle.sv_client.specs.Traces.{current_session, requests_of, got, asked}
 use Rattle.sv_client.specs.Taking.{Identity, first_fault_of_reply}
-use Rattle.sv_client.specs.Proper.{Proper, identity_of}
+use Rattle.sv_client.specs.Proper.{Proper, AreProper, identity_of}
 use Rattle.sv_client.proofs.Backwards.{map_reverse}
-use Rattle.sv_client.proofs.Shifts.{Up, up_current, up_got, up_asked, up_fault}
+use Rattle.sv_client.proofs.Shifts.{Up, up_current, up_got, up_asked, up_fault, up_proper}
 use Rattle.sv_scenario.specs.declared.scenario.Scenario.{Scenario}
 use Rattle.sv_scenario.specs.declared.scenario.Step.{Step}
 use Rattle.sv_scenario.specs.Limits.{IsGoodScenario}
@@ -40,7 +40,7 @@ use Rattle.sv_join.specs.Legal.{numbered_from, IsLegalServer}
 -- ---- The law
 
 module _ (law : NeverRefusedInScenarios) (messages : RepliesAreMessages) (scenario : Scenario) (good : IsGoodScenario scenario) (opening : All ValueFits scenario.world.values)
-    (L : Trace) (script : List Step) (few : length script ≤ 256) (proper : Proper scenario.world.shape L) (follows : Follows scenario.world.shape script L) (passages : List Passage)
+    (L : Trace) (script : List Step) (few : length script ≤ 256) (proper : Proper scenario.world.shape L) (first_is : L.first ≡ 0) (follows : Follows scenario.world.shape script L) (passages : List Passage)
     (server : IsLegalServer scenario L passages) (s : ℕ) (p : Passage) (there : slice_get passages s ≡ Some p) (session : IsOpenSession L s)
     (rest : List ℕ) (begins : BeginsWithReplies p.received (replies_of L s) rest) where
   abbrev own : Identity
@@ -70,6 +70,12 @@ module _ (law : NeverRefusedInScenarios) (messages : RepliesAreMessages) (scenar
       let same = ap (λ (l : List Event). length (asked L.client L.interest l (s + server.first))) up ∙ ap length (up_asked server.first own done s) in
       omega (arith, count, same)
 
+  proper_up : Proper scenario.world.shape (numbered_from server.first L)
+  proper_up = record {
+    who = proper.who;
+    events = subst (AreProper own server.first) (sym up) (up_proper server.first own done (subst (λ n. AreProper own n done) first_is proper.events));
+  }
+
   current : current_session (reverse (numbered_from server.first L).events) ≡ Some (s + server.first)
   current = ap current_session up ∙ (up_current server.first done ∙ ap (option_map (λ n. n + server.first)) session.current)
 
@@ -78,7 +84,7 @@ module _ (law : NeverRefusedInScenarios) (messages : RepliesAreMessages) (scenar
       let limits = limits_of scenario good in
       let count : length (got (reverse (numbered_from server.first L).events) (s + server.first)) ≡ length (replies_of L s) =
       ap (λ (l : List Event). length (got l (s + server.first))) up ∙ ap length (up_got server.first done s) in
-      let none = law scenario.world scenario.bound scenario.reach (session_count scenario) server.journal server.traces server.place (numbered_from server.first L) (s + server.first) reply limits.objects limits.attrs limits.bound server.room server.legal server.fits server.member current few_here (ap (slice_get all) count ∙ is) in
+      let none = law scenario.world scenario.bound scenario.reach (session_count scenario) server.journal server.traces server.place (numbered_from server.first L) (s + server.first) reply limits.objects limits.attrs limits.bound server.room server.legal server.fits server.member proper_up current few_here (ap (slice_get all) count ∙ is) in
       sym (up_fault server.first own done reply) ∙ (ap (λ (l : List Event). first_fault_of_reply own l reply) (sym up) ∙ none)
 
   pub not_refused : (payload : List ℕ) (fault : ReplyFault) → IsBadRest own done rest payload fault → ⊥

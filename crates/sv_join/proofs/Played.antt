@@ -146,5 +146,5 @@ module _ {E : Type 0} (told : E → Told) (faults : E → ℕ) (calm : E → Typ
       let here : IsOpenSession trace s = subst (IsOpenSession trace) (zero-add s) stuck.session in
       let bad = subst (λ n. IsBad (identity_of scenario.world.shape trace) (reverse trace.events) n (told stuck.after) payload.items fault) (zero-add s) stuck.shows.1 in
       let fine = plan_at (IsGoodPlan scenario.world.shape) scenario.clients k play.plan good.plans play.plan_is in
-      not_refused law messages scenario good opening trace play.plan.steps fine.few_steps play.trace_is.proper play.follows.follows (passages_of told faults play.left) server s
+      not_refused law messages scenario good opening trace play.plan.steps fine.few_steps play.trace_is.proper play.trace_is.first_is play.follows.follows (passages_of told faults play.left) server s
       (passage_of (told stuck.after) (faults stuck.after)) (map_at (λ end. passage_of (told end) (faults end)) play.left s stuck.after stuck.is) here bad.rest bad.received payload.items fault bad.bad

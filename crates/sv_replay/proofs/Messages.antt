@@ -29,6 +29,7 @@ use Rattle.sv_asked.specs.Asked.{EventFits, HasNumbers, RequestsAreMessages, Rep
 use Rattle.sv_system.proofs.Every.{each-at}
 use Rattle.sv_system.proofs.Limits.{limits_of, objects_few}
 use Rattle.sv_system.proofs.Places.{map_at}
+use Rattle.sv_asked.proofs.Counts.{counts-each}
 use Rattle.sv_asked.proofs.Owned.{entry-at, end-fits}
 use Rattle.law_schedule.specs.Players.{Player, trace_of_player}
 use Rattle.law_schedule.specs.Serving.{Run, Server, traces_of}
@@ -60,6 +61,7 @@ module _ (scenario : Scenario) (run : Run) (good : IsGoodScenario scenario) (num
     opening = numbers.values;
     made = All-from_recursion (λ (L : Trace). All EventFits L.events) (traces_of run)
         (players_made scenario.world.shape 0 0 scenario.clients run.players (recursion_from_All PlanFits scenario.clients numbers.plans) sound.players);
+    counts = counts-each scenario.world.shape (traces_of run) sound.proper;
     positions = (let most = few r H (session_count scenario) 1024 refl sound.legal sound.sessions in omega (arith, most, good.sessions));
   }
 

@@ -9,10 +9,10 @@ use Rattle.sv_journal.specs.Laws.{LegalRelaysNameAccepted}
 use Rattle.sv_journal.specs.Text.{RelaysNameAccepted}
 use Rattle.sv_client.specs.declared.trace.Trace.{Trace}
 use Rattle.sv_client.specs.Traces.{makes}
+use Rattle.sv_client.specs.Proper.{Proper}
 use Rattle.sv_client.proofs.Sessions.{few_makes}
 use Rattle.sv_scenario.specs.declared.scenario.Plan.{Plan}
 use Rattle.sv_scenario.specs.Sessions.{sessions_of_plan}
-use Rattle.sv_system.specs.Fits.{Fits}
 use Rattle.sv_system.specs.Records.{AreTracesOf}
 
 -- There are as many traces as clients.
@@ -23,8 +23,8 @@ traces_long k s (plan ∷ plans) [] h = absurd h
 traces_long k s (plan ∷ plans) (L ∷ Ls) h = ap suc (traces_long (suc k) (s + sessions_of_plan plan) plans Ls h.3)
 
 -- Each of them makes at most 65,536 actions.
-pub few_made : (shape : Shape) (h : List Entry) (Ls : List Trace) → Fits shape h Ls → All (λ (L : Trace). makes (reverse L.events) ≤ 65536) Ls
-few_made shape h Ls fits = λ k d l. let proper = (fits.each k d l).proper in few_makes _ _ _ proper.events
+pub few_made : (shape : Shape) (Ls : List Trace) → All (Proper shape) Ls → All (λ (L : Trace). makes (reverse L.events) ≤ 65536) Ls
+few_made shape Ls proper = λ k d l. few_makes _ _ _ (proper k d l).events
 
 -- The relays of the journal name accepted actions.
 pub named : (r : Rules) (entries : List Entry) → LegalRelaysNameAccepted → Legal r (reverse entries) → RelaysNameAccepted entries

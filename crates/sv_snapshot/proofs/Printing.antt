@@ -3,7 +3,6 @@ use Rattle.std.proofs.Common.{◌≡◌, ℕ, ◌<◌, List, length, slice_index
 use Rattle.std.specs.Prelude.{All}
 use Rattle.std.proofs.lemmas.List.Elements.{All-map}
 use Rattle.sv_world.specs.declared.action.Action.{Action}
-use Rattle.sv_world.specs.declared.world.Shape.{Shape}
 use Rattle.sv_world.specs.Faults.{IsGoodAction}
 use Rattle.sv_world.specs.Sets.{read_set}
 use Rattle.sv_world.proofs.Good.{good_of_none}
@@ -12,11 +11,9 @@ use Rattle.sv_journal.specs.declared.entry.Entry.{Entry}
 use Rattle.sv_journal.specs.History.{Authored, accepted, actions_of}
 use Rattle.sv_journal.specs.Laws.{LegalActionsAreGood}
 use Rattle.sv_client.specs.declared.trace.Trace.{Trace}
-use Rattle.sv_client.specs.Proper.{Proper}
 use Rattle.sv_scenario.specs.declared.scenario.Scenario.{Scenario}
 use Rattle.sv_scenario.specs.Limits.{IsGoodScenario}
 use Rattle.law_schedule.specs.Records.{IsReplay}
-use Rattle.sv_system.specs.Fits.{Fits}
 use Rattle.sv_system.specs.Records.{rules_of}
 use Rattle.sv_command.specs.Reading.{IsRead}
 use Rattle.sv_snapshot.specs.Cuts.{IsCut, IsShaped}
@@ -25,13 +22,10 @@ use Rattle.sv_snapshot.specs.Snapshots.{snapshots_of}
 use Rattle.sv_snapshot.specs.Statuses.{IsText}
 use Rattle.sv_snapshot.proofs.Cutting.{cuts_are, shaped_are}
 
-pub all_proper : (shape : Shape) (h : List Entry) (Ls : List Trace) → Fits shape h Ls → All (Proper shape) Ls
-all_proper shape h Ls fits = λ k d l. (fits.each k d l).proper
-
 module _ (scenario : Scenario) (h : List Entry) (Ls : List Trace) (good : IsGoodScenario scenario) (replay : IsReplay scenario h Ls) where
   pub cuts_of_run : All (IsCut scenario.world.values (actions_of h)) (snapshots_of scenario.world.shape Ls)
   cuts_of_run =
-      cuts_are scenario.world.shape scenario.world.values h Ls good.world.objects (all_proper scenario.world.shape h Ls replay.full.traffic.fits)
+      cuts_are scenario.world.shape scenario.world.values h Ls good.world.objects replay.full.traffic.proper
       replay.full.values replay.full.relays replay.full.seen
 
   reads_within : LegalActionsAreGood → All (λ (a : Action). All (λ x. x < length scenario.world.values) (read_set a)) (actions_of h)

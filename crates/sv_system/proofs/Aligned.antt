@@ -14,8 +14,8 @@ use Rattle.sv_client.specs.declared.trace.Event.{Event}
 use Rattle.sv_client.specs.declared.trace.Event.TheVariants as events
 use Rattle.sv_client.specs.Traces.{joins, makes, current_session, is_session, held_of, with_reply, pending_of, submit_of, asked_by_event, asked, got}
 use Rattle.sv_client.specs.Taking.{Identity, allows, is_for_front, ends_with_front, is_good_relay, is_bad_relay, is_bad_head, has_bad_item}
-use Rattle.sv_client.specs.Proper.{AreProper}
-use Rattle.sv_system.proofs.Asked.{may-answer, begun-or_not}
+use Rattle.sv_system.specs.Clients.{AreClientEvents}
+use Rattle.sv_system.proofs.Asked.{may-answer, begun-or_not, begun-older}
 use Rattle.sv_system.proofs.Pendings.{Numbered, keys, without_first, settles, keys-with, AreFrom, settled, IsCounted, counted, submitted_by, submits, submits-append, submits-pending, keys-made, got-fewer, IsAligned, waiting-more, quiet, quiet-if, quiet-got}
 
 abbrev pub is_submit : Request → Bool
@@ -141,34 +141,33 @@ rest-of requests.Leave b ks js e f = f ∙ sym (cond-false b (without_first js) 
 rest-of requests.Bad b ks js e f = f ∙ sym (cond-false b (without_first js) js e)
 rest-of requests.End b ks js e f = f ∙ sym (cond-false b (without_first js) js e)
 
-module _ (who : Identity) (first : ℕ) where
-  aligned-got : (r : Reply) (t : List Event) (s : ℕ) → AreProper who first (events.Got s r ∷ t) → IsAligned who first t s → IsAligned who first (events.Got s r ∷ t) s
+module _ (who : Identity) where
+  aligned-got : (r : Reply) (t : List Event) (s : ℕ) → AreClientEvents who (events.Got s r ∷ t) → IsAligned who t s → IsAligned who (events.Got s r ∷ t) s
   aligned-got r t s p a =
-      let ans = may-answer who first t s r p.0 in
+      let ans = may-answer who t s r p.0 in
       let n = length (got t s) in
       let qs = asked who.client who.interest t s in
       let more = asked_by_event who.client who.interest t (events.Got s r) s in
       let within : n < length qs = slice_get_within qs n ans.request ans.asked_there in
       let got_now : length (got (events.Got s r ∷ t) s) ≡ suc n = ap length (cond-true (s == s) (got t s ++ r ∷ []) (got t s) (eq-eqb s s refl)) ∙ length-append (got t s) (r ∷ []) ∙ add-one n in
       let rest : submits (drop (suc n) qs) ≡ (if settles r then without_first (keys (pending_of t)) else keys (pending_of t)) =
-      rest-of ans.request (settles r) (submits (drop (suc n) qs)) (keys (pending_of t)) (settles-submit who t ans.request r (counted who first t p.1) ans.kind ans.good)
+      rest-of ans.request (settles r) (submits (drop (suc n) qs)) (keys (pending_of t)) (settles-submit who t ans.request r (counted who t p.1) ans.kind ans.good)
       (sym (ap submits (drop-one n qs ans.request ans.asked_there)) ∙ a) in
       ap (λ (m : ℕ). submits (drop m (qs ++ more))) got_now
       ∙ ap submits (drop-append-le (suc n) qs more (omega arith))
       ∙ submits-append (drop (suc n) qs) more
-      ∙ ap (λ (ks : List Numbered). submits (drop (suc n) qs) ++ ks) (quiet-got who first s r t s)
+      ∙ ap (λ (ks : List Numbered). submits (drop (suc n) qs) ++ ks) (quiet-got who s r t s)
       ∙ append-nil (submits (drop (suc n) qs))
       ∙ rest
       ∙ sym (keys-with (held_of t) (with_reply (held_of t) r) r (pending_of t))
 
-  aligned-join : (t : List Event) (s : ℕ) → AreProper who first (events.Join s ∷ t) → IsAligned who first (events.Join s ∷ t) s
+  aligned-join : (t : List Event) (s : ℕ) → AreClientEvents who (events.Join s ∷ t) → IsAligned who (events.Join s ∷ t) s
   aligned-join t s p =
-      let number : s ≡ first + joins t = p.0.next in
       let now = requests.Join who.client (suc (joins t)) who.interest ∷ map submit_of (pending_of t) in
-      elim (begun-or_not who first t p.1 s) [
-        | inr b ↦ (let n : s + 1 ≡ first + b.life = b.numbered in let l : b.life ≤ joins t = b.among in absurd (omega arith))
+      elim (begun-or_not who t p.1 s) [
+        | inr b ↦ (let older : s < s = begun-older who t s p.0 s b in absurd (omega arith))
         | inl b ↦
-            (let few : length (got t s) ≤ length (asked who.client who.interest t s) = got-fewer who first t p.1 s in
+            (let few : length (got t s) ≤ length (asked who.client who.interest t s) = got-fewer who t p.1 s in
             let none : length (asked who.client who.interest t s) ≡ 0 = ap length b.0 in
             let zero' : length (got t s) ≡ 0 = omega arith in
             ap₂ (λ (n : ℕ) (qs : List Request). submits (drop n (qs ++ (if s == s then now else [])))) zero' b.0
@@ -176,28 +175,28 @@ module _ (who : Identity) (first : ℕ) where
             ∙ submits-pending (pending_of t))
       ]
 
-  aligned-make : (action : Action) (t : List Event) (s : ℕ) → AreProper who first (events.Make action ∷ t) → current_session t ≡ Some s → IsAligned who first t s → IsAligned who first (events.Make action ∷ t) s
+  aligned-make : (action : Action) (t : List Event) (s : ℕ) → AreClientEvents who (events.Make action ∷ t) → current_session t ≡ Some s → IsAligned who t s → IsAligned who (events.Make action ∷ t) s
   aligned-make action t s p c a =
       let q = requests.Submit (suc (makes t)) action in
       let mine : is_session (current_session t) s ≡ true = ap (λ (o : Option ℕ). is_session o s) c ∙ eq-eqb s s refl in
-      waiting-more who first t s (if is_session (current_session t) s then q ∷ [] else []) (got-fewer who first t p.1 s)
+      waiting-more who t s (if is_session (current_session t) s then q ∷ [] else []) (got-fewer who t p.1 s)
       ∙ ap₂ (λ (ks : List Numbered) (qs : List Request). ks ++ submits qs) a (cond-true (is_session (current_session t) s) (q ∷ []) [] mine)
-      ∙ sym (keys-made who first action t)
+      ∙ sym (keys-made who action t)
 
-  pub aligned : (t : List Event) → AreProper who first t → (s : ℕ) → current_session t ≡ Some s → IsAligned who first t s
+  pub aligned : (t : List Event) → AreClientEvents who t → (s : ℕ) → current_session t ≡ Some s → IsAligned who t s
   aligned [] p s c = absurd (none-some s c)
   aligned (events.Join m ∷ t) p s c =
       let e : m ≡ s = same_Some m s c in
-      subst (λ (n : ℕ). IsAligned who first (events.Join m ∷ t) n) e (aligned-join t m p)
+      subst (λ (n : ℕ). IsAligned who (events.Join m ∷ t) n) e (aligned-join t m p)
   aligned (events.Got m r ∷ t) p s c =
       let before = aligned t p.1 s c in
       let e : m ≡ s = same_Some m s (sym p.0.current ∙ c) in
-      subst (λ (n : ℕ). IsAligned who first (events.Got n r ∷ t) s) (sym e)
-      (aligned-got r t s (subst (λ (n : ℕ). AreProper who first (events.Got n r ∷ t)) e p) before)
+      subst (λ (n : ℕ). IsAligned who (events.Got n r ∷ t) s) (sym e)
+      (aligned-got r t s (subst (λ (n : ℕ). AreClientEvents who (events.Got n r ∷ t)) e p) before)
   aligned (events.Make action ∷ t) p s c = aligned-make action t s p c (aligned t p.1 s c)
-  aligned (events.Poll ∷ t) p s c = quiet who first t s (if is_session (current_session t) s then requests.Poll ∷ [] else []) (quiet-if who first (is_session (current_session t) s) requests.Poll refl) (got-fewer who first t p.1 s) (aligned t p.1 s c)
-  aligned (events.Observe objects wait ∷ t) p s c = quiet who first t s (if is_session (current_session t) s then requests.Observe objects wait ∷ [] else []) (quiet-if who first (is_session (current_session t) s) (requests.Observe objects wait) refl) (got-fewer who first t p.1 s) (aligned t p.1 s c)
-  aligned (events.Leave ∷ t) p s c = quiet who first t s (if is_session (current_session t) s then requests.Leave ∷ [] else []) (quiet-if who first (is_session (current_session t) s) requests.Leave refl) (got-fewer who first t p.1 s) (aligned t p.1 s c)
-  aligned (events.Cut ∷ t) p s c = quiet who first t s [] refl (got-fewer who first t p.1 s) (aligned t p.1 s c)
-  aligned (events.Quit ∷ t) p s c = quiet who first t s [] refl (got-fewer who first t p.1 s) (aligned t p.1 s c)
-  aligned (events.Show objects ∷ t) p s c = quiet who first t s [] refl (got-fewer who first t p.1 s) (aligned t p.1 s c)
+  aligned (events.Poll ∷ t) p s c = quiet who t s (if is_session (current_session t) s then requests.Poll ∷ [] else []) (quiet-if who (is_session (current_session t) s) requests.Poll refl) (got-fewer who t p.1 s) (aligned t p.1 s c)
+  aligned (events.Observe objects wait ∷ t) p s c = quiet who t s (if is_session (current_session t) s then requests.Observe objects wait ∷ [] else []) (quiet-if who (is_session (current_session t) s) (requests.Observe objects wait) refl) (got-fewer who t p.1 s) (aligned t p.1 s c)
+  aligned (events.Leave ∷ t) p s c = quiet who t s (if is_session (current_session t) s then requests.Leave ∷ [] else []) (quiet-if who (is_session (current_session t) s) requests.Leave refl) (got-fewer who t p.1 s) (aligned t p.1 s c)
+  aligned (events.Cut ∷ t) p s c = quiet who t s [] refl (got-fewer who t p.1 s) (aligned t p.1 s c)
+  aligned (events.Quit ∷ t) p s c = quiet who t s [] refl (got-fewer who t p.1 s) (aligned t p.1 s c)
+  aligned (events.Show objects ∷ t) p s c = quiet who t s [] refl (got-fewer who t p.1 s) (aligned t p.1 s c)

@@ -12,7 +12,8 @@ use Rattle.sv_client.specs.declared.trace.Event.{Event}
 use Rattle.sv_client.specs.declared.trace.Event.TheVariants as events
 use Rattle.sv_client.specs.Traces.{makes, current_session, held_of, with_reply, has_news, pending_with, pending_of, asked, got}
 use Rattle.sv_client.specs.Taking.{Identity, outstanding, unanswered}
-use Rattle.sv_client.specs.Proper.{AreProper, in_session, identity_of}
+use Rattle.sv_client.specs.Proper.{in_session, identity_of}
+use Rattle.sv_system.specs.Clients.{AreClientEvents}
 use Rattle.sv_script.specs.Following.{is_finished}
 use Rattle.sv_system.specs.Outcomes.{is_quit, HasOutcomes}
 use Rattle.sv_system.proofs.Awaited.{Owner}
@@ -45,8 +46,8 @@ no-keys : (ps : List PendingAction) → keys ps ≡ [] → ps ≡ []
 no-keys [] e = refl
 no-keys (p ∷ ps) e = absurd (let l : length (keys (p ∷ ps)) ≡ 0 = ap length e in omega arith)
 
-module _ (who : Identity) (first : ℕ) where
-  none-outstanding : (t : List Event) → AreProper who first t → (o : Option ℕ) → current_session t ≡ o → in_session t ≡ true → outstanding who t ≡ [] → pending_of t ≡ []
+module _ (who : Identity) where
+  none-outstanding : (t : List Event) → AreClientEvents who t → (o : Option ℕ) → current_session t ≡ o → in_session t ≡ true → outstanding who t ≡ [] → pending_of t ≡ []
   none-outstanding t p None c i e = absurd (no-session t c i)
     where
       no-session : (t : List Event) → current_session t ≡ None → in_session t ≡ true → ⊥
@@ -62,10 +63,10 @@ module _ (who : Identity) (first : ℕ) where
       no-session (events.Show objects ∷ t) c i = no-session t c i
   none-outstanding t p (Some s) c i e =
       let these : drop (length (got t s)) (asked who.client who.interest t s) ≡ [] = sym (ap (unanswered who t) c) ∙ e in
-      no-keys (pending_of t) (sym (aligned who first t p s c) ∙ ap submits these)
+      no-keys (pending_of t) (sym (aligned who t p s c) ∙ ap submits these)
 
   -- A client that left has nothing pending.
-  pub left-none : (t : List Event) → AreProper who first t → in_session t ≡ false → pending_of t ≡ []
+  pub left-none : (t : List Event) → AreClientEvents who t → in_session t ≡ false → pending_of t ≡ []
   left-none [] p i = refl
   left-none (events.Join s ∷ t) p i = absurd (true≢false i)
   left-none (events.Make action ∷ t) p i = absurd (true≢false (sym p.0.joined ∙ i))
@@ -79,20 +80,20 @@ module _ (who : Identity) (first : ℕ) where
   left-none (events.Show objects ∷ t) p i = left-none t p.1 i
 
   -- All actions are settled then.
-  pub left-settled : (t : List Event) → AreProper who first t → in_session t ≡ false → settled t ≡ makes t
+  pub left-settled : (t : List Event) → AreClientEvents who t → in_session t ≡ false → settled t ≡ makes t
   left-settled t p i =
-      let c = counted who first t p in
+      let c = counted who t p in
       let none : length (keys (pending_of t)) ≡ 0 = ap (λ (ps : List PendingAction). length (keys ps)) (left-none t p i) in
       let within : length (keys (pending_of t)) ≤ makes t = c.within in
       omega arith
 
-  bye-left : (s : ℕ) (t : List Event) → AreProper who first (events.Got s replies.Bye ∷ t) → in_session t ≡ false
+  bye-left : (s : ℕ) (t : List Event) → AreClientEvents who (events.Got s replies.Bye ∷ t) → in_session t ≡ false
   bye-left s t p =
-      let a = may-answer who first t s replies.Bye p.0 in
-      (leave-last who first t p.1 s (length (got t s)) (a.asked_there ∙ ap Some (leave-only a.request a.kind))).out a.current
+      let a = may-answer who t s replies.Bye p.0 in
+      (leave-last who t p.1 s (length (got t s)) (a.asked_there ∙ ap Some (leave-only a.request a.kind))).out a.current
 
   -- A trace that is finished and did not quit left its session.
-  pub finished-left : (t : List Event) → AreProper who first t → is_finished t ≡ true → list_any is_quit t ≡ false → in_session t ≡ false
+  pub finished-left : (t : List Event) → AreClientEvents who t → is_finished t ≡ true → list_any is_quit t ≡ false → in_session t ≡ false
   finished-left [] p f q = refl
   finished-left (events.Quit ∷ t) p f q = absurd (true≢false q)
   finished-left (events.Got s replies.Bye ∷ t) p f q = bye-left s t p
@@ -141,10 +142,10 @@ module _ (owner : Owner) where
   -- A client that left has one outcome for each action.
   pub as-many_outcomes : in_session whole ≡ false → length (outcomes_of H k) ≡ makes whole
   as-many_outcomes left =
-      let all_settled : settled whole ≡ makes whole = left-settled who L.first whole this_one.proper.events left in
+      let all_settled : settled whole ≡ makes whole = left-settled who whole this_one.trace.events left in
       let told : settled whole < next_seq H k = settled-next owner H same given whole all in
       let made : length (outcomes_of H k) ≤ makes whole = outcomes-made owner H same given in
       omega arith
 
   pub has-outcomes : is_finished whole ≡ true → HasOutcomes H L
-  has-outcomes f none = as-many_outcomes (finished-left who L.first whole this_one.proper.events f (not-reversed is_quit L.events none))
+  has-outcomes f none = as-many_outcomes (finished-left who whole this_one.trace.events f (not-reversed is_quit L.events none))

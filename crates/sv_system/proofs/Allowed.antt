@@ -37,7 +37,8 @@ use Rattle.sv_client.specs.declared.trace.Event.{Event}
 use Rattle.sv_client.specs.declared.trace.Event.TheVariants as events
 use Rattle.sv_client.specs.Traces.{joins, makes, current_session, is_session, held_of, with_items, with_reply, head_held, results_of, done_for, pending_of, submit_of, asked_by_event, asked, got}
 use Rattle.sv_client.specs.Taking.{Identity, allows, items_of, is_bad_head, is_bad_relay, is_good_relay, has_bad_item}
-use Rattle.sv_client.specs.Proper.{AreProper, identity_of}
+use Rattle.sv_client.specs.Proper.{identity_of}
+use Rattle.sv_system.specs.Clients.{AreClientEvents}
 use Rattle.sv_system.specs.Fits.{replies_in}
 use Rattle.sv_system.specs.Served.{AreSameButValues}
 use Rattle.sv_system.proofs.Awaited.{Truthful}
@@ -64,7 +65,7 @@ use Rattle.sv_system.proofs.Dones.{sent-now, sent-stays, good-done}
 
 -- ---- What a trace asks
 
-module _ (who : Identity) (first : ℕ) where
+module _ (who : Identity) where
   abbrev AreChecked : List Numbered → Type 0
   AreChecked ks = AllByRecursion (λ (k : Numbered). first_fault_of_action who.shape k.1 ≡ None) ks
 
@@ -73,10 +74,10 @@ module _ (who : Identity) (first : ℕ) where
   checked-rest (k ∷ ks) h = h.1
 
   -- Each pending action passed the check.
-  pub pending-checked : (t : List Event) → AreProper who first t → AllByRecursion (λ (k : Numbered). first_fault_of_action who.shape k.1 ≡ None) (keys (pending_of t))
+  pub pending-checked : (t : List Event) → AreClientEvents who t → AllByRecursion (λ (k : Numbered). first_fault_of_action who.shape k.1 ≡ None) (keys (pending_of t))
   pending-checked [] p = tt
   pending-checked (events.Make action ∷ t) p =
-      subst AreChecked (sym (keys-made who first action t))
+      subst AreChecked (sym (keys-made who action t))
       (each-append (λ (k : Numbered). first_fault_of_action who.shape k.1 ≡ None) (keys (pending_of t)) ((suc (makes t), action) ∷ []) (pending-checked t p.1) (p.0.good, tt))
   pending-checked (events.Got s r ∷ t) p =
       let before = pending-checked t p.1 in
@@ -129,13 +130,13 @@ module _ (who : Identity) (first : ℕ) where
   well-done true held (replies.Refused code detail) q j e = absurd (none-some q e)
   well-done true held replies.Bye q j e = absurd (none-some q e)
 
-  asked-well : (t : List Event) → AreProper who first t → (s i : ℕ) (q : Request) → slice_get (asked who.client who.interest t s) i ≡ Some q → IsWellAsked q
+  asked-well : (t : List Event) → AreClientEvents who t → (s i : ℕ) (q : Request) → slice_get (asked who.client who.interest t s) i ≡ Some q → IsWellAsked q
   asked-well [] p s i q e = absurd (none-some q e)
   asked-well (ev ∷ t) p s i q e =
       let before = asked-well t p.1 s i q in
       elim (get-append_cases (asked who.client who.interest t s) (asked_by_event who.client who.interest t ev s) i q e) [ inl f ↦ before f | inr f ↦ now ev p f.0 f.1.1 ]
     where
-      now : (ev : Event) → AreProper who first (ev ∷ t) → (j : ℕ) → slice_get (asked_by_event who.client who.interest t ev s) j ≡ Some q → IsWellAsked q
+      now : (ev : Event) → AreClientEvents who (ev ∷ t) → (j : ℕ) → slice_get (asked_by_event who.client who.interest t ev s) j ≡ Some q → IsWellAsked q
       now (events.Join m) p j g = well-join (m == s) (requests.Join who.client (suc (joins t)) who.interest) q (pending_of t) j tt g
       now (events.Got m r) p j g = well-done (m == s) (held_of t) r q j g
       now (events.Make action) p j g = well-if (is_session (current_session t) s) (requests.Submit (suc (makes t)) action) q j tt g
@@ -147,11 +148,11 @@ module _ (who : Identity) (first : ℕ) where
       now (events.Show objects) p j g = absurd (none-some q g)
 
   -- A malformed request is never asked.
-  pub never-bad : (t : List Event) → AreProper who first t → (s i : ℕ) → slice_get (asked who.client who.interest t s) i ≡ Some requests.Bad → ⊥
+  pub never-bad : (t : List Event) → AreClientEvents who t → (s i : ℕ) → slice_get (asked who.client who.interest t s) i ≡ Some requests.Bad → ⊥
   never-bad t p s i e = asked-well t p s i requests.Bad e
 
   -- Objects that are asked for may be observed.
-  pub asked-good : (t : List Event) → AreProper who first t → (s i : ℕ) (objects : List ObjectId) (wait : ℕ) →
+  pub asked-good : (t : List Event) → AreClientEvents who t → (s i : ℕ) (objects : List ObjectId) (wait : ℕ) →
       slice_get (asked who.client who.interest t s) i ≡ Some (requests.Observe objects wait) → may_be_observed who.shape.objects (numbers_of objects) ≡ true
   asked-good t p s i objects wait e = asked-well t p s i (requests.Observe objects wait) e
 
@@ -293,7 +294,7 @@ module _ (truthful : Truthful) where
   -- A position is left for a Submit, and a number for the action.
   not-full : (n : ℕ) (a : Action) → e.request ≡ requests.Submit n a → is_full r (K.kept g) n ≡ false
   not-full n a is =
-      let number : n ≤ makes whole = submit-most who L.first whole this_one.proper.events s (length (got whole s)) n a (asking (requests.Submit n a) is refl) in
+      let number : n ≤ makes whole = submit-most who whole this_one.trace.events s (length (got whole s)) n a (asking (requests.Submit n a) is refl) in
       let made : makes whole ≤ most_positions = limits.actions in
       let grows : length (accepted g) ≤ length A = accepted-grows g H earlier in
       let same_count : length (accepted (K.kept g)) ≡ length (accepted g) = ap length (accepted-kept K keeps g) in
@@ -309,7 +310,7 @@ module _ (truthful : Truthful) where
         | inl o ↦ subst (λ (x : Option Outcome). P (reply_to_submit r (K.kept g) s k n a x)) (sym (same_kept ∙ o.1)) (kept-allowed o.0)
         | inr o ↦ subst (λ (x : Option Outcome). P (reply_to_submit r (K.kept g) s k n a x)) (sym (same_kept ∙ o.1))
             (subst P (sym (cond-true (n == next_seq (K.kept g) k) _ (refused 5 (next_seq (K.kept g) k)) (eq-eqb n (next_seq (K.kept g) k) (o.0 ∙ sym (next-kept K keeps g k)))
-            ∙ ap (reply_to_checked r (K.kept g) s k n a) (front-checked w.rest (subst (AllByRecursion (λ (j : Numbered). first_fault_of_action r.world.shape j.1 ≡ None)) w.front (pending-checked who L.first whole this_one.proper.events)))))
+            ∙ ap (reply_to_checked r (K.kept g) s k n a) (front-checked w.rest (subst (AllByRecursion (λ (j : Numbered). first_fault_of_action r.world.shape j.1 ≡ None)) w.front (pending-checked who whole this_one.trace.events)))))
             (subst P (sym (cond-false (is_full r (K.kept g) n) (refused 12 0) _ (not-full n a is))) (rights-allowed (first_forbidden r.rights k a))))
       ]
     where
@@ -340,15 +341,15 @@ module _ (truthful : Truthful) where
   -- The results that the client itself reports of the reply that it got are not bad.
   own-good : (results : List Done1) → slice_get (asked L.client L.interest whole s) (length (got whole s)) ≡ Some (requests.Done results) → is_bad_done r (K.kept g) s results ≡ false
   own-good results is =
-      let d = done-when who L.first whole s (length (got whole s)) results is in
+      let d = done-when who whole s (length (got whole s)) results is in
       let reply : Reply = d.reply in
       let t : List Event = d.before in
       let v : List Event = events.Got s reply ∷ t in
-      let proper : AreProper who L.first v = proper-part who L.first v whole d.part this_one.proper.events in
-      let a = may-answer who L.first t s reply proper.0 in
+      let proper : AreClientEvents who v = proper-part who v whole d.part this_one.trace.events in
+      let a = may-answer who t s reply proper.0 in
       let m = length (got t s) in
       let there : slice_get (got whole s) m ≡ Some reply =
-      got-part who L.first v whole d.part s m reply (ap (λ (rs : List Reply). slice_get rs m) (cond-true (s == s) (got t s ++ reply ∷ []) (got t s) (eq-eqb s s refl)) ∙ get-last (got t s) reply) in
+      got-part who v whole d.part s m reply (ap (λ (rs : List Reply). slice_get rs m) (cond-true (s == s) (got t s ++ reply ∷ []) (got t s) (eq-eqb s s refl)) ∙ get-last (got t s) reply) in
       let x = got-at awaited s m reply there in
       let bx : IsEarlier (x.entry ∷ x.before) H = earlier-then (x.entry ∷ x.before) g H x.earlier earlier in
       let lx : LegalFor K r (x.entry ∷ x.before) = earlier-served K r (x.entry ∷ x.before) H bx legal in
@@ -360,7 +361,7 @@ module _ (truthful : Truthful) where
       let small : length ks ≤ 33 = few-sent K keeps r x.entry x.before lx bound in
       let session : x.entry.session ≡ s = (of-parts x.entry s x.of_it).0 in
       let well = well-after K keeps r H count legal H same serial v
-      (λ o. front-then (got v o) (got whole o) (replies_in A H o) (got-part who L.first v whole d.part o) (got-replied K r H L served o)) in
+      (λ o. front-then (got v o) (got whole o) (replies_in A H o) (got-part who v whole d.part o) (got-replied K r H L served o)) in
       let by_it = brought-by (held_of t) reply results d.asks in
       let held = held_of t ++ head_held by_it.commit by_it.head in
       let results_are : results ≡ results_of held (map (item_at A) ks) = by_it.results_are ∙ ap (results_of held) items in
@@ -401,9 +402,9 @@ module _ (truthful : Truthful) where
       subst (λ (y : Logged). allows requests.Poll (full_reply A y) ≡ true) (sym (member-reply requests.Poll is refl refl ∙ polled K r g s (orphans (K.kept g)))) (due-allowed (K.due g s))
   allowed (requests.Observe objects wait) is =
       let good : may_be_observed r.world.shape.objects (numbers_of objects) ≡ true =
-      asked-good who L.first whole this_one.proper.events s (length (got whole s)) objects wait (asking (requests.Observe objects wait) is refl) in
+      asked-good who whole this_one.trace.events s (length (got whole s)) objects wait (asking (requests.Observe objects wait) is refl) in
       subst (λ (y : Logged). allows (requests.Observe objects wait) (full_reply A y) ≡ true) (sym (member-reply (requests.Observe objects wait) is refl refl
       ∙ ap (with_last_rows K r g s (requests.Observe objects wait)) (cond-true (may_be_observed r.world.shape.objects (numbers_of objects)) _ (refused 8 0) good))) refl
   allowed requests.Leave is = subst (λ (y : Logged). allows requests.Leave (full_reply A y) ≡ true) (sym (member-reply requests.Leave is refl refl)) refl
-  allowed requests.Bad is = absurd (never-bad who L.first whole this_one.proper.events s (length (got whole s)) (asking requests.Bad is refl))
+  allowed requests.Bad is = absurd (never-bad who whole this_one.trace.events s (length (got whole s)) (asking requests.Bad is refl))
   allowed requests.End is = absurd (true≢false (sym (ap is_end is) ∙ (of-parts e s mine).1))

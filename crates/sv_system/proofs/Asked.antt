@@ -1,5 +1,5 @@
 -- A trace's requests and replies of a session, event by event.
-use Rattle.std.proofs.Common.{◌≡◌, ℕ, zero, suc, ◌+◌, ◌≤◌, Bool, true, false, ◌==◌, ◌⊎◌, inl, inr, List, [], ◌∷◌, ◌++◌, map, drop, reverse, length, Option, Some, None, slice_get, refl, sym, ap, ◌∙◌, subst, arith, eqb-true, eq-eqb, true≢false}
+use Rattle.std.proofs.Common.{◌≡◌, ℕ, zero, suc, ◌+◌, ◌<◌, ◌≤◌, Bool, true, false, ◌==◌, ◌⊎◌, inl, inr, List, [], ◌∷◌, ◌++◌, map, drop, reverse, length, Option, Some, None, slice_get, refl, sym, ap, ◌∙◌, subst, arith, eqb-true, eq-eqb, true≢false}
 use Rattle.std.specs.Prelude.{if◌then◌else◌}
 use Rattle.std.specs.List.{list_any}
 use Rattle.std.proofs.lemmas.Bool.{cond_both, cond-true, cond-false, cases_Bool, or_cases, or_left, or_right}
@@ -16,11 +16,13 @@ use Rattle.sv_client.specs.declared.trace.Event.{Event}
 use Rattle.sv_client.specs.declared.trace.Event.TheVariants as events
 use Rattle.sv_client.specs.Traces.{joins, makes, current_session, is_session, held_of, head_held, results_of, done_for, pending_of, submit_of, asked_by_event, asked, got}
 use Rattle.sv_client.specs.Taking.{Identity, unanswered, allows, Unasked, fault_after, is_out_of_order, has_bad_item}
-use Rattle.sv_client.specs.Proper.{MayGet, MayJoin, AreProper}
+use Rattle.sv_client.specs.Proper.{MayGet}
 use Rattle.sv_client.proofs.Faultless.{kind-of, order-of, good-of}
+use Rattle.sv_system.specs.Clients.{MayComeNext, AreClientEvents}
 use Rattle.sv_system.specs.Fronts.{IsFront}
 use Rattle.sv_system.specs.Fits.{is_join_of}
 use Rattle.sv_system.proofs.Fronts.{front-all, front-then, front-append, get-push_cases}
+use Rattle.sv_system.proofs.Joined.{session_at, at-join, at-more, at-below}
 
 pub other-session : (o : Option ℕ) (s : ℕ) → (o ≡ Some s → ⊥) → is_session o s ≡ false
 other-session None s f = refl
@@ -35,6 +37,10 @@ pub part-rest : (t : List Event) (e : Event) (u : List Event) → IsPart (e ∷ 
 part-rest t e whole all = then_one e all
 part-rest t e whole (then_one {u} d p) = then_one d (part-rest t e u p)
 
+pub at-part : (t u : List Event) → IsPart t u → (n s : ℕ) → session_at t n ≡ Some s → session_at u n ≡ Some s
+at-part t whole all n s e = e
+at-part t whole (then_one {u} d b) n s e = at-more d u n s (at-part t u b n s e)
+
 pub get-append_cases : {X : Type 0} (xs ys : List X) (i : ℕ) (x : X) → slice_get (xs ++ ys) i ≡ Some x →
     (slice_get xs i ≡ Some x) ⊎ ((j : ℕ) × ((i ≡ length xs + j) × (slice_get ys j ≡ Some x)))
 get-append_cases [] ys i x e = inr (i, (omega arith, e))
@@ -48,11 +54,11 @@ get-drop zero (x ∷ xs) y ys e = cc
 get-drop (suc n) [] y ys e = cc
 get-drop (suc n) (x ∷ xs) y ys e = get-drop n xs y ys e
 
-module _ (who : Identity) (first : ℕ) where
+module _ (who : Identity) where
   abbrev asked_in_trace : List Event → ℕ → List Request
   asked_in_trace t s = asked who.client who.interest t s
 
-  pub proper-part : (t u : List Event) → IsPart t u → AreProper who first u → AreProper who first t
+  pub proper-part : (t u : List Event) → IsPart t u → AreClientEvents who u → AreClientEvents who t
   proper-part t whole all p = p
   proper-part t whole (then_one {u} e b) p = proper-part t u b p.1
 
@@ -139,7 +145,7 @@ module _ (who : Identity) (first : ℕ) where
       answers-first t s reply (drop (length (got t s)) (asked_in_trace t s)) m.current refl
       (subst (λ (o : Option ℕ). fault_after who t (unanswered who t o) reply ≡ None) m.current m.taken)
 
-  pub got-answers : (u : List Event) → AreProper who first u → (s n : ℕ) (reply : Reply) → (g : IsGot u s n reply) → Answers g.before s reply
+  pub got-answers : (u : List Event) → AreClientEvents who u → (s n : ℕ) (reply : Reply) → (g : IsGot u s n reply) → Answers g.before s reply
   got-answers u p s n reply g = may-answer g.before s reply (proper-part (events.Got s reply ∷ g.before) u g.part p).0
 
   -- ---- Dones
@@ -228,12 +234,12 @@ module _ (who : Identity) (first : ℕ) where
 
   -- ---- The first request
 
-  -- A session's first request is its Join, whose life is told by the session's number; the current session has one.
+  -- A session's first request is its Join, whose life says which Join of the trace it is; the current session has one.
   pub record IsBegun (t : List Event) (s : ℕ) : Type 0 where
     pub life : ℕ
     pub rest : List Request
     pub asked_are : asked who.client who.interest t s ≡ requests.Join who.client life who.interest ∷ rest
-    pub numbered : s + 1 ≡ first + life
+    pub numbered : session_at t life ≡ Some s
     pub among : life ≤ joins t
 
   begun-more : (t : List Event) (e : Event) (s : ℕ) → joins t ≤ joins (e ∷ t) → IsBegun t s → IsBegun (e ∷ t) s
@@ -241,7 +247,7 @@ module _ (who : Identity) (first : ℕ) where
     life = b.life;
     rest = b.rest ++ asked_by_event who.client who.interest t e s;
     asked_are = ap (λ (qs : List Request). qs ++ asked_by_event who.client who.interest t e s) b.asked_are;
-    numbered = b.numbered;
+    numbered = at-more e t b.life s b.numbered;
     among = (let m : b.life ≤ joins t = b.among in omega arith);
   }
 
@@ -258,10 +264,9 @@ module _ (who : Identity) (first : ℕ) where
   not-asked : (t : List Event) (q : Request) (s : ℕ) → (current_session t ≡ Some s → ⊥) → (if is_session (current_session t) s then q ∷ [] else []) ≡ []
   not-asked t q s f = cond-false (is_session (current_session t) s) _ _ (other-session (current_session t) s f)
 
-  begun-join : (t : List Event) (m s : ℕ) → MayJoin first t m → IsBegunOrNot t s → IsBegunOrNot (events.Join m ∷ t) s
-  begun-join t m s j (inr b) = inr (begun-more t (events.Join m) s (omega arith) b)
-  begun-join t m s j (inl b) =
-      let number : m ≡ first + joins t = j.next in
+  begun-join : (t : List Event) (m s : ℕ) → IsBegunOrNot t s → IsBegunOrNot (events.Join m ∷ t) s
+  begun-join t m s (inr b) = inr (begun-more t (events.Join m) s (omega arith) b)
+  begun-join t m s (inl b) =
       let now = requests.Join who.client (suc (joins t)) who.interest ∷ map submit_of (pending_of t) in
       elim (cases_Bool (m == s)) [
         | inl e ↦
@@ -270,7 +275,7 @@ module _ (who : Identity) (first : ℕ) where
               life = suc (joins t);
               rest = map submit_of (pending_of t);
               asked_are = ap (λ (qs : List Request). qs ++ (if m == s then now else [])) b.0 ∙ cond-true (m == s) now [] e;
-              numbered = omega arith;
+              numbered = at-join t m ∙ ap Some is;
               among = omega arith;
             }))
         | inr e ↦ inl (
@@ -284,9 +289,9 @@ module _ (who : Identity) (first : ℕ) where
       still-not t (events.Got m r) s (omega arith)
       (λ f. cond-false (m == s) _ _ (elim (cases_Bool (m == s)) [ inr e ↦ e | inl e ↦ absurd (f (c ∙ ap Some (eqb-true m s e))) ])) refl b
 
-  pub begun-or_not : (t : List Event) → AreProper who first t → (s : ℕ) → ((asked who.client who.interest t s ≡ []) × (current_session t ≡ Some s → ⊥)) ⊎ IsBegun t s
+  pub begun-or_not : (t : List Event) → AreClientEvents who t → (s : ℕ) → ((asked who.client who.interest t s ≡ []) × (current_session t ≡ Some s → ⊥)) ⊎ IsBegun t s
   begun-or_not [] p s = inl (refl, λ g. none-some s g)
-  begun-or_not (events.Join m ∷ t) p s = begun-join t m s p.0 (begun-or_not t p.1 s)
+  begun-or_not (events.Join m ∷ t) p s = begun-join t m s (begun-or_not t p.1 s)
   begun-or_not (events.Got m r ∷ t) p s = begun-got t m r s p.0.current (begun-or_not t p.1 s)
   begun-or_not (events.Make action ∷ t) p s = still-not t (events.Make action) s (omega arith) (not-asked t _ s) refl (begun-or_not t p.1 s)
   begun-or_not (events.Poll ∷ t) p s = still-not t events.Poll s (omega arith) (not-asked t _ s) refl (begun-or_not t p.1 s)
@@ -296,18 +301,9 @@ module _ (who : Identity) (first : ℕ) where
   begun-or_not (events.Quit ∷ t) p s = still-not t events.Quit s (omega arith) (λ f. refl) refl (begun-or_not t p.1 s)
   begun-or_not (events.Show objects ∷ t) p s = still-not t (events.Show objects) s (omega arith) (λ f. refl) refl (begun-or_not t p.1 s)
 
-  -- The current session was begun by the last of the Joins.
-  pub current-last : (t : List Event) → AreProper who first t → (s : ℕ) → current_session t ≡ Some s → s + 1 ≡ first + joins t
-  current-last [] p s c = absurd (none-some s c)
-  current-last (events.Join m ∷ t) p s c = (let number : m ≡ first + joins t = p.0.next in let is : m ≡ s = same_Some m s c in omega arith)
-  current-last (events.Got m r ∷ t) p s c = current-last t p.1 s c
-  current-last (events.Make action ∷ t) p s c = current-last t p.1 s c
-  current-last (events.Poll ∷ t) p s c = current-last t p.1 s c
-  current-last (events.Observe objects wait ∷ t) p s c = current-last t p.1 s c
-  current-last (events.Leave ∷ t) p s c = current-last t p.1 s c
-  current-last (events.Cut ∷ t) p s c = current-last t p.1 s c
-  current-last (events.Quit ∷ t) p s c = current-last t p.1 s c
-  current-last (events.Show objects ∷ t) p s c = current-last t p.1 s c
+  -- A Join names a session that was not begun before.
+  pub begun-older : (t : List Event) (m : ℕ) → MayComeNext who t (events.Join m) → (s : ℕ) → IsBegun t s → s < m
+  begun-older t m above s b = at-below t m above b.life s b.numbered
 
 -- ---- Joins
 

@@ -110,7 +110,7 @@ fits-in h L s f = record { got = f.got; asked = λ i q e. (q, (f.asked i q e, sa
 
 -- A trace that fits does so but for no values.
 pub fits-but_values : (shape : Shape) (h : List Entry) (L : Trace) → FitsOne shape h L → FitsButValues shape h L
-fits-but_values shape h L f = record { proper = f.proper; sessions = λ s has. fits-in h L s (f.sessions s has) }
+fits-but_values shape h L f = record { trace = f.trace; sessions = λ s has. fits-in h L s (f.sessions s has) }
 
 -- So is a trace of which the journal has what a function makes of its requests that changes values alone.
 pub asked-but : (f : Request → Request) → ((p : Request) → AreSameButValues p (f p)) → (qs rs : List Request) → IsFront qs (map f rs) → (i : ℕ) (q : Request) → slice_get qs i ≡ Some q →

@@ -25,10 +25,11 @@ use Rattle.sv_system.proofs.Replies.{commit_after, TellsFor, IsRelayReply, IsWel
 use Rattle.sv_system.proofs.Asking.{request-other}
 use Rattle.sv_system.proofs.Commits.{commit-grows}
 use Rattle.sv_system.proofs.Entered.{earlier-cases, of-parts, replies-earlier, IsEntered, entered, over-stays}
-use Rattle.sv_system.proofs.Asked.{IsPart, part-rest, asked-part, got-part, got-when, got-answers, begun-or_not, current-last}
+use Rattle.sv_system.proofs.Asked.{IsPart, part-rest, asked-part, got-part, got-when, got-answers, begun-or_not}
 use Rattle.sv_system.proofs.Order.{got-replied, IsWelcomed, welcomed-at, older-over, earlier-strict, got-not_over}
 use Rattle.sv_system.proofs.Opened.{asks}
 use Rattle.sv_system.proofs.Begun.{join-welcomed}
+use Rattle.sv_system.proofs.Joined.{session_at, current-at, at-one}
 use Rattle.sv_system.proofs.Places.{at_place}
 
 -- The commit that a Noted tells is that after its entry.
@@ -97,7 +98,7 @@ module _ (awaited : Awaited) where
 
   first-welcomed : length (got whole s) ≡ 0 → IsWelcomed K r H L served (e ∷ g) s
   first-welcomed z =
-      elim (begun-or_not who L.first whole this_one.proper.events s) [
+      elim (begun-or_not who whole this_one.trace.events s) [
         | inl n ↦ absurd (n.1 current)
         | inr begun ↦
             (let join = requests.Join L.client begun.life L.interest in
@@ -163,18 +164,19 @@ module _ (awaited : Awaited) where
           let w = welcomed-now in
           let zero' = at_place (got whole o) 0 (let l : n < length (got whole o) = slice_get_within (got whole o) n reply is in omega arith) in
           let v = welcomed-at K r H L served H same o zero'.0 zero'.1 (got-replied K r H L served o 0 zero'.0 zero'.1) in
-          let gw = got-when who L.first whole o n reply is in
-          let ans = got-answers who L.first whole this_one.proper.events o n reply gw in
-          elim (begun-or_not who L.first whole this_one.proper.events o) [
+          let gw = got-when who whole o n reply is in
+          let ans = got-answers who whole this_one.trace.events o n reply gw in
+          elim (begun-or_not who whole this_one.trace.events o) [
             | inl none ↦ none-some ans.request (sym (ap (λ (qs : List Request). slice_get qs (length (got gw.before o))) none.0)
-                ∙ asked-part who L.first gw.before whole (part-rest gw.before (events.Got o reply) whole gw.part) o (length (got gw.before o)) ans.request ans.asked_there)
+                ∙ asked-part who gw.before whole (part-rest gw.before (events.Got o reply) whole gw.part) o (length (got gw.before o)) ans.request ans.asked_there)
             | inr begun ↦
-                (let n1 : o + 1 ≡ L.first + begun.life = begun.numbered in
+                (let one = at-one who whole this_one.trace.events in
                 let l1 : begun.life ≤ joins whole = begun.among in
-                let n2 : s + 1 ≡ L.first + joins whole = current-last who L.first whole this_one.proper.events s current in
-                let n3 : o + 1 ≡ L.first + v.life = v.numbered in
-                let n4 : s + 1 ≡ L.first + w.life = w.numbered in
-                let lower : v.life < w.life = omega arith in
+                let current' : session_at whole (joins whole) ≡ Some s = current-at whole s current in
+                let old : v.life ≡ begun.life = one v.life begun.life o v.numbered begun.numbered in
+                let new : w.life ≡ joins whole = one w.life (joins whole) s w.numbered current' in
+                let apart : begun.life ≡ joins whole → ⊥ = λ q. other (same_Some o s (sym begun.numbered ∙ ap (session_at whole) q ∙ current')) in
+                let lower : v.life < w.life = omega (arith, l1, old, new, apart) in
                 got-not_over K r H L served o n reply is x.entry x.before x.earlier x.of_it x.replied
                 (over-stays (e ∷ g) x.before d o (older-over K r H L served s o (e ∷ g) b w v lower)))
           ]
@@ -192,7 +194,7 @@ module _ (awaited : Awaited) where
   told-before (events.Got o reply ∷ t) p =
       let less : told t ≤ commit_of (K.kept g) = told-before t (part-rest t (events.Got o reply) whole p) in
       let there : slice_get (got whole o) (length (got t o)) ≡ Some reply =
-      got-part who L.first (events.Got o reply ∷ t) whole p o (length (got t o)) reply (ap (λ (rs : List Reply). slice_get rs (length (got t o))) (cond-true (o == o) (got t o ++ reply ∷ []) (got t o) (eq-eqb o o refl)) ∙ get-last (got t o) reply) in
+      got-part who (events.Got o reply ∷ t) whole p o (length (got t o)) reply (ap (λ (rs : List Reply). slice_get rs (length (got t o))) (cond-true (o == o) (got t o ++ reply ∷ []) (got t o) (eq-eqb o o refl)) ∙ get-last (got t o) reply) in
       let x = got-at o (length (got t o)) reply there in
       with-most (commit_in reply) (told t) (commit_of (K.kept g))
       (λ c f. told-most K keeps r A x.entry x.before g (earlier-served K r (x.entry ∷ x.before) H (earlier-then (x.entry ∷ x.before) g H x.earlier earlier) legal) x.earlier x.entry.reply refl c (ap commit_in (sym x.replied) ∙ f)) less

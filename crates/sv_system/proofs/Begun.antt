@@ -25,7 +25,7 @@ use Rattle.sv_system.specs.Fits.{requests_in, replies_in, has_session}
 use Rattle.sv_system.proofs.Awaited.{Awaited}
 use Rattle.sv_system.proofs.Histories.{IsEarlier, same, after, earlier-then, earlier-rest, earlier-served}
 use Rattle.sv_system.proofs.Entered.{is_of, of-parts, of-from, as-many, IsWelcome}
-use Rattle.sv_system.proofs.Asked.{current-last}
+use Rattle.sv_system.proofs.Joined.{session_at, current-at, at-one}
 use Rattle.sv_system.proofs.Leaving.{IsJoinAsked, join-asked}
 use Rattle.sv_system.proofs.Opened.{has, welcome-of, welcomed-by, own-join, asks, asks-other, was-got, not-over}
 use Rattle.sv_system.proofs.Within.{not-above, not-spent, leap-at}
@@ -142,7 +142,7 @@ module _ (awaited : Awaited) where
       let w = welcomed-by g s n c in
       absurd (none-before z w.entry w.before w.earlier (of-from w.entry s w.session (ap is_end w.welcome.request)))
 
-  later-life : length (got whole s) ≡ 0 → (life : ℕ) → 0 < life → s + 1 ≡ L.first + life → life_of g k < life
+  later-life : length (got whole s) ≡ 0 → (life : ℕ) → 0 < life → session_at whole life ≡ Some s → life_of g k < life
   later-life z life low numbered =
       elim (cases_lt (life_of g k) life) [
         | inl l ↦ l
@@ -153,17 +153,18 @@ module _ (awaited : Awaited) where
             let y = welcome-of v.entry.reply p.0 in
             let welcome : IsWelcome v.entry q.0 (life_in v.entry.request) = record { interest = q.1.0; commit = y.0; head = y.1.0; request = q.1.1.0; reply = y.1.1 } in
             let j = own-join owner v.entry v.before (earlier-then (v.entry ∷ v.before) g H v.earlier earlier) q.0 (life_in v.entry.request) welcome q.1.1.1 in
-            let n1 : v.entry.session + 1 ≡ L.first + life_in v.entry.request = j.1.numbered in
             let l1 : life_in v.entry.request ≤ joins whole = j.1.among in
-            let n2 : s + 1 ≡ L.first + joins whole = current-last (identity_of r.world.shape L) L.first whole this_one.proper.events s current in
+            let current' : session_at whole (joins whole) ≡ Some s = current-at whole s current in
+            let n1 : life ≡ joins whole = at-one (identity_of r.world.shape L) whole this_one.trace.events life (joins whole) s numbered current' in
             let l2 : life ≤ life_in v.entry.request = v.life in
-            let session : v.entry.session ≡ s = omega (arith, numbered) in
+            let n2 : life_in v.entry.request ≡ joins whole = omega (arith, l1, l2, n1) in
+            let session : v.entry.session ≡ s = same_Some v.entry.session s (sym j.1.numbered ∙ ap (session_at whole) n2 ∙ current') in
             absurd (none-before z v.entry v.before v.earlier (of-from v.entry s session (ap is_end q.1.1.0))))
       ]
 
   good-interest : is_good_interest r.world.shape.objects (map (λ (o : ObjectId). o.0) L.interest) ≡ true
   good-interest =
-      let who = this_one.proper.who in
+      let who = this_one.trace.interest in
       let xs = map (λ (o : ObjectId). o.0) L.interest in
       let few' : length L.interest ≤ 64 = who.few in
       let n : length xs ≡ length L.interest = length-map L.interest (λ (o : ObjectId). o.0) in
@@ -186,10 +187,10 @@ module _ (awaited : Awaited) where
   -- A Join that is the next request is answered Welcome, with the interest's committed values.
   pub join-welcomed : (client : ClientId) (life : ℕ) (interest : List ObjectId) → e.request ≡ requests.Join client life interest →
       (e.reply ≡ logged.Welcome (commit_of (K.kept g)) (committed_held r (K.kept g) (map (λ (o : ObjectId). o.0) L.interest)))
-      × IsJoinAsked (identity_of r.world.shape L) L.first whole s (length (got whole s)) client life interest
+      × IsJoinAsked (identity_of r.world.shape L) whole s (length (got whole s)) client life interest
   join-welcomed client life interest is =
       let join = requests.Join client life interest in
-      let j = join-asked (identity_of r.world.shape L) L.first whole this_one.proper.events s (length (got whole s)) client life interest
+      let j = join-asked (identity_of r.world.shape L) whole this_one.trace.events s (length (got whole s)) client life interest
       (asks-other awaited join is refl) in
       let z : length (got whole s) ≡ 0 = j.place in
       let mine_is : e.session ≡ s = (of-parts e s mine).0 in

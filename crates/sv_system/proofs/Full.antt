@@ -6,11 +6,11 @@ use Rattle.std.proofs.lemmas.Option.{none-some, same_Some}
 use Rattle.sv_world.specs.declared.world.Shape.{Shape}
 use Rattle.sv_journal.specs.declared.entry.Entry.{Entry}
 use Rattle.sv_client.specs.declared.trace.Trace.{Trace}
+use Rattle.sv_client.specs.Proper.{Proper}
 use Rattle.sv_scenario.specs.declared.scenario.Plan.{Plan}
 use Rattle.sv_scenario.specs.Limits.{IsGoodPlan}
 use Rattle.sv_script.specs.Following.{is_finished}
 use Rattle.sv_script.specs.Laws.{EndsDoAllSteps}
-use Rattle.sv_system.specs.Fits.{FitsOne}
 use Rattle.sv_system.specs.Outcomes.{HasOutcomes}
 use Rattle.sv_system.specs.Records.{ScriptsAreFollowed, ScriptsAreDone}
 use Rattle.sv_system.proofs.Every.{each-place}
@@ -30,10 +30,10 @@ outcomes-each shape h plans Ls law d =
     All-from_recursion (HasOutcomes h) Ls (each-place (HasOutcomes h) Ls (λ i L e. law i L e (finished-at shape plans Ls d i L e)))
 
 -- Each client did all of its script.
-pub scripts-done : EndsDoAllSteps → (shape : Shape) (h : List Entry) (plans : List Plan) (Ls : List Trace) → AllByRecursion (IsGoodPlan shape) plans →
-    AllByRecursion (FitsOne shape h) Ls → ScriptsAreFollowed shape plans Ls → ScriptsAreDone shape plans Ls
-scripts-done law shape h [] [] good fits d = tt
-scripts-done law shape h [] (M ∷ Ms) good fits d = absurd d
-scripts-done law shape h (plan ∷ plans) [] good fits d = absurd d
-scripts-done law shape h (plan ∷ plans) (M ∷ Ms) good fits d =
-    (law shape plan.steps M fits.0.proper good.0.quit d.0, scripts-done law shape h plans Ms good.1 fits.1 d.1)
+pub scripts-done : EndsDoAllSteps → (shape : Shape) (plans : List Plan) (Ls : List Trace) → AllByRecursion (IsGoodPlan shape) plans →
+    AllByRecursion (Proper shape) Ls → ScriptsAreFollowed shape plans Ls → ScriptsAreDone shape plans Ls
+scripts-done law shape [] [] good proper d = tt
+scripts-done law shape [] (M ∷ Ms) good proper d = absurd d
+scripts-done law shape (plan ∷ plans) [] good proper d = absurd d
+scripts-done law shape (plan ∷ plans) (M ∷ Ms) good proper d =
+    (law shape plan.steps M proper.0 good.0.quit d.0, scripts-done law shape plans Ms good.1 proper.1 d.1)

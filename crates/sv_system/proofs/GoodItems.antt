@@ -125,7 +125,7 @@ module _ (truthful : Truthful) where
 
   front-of : (n : ℕ) (a : Action) → e.request ≡ requests.Submit n a → IsFrontOf n a
   front-of n a is =
-      let f = next-front who L.first whole this_one.proper.events s n a current (asks-other awaited (requests.Submit n a) is refl) in
+      let f = next-front who whole this_one.trace.events s n a current (asks-other awaited (requests.Submit n a) is refl) in
       (f.0, f.1.0)
 
   good-heads : (xs : List ℕ) → ((x : ℕ) → is_in x xs ≡ true → x < r.world.shape.objects) → is_bad_head r.world.shape (committed_held r (K.kept g) xs) ≡ false
@@ -145,7 +145,7 @@ module _ (truthful : Truthful) where
       let xs = map (λ (o : ObjectId). o.0) L.interest in
       ap (is_bad_head r.world.shape) (ap logged_head (sym is ∙ w.0))
       ∙ good-heads xs (λ x m. each-is_in (λ (y : ℕ). y < r.world.shape.objects) xs
-      (objects-below r.world.shape.objects L.interest (recursion_from_All (λ (o : ObjectId). o.0 < r.world.shape.objects) L.interest this_one.proper.who.objects)) x m)
+      (objects-below r.world.shape.objects L.interest (recursion_from_All (λ (o : ObjectId). o.0 < r.world.shape.objects) L.interest this_one.trace.interest.objects)) x m)
 
   seen-head : (last commit : ℕ) (head : List Sent) (positions : List ℕ) → IsLegalSeen K r e g last commit head positions → is_bad_head r.world.shape head ≡ false
   seen-head last commit head positions t =

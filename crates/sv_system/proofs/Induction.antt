@@ -27,7 +27,8 @@ use Rattle.sv_client.specs.declared.trace.Event.{Event}
 use Rattle.sv_client.specs.declared.trace.Event.TheVariants as events
 use Rattle.sv_client.specs.declared.trace.Trace.{Trace}
 use Rattle.sv_client.specs.Traces.{held_of, asked, got}
-use Rattle.sv_client.specs.Proper.{identity_of, AreProper}
+use Rattle.sv_client.specs.Proper.{identity_of}
+use Rattle.sv_system.specs.Clients.{AreClientEvents}
 use Rattle.sv_system.specs.Fronts.{IsFront}
 use Rattle.sv_system.specs.Fits.{requests_in, replies_in, has_session, FitsOne}
 use Rattle.sv_system.specs.Served.{FitsButValues}
@@ -116,18 +117,18 @@ module _ (K : Keeping) (keeps : IsKeeping K) (r : Rules) (H : List Entry) (count
       let n = length (requests_in h s) in
       let mine : is_of e s ≡ true = of-from e s refl (ap is_end is) in
       let there : slice_get (asked L.client L.interest whole s) n ≡ Some (requests.Done results) = (one.sessions s has).asked n (requests.Done results) (request-there e h H s b mine ∙ ap Some is) in
-      let d = done-when who L.first whole s n results there in
+      let d = done-when who whole s n results there in
       let reply : Reply = d.reply in
       let v : List Event = events.Got s reply ∷ d.before in
-      let proper : AreProper who L.first v = proper-part who L.first v whole d.part one.proper.events in
-      let answers = may-answer who L.first d.before s reply proper.0 in
+      let proper : AreClientEvents who v = proper-part who v whole d.part one.trace.events in
+      let answers = may-answer who d.before s reply proper.0 in
       let below : length (got d.before s) < length (asked L.client L.interest d.before s) = slice_get_within (asked L.client L.interest d.before s) (length (got d.before s)) answers.request answers.asked_there in
       let place : n ≡ length (asked L.client L.interest d.before s) = d.place in
       let many : length (replies_in A h s) ≡ n = as-many A h s in
       let one_more : length (got v s) ≡ length (got d.before s) + 1 = ap length (cond-true (s == s) _ _ (eq-eqb s s refl)) ∙ length-append (got d.before s) (reply ∷ []) in
       let front : IsFront (got v s) (replies_in A h s) =
       front-shorter (got v s) (replies_in A h s) (replies_in A H s)
-      (front-then (got v s) (got whole s) (replies_in A H s) (got-part who L.first v whole d.part s) (got-replied K r H L served s))
+      (front-then (got v s) (got whole s) (replies_in A H s) (got-part who v whole d.part s) (got-replied K r H L served s))
       (replies-earlier A h H earlier s) (omega arith) in
       let well = well-after h earlier before v (all-before K r H L served h earlier s reply d.before d.part front) in
       reported-done r.world.values acts (held_of d.before) reply results d.asks well.reported.0

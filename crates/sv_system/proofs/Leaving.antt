@@ -16,15 +16,17 @@ use Rattle.sv_client.specs.declared.trace.Event.{Event}
 use Rattle.sv_client.specs.declared.trace.Event.TheVariants as events
 use Rattle.sv_client.specs.Traces.{joins, makes, current_session, is_session, held_of, done_for, pending_of, submit_of, asked_by_event, asked, got}
 use Rattle.sv_client.specs.Taking.{Identity, allows, unanswered}
-use Rattle.sv_client.specs.Proper.{MayFollow, MayJoin, AreProper, in_session}
-use Rattle.sv_system.proofs.Asked.{get-append_cases, may-answer, IsBegun, begun-or_not}
+use Rattle.sv_client.specs.Proper.{in_session}
+use Rattle.sv_system.specs.Clients.{MayComeNext, AreClientEvents}
+use Rattle.sv_system.proofs.Asked.{get-append_cases, may-answer, IsBegun, begun-or_not, begun-older}
+use Rattle.sv_system.proofs.Joined.{session_at, at-join, at-more}
 use Rattle.sv_system.proofs.Places.{drop-none}
 
--- A Join that a trace asks is the first request of its session, and its life is told by the session's number.
-pub record IsJoinAsked (who : Identity) (first : ℕ) (t : List Event) (s i : ℕ) (client : ClientId) (life : ℕ) (interest : List ObjectId) : Type 0 where
+-- A Join that a trace asks is the first request of its session, and its life says which Join of the trace it is.
+pub record IsJoinAsked (who : Identity) (t : List Event) (s i : ℕ) (client : ClientId) (life : ℕ) (interest : List ObjectId) : Type 0 where
   pub client_is : client ≡ who.client
   pub interest_is : interest ≡ who.interest
-  pub numbered : s + 1 ≡ first + life
+  pub numbered : session_at t life ≡ Some s
   pub among : life ≤ joins t
   pub low : 0 < life
   pub place : i ≡ 0
@@ -75,48 +77,46 @@ no-join_done true held replies.Idle j q e = absurd (none-some q e)
 no-join_done true held (replies.Refused code detail) j q e = absurd (none-some q e)
 no-join_done true held replies.Bye j q e = absurd (none-some q e)
 
-module _ (who : Identity) (first : ℕ) where
+module _ (who : Identity) where
   abbrev here : List Event → ℕ → List Request
   here t s = asked who.client who.interest t s
 
   joined-more : (t : List Event) (e : Event) (s i : ℕ) (client : ClientId) (life : ℕ) (interest : List ObjectId) → joins t ≤ joins (e ∷ t) →
-      IsJoinAsked who first t s i client life interest → IsJoinAsked who first (e ∷ t) s i client life interest
+      IsJoinAsked who t s i client life interest → IsJoinAsked who (e ∷ t) s i client life interest
   joined-more t e s i client life interest l a = record {
     client_is = a.client_is;
     interest_is = a.interest_is;
-    numbered = a.numbered;
+    numbered = at-more e t life s a.numbered;
     among = (let m : life ≤ joins t = a.among in omega arith);
     low = a.low;
     place = a.place;
   }
 
-  join-now : (t : List Event) (m s j : ℕ) (client : ClientId) (life : ℕ) (interest : List ObjectId) → MayJoin first t m → AreProper who first t →
+  join-now : (t : List Event) (m s j : ℕ) (client : ClientId) (life : ℕ) (interest : List ObjectId) → MayComeNext who t (events.Join m) → AreClientEvents who t →
       slice_get (asked_by_event who.client who.interest t (events.Join m) s) j ≡ Some (requests.Join client life interest) →
-      IsJoinAsked who first (events.Join m ∷ t) s (length (here t s) + j) client life interest
+      IsJoinAsked who (events.Join m ∷ t) s (length (here t s) + j) client life interest
   join-now t m s j client life interest may p e =
       let now = requests.Join who.client (suc (joins t)) who.interest ∷ map submit_of (pending_of t) in
-      let number : m ≡ first + joins t = may.next in
       elim (cases_Bool (m == s)) [
         | inr f ↦ absurd (none-some (requests.Join client life interest) (sym (ap (λ (l : List Request). slice_get l j) (cond-false (m == s) now [] f)) ∙ e))
         | inl f ↦
             (let is : m ≡ s = eqb-true m s f in
             let there : slice_get now j ≡ Some (requests.Join client life interest) = sym (ap (λ (l : List Request). slice_get l j) (cond-true (m == s) now [] f)) ∙ e in
-            elim (begun-or_not who first t p s) [
-              | inr b ↦ (let n : s + 1 ≡ first + b.life = b.numbered in let l : b.life ≤ joins t = b.among in absurd (omega arith))
+            elim (begun-or_not who t p s) [
+              | inr b ↦ (let older : s < m = begun-older who t m may s b in absurd (omega (arith, older, is)))
               | inl b ↦ at j there is (ap length b.0)
             ])
       ]
     where
       at : (j : ℕ) → slice_get (requests.Join who.client (suc (joins t)) who.interest ∷ map submit_of (pending_of t)) j ≡ Some (requests.Join client life interest) → m ≡ s → length (here t s) ≡ 0 →
-          IsJoinAsked who first (events.Join m ∷ t) s (length (here t s) + j) client life interest
+          IsJoinAsked who (events.Join m ∷ t) s (length (here t s) + j) client life interest
       at zero there is none =
           let f : requests.Join who.client (suc (joins t)) who.interest ≡ requests.Join client life interest = same_Some _ _ there in
           let l : suc (joins t) ≡ life = ap join_life f in
-          let number : m ≡ first + joins t = may.next in
           record {
             client_is = sym (ap (λ (q : Request). join_client q who.client) f);
             interest_is = sym (ap join_interest f);
-            numbered = omega arith;
+            numbered = ap (session_at (events.Join m ∷ t)) (sym l) ∙ at-join t m ∙ ap Some is;
             among = omega arith;
             low = omega arith;
             place = omega arith;
@@ -126,14 +126,14 @@ module _ (who : Identity) (first : ℕ) where
   no-join_if : (b : Bool) (p : Request) (j : ℕ) (client : ClientId) (life : ℕ) (interest : List ObjectId) → is_join_request p ≡ false → slice_get (if b then p ∷ [] else []) j ≡ Some (requests.Join client life interest) → ⊥
   no-join_if b p j client life interest f e = true≢false (sym (ap is_join_request (one-if b p (requests.Join client life interest) j e).1.1) ∙ f)
 
-  pub join-asked : (t : List Event) → AreProper who first t → (s i : ℕ) (client : ClientId) (life : ℕ) (interest : List ObjectId) →
-      slice_get (asked who.client who.interest t s) i ≡ Some (requests.Join client life interest) → IsJoinAsked who first t s i client life interest
+  pub join-asked : (t : List Event) → AreClientEvents who t → (s i : ℕ) (client : ClientId) (life : ℕ) (interest : List ObjectId) →
+      slice_get (asked who.client who.interest t s) i ≡ Some (requests.Join client life interest) → IsJoinAsked who t s i client life interest
   join-asked [] p s i client life interest e = absurd (none-some (requests.Join client life interest) e)
   join-asked (ev ∷ t) p s i client life interest e =
       let before = join-asked t p.1 s i client life interest in
       elim (get-append_cases (here t s) (asked_by_event who.client who.interest t ev s) i (requests.Join client life interest) e) [
         | inl f ↦ joined-more t ev s i client life interest (grows ev) (before f)
-        | inr f ↦ subst (λ (n : ℕ). IsJoinAsked who first (ev ∷ t) s n client life interest) (sym f.1.0) (now ev p.0 f.0 f.1.1)
+        | inr f ↦ subst (λ (n : ℕ). IsJoinAsked who (ev ∷ t) s n client life interest) (sym f.1.0) (now ev p.0 f.0 f.1.1)
       ]
     where
       grows : (ev : Event) → joins t ≤ joins (ev ∷ t)
@@ -147,8 +147,8 @@ module _ (who : Identity) (first : ℕ) where
       grows events.Quit = omega arith
       grows (events.Show objects) = omega arith
 
-      now : (ev : Event) → MayFollow who first t ev → (j : ℕ) → slice_get (asked_by_event who.client who.interest t ev s) j ≡ Some (requests.Join client life interest) →
-          IsJoinAsked who first (ev ∷ t) s (length (here t s) + j) client life interest
+      now : (ev : Event) → MayComeNext who t ev → (j : ℕ) → slice_get (asked_by_event who.client who.interest t ev s) j ≡ Some (requests.Join client life interest) →
+          IsJoinAsked who (ev ∷ t) s (length (here t s) + j) client life interest
       now (events.Join m) may j g = join-now t m s j client life interest may p.1 g
       now (events.Got m r) may j g = absurd (true≢false (no-join_done (m == s) (held_of t) r j (requests.Join client life interest) g).0)
       now (events.Make action) may j g = absurd (no-join_if (is_session (current_session t) s) (requests.Submit (suc (makes t)) action) j client life interest refl g)
@@ -166,13 +166,13 @@ module _ (who : Identity) (first : ℕ) where
     pub last : length (asked who.client who.interest t s) ≡ suc i
     pub answered : i ≤ length (got t s)
     pub out : current_session t ≡ Some s → in_session t ≡ false
-    pub begun : IsBegun who first t s
+    pub begun : IsBegun who t s
 
-  begun-of : (t : List Event) → AreProper who first t → (s i : ℕ) (q : Request) → slice_get (here t s) i ≡ Some q → IsBegun who first t s
+  begun-of : (t : List Event) → AreClientEvents who t → (s i : ℕ) (q : Request) → slice_get (here t s) i ≡ Some q → IsBegun who t s
   begun-of t p s i q e =
-      elim (begun-or_not who first t p s) [ inr b ↦ b | inl b ↦ absurd (none-some q (sym (ap (λ (qs : List Request). slice_get qs i) b.0) ∙ e)) ]
+      elim (begun-or_not who t p s) [ inr b ↦ b | inl b ↦ absurd (none-some q (sym (ap (λ (qs : List Request). slice_get qs i) b.0) ∙ e)) ]
 
-  leave-now : (t : List Event) (s : ℕ) → AreProper who first (events.Leave ∷ t) → current_session t ≡ Some s → (j : ℕ) → j ≡ 0 →
+  leave-now : (t : List Event) (s : ℕ) → AreClientEvents who (events.Leave ∷ t) → current_session t ≡ Some s → (j : ℕ) → j ≡ 0 →
       slice_get (here (events.Leave ∷ t) s) (length (here t s) + j) ≡ Some requests.Leave → IsLeaveLast (events.Leave ∷ t) s (length (here t s) + j)
   leave-now t s p c j z there =
       let mine : is_session (current_session t) s ≡ true = ap (λ (o : Option ℕ). is_session o s) c ∙ eq-eqb s s refl in
@@ -188,7 +188,7 @@ module _ (who : Identity) (first : ℕ) where
       }
 
   -- one more event that asks nothing in the session
-  leave-still : (t : List Event) (e : Event) (s i : ℕ) → AreProper who first (e ∷ t) → asked_by_event who.client who.interest t e s ≡ [] → length (got t s) ≤ length (got (e ∷ t) s) →
+  leave-still : (t : List Event) (e : Event) (s i : ℕ) → AreClientEvents who (e ∷ t) → asked_by_event who.client who.interest t e s ≡ [] → length (got t s) ≤ length (got (e ∷ t) s) →
       (current_session (e ∷ t) ≡ Some s → in_session (e ∷ t) ≡ false) → slice_get (here (e ∷ t) s) i ≡ Some requests.Leave → IsLeaveLast t s i → IsLeaveLast (e ∷ t) s i
   leave-still t e s i p none more out there b = record {
     last = ap length (ap (λ (qs : List Request). here t s ++ qs) none ∙ append-nil (here t s)) ∙ b.last;
@@ -210,13 +210,13 @@ module _ (who : Identity) (first : ℕ) where
   bye-only (replies.Refused code detail) k held = refl
 
   -- After a Leave a reply asks nothing, since it answers the Leave.
-  got-asks_none : (t : List Event) (m : ℕ) (r : Reply) (s i : ℕ) → AreProper who first (events.Got m r ∷ t) → slice_get (here t s) i ≡ Some requests.Leave → IsLeaveLast t s i →
+  got-asks_none : (t : List Event) (m : ℕ) (r : Reply) (s i : ℕ) → AreClientEvents who (events.Got m r ∷ t) → slice_get (here t s) i ≡ Some requests.Leave → IsLeaveLast t s i →
       asked_by_event who.client who.interest t (events.Got m r) s ≡ []
   got-asks_none t m r s i p there b =
       elim (cases_Bool (m == s)) [
         | inr f ↦ cond-false (m == s) _ _ f
         | inl f ↦
-            (let a = may-answer who first t m r p.0 in
+            (let a = may-answer who t m r p.0 in
             let is : m ≡ s = eqb-true m s f in
             let asks : slice_get (here t s) (length (got t s)) ≡ Some a.request = subst (λ (n : ℕ). slice_get (here t n) (length (got t n)) ≡ Some a.request) is a.asked_there in
             let within : length (got t s) < length (here t s) = slice_get_within (here t s) (length (got t s)) a.request asks in
@@ -242,7 +242,7 @@ module _ (who : Identity) (first : ℕ) where
       go None f = refl
       go (Some n) f = elim (cases_Bool (n == s)) [ inr e ↦ cond-false (n == s) (q ∷ []) [] e | inl e ↦ absurd (true≢false (sym joined ∙ f (ap Some (eqb-true n s e)))) ]
 
-  leave-later : (t : List Event) (ev : Event) (s i : ℕ) → AreProper who first (ev ∷ t) → slice_get (here t s) i ≡ Some requests.Leave → slice_get (here (ev ∷ t) s) i ≡ Some requests.Leave → IsLeaveLast t s i → IsLeaveLast (ev ∷ t) s i
+  leave-later : (t : List Event) (ev : Event) (s i : ℕ) → AreClientEvents who (ev ∷ t) → slice_get (here t s) i ≡ Some requests.Leave → slice_get (here (ev ∷ t) s) i ≡ Some requests.Leave → IsLeaveLast t s i → IsLeaveLast (ev ∷ t) s i
   leave-later t (events.Got m r) s i p there now b = leave-still t (events.Got m r) s i p (got-asks_none t m r s i p there b) (got-longer t m r s) b.out now b
   leave-later t (events.Make action) s i p there now b = leave-still t (events.Make action) s i p (out-asks_none t s _ p.0.joined b.out) (omega arith) b.out now b
   leave-later t events.Poll s i p there now b = leave-still t events.Poll s i p (out-asks_none t s _ p.0.joined b.out) (omega arith) b.out now b
@@ -252,15 +252,13 @@ module _ (who : Identity) (first : ℕ) where
   leave-later t events.Quit s i p there now b = leave-still t events.Quit s i p refl (omega arith) b.out now b
   leave-later t (events.Show objects) s i p there now b = leave-still t (events.Show objects) s i p refl (omega arith) b.out now b
   leave-later t (events.Join m) s i p there now b =
-      let number : m ≡ first + joins t = p.0.next in
-      let n : s + 1 ≡ first + b.begun.life = b.begun.numbered in
-      let l : b.begun.life ≤ joins t = b.begun.among in
+      let older : s < m = begun-older who t m p.0 s b.begun in
       let other : m ≡ s → ⊥ = λ (e : m ≡ s). absurd (omega arith) in
       leave-still t (events.Join m) s i p
       (elim (cases_Bool (m == s)) [ inr f ↦ cond-false (m == s) _ _ f | inl f ↦ absurd (other (eqb-true m s f)) ])
       (omega arith) (λ x. absurd (other (same_Some m s x))) now b
 
-  pub leave-last : (t : List Event) → AreProper who first t → (s i : ℕ) → slice_get (asked who.client who.interest t s) i ≡ Some requests.Leave → IsLeaveLast t s i
+  pub leave-last : (t : List Event) → AreClientEvents who t → (s i : ℕ) → slice_get (asked who.client who.interest t s) i ≡ Some requests.Leave → IsLeaveLast t s i
   leave-last [] p s i e = absurd (none-some requests.Leave e)
   leave-last (ev ∷ t) p s i e =
       let before = leave-last t p.1 s i in
@@ -281,7 +279,7 @@ module _ (who : Identity) (first : ℕ) where
       session-is None s e = absurd (true≢false (sym e))
       session-is (Some n) s e = ap Some (eqb-true n s e)
 
-      now : (ev : Event) → AreProper who first (ev ∷ t) → (j : ℕ) → slice_get (asked_by_event who.client who.interest t ev s) j ≡ Some requests.Leave →
+      now : (ev : Event) → AreClientEvents who (ev ∷ t) → (j : ℕ) → slice_get (asked_by_event who.client who.interest t ev s) j ≡ Some requests.Leave →
           slice_get (here (ev ∷ t) s) (length (here t s) + j) ≡ Some requests.Leave → IsLeaveLast (ev ∷ t) s (length (here t s) + j)
       now events.Leave q j g there =
           let o = one-if (is_session (current_session t) s) requests.Leave requests.Leave j g in

@@ -8,6 +8,7 @@ pub mod Awaited
 pub mod Before
 pub mod Begun
 pub mod BoundedRelays
+pub mod Clients
 pub mod Commits
 pub mod Covers
 pub mod Cuts
@@ -21,6 +22,7 @@ pub mod Heads
 pub mod Histories
 pub mod Induction
 pub mod Items
+pub mod Joined
 pub mod Judged
 pub mod Lawful
 pub mod Leaving
@@ -30,6 +32,7 @@ pub mod NeverSent
 pub mod NextReply
 pub mod NonEmpty
 pub mod Numbering
+pub mod Numbers
 pub mod Observed
 pub mod Opened
 pub mod Order

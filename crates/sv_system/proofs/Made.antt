@@ -84,13 +84,13 @@ submit-if P true m c h zero n a e = subst P (ap submitted_key (same_Some (reques
 submit-if P true m c h (suc j) n a e = absurd (none-some (requests.Submit n a) e)
 submit-if P false m c h j n a e = absurd (none-some (requests.Submit n a) e)
 
-module _ (who : Identity) (first : ℕ) where
+module _ (who : Identity) where
   -- Each pending action was made, with its number.
   pending-made : (t : List Event) → AllByRecursion (IsMade t) (keys (pending_of t))
   pending-made [] = tt
   pending-made (events.Make action ∷ t) =
       let now = events.Make action ∷ t in
-      subst (AllByRecursion (IsMade now)) (sym (keys-made who first action t))
+      subst (AllByRecursion (IsMade now)) (sym (keys-made who action t))
       (each-append (IsMade now) (keys (pending_of t)) ((suc (makes t), action) ∷ [])
       (each-more (IsMade t) (IsMade now) (λ k m. made-later (events.Make action) t k m) (keys (pending_of t)) (pending-made t)) (made-now action t, tt))
   pending-made (events.Got s r ∷ t) =
@@ -115,7 +115,7 @@ module _ (who : Identity) (first : ℕ) where
   event-made : (ev : Event) (t : List Event) (s j n : ℕ) (a : Action) → slice_get (asked_by_event who.client who.interest t ev s) j ≡ Some (requests.Submit n a) → IsMade (ev ∷ t) (n, a)
   event-made (events.Join m) t s j n a e = join-made t (m == s) j n a e
   event-made (events.Make action) t s j n a e = submit-if (IsMade (events.Make action ∷ t)) (is_session (current_session t) s) (suc (makes t)) action (made-now action t) j n a e
-  event-made (events.Got m r) t s j n a e = absurd (no-submit_done who first (m == s) (held_of t) r j n a e)
+  event-made (events.Got m r) t s j n a e = absurd (no-submit_done who (m == s) (held_of t) r j n a e)
   event-made events.Poll t s j n a e = absurd (no-submit (is_session (current_session t) s) requests.Poll j n a refl e)
   event-made (events.Observe objects wait) t s j n a e = absurd (no-submit (is_session (current_session t) s) (requests.Observe objects wait) j n a refl e)
   event-made events.Leave t s j n a e = absurd (no-submit (is_session (current_session t) s) requests.Leave j n a refl e)

@@ -193,14 +193,14 @@ module _ (awaited : Awaited) where
     asking = asks-other awaited (requests.Submit n a) is refl
 
     not-settled : settled whole < n
-    not-settled = (let number : n ≡ suc (settled whole) = (next-front who L.first whole this_one.proper.events s n a current asking).1.1 in omega arith)
+    not-settled = (let number : n ≡ suc (settled whole) = (next-front who whole this_one.trace.events s n a current asking).1.1 in omega arith)
 
     -- not by the reply to a Poll or an Observe
     not-looked : (d : Entry) (h : List Entry) → IsEarlier (d ∷ h) g → is_of d s ≡ true → (w : Request) → d.request ≡ w → is_look w ≡ true → is_done w ≡ false → ⊥
     not-looked d h c t w asks look other =
         let before = asked-before d h c t w asks other in
-        let after' : joined_makes who L.first whole < n =
-        after-look who L.first whole this_one.proper.events s (length (replies_in A h s)) (length (got whole s)) n a w look current before.1 before.0 asking in
+        let after' : joined_makes who whole < n =
+        after-look who whole this_one.trace.events s (length (replies_in A h s)) (length (got whole s)) n a w look current before.1 before.0 asking in
         let o = x.entry.session in
         let bx : IsEarlier (x.entry ∷ x.before) H = earlier-then (x.entry ∷ x.before) g H x.there earlier in
         let q = submit_is x.entry.request n x.submit in
@@ -209,12 +209,12 @@ module _ (awaited : Awaited) where
         elim (cases_eq o s) [
           | inl z ↦
               (let own = asked-before x.entry x.before x.there (of-from x.entry s z (ap is_end q.1)) (requests.Submit n q.0) q.1 refl in
-              let old : n ≤ settled whole = answered-settled who L.first whole this_one.proper.events s (length (replies_in A x.before s)) n q.0 own.1 own.0 in
+              let old : n ≤ settled whole = answered-settled who whole this_one.trace.events s (length (replies_in A x.before s)) n q.0 own.1 own.0 in
               let new : settled whole < n = not-settled in
               absurd (omega arith))
           | inr z ↦
               (let there = asked-there H L o (this_one.sessions o has_o) (length (requests_in x.before o)) x.entry.request (ap is_done q.1) (request-there x.entry x.before H o bx (of-from x.entry o refl (ap is_end q.1))) in
-              let old : n ≤ joined_makes who L.first whole = older-made who L.first whole this_one.proper.events s o (length (requests_in x.before o)) n q.0 current (λ y. z (sym y)) (there ∙ ap Some q.1) in
+              let old : n ≤ joined_makes who whole = older-made who whole this_one.trace.events s o (length (requests_in x.before o)) n q.0 current (λ y. z (sym y)) (there ∙ ap Some q.1) in
               absurd (omega arith))
         ]
 
@@ -222,7 +222,7 @@ module _ (awaited : Awaited) where
     not-submitted : (d : Entry) (h : List Entry) → IsEarlier (d ∷ h) g → is_of d s ≡ true → (m q : ℕ) (c : Action) → d.request ≡ requests.Submit m c → IsAcceptance g k m q → p ≤ q → ⊥
     not-submitted d h there t m q c request y low =
         let before = asked-before d h there t (requests.Submit m c) request refl in
-        let old : m ≤ settled whole = answered-settled who L.first whole this_one.proper.events s (length (replies_in A h s)) m c before.1 before.0 in
+        let old : m ≤ settled whole = answered-settled who whole this_one.trace.events s (length (replies_in A h s)) m c before.1 before.0 in
         let new : settled whole < n = not-settled in
         let less : q < p = positions-ascend g k n p m q x y (omega arith) in
         absurd (omega arith)

@@ -14,7 +14,7 @@ use Rattle.sv_client.specs.declared.trace.Trace.{Trace}
 use Rattle.sv_client.specs.Traces.{current_session, held_of, pending_of, requests_of, asked, got}
 use Rattle.sv_client.specs.Kinds.{kind_of}
 use Rattle.sv_client.specs.Taking.{Identity, WrongKind, BadOrder, BadItem, allows, is_out_of_order, has_bad_item, missing_in, missing_fault, unanswered, fault_after, first_fault_of_reply}
-use Rattle.sv_client.specs.Proper.{identity_of}
+use Rattle.sv_client.specs.Proper.{Proper, identity_of}
 use Rattle.sv_system.specs.Fits.{replies_in, Fits}
 use Rattle.sv_system.specs.Served.{OwnsSessions}
 use Rattle.sv_system.specs.Within.{KeepsLimits}
@@ -24,7 +24,7 @@ use Rattle.sv_system.proofs.Entered.{entered}
 use Rattle.sv_system.proofs.Aligned.{drop-one}
 use Rattle.sv_system.proofs.Asking.{IsServed, same-allows, same-kind, same-items}
 use Rattle.sv_system.proofs.Trusted.{noted-serial}
-use Rattle.sv_system.proofs.Owned.{plain-served, owns-own, one-of}
+use Rattle.sv_system.proofs.Owned.{plain-served, owns-own}
 use Rattle.sv_system.proofs.Opened.{asks}
 use Rattle.sv_system.proofs.Allowed.{allowed}
 use Rattle.sv_system.proofs.Ordered.{ordered, complete}
@@ -89,8 +89,9 @@ no-fault r h Ls i L s reply count shaped bound most room legal fits member =
 -- In scenarios a client keeps the limits by its counts.
 pub scenario-no_fault : (world : World) (bound : ℕ) (reach : Option ℕ) (sessions : ℕ) (h : List Entry) (Ls : List Trace) (i : ℕ) (L : Trace) (s : ℕ) (reply : Reply) →
     length world.values ≡ world.shape.objects → All (λ (v : List ℤ). length v ≡ world.shape.attrs) world.values → bound ≤ 32 → length (accepted h) < most_positions →
-    Legal (scenario_rules world bound reach sessions) h → Fits world.shape h Ls → slice_get Ls i ≡ Some L → current_session (reverse L.events) ≡ Some s → length (requests_of L s) ≤ 1024 →
+    Legal (scenario_rules world bound reach sessions) h → Fits world.shape h Ls → slice_get Ls i ≡ Some L → Proper world.shape L →
+    current_session (reverse L.events) ≡ Some s → length (requests_of L s) ≤ 1024 →
     slice_get (replies_in (accepted h) h s) (length (got (reverse L.events) s)) ≡ Some reply → first_fault_of_reply (identity_of world.shape L) (reverse L.events) reply ≡ None
-scenario-no_fault world bound reach sessions h Ls i L s reply count shaped few room legal fits member current asks is =
+scenario-no_fault world bound reach sessions h Ls i L s reply count shaped few room legal fits member proper current asks is =
     no-fault (scenario_rules world bound reach sessions) h Ls i L s reply count shaped few (omega arith) room legal fits member current
-    (scenario-keeps world bound reach sessions world.shape h L s (one-of world.shape h Ls fits.each i L member).proper asks) is
+    (scenario-keeps world bound reach sessions world.shape h L s proper asks) is

@@ -45,10 +45,10 @@ module _ (awaited : Awaited) where
 
   pub numbered-well : (n : ℕ) (a : Action) → e.request ≡ requests.Submit n a → IsNumberedWell n a
   numbered-well n a is =
-      let front = next-front who L.first whole this_one.proper.events s n a current (asks-other awaited (requests.Submit n a) is refl) in
+      let front = next-front who whole this_one.trace.events s n a current (asks-other awaited (requests.Submit n a) is refl) in
       let number : n ≡ suc (settled whole) = front.1.1 in
       let low : settled whole < next_seq g k = settled-next owner g (earlier-rest g e H b) (got-at awaited) whole all in
-      let c = counted who L.first whole this_one.proper.events in
+      let c = counted who whole this_one.trace.events in
       let few' : length (keys (pending_of whole)) ≤ 8 = c.few in
       let within : length (keys (pending_of whole)) ≤ makes whole = c.within in
       let most : length (outcomes_of g k) ≤ makes whole = outcomes-made owner g (earlier-rest g e H b) (got-at awaited) in

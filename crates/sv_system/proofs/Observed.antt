@@ -110,15 +110,15 @@ module _ (K : Keeping) (r : Rules) (H : List Entry) (L : Trace) (served : IsServ
 
   -- One reply that was got, with its entry.
   module _ (t : List Event) (s : ℕ) (reply : Reply) (part : IsPart (events.Got s reply ∷ t) whole) where
-    answers : Answers who L.first t s reply
-    answers = may-answer who L.first t s reply (proper-part who L.first (events.Got s reply ∷ t) whole part fits.proper.events).0
+    answers : Answers who t s reply
+    answers = may-answer who t s reply (proper-part who (events.Got s reply ∷ t) whole part fits.trace.events).0
 
     abbrev place : ℕ
     place = length (got t s)
 
     there : slice_get (got whole s) place ≡ Some reply
     there =
-        got-part who L.first (events.Got s reply ∷ t) whole part s place reply
+        got-part who (events.Got s reply ∷ t) whole part s place reply
         (ap (λ (rs : List Reply). slice_get rs place) (cond-true (s == s) (got t s ++ reply ∷ []) (got t s) (eq-eqb s s refl)) ∙ get-last (got t s) reply)
 
     entry-of : IsEntered A H s place reply
@@ -129,7 +129,7 @@ module _ (K : Keeping) (r : Rules) (H : List Entry) (L : Trace) (served : IsServ
     all-got =
         let x = entry-of in
         fronts-same (got t s) (replies_in A x.before s) (replies_in A H s)
-        (front-then (got t s) (got whole s) (replies_in A H s) (got-part who L.first t whole (part-rest t (events.Got s reply) whole part) s) (got-replied K r H L served s))
+        (front-then (got t s) (got whole s) (replies_in A H s) (got-part who t whole (part-rest t (events.Got s reply) whole part) s) (got-replied K r H L served s))
         (replies-earlier A x.before H (earlier-rest x.before x.entry H x.earlier) s) x.place
 
     observed-is : (objects : List ObjectId) (wait : ℕ) → answers.request ≡ requests.Observe objects wait → observed_now who t ≡ numbers_of objects
@@ -145,7 +145,7 @@ module _ (K : Keeping) (r : Rules) (H : List Entry) (L : Trace) (served : IsServ
         let has : has_session L s ≡ true = got-has K r H L served s place reply there in
         entered-as H L s (fits.sessions s has) place x.entry.request (requests.Observe objects wait)
         (ap (slice_get (requests_in H s)) (x.place ∙ as-many A x.before s) ∙ request-there x.entry x.before H s x.earlier x.of_it)
-        (asked-part who L.first t whole (part-rest t (events.Got s reply) whole part) s place (requests.Observe objects wait) (answers.asked_there ∙ ap Some is))
+        (asked-part who t whole (part-rest t (events.Got s reply) whole part) s place (requests.Observe objects wait) (answers.asked_there ∙ ap Some is))
         refl
 
   one-whole : (t : List Event) (s : ℕ) (reply : Reply) → IsPart (events.Got s reply ∷ t) whole → IsSeenWhole opening acts who t reply
@@ -163,7 +163,7 @@ module _ (K : Keeping) (r : Rules) (H : List Entry) (L : Trace) (served : IsServ
       subst (λ (n : ℕ). got t n ≡ replies_in A x.before n) (sym session) (all-got t s reply part) in
       let rest = part-rest t (events.Got s reply) whole part in
       let fronts : (n : ℕ) → IsFront (got t n) (replies_in A H n) =
-      λ n. front-then (got t n) (got whole n) (replies_in A H n) (got-part who L.first t whole rest n) (got-replied K r H L served n) in
+      λ n. front-then (got t n) (got whole n) (replies_in A H n) (got-part who t whole rest n) (got-replied K r H L served n) in
       let held = λ (ks : List Item). with_reply (held_of t) (replies.Seen last commit head ks) in
       let value = λ (z : ℕ). slice_index_or (serial_world opening acts last) z [] in
       let read = seen-whole K keeps r H count legal serial x.entry x.before x.earlier t fronts all_got last commit head y.0 y.1.0 seen in

@@ -29,9 +29,10 @@ use Rattle.sv_system.proofs.Fronts.{get-last}
 use Rattle.sv_system.proofs.Histories.{IsEarlier, same, after, earlier-then, earlier-rest}
 use Rattle.sv_system.proofs.Entered.{is_of, of-parts, of-from, as-many, replies-earlier, front-length, request-there, client-stays, IsWelcome, welcome-life, welcome-client, life-grows}
 use Rattle.sv_system.proofs.Asking.{is_done, asked-there}
-use Rattle.sv_system.proofs.Asked.{all, part-rest, asked-part, got-when, got-answers, current-last, current-joined}
+use Rattle.sv_system.proofs.Asked.{all, part-rest, asked-part, got-when, got-answers, current-joined}
 use Rattle.sv_system.proofs.Leaving.{IsJoinAsked, join-asked, leave-last}
 use Rattle.sv_system.proofs.Order.{never-refused, got-replied, joined-has, welcome-legal, leave-only}
+use Rattle.sv_system.proofs.Joined.{session_at, current-at, at-one}
 use Rattle.sv_system.proofs.Places.{at_place}
 
 -- ---- Where a session's client comes from
@@ -169,10 +170,10 @@ last-kinds q A logged.Idle l a = absurd (true≢false (sym l))
 -- A Join that a session of a trace has in the journal is one that the trace asks.
 pub join-of : (shape : Shape) (H : List Entry) (M : Trace) → FitsButValues shape H M → (e : Entry) (h : List Entry) → IsEarlier (e ∷ h) H → has_session M e.session ≡ true →
     (client : ClientId) (life : ℕ) (interest : List ObjectId) → e.request ≡ requests.Join client life interest →
-    IsJoinAsked (identity_of shape M) M.first (reverse M.events) e.session (length (requests_in h e.session)) client life interest
+    IsJoinAsked (identity_of shape M) (reverse M.events) e.session (length (requests_in h e.session)) client life interest
 join-of shape H M fit e h b has client life interest is =
     let n = length (requests_in h e.session) in
-    join-asked (identity_of shape M) M.first (reverse M.events) fit.proper.events e.session n client life interest
+    join-asked (identity_of shape M) (reverse M.events) fit.trace.events e.session n client life interest
     (asked-there H M e.session (fit.sessions e.session has) n (requests.Join client life interest) refl (request-there e h H e.session b (of-from e e.session refl (ap is_end is)) ∙ ap Some is))
 
 module _ (owner : Owner) where
@@ -180,7 +181,7 @@ module _ (owner : Owner) where
 
   -- The session in which this client was welcomed is this trace's, and the Join is one that the trace asks.
   pub own-join : (e : Entry) (h : List Entry) → IsEarlier (e ∷ h) H → (client : ClientId) (life : ℕ) → (w : IsWelcome e client life) → client.0 ≡ L.client.0 →
-      (has_session L e.session ≡ true) × IsJoinAsked (identity_of r.world.shape L) L.first (reverse L.events) e.session (length (requests_in h e.session)) client life w.interest
+      (has_session L e.session ≡ true) × IsJoinAsked (identity_of r.world.shape L) (reverse L.events) e.session (length (requests_in h e.session)) client life w.interest
   own-join e h b client life w same_number =
       let fresh = welcome-legal K r H L served e h client life b w in
       let joined : client_of H e.session ≡ Some client.0 = client-stays (e ∷ h) H b e.session client.0 (welcome-client e h client life w fresh.0) in
@@ -248,13 +249,13 @@ module _ (awaited : Awaited) where
   not-left d h c t last =
       let m = length (replies_in A h s) in
       let there = was-got d h c t in
-      let w = got-when who L.first whole s m (full_reply A d.reply) there in
-      let a = got-answers who L.first whole fits.proper.events s m (full_reply A d.reply) w in
+      let w = got-when who whole s m (full_reply A d.reply) there in
+      let a = got-answers who whole fits.trace.events s m (full_reply A d.reply) w in
       let leave : a.request ≡ requests.Leave = last-kinds a.request A d.reply last a.kind in
       let at : slice_get (asked L.client L.interest whole s) m ≡ Some requests.Leave =
-      asked-part who L.first w.before whole (part-rest w.before (events.Got s (full_reply A d.reply)) whole w.part) s m requests.Leave
+      asked-part who w.before whole (part-rest w.before (events.Got s (full_reply A d.reply)) whole w.part) s m requests.Leave
       (ap (slice_get (asked L.client L.interest w.before s)) w.place ∙ a.asked_there ∙ ap Some leave) in
-      let last_one : length (asked L.client L.interest whole s) ≡ suc m = (leave-last who L.first whole fits.proper.events s m at).last in
+      let last_one : length (asked L.client L.interest whole s) ≡ suc m = (leave-last who whole fits.trace.events s m at).last in
       let within : length (got whole s) < length (asked L.client L.interest whole s) = slice_get_within (asked L.client L.interest whole s) (length (got whole s)) asks.0 asks.1.0 in
       let got_it : m < length (got whole s) = slice_get_within (got whole s) m (full_reply A d.reply) there in
       absurd (omega arith)
@@ -275,10 +276,9 @@ module _ (awaited : Awaited) where
       let welcome : IsWelcome d client life = record { interest = q.1.1.0; commit = reply_is.0; head = reply_is.1.0; request = q.1.1.1.0; reply = reply_is.1.1 } in
       let oj = own-join owner d h early client life welcome (q.1.1.1.1 ∙ mine_is) in
       let fj = own-join owner first_one.entry first_one.before (earlier-then (first_one.entry ∷ first_one.before) h H first_one.earlier early_h) first_one.client first_one.life first_one.welcome (first_one.client_is ∙ mine_is) in
-      let n1 : d.session + 1 ≡ L.first + life = oj.1.numbered in
       let l1 : life ≤ joins whole = oj.1.among in
-      let n2 : s + 1 ≡ L.first + first_one.life = subst (λ (n : ℕ). n + 1 ≡ L.first + first_one.life) first_one.session fj.1.numbered in
-      let n3 : s + 1 ≡ L.first + joins whole = current-last who L.first whole fits.proper.events s current in
+      let first_at : session_at whole first_one.life ≡ Some s = fj.1.numbered ∙ ap Some first_one.session in
+      let n1 : first_one.life ≡ joins whole = at-one who whole fits.trace.events first_one.life (joins whole) s first_at (current-at whole s current) in
       let grew : first_one.life ≤ life_of (first_one.entry ∷ first_one.before) first_one.client.0 = welcome-life first_one.entry first_one.before first_one.client first_one.life first_one.welcome in
       let kept : life_of (first_one.entry ∷ first_one.before) first_one.client.0 ≤ life_of h first_one.client.0 = life-grows (first_one.entry ∷ first_one.before) h first_one.earlier first_one.client.0 in
       let late : life_of h client.0 < life = (welcome-legal K r H L served d h client life early welcome).1 in

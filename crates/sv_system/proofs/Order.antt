@@ -24,7 +24,8 @@ use Rattle.sv_client.specs.declared.trace.Event.TheVariants as events
 use Rattle.sv_client.specs.declared.trace.Trace.{Trace}
 use Rattle.sv_client.specs.Traces.{joins, asked, got}
 use Rattle.sv_client.specs.Taking.{Identity, allows}
-use Rattle.sv_client.specs.Proper.{AreProper, identity_of}
+use Rattle.sv_client.specs.Proper.{identity_of}
+use Rattle.sv_system.specs.Clients.{AreClientEvents}
 use Rattle.sv_system.specs.Fronts.{IsFront}
 use Rattle.sv_system.specs.Fits.{requests_in, replies_in, is_join_of, has_session}
 use Rattle.sv_system.proofs.Fronts.{front-then}
@@ -33,7 +34,8 @@ use Rattle.sv_system.proofs.Replies.{TellsFor, IsWelcomeReply, over-refused, ser
 use Rattle.sv_system.proofs.Replied.{front-shorter}
 use Rattle.sv_system.proofs.Entered.{earlier-cases, is_of, of-parts, as-many, replies-earlier, front-length, request-there, entered, client-stays, over-stays, life-grows, IsWelcome, welcome-life, welcome-over, welcome-client}
 use Rattle.sv_system.proofs.Asking.{IsServed, entered-as}
-use Rattle.sv_system.proofs.Asked.{IsPart, part-rest, asked-part, proper-part, got-part, got-when, got-answers, may-answer, IsBegun, begun-or_not, current-last, current-joined, any-part, any-reverse}
+use Rattle.sv_system.proofs.Asked.{IsPart, part-rest, asked-part, proper-part, got-part, got-when, got-answers, may-answer, IsBegun, begun-or_not, at-part, current-joined, any-part, any-reverse}
+use Rattle.sv_system.proofs.Joined.{session_at, current-at, at-one}
 use Rattle.sv_system.proofs.Places.{at_place}
 
 pub earlier-strict : (h : List Entry) (e : Entry) (g : List Entry) → IsEarlier h (e ∷ g) → (h ≡ e ∷ g) ⊎ IsEarlier h g
@@ -99,35 +101,35 @@ module _ (K : Keeping) (r : Rules) (H : List Entry) (L : Trace) (served : IsServ
 
   pub got-has : (s n : ℕ) (reply : Reply) → slice_get (got whole s) n ≡ Some reply → has_session L s ≡ true
   got-has s n reply is =
-      let g = got-when who L.first whole s n reply is in
-      let a = got-answers who L.first whole fits.proper.events s n reply g in
+      let g = got-when who whole s n reply is in
+      let a = got-answers who whole fits.trace.events s n reply g in
       joined-has g.before (part-rest g.before (events.Got s reply) whole g.part) s (current-joined g.before s a.current)
 
   -- What the trace got in any session is a front of the session's replies.
   pub got-replied : (s : ℕ) → IsFront (got whole s) (replies_in A H s)
   got-replied s n reply is = (fits.sessions s (got-has s n reply is)).got n reply is
 
-  -- A session in which a reply was got was welcomed with the life that its number tells.
+  -- A session in which a reply was got was welcomed with the life of the Join that began it.
   pub record IsWelcomed (h : List Entry) (s : ℕ) : Type 0 where
     pub entry : Entry
     pub before : List Entry
     pub earlier : IsEarlier (entry ∷ before) h
     pub session : entry.session ≡ s
     pub life : ℕ
-    pub numbered : s + 1 ≡ L.first + life
+    pub numbered : session_at whole life ≡ Some s
     pub welcome : IsWelcome entry L.client life
 
   pub welcomed-at : (h : List Entry) → IsEarlier h H → (s : ℕ) (reply : Reply) → slice_get (got whole s) 0 ≡ Some reply → slice_get (replies_in A h s) 0 ≡ Some reply → IsWelcomed h s
   welcomed-at h b s reply is there =
-      let g = got-when who L.first whole s 0 reply is in
-      let a = got-answers who L.first whole fits.proper.events s 0 reply g in
+      let g = got-when who whole s 0 reply is in
+      let a = got-answers who whole fits.trace.events s 0 reply g in
       let part : IsPart g.before whole = part-rest g.before (events.Got s reply) whole g.part in
       let asked_there : slice_get (asked L.client L.interest whole s) 0 ≡ Some a.request =
-      asked-part who L.first g.before whole part s 0 a.request (ap (slice_get (asked L.client L.interest g.before s)) g.place ∙ a.asked_there) in
+      asked-part who g.before whole part s 0 a.request (ap (slice_get (asked L.client L.interest g.before s)) g.place ∙ a.asked_there) in
       let i = entered A h s 0 reply there in
       let request_there : slice_get (requests_in H s) 0 ≡ Some i.entry.request =
       ap (slice_get (requests_in H s)) (i.place ∙ as-many A i.before s) ∙ request-there i.entry i.before H s (earlier-then (i.entry ∷ i.before) h H i.earlier b) i.of_it in
-      elim (begun-or_not who L.first whole fits.proper.events s) [
+      elim (begun-or_not who whole fits.trace.events s) [
         | inl none ↦ absurd (none-some a.request (sym (ap (λ (qs : List Request). slice_get qs 0) none.0) ∙ asked_there))
         | inr begun ↦
             (let join = requests.Join L.client begun.life L.interest in
@@ -162,7 +164,7 @@ module _ (K : Keeping) (r : Rules) (H : List Entry) (L : Trace) (served : IsServ
       let k = L.client.0 in
       let new : IsEarlier (w.entry ∷ w.before) H = earlier-then (w.entry ∷ w.before) h H w.earlier b in
       let apart : w.entry.session ≡ v.entry.session → ⊥ =
-      λ (e : w.entry.session ≡ v.entry.session). (let n : s ≡ o = sym w.session ∙ e ∙ v.session in let p : s + 1 ≡ L.first + w.life = w.numbered in let q : o + 1 ≡ L.first + v.life = v.numbered in absurd (omega arith)) in
+      λ (e : w.entry.session ≡ v.entry.session). (let n : s ≡ o = sym w.session ∙ e ∙ v.session in let one : w.life ≡ v.life = at-one who whole fits.trace.events w.life v.life s w.numbered (v.numbered ∙ ap Some (sym n)) in absurd (omega (arith, lower, one))) in
       let old = welcome-legal v.entry v.before L.client v.life v.earlier v.welcome in
       elim (earlier-cases (w.entry ∷ w.before) (v.entry ∷ v.before) H new v.earlier) [
         | inl first ↦ elim (earlier-strict (w.entry ∷ w.before) v.entry v.before first) [
@@ -188,21 +190,21 @@ module _ (K : Keeping) (r : Rules) (H : List Entry) (L : Trace) (served : IsServ
   pub got-not_over : (o n : ℕ) (reply : Reply) → slice_get (got whole o) n ≡ Some reply → (e : Entry) (h : List Entry) → IsEarlier (e ∷ h) H → is_of e o ≡ true →
       reply ≡ full_reply A e.reply → is_over h o ≡ true → ⊥
   got-not_over o n reply is e h b t replied over' =
-      let g = got-when who L.first whole o n reply is in
-      let a = got-answers who L.first whole fits.proper.events o n reply g in
+      let g = got-when who whole o n reply is in
+      let a = got-answers who whole fits.trace.events o n reply g in
       let parts = of-parts e o t in
       let refusal : e.reply ≡ refused 4 0 =
       (earlier-served K r (e ∷ h) H b legal).0 ∙ over-refused K keeps r h e.session e.request (subst (λ (m : ℕ). is_over h m ≡ true) (sym parts.0) over') parts.1 in
       true≢false (sym a.kind ∙ ap (allows a.request) (replied ∙ ap (full_reply A) refusal) ∙ never-refused (a.request) 4 0)
 
-  begun-at : (v : List Event) → AreProper who L.first v → (s n : ℕ) (reply : Reply) → slice_get (got v s) n ≡ Some reply → IsBegun who L.first v s
+  begun-at : (v : List Event) → AreClientEvents who v → (s n : ℕ) (reply : Reply) → slice_get (got v s) n ≡ Some reply → IsBegun who v s
   begun-at v p s n reply is =
-      let g = got-when who L.first v s n reply is in
-      let a = got-answers who L.first v p s n reply g in
-      elim (begun-or_not who L.first v p s) [
+      let g = got-when who v s n reply is in
+      let a = got-answers who v p s n reply g in
+      elim (begun-or_not who v p s) [
         | inr begun ↦ begun
         | inl none ↦ absurd (none-some a.request (sym (ap (λ (qs : List Request). slice_get qs (length (got g.before s))) none.0)
-            ∙ asked-part who L.first g.before v (part-rest g.before (events.Got s reply) v g.part) s (length (got g.before s)) a.request a.asked_there))
+            ∙ asked-part who g.before v (part-rest g.before (events.Got s reply) v g.part) s (length (got g.before s)) a.request a.asked_there))
       ]
 
   -- What was got up to a reply was answered before a history that has all that was got in the reply's session.
@@ -210,8 +212,8 @@ module _ (K : Keeping) (r : Rules) (H : List Entry) (L : Trace) (served : IsServ
       IsFront (got (events.Got s reply ∷ t) s) (replies_in A h s) → (o : ℕ) → IsFront (got (events.Got s reply ∷ t) o) (replies_in A h o)
   all-before h b s reply t part front o =
       let v : List Event = events.Got s reply ∷ t in
-      let proper : AreProper who L.first v = proper-part who L.first v whole part fits.proper.events in
-      let full : IsFront (got v o) (replies_in A H o) = front-then (got v o) (got whole o) (replies_in A H o) (got-part who L.first v whole part o) (got-replied o) in
+      let proper : AreClientEvents who v = proper-part who v whole part fits.trace.events in
+      let full : IsFront (got v o) (replies_in A H o) = front-then (got v o) (got whole o) (replies_in A H o) (got-part who v whole part o) (got-replied o) in
       elim (cases_eq o s) [
         | inl e ↦ subst (λ (n : ℕ). IsFront (got v n) (replies_in A h n)) (sym e) front
         | inr e ↦ elim (cases_lt (length (replies_in A h o)) (length (got v o))) [
@@ -222,25 +224,27 @@ module _ (K : Keeping) (r : Rules) (H : List Entry) (L : Trace) (served : IsServ
     where
       too-late : (h : List Entry) → IsEarlier h H → (s : ℕ) (reply : Reply) (t : List Event) → IsPart (events.Got s reply ∷ t) whole →
           IsFront (got (events.Got s reply ∷ t) s) (replies_in A h s) → (o : ℕ) → (o ≡ s → ⊥) → length (replies_in A h o) < length (got (events.Got s reply ∷ t) o) →
-          AreProper who L.first (events.Got s reply ∷ t) → IsFront (got (events.Got s reply ∷ t) o) (replies_in A H o) → ⊥
+          AreClientEvents who (events.Got s reply ∷ t) → IsFront (got (events.Got s reply ∷ t) o) (replies_in A H o) → ⊥
       too-late h b s reply t part front o e l proper full =
           let v : List Event = events.Got s reply ∷ t in
           let m = length (replies_in A h o) in
           let late = at_place (got v o) m l in
-          let late_whole : slice_get (got whole o) m ≡ Some late.0 = got-part who L.first v whole part o m late.0 late.1 in
+          let late_whole : slice_get (got whole o) m ≡ Some late.0 = got-part who v whole part o m late.0 late.1 in
           let i = entered A H o m late.0 (full m late.0 late.1) in
           let at_zero = at_place (got v o) 0 (omega arith) in
-          let old = welcomed-at H same o at_zero.0 (got-part who L.first v whole part o 0 at_zero.0 at_zero.1) (full 0 at_zero.0 at_zero.1) in
+          let old = welcomed-at H same o at_zero.0 (got-part who v whole part o 0 at_zero.0 at_zero.1) (full 0 at_zero.0 at_zero.1) in
           let mine_length : length (got v s) ≡ length (got t s) + 1 = ap length (cond-true (s == s) _ _ (eq-eqb s s refl)) ∙ length-append (got t s) (reply ∷ []) in
           let first_mine = at_place (got v s) 0 (omega arith) in
-          let new = welcomed-at h b s first_mine.0 (got-part who L.first v whole part s 0 first_mine.0 first_mine.1) (front 0 first_mine.0 first_mine.1) in
+          let new = welcomed-at h b s first_mine.0 (got-part who v whole part s 0 first_mine.0 first_mine.1) (front 0 first_mine.0 first_mine.1) in
           let begun = begun-at v proper o 0 at_zero.0 at_zero.1 in
-          let current : s + 1 ≡ L.first + joins t = current-last who L.first t proper.1 s (may-answer who L.first t s reply proper.0).current in
+          let current : session_at whole (joins t) ≡ Some s =
+          at-part t whole (part-rest t (events.Got s reply) whole part) (joins t) s (current-at t s (may-answer who t s reply proper.0).current) in
           let among : begun.life ≤ joins t = begun.among in
-          let begun_numbered : o + 1 ≡ L.first + begun.life = begun.numbered in
-          let old_numbered : o + 1 ≡ L.first + old.life = old.numbered in
-          let new_numbered : s + 1 ≡ L.first + new.life = new.numbered in
-          let lower : old.life < new.life = omega arith in
+          let begun_at : session_at whole begun.life ≡ Some o = at-part v whole part begun.life o begun.numbered in
+          let old_life : old.life ≡ begun.life = at-one who whole fits.trace.events old.life begun.life o old.numbered begun_at in
+          let new_life : new.life ≡ joins t = at-one who whole fits.trace.events new.life (joins t) s new.numbered current in
+          let other : begun.life ≡ joins t → ⊥ = λ q. e (same_Some o s (sym begun_at ∙ ap (session_at whole) q ∙ current)) in
+          let lower : old.life < new.life = omega (arith, among, old_life, new_life, other) in
           let over' : is_over h o ≡ true = older-over s o h b new old lower in
           let place : m ≡ length (replies_in A i.before o) = i.place in
           let longer : length (replies_in A (i.entry ∷ i.before) o) ≡ length (replies_in A i.before o) + 1 =

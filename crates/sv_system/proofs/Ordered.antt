@@ -184,7 +184,7 @@ module _ (awaited : Awaited) where
       let c : commit ≡ commit_of (K.kept g) = t.commit_is in
       five-false (not (is_ascending (head_objects head))) false false (goes_back (Some commit) (told whole)) false
       (not_from_true (is_ascending (head_objects head))
-      (subst (λ (ys : List ℕ). is_ascending ys ≡ true) (sym (ap head_objects heads ∙ objects-named r (K.kept g) xs)) this_one.proper.who.ascending))
+      (subst (λ (ys : List ℕ). is_ascending ys ≡ true) (sym (ap head_objects heads ∙ objects-named r (K.kept g) xs)) this_one.trace.interest.ascending))
       refl refl (not-back commit (omega arith)) refl
 
   -- The next reply is in order.

@@ -116,7 +116,7 @@ module _ (awaited : Awaited) where
   earlier = earlier-rest g e H b
 
   asked-made : (n : ℕ) (a : Action) → e.request ≡ requests.Submit n a → IsMade whole (n, a)
-  asked-made n a is = submit-made who L.first whole s (length (got whole s)) n a (asks-other awaited (requests.Submit n a) is refl)
+  asked-made n a is = submit-made who whole s (length (got whole s)) n a (asks-other awaited (requests.Submit n a) is refl)
 
   -- The action that was accepted of this client with a number is the one that it submits with it.
   kept-own : (n p : ℕ) (a : Action) → e.request ≡ requests.Submit n a → (x : IsAcceptance g k n p) → authored_at A p ≡ record { client = k; seq = n; action = a }
@@ -128,7 +128,7 @@ module _ (awaited : Awaited) where
       let has_o : has_session L o ≡ true = own-session owner x.before (earlier-rest x.before x.entry H bx) o c in
       let there = asked-there H L o (this_one.sessions o has_o) (length (requests_in x.before o)) x.entry.request (ap is_done q.1)
       (request-there x.entry x.before H o bx (of-from x.entry o refl (ap is_end q.1))) in
-      let old : IsMade whole (n, q.0) = submit-made who L.first whole o (length (requests_in x.before o)) n q.0 (there ∙ ap Some q.1) in
+      let old : IsMade whole (n, q.0) = submit-made who whole o (length (requests_in x.before o)) n q.0 (there ∙ ap Some q.1) in
       let action : q.0 ≡ a = made-same whole n q.0 a old (asked-made n a is) in
       ap (authored_at A) x.place
       ∙ authored-new x.entry x.before H k n q.0 bx c q.1 x.number (acceptance-relay g k n p x)

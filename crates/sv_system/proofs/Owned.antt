@@ -70,7 +70,7 @@ some-session shape H k s own (L ∷ Ls) each h =
 
 none-liar : (shape : Shape) (H : List Entry) (Ls : List Trace) → AllByRecursion (FitsOne shape H) Ls → AllByRecursion (λ (L : Trace). L.client.0 ≡ no_client → ⊥) Ls
 none-liar shape H [] each = tt
-none-liar shape H (L ∷ Ls) each = (λ e. (let few : L.client.0 < 32 = each.0.proper.who.client in absurd (omega arith)), none-liar shape H Ls each.1)
+none-liar shape H (L ∷ Ls) each = (λ e. (let few : L.client.0 < 65536 = each.0.trace.client in absurd (omega arith)), none-liar shape H Ls each.1)
 
 -- Then no client is the liar.
 pub fits-none : (shape : Shape) (H : List Entry) (Ls : List Trace) → Fits shape H Ls → FitsBut no_client shape H Ls

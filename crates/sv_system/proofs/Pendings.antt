@@ -15,7 +15,8 @@ use Rattle.sv_client.specs.declared.trace.Event.{Event}
 use Rattle.sv_client.specs.declared.trace.Event.TheVariants as events
 use Rattle.sv_client.specs.Traces.{makes, held_of, with_reply, head_held, results_of, last_values, are_same, without_front, settled_by, has_news, pending_with, done_for, pending_of, submit_of, asked_by_event, asked, got}
 use Rattle.sv_client.specs.Taking.{Identity}
-use Rattle.sv_client.specs.Proper.{MayMake, AreProper}
+use Rattle.sv_client.specs.Proper.{IsReadyToMake}
+use Rattle.sv_system.specs.Clients.{AreClientEvents}
 use Rattle.sv_system.proofs.Asked.{may-answer}
 
 -- An action with its client's number for it.
@@ -148,11 +149,11 @@ pub submits-pending : (ps : List PendingAction) → submits (map submit_of ps) �
 submits-pending [] = refl
 submits-pending (p ∷ ps) = ap (λ (l : List Numbered). key_of p ∷ l) (submits-pending ps)
 
-module _ (who : Identity) (first : ℕ) where
+module _ (who : Identity) where
   pub keys-made : (action : Action) (t : List Event) → keys (pending_of (events.Make action ∷ t)) ≡ keys (pending_of t) ++ (suc (makes t), action) ∷ []
   keys-made action t = map-append key_of (pending_of t) (record { seq = suc (makes t); action = action; kept = kept_of (held_of t) (pending_of t) action } ∷ [])
 
-  counted-make : (action : Action) (t : List Event) → MayMake who t action → IsCounted t → IsCounted (events.Make action ∷ t)
+  counted-make : (action : Action) (t : List Event) → IsReadyToMake who t action → IsCounted t → IsCounted (events.Make action ∷ t)
   counted-make action t m c =
       let ks = keys (pending_of t) in
       let e = keys-made action t in
@@ -176,7 +177,7 @@ module _ (who : Identity) (first : ℕ) where
         | inr n ↦ counted-same t (events.Got s r ∷ t) (e ∙ cond-false (settles r) _ _ n) refl c
       ]
 
-  pub counted : (t : List Event) → AreProper who first t → IsCounted t
+  pub counted : (t : List Event) → AreClientEvents who t → IsCounted t
   counted [] p = record { numbered = tt; within = omega arith; few = omega arith }
   counted (events.Make action ∷ t) p = counted-make action t p.0 (counted t p.1)
   counted (events.Got s r ∷ t) p = counted-got s r t (counted t p.1)
@@ -192,11 +193,11 @@ module _ (who : Identity) (first : ℕ) where
   asked_there t s = asked who.client who.interest t s
 
   -- At most as many replies were got as requests were asked.
-  pub got-fewer : (t : List Event) → AreProper who first t → (s : ℕ) → length (got t s) ≤ length (asked who.client who.interest t s)
+  pub got-fewer : (t : List Event) → AreClientEvents who t → (s : ℕ) → length (got t s) ≤ length (asked who.client who.interest t s)
   got-fewer [] p s = omega arith
   got-fewer (events.Got m r ∷ t) p s =
       let less : length (got t s) ≤ length (asked_there t s) = got-fewer t p.1 s in
-      let a = may-answer who first t m r p.0 in
+      let a = may-answer who t m r p.0 in
       let more = asked_by_event who.client who.interest t (events.Got m r) s in
       let all' : length (asked_there t s ++ more) ≡ length (asked_there t s) + length more = length-append (asked_there t s) more in
       elim (cases_Bool (m == s)) [

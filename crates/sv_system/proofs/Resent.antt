@@ -16,8 +16,8 @@ use Rattle.sv_client.specs.declared.trace.Event.{Event}
 use Rattle.sv_client.specs.declared.trace.Event.TheVariants as events
 use Rattle.sv_client.specs.Traces.{joins, makes, current_session, is_session, held_of, with_reply, done_for, pending_of, submit_of, asked_by_event, asked, got}
 use Rattle.sv_client.specs.Taking.{Identity}
-use Rattle.sv_client.specs.Proper.{AreProper}
-use Rattle.sv_system.proofs.Asked.{get-append_cases, may-answer, begun-or_not}
+use Rattle.sv_system.specs.Clients.{AreClientEvents}
+use Rattle.sv_system.proofs.Asked.{get-append_cases, may-answer, begun-or_not, begun-older}
 use Rattle.sv_system.proofs.Pendings.{Numbered, keys, without_first, settles, keys-with, settled, counted, got-fewer, keys-made}
 use Rattle.sv_system.proofs.Aligned.{is_submit, settles-submit}
 use Rattle.sv_system.proofs.Window.{next-front, submit-most, no-submit}
@@ -32,15 +32,15 @@ is_look requests.Poll = true
 is_look (requests.Observe objects wait) = true
 is_look _ = false
 
-module _ (who : Identity) (first : ℕ) where
+module _ (who : Identity) where
   abbrev here : List Event → ℕ → List Request
   here t s = asked who.client who.interest t s
 
-  settled-got : (m : ℕ) (r : Reply) (t : List Event) → AreProper who first t → (settled t ≤ settled (events.Got m r ∷ t)) × (settles r ≡ true → 0 < length (keys (pending_of t)) → suc (settled t) ≤ settled (events.Got m r ∷ t))
+  settled-got : (m : ℕ) (r : Reply) (t : List Event) → AreClientEvents who t → (settled t ≤ settled (events.Got m r ∷ t)) × (settles r ≡ true → 0 < length (keys (pending_of t)) → suc (settled t) ≤ settled (events.Got m r ∷ t))
   settled-got m r t p =
       let ks = keys (pending_of t) in
       let with = keys-with (held_of t) (with_reply (held_of t) r) r (pending_of t) in
-      let within : length ks ≤ makes t = (counted who first t p).within in
+      let within : length ks ≤ makes t = (counted who t p).within in
       elim (cases_Bool (settles r)) [
         | inr f ↦ (let e : length (keys (pending_of (events.Got m r ∷ t))) ≡ length ks = ap length (with ∙ cond-false (settles r) (without_first ks) ks f) in (omega arith, λ x l. absurd (true≢false (sym x ∙ f))))
         | inl f ↦ (let e : length (keys (pending_of (events.Got m r ∷ t))) ≡ length (without_first ks) = ap length (with ∙ cond-true (settles r) (without_first ks) ks f) in
@@ -56,19 +56,19 @@ module _ (who : Identity) (first : ℕ) where
       one_less [] l = absurd (omega arith)
       one_less (k ∷ ks) l = omega arith
 
-  settled-made : (action : Action) (t : List Event) → AreProper who first t → settled t ≤ settled (events.Make action ∷ t)
+  settled-made : (action : Action) (t : List Event) → AreClientEvents who t → settled t ≤ settled (events.Make action ∷ t)
   settled-made action t p =
-      let within : length (keys (pending_of t)) ≤ makes t = (counted who first t p).within in
-      let more : length (keys (pending_of (events.Make action ∷ t))) ≡ length (keys (pending_of t)) + 1 = ap length (keys-made who first action t) ∙ length-append (keys (pending_of t)) ((suc (makes t), action) ∷ []) in
+      let within : length (keys (pending_of t)) ≤ makes t = (counted who t p).within in
+      let more : length (keys (pending_of (events.Make action ∷ t))) ≡ length (keys (pending_of t)) + 1 = ap length (keys-made who action t) ∙ length-append (keys (pending_of t)) ((suc (makes t), action) ∷ []) in
       omega arith
 
   -- A Submit whose reply was got is of a settled action.
-  pub answered-settled : (t : List Event) → AreProper who first t → (s i n : ℕ) (a : Action) → i < length (got t s) → slice_get (asked who.client who.interest t s) i ≡ Some (requests.Submit n a) → n ≤ settled t
+  pub answered-settled : (t : List Event) → AreClientEvents who t → (s i n : ℕ) (a : Action) → i < length (got t s) → slice_get (asked who.client who.interest t s) i ≡ Some (requests.Submit n a) → n ≤ settled t
   answered-settled [] p s i n a l e = absurd (omega arith)
   answered-settled (events.Got m r ∷ t) p s i n a l e =
       let before = answered-settled t p.1 s i n a in
       let grows = settled-got m r t p.1 in
-      let fewer : length (got t s) ≤ length (here t s) = got-fewer who first t p.1 s in
+      let fewer : length (got t s) ≤ length (here t s) = got-fewer who t p.1 s in
       let old : i < length (got t s) → n ≤ settled (events.Got m r ∷ t) = λ k. (let q : n ≤ settled t = before k (get-left (here t s) _ i (requests.Submit n a) (omega arith) e) in let w : settled t ≤ settled (events.Got m r ∷ t) = grows.0 in omega arith) in
       elim (cases_Bool (m == s)) [
         | inr f ↦ old (let c : length (got (events.Got m r ∷ t) s) ≡ length (got t s) = ap length (cond-false (m == s) (got t s ++ r ∷ []) (got t s) f) in omega arith)
@@ -77,14 +77,14 @@ module _ (who : Identity) (first : ℕ) where
             elim (cases_eq i (length (got t s))) [
               | inr d ↦ old (omega arith)
               | inl d ↦
-                  (let ans = may-answer who first t m r p.0 in
+                  (let ans = may-answer who t m r p.0 in
                   let is : m ≡ s = eqb-true m s f in
                   let asks : slice_get (here t s) (length (got t s)) ≡ Some ans.request = subst (λ (k : ℕ). slice_get (here t k) (length (got t k)) ≡ Some ans.request) is ans.asked_there in
                   let within : length (got t s) < length (here t s) = slice_get_within (here t s) (length (got t s)) ans.request asks in
                   let now : slice_get (here t s) (length (got t s)) ≡ Some (requests.Submit n a) = ap (slice_get (here t s)) (sym d) ∙ get-left (here t s) _ i (requests.Submit n a) (omega arith) e in
                   let request : ans.request ≡ requests.Submit n a = same_Some ans.request (requests.Submit n a) (sym asks ∙ now) in
-                  let front = next-front who first t p.1 s n a (ans.current ∙ ap Some is) now in
-                  let sets : settles r ≡ true = settles-submit who t ans.request r (counted who first t p.1) ans.kind ans.good ∙ ap is_submit request in
+                  let front = next-front who t p.1 s n a (ans.current ∙ ap Some is) now in
+                  let sets : settles r ≡ true = settles-submit who t ans.request r (counted who t p.1) ans.kind ans.good ∙ ap is_submit request in
                   let some : 0 < length (keys (pending_of t)) = (let z : length (keys (pending_of t)) ≡ suc (length front.0) = ap length front.1.0 in omega arith) in
                   let more : suc (settled t) ≤ settled (events.Got m r ∷ t) = grows.1 sets some in
                   let number : n ≡ suc (settled t) = front.1.1 in
@@ -92,23 +92,23 @@ module _ (who : Identity) (first : ℕ) where
             ])
       ]
   answered-settled (events.Join m ∷ t) p s i n a l e =
-      (let fewer : length (got t s) ≤ length (here t s) = got-fewer who first t p.1 s in answered-settled t p.1 s i n a l (get-left (here t s) _ i (requests.Submit n a) (omega arith) e))
+      (let fewer : length (got t s) ≤ length (here t s) = got-fewer who t p.1 s in answered-settled t p.1 s i n a l (get-left (here t s) _ i (requests.Submit n a) (omega arith) e))
   answered-settled (events.Make action ∷ t) p s i n a l e =
-      (let fewer : length (got t s) ≤ length (here t s) = got-fewer who first t p.1 s in
+      (let fewer : length (got t s) ≤ length (here t s) = got-fewer who t p.1 s in
       let q : n ≤ settled t = answered-settled t p.1 s i n a l (get-left (here t s) _ i (requests.Submit n a) (omega arith) e) in
       let w : settled t ≤ settled (events.Make action ∷ t) = settled-made action t p.1 in omega arith)
   answered-settled (events.Poll ∷ t) p s i n a l e =
-      (let fewer : length (got t s) ≤ length (here t s) = got-fewer who first t p.1 s in answered-settled t p.1 s i n a l (get-left (here t s) _ i (requests.Submit n a) (omega arith) e))
+      (let fewer : length (got t s) ≤ length (here t s) = got-fewer who t p.1 s in answered-settled t p.1 s i n a l (get-left (here t s) _ i (requests.Submit n a) (omega arith) e))
   answered-settled (events.Observe objects wait ∷ t) p s i n a l e =
-      (let fewer : length (got t s) ≤ length (here t s) = got-fewer who first t p.1 s in answered-settled t p.1 s i n a l (get-left (here t s) _ i (requests.Submit n a) (omega arith) e))
+      (let fewer : length (got t s) ≤ length (here t s) = got-fewer who t p.1 s in answered-settled t p.1 s i n a l (get-left (here t s) _ i (requests.Submit n a) (omega arith) e))
   answered-settled (events.Leave ∷ t) p s i n a l e =
-      (let fewer : length (got t s) ≤ length (here t s) = got-fewer who first t p.1 s in answered-settled t p.1 s i n a l (get-left (here t s) _ i (requests.Submit n a) (omega arith) e))
+      (let fewer : length (got t s) ≤ length (here t s) = got-fewer who t p.1 s in answered-settled t p.1 s i n a l (get-left (here t s) _ i (requests.Submit n a) (omega arith) e))
   answered-settled (events.Cut ∷ t) p s i n a l e =
-      (let fewer : length (got t s) ≤ length (here t s) = got-fewer who first t p.1 s in answered-settled t p.1 s i n a l (get-left (here t s) _ i (requests.Submit n a) (omega arith) e))
+      (let fewer : length (got t s) ≤ length (here t s) = got-fewer who t p.1 s in answered-settled t p.1 s i n a l (get-left (here t s) _ i (requests.Submit n a) (omega arith) e))
   answered-settled (events.Quit ∷ t) p s i n a l e =
-      (let fewer : length (got t s) ≤ length (here t s) = got-fewer who first t p.1 s in answered-settled t p.1 s i n a l (get-left (here t s) _ i (requests.Submit n a) (omega arith) e))
+      (let fewer : length (got t s) ≤ length (here t s) = got-fewer who t p.1 s in answered-settled t p.1 s i n a l (get-left (here t s) _ i (requests.Submit n a) (omega arith) e))
   answered-settled (events.Show objects ∷ t) p s i n a l e =
-      (let fewer : length (got t s) ≤ length (here t s) = got-fewer who first t p.1 s in answered-settled t p.1 s i n a l (get-left (here t s) _ i (requests.Submit n a) (omega arith) e))
+      (let fewer : length (got t s) ≤ length (here t s) = got-fewer who t p.1 s in answered-settled t p.1 s i n a l (get-left (here t s) _ i (requests.Submit n a) (omega arith) e))
 
   -- ---- Before and after the last Join
 
@@ -143,11 +143,11 @@ module _ (who : Identity) (first : ℕ) where
       ]
 
   -- A Submit of an older session is of an action made before the last Join.
-  pub older-made : (t : List Event) → AreProper who first t → (s n j k : ℕ) (a : Action) → current_session t ≡ Some s → (s ≡ n → ⊥) →
+  pub older-made : (t : List Event) → AreClientEvents who t → (s n j k : ℕ) (a : Action) → current_session t ≡ Some s → (s ≡ n → ⊥) →
       slice_get (asked who.client who.interest t n) j ≡ Some (requests.Submit k a) → k ≤ joined_makes t
   older-made [] p s n j k a c f e = absurd (none-some s c)
   older-made (events.Join m ∷ t) p s n j k a c f e =
-      submit-most who first t p.1 n j k a (asked-as_before t (events.Join m) n j k a (cond-false (m == n) _ _ (ne_eqb m n (λ x. f (sym (same_Some m s c) ∙ x)))) e)
+      submit-most who t p.1 n j k a (asked-as_before t (events.Join m) n j k a (cond-false (m == n) _ _ (ne_eqb m n (λ x. f (sym (same_Some m s c) ∙ x)))) e)
   older-made (events.Got m r ∷ t) p s n j k a c f e =
       older-made t p.1 s n j k a c f (asked-as_before t (events.Got m r) n j k a (cond-false (m == n) _ _ (ne_eqb m n (λ x. f (sym (same_Some m s (sym p.0.current ∙ c)) ∙ x)))) e)
   older-made (events.Make action ∷ t) p s n j k a c f e = older-made t p.1 s n j k a c f (asked-as_before t (events.Make action) n j k a (other-none (current_session t) s n _ c f) e)
@@ -197,7 +197,7 @@ module _ (who : Identity) (first : ℕ) where
   earlier-asked t ev s i n q p l e f = (let w : n < length (here t s) = slice_get_within (here t s) n p e in get-left (here t s) (asked_by_event who.client who.interest t ev s) i q (omega arith) f)
 
   -- In the current session a Submit that is asked after a Poll or an Observe is of an action made after the Join.
-  pub after-look : (t : List Event) → AreProper who first t → (s i n k : ℕ) (a : Action) (w : Request) → is_look w ≡ true → current_session t ≡ Some s → i < n →
+  pub after-look : (t : List Event) → AreClientEvents who t → (s i n k : ℕ) (a : Action) (w : Request) → is_look w ≡ true → current_session t ≡ Some s → i < n →
       slice_get (asked who.client who.interest t s) i ≡ Some w → slice_get (asked who.client who.interest t s) n ≡ Some (requests.Submit k a) → joined_makes t < k
   after-look [] p s i n k a w look c l e f = absurd (none-some s c)
   after-look (ev ∷ t) p s i n k a w look c l e f =
@@ -206,12 +206,12 @@ module _ (who : Identity) (first : ℕ) where
         | inr g ↦ now ev p c g.0 g.1.0 g.1.1 e
       ]
     where
-      left : (ev : Event) → AreProper who first (ev ∷ t) → current_session (ev ∷ t) ≡ Some s → slice_get (here t s) i ≡ Some w → slice_get (here t s) n ≡ Some (requests.Submit k a) →
+      left : (ev : Event) → AreClientEvents who (ev ∷ t) → current_session (ev ∷ t) ≡ Some s → slice_get (here t s) i ≡ Some w → slice_get (here t s) n ≡ Some (requests.Submit k a) →
           (current_session t ≡ Some s → i < n → slice_get (here t s) i ≡ Some w → slice_get (here t s) n ≡ Some (requests.Submit k a) → joined_makes t < k) → joined_makes (ev ∷ t) < k
       left (events.Join m) q c x y before =
-          elim (begun-or_not who first t q.1 s) [
+          elim (begun-or_not who t q.1 s) [
             | inl z ↦ absurd (none-some w (sym (ap (λ (qs : List Request). slice_get qs i) z.0) ∙ x))
-            | inr z ↦ (let number : m ≡ first + joins t = q.0.next in let is : m ≡ s = same_Some m s c in let o : s + 1 ≡ first + z.life = z.numbered in let w' : z.life ≤ joins t = z.among in absurd (omega arith))
+            | inr z ↦ (let older : s < m = begun-older who t m q.0 s z in let is : m ≡ s = same_Some m s c in absurd (omega (arith, older, is)))
           ]
       left (events.Got m r) q c x y before = before c l x y
       left (events.Make action) q c x y before = before c l x y
@@ -222,14 +222,14 @@ module _ (who : Identity) (first : ℕ) where
       left events.Quit q c x y before = before c l x y
       left (events.Show objects) q c x y before = before c l x y
 
-      now : (ev : Event) → AreProper who first (ev ∷ t) → current_session (ev ∷ t) ≡ Some s → (j : ℕ) → n ≡ length (here t s) + j →
+      now : (ev : Event) → AreClientEvents who (ev ∷ t) → current_session (ev ∷ t) ≡ Some s → (j : ℕ) → n ≡ length (here t s) + j →
           slice_get (asked_by_event who.client who.interest t ev s) j ≡ Some (requests.Submit k a) → slice_get (here (ev ∷ t) s) i ≡ Some w → joined_makes (ev ∷ t) < k
       now (events.Make action) q c j z g x =
           (let m : suc (makes t) ≡ k = made-now (is_session (current_session t) s) (suc (makes t)) action j k a g in let w' : joined_makes t ≤ makes t = joined-most t in omega arith)
       now (events.Join m) q c j z g x =
-          elim (begun-or_not who first t q.1 s) [
+          elim (begun-or_not who t q.1 s) [
             | inl y ↦ absurd (no-look_join (m == s) (suc (joins t)) (pending_of t) i w look (sym (ap (λ (qs : List Request). slice_get (qs ++ asked_by_event who.client who.interest t (events.Join m) s) i) y.0) ∙ x))
-            | inr y ↦ (let number : m ≡ first + joins t = q.0.next in let is : m ≡ s = same_Some m s c in let o : s + 1 ≡ first + y.life = y.numbered in let w' : y.life ≤ joins t = y.among in absurd (omega arith))
+            | inr y ↦ (let older : s < m = begun-older who t m q.0 s y in let is : m ≡ s = same_Some m s c in absurd (omega (arith, older, is)))
           ]
       now (events.Got m r) q c j z g x = absurd (no-submit_done (m == s) (held_of t) r j k a g)
       now events.Poll q c j z g x = absurd (no-submit (is_session (current_session t) s) requests.Poll j k a refl g)

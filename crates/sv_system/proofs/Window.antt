@@ -23,7 +23,8 @@ use Rattle.sv_client.specs.declared.trace.Event.{Event}
 use Rattle.sv_client.specs.declared.trace.Event.TheVariants as events
 use Rattle.sv_client.specs.Traces.{joins, makes, current_session, is_session, held_of, with_reply, done_for, pending_of, submit_of, asked_by_event, asked, got}
 use Rattle.sv_client.specs.Taking.{Identity}
-use Rattle.sv_client.specs.Proper.{AreProper, identity_of}
+use Rattle.sv_client.specs.Proper.{identity_of}
+use Rattle.sv_system.specs.Clients.{AreClientEvents}
 use Rattle.sv_system.specs.Fits.{requests_in, has_session}
 use Rattle.sv_system.proofs.Awaited.{Owner}
 use Rattle.sv_system.proofs.Fronts.{get-last}
@@ -66,9 +67,9 @@ most-from n top (p ∷ ps) f l = ((let e : p.seq ≡ n = f.0 in omega arith), mo
 pending-most : (t : List Event) → IsCounted t → AreMost (makes t) (pending_of t)
 pending-most t c = most-from (suc (settled t)) (makes t) (pending_of t) c.numbered (let w : length (keys (pending_of t)) ≤ makes t = c.within in omega arith)
 
-module _ (who : Identity) (first : ℕ) where
+module _ (who : Identity) where
   -- Each Submit that is asked has at most the number of actions made.
-  pub submit-most : (t : List Event) → AreProper who first t → (s i n : ℕ) (a : Action) → slice_get (asked who.client who.interest t s) i ≡ Some (requests.Submit n a) → n ≤ makes t
+  pub submit-most : (t : List Event) → AreClientEvents who t → (s i n : ℕ) (a : Action) → slice_get (asked who.client who.interest t s) i ≡ Some (requests.Submit n a) → n ≤ makes t
   submit-most [] p s i n a e = absurd (none-some (requests.Submit n a) e)
   submit-most (ev ∷ t) p s i n a e =
       let before = submit-most t p.1 s i n a in
@@ -90,7 +91,7 @@ module _ (who : Identity) (first : ℕ) where
 
       join-now : (b : Bool) (j : ℕ) → slice_get (if b then requests.Join who.client (suc (joins t)) who.interest ∷ map submit_of (pending_of t) else []) j ≡ Some (requests.Submit n a) → n ≤ makes t
       join-now true zero g = (let f : requests.Join who.client (suc (joins t)) who.interest ≡ requests.Submit n a = same_Some _ _ g in absurd (true≢false (sym (ap is_submit f))))
-      join-now true (suc j) g = most-submits (makes t) (pending_of t) (pending-most t (counted who first t p.1)) j n a g
+      join-now true (suc j) g = most-submits (makes t) (pending_of t) (pending-most t (counted who t p.1)) j n a g
       join-now false j g = absurd (none-some (requests.Submit n a) g)
 
       make-now : (b : Bool) (action : Action) (j : ℕ) → slice_get (if b then requests.Submit (suc (makes t)) action ∷ [] else []) j ≡ Some (requests.Submit n a) → n ≤ suc (makes t)
@@ -127,14 +128,14 @@ module _ (who : Identity) (first : ℕ) where
       now (events.Show objects) j g = absurd (none-some (requests.Submit n a) g)
 
   -- The Submit that is answered next in the current session is that of the front pending action.
-  pub next-front : (t : List Event) → AreProper who first t → (s n : ℕ) (a : Action) → current_session t ≡ Some s →
+  pub next-front : (t : List Event) → AreClientEvents who t → (s n : ℕ) (a : Action) → current_session t ≡ Some s →
       slice_get (asked who.client who.interest t s) (length (got t s)) ≡ Some (requests.Submit n a) →
       (ks : List Numbered) × ((keys (pending_of t) ≡ (n, a) ∷ ks) × (n ≡ suc (settled t)))
   next-front t p s n a c e =
       let qs = asked who.client who.interest t s in
       let rest = submits (drop (suc (length (got t s))) qs) in
-      let are : (n, a) ∷ rest ≡ keys (pending_of t) = sym (ap submits (drop-one (length (got t s)) qs (requests.Submit n a) e)) ∙ aligned who first t p s c in
-      (rest, (sym are, first-number (keys (pending_of t)) (suc (settled t)) (counted who first t p).numbered are))
+      let are : (n, a) ∷ rest ≡ keys (pending_of t) = sym (ap submits (drop-one (length (got t s)) qs (requests.Submit n a) e)) ∙ aligned who t p s c in
+      (rest, (sym are, first-number (keys (pending_of t)) (suc (settled t)) (counted who t p).numbered are))
     where
       first-number : (ks : List Numbered) (m : ℕ) → AreFrom m ks → {js : List Numbered} → (n, a) ∷ js ≡ ks → n ≡ m
       first-number [] m f {js} g = cc
@@ -257,20 +258,20 @@ module _ (owner : Owner) (g : List Entry) (earlier : IsEarlier g owner.journal)
   -- The front pending action, once its reply is got, was numbered below the server's next number.
   front-answered : (o : ℕ) (reply : Reply) (t : List Event) → IsPart (events.Got o reply ∷ t) whole → settles reply ≡ true → suc (settled t) < next_seq g k
   front-answered o reply t part s' =
-      let proper : AreProper who L.first (events.Got o reply ∷ t) = proper-part who L.first (events.Got o reply ∷ t) whole part this_one.proper.events in
+      let proper : AreClientEvents who (events.Got o reply ∷ t) = proper-part who (events.Got o reply ∷ t) whole part this_one.trace.events in
       let rest : IsPart t whole = part-rest t (events.Got o reply) whole part in
-      let a = may-answer who L.first t o reply proper.0 in
+      let a = may-answer who t o reply proper.0 in
       let m = length (got t o) in
-      let q = submit-of a.request (sym (settles-submit who t a.request reply (counted who L.first t proper.1) a.kind a.good) ∙ s') in
-      let front = next-front who L.first t proper.1 o q.0 q.1.0 a.current (a.asked_there ∙ ap Some q.1.1) in
+      let q = submit-of a.request (sym (settles-submit who t a.request reply (counted who t proper.1) a.kind a.good) ∙ s') in
+      let front = next-front who t proper.1 o q.0 q.1.0 a.current (a.asked_there ∙ ap Some q.1.1) in
       let there : slice_get (got whole o) m ≡ Some reply =
-      got-part who L.first (events.Got o reply ∷ t) whole part o m reply (ap (λ (rs : List Reply). slice_get rs m) (cond-true (o == o) (got t o ++ reply ∷ []) (got t o) (eq-eqb o o refl)) ∙ get-last (got t o) reply) in
+      got-part who (events.Got o reply ∷ t) whole part o m reply (ap (λ (rs : List Reply). slice_get rs m) (cond-true (o == o) (got t o ++ reply ∷ []) (got t o) (eq-eqb o o refl)) ∙ get-last (got t o) reply) in
       let x = given o m reply there in
       let bx : IsEarlier (x.entry ∷ x.before) H = earlier-then (x.entry ∷ x.before) g H x.earlier earlier in
       let has_o : has_session L o ≡ true = joined-has K r H L served t rest o (current-joined t o a.current) in
       let by_journal : slice_get (requests_in H o) m ≡ Some x.entry.request =
       ap (slice_get (requests_in H o)) (x.place ∙ as-many A x.before o) ∙ request-there x.entry x.before H o bx x.of_it in
-      let by_trace : slice_get (asked L.client L.interest whole o) m ≡ Some a.request = asked-part who L.first t whole rest o m a.request a.asked_there in
+      let by_trace : slice_get (asked L.client L.interest whole o) m ≡ Some a.request = asked-part who t whole rest o m a.request a.asked_there in
       let request : x.entry.request ≡ requests.Submit q.0 q.1.0 =
       entered-as H L o (this_one.sessions o has_o) m x.entry.request (requests.Submit q.0 q.1.0) by_journal (by_trace ∙ ap Some q.1.1) refl in
       let n = answered-next K keeps r A x.entry x.before (earlier-served K r (x.entry ∷ x.before) H bx legal) q.0 q.1.0 request x.entry.reply refl (ap settles (sym x.replied) ∙ s') in
@@ -302,7 +303,7 @@ module _ (owner : Owner) (g : List Entry) (earlier : IsEarlier g owner.journal)
       less (k ∷ ks) = omega arith
   settled-next (events.Make action ∷ t) p =
       let before : settled t < next_seq g k = settled-next t (part-rest t (events.Make action) whole p) in
-      let more : length (keys (pending_of (events.Make action ∷ t))) ≡ length (keys (pending_of t)) + 1 = ap length (keys-made who L.first action t) ∙ length-append (keys (pending_of t)) ((suc (makes t), action) ∷ []) in
+      let more : length (keys (pending_of (events.Make action ∷ t))) ≡ length (keys (pending_of t)) + 1 = ap length (keys-made who action t) ∙ length-append (keys (pending_of t)) ((suc (makes t), action) ∷ []) in
       omega arith
   settled-next (events.Join o ∷ t) p = settled-next t (part-rest t (events.Join o) whole p)
   settled-next (events.Poll ∷ t) p = settled-next t (part-rest t events.Poll whole p)
@@ -327,5 +328,5 @@ module _ (owner : Owner) (g : List Entry) (earlier : IsEarlier g owner.journal)
           let has_o : has_session L x.entry.session ≡ true = own-session owner x.before (earlier-rest x.before x.entry H bx) x.entry.session c in
           let there = asked-there H L x.entry.session (this_one.sessions x.entry.session has_o) (length (requests_in x.before x.entry.session)) x.entry.request (ap is_done q.1)
           (request-there x.entry x.before H x.entry.session bx (of-from x.entry x.entry.session refl (ap is_end q.1))) in
-          let most : suc m ≤ makes whole = submit-most who L.first whole this_one.proper.events x.entry.session (length (requests_in x.before x.entry.session)) (suc m) q.0 (there ∙ ap Some q.1) in
+          let most : suc m ≤ makes whole = submit-most who whole this_one.trace.events x.entry.session (length (requests_in x.before x.entry.session)) (suc m) q.0 (there ∙ ap Some q.1) in
           omega arith

@@ -12,8 +12,8 @@ use Rattle.sv_client.specs.declared.trace.Event.{Event}
 use Rattle.sv_client.specs.declared.trace.Event.TheVariants as events
 use Rattle.sv_client.specs.declared.trace.Trace.{Trace}
 use Rattle.sv_client.specs.Traces.{got, requests_of}
-use Rattle.sv_client.specs.Proper.{Proper}
 use Rattle.sv_system.specs.Fronts.{IsFront}
+use Rattle.sv_system.specs.Clients.{IsClientTrace}
 
 -- The requests of a session that a journal has, in order, its End left out.
 abbrev pub requests_in : List Entry → ℕ → List Request
@@ -47,7 +47,7 @@ pub record FitsIn (h : List Entry) (L : Trace) (s : ℕ) : Type 0 where
   pub ended : IsEndLast h s
 
 pub record FitsOne (shape : Shape) (h : List Entry) (L : Trace) : Type 0 where
-  pub proper : Proper shape L
+  pub trace : IsClientTrace shape L
   pub sessions : (s : ℕ) → has_session L s ≡ true → FitsIn h L s
 
 -- Two traces are of different clients, and have no session in common.

@@ -10,7 +10,7 @@ use Rattle.sv_journal.specs.Answer.{Rules, scenario_rules, Legal}
 use Rattle.sv_client.specs.declared.trace.Trace.{Trace}
 use Rattle.sv_client.specs.Traces.{current_session, requests_of, got}
 use Rattle.sv_client.specs.Taking.{first_fault_of_reply}
-use Rattle.sv_client.specs.Proper.{identity_of}
+use Rattle.sv_client.specs.Proper.{Proper, identity_of}
 use Rattle.sv_system.specs.Fits.{replies_in, Fits}
 use Rattle.sv_system.specs.Serial.{ValuesAreSerial}
 use Rattle.sv_system.specs.Within.{KeepsLimits}
@@ -31,11 +31,11 @@ NeverRefused = (r : Rules) (h : List Entry) (Ls : List Trace) (i : ℕ) (L : Tra
     KeepsLimits r h L s → slice_get (replies_in (accepted h) h s) (length (got (reverse L.events) s)) ≡ Some reply →
     first_fault_of_reply (identity_of r.world.shape L) (reverse L.events) reply ≡ None
 
--- So it is in scenarios, where at most so many requests are asked in the session.
+-- So it is of a client of a scenario, which asks at most so many requests in the session.
 abbrev pub NeverRefusedInScenarios : Type 0
 NeverRefusedInScenarios = (world : World) (bound : ℕ) (reach : Option ℕ) (sessions : ℕ) (h : List Entry) (Ls : List Trace) (i : ℕ) (L : Trace) (s : ℕ) (reply : Reply) →
     length world.values ≡ world.shape.objects → All (λ (v : List ℤ). length v ≡ world.shape.attrs) world.values → bound ≤ most_bound →
     length (accepted h) < most_positions → Legal (scenario_rules world bound reach sessions) h → Fits world.shape h Ls → slice_get Ls i ≡ Some L →
-    current_session (reverse L.events) ≡ Some s → length (requests_of L s) ≤ most_requests →
+    Proper world.shape L → current_session (reverse L.events) ≡ Some s → length (requests_of L s) ≤ most_requests →
     slice_get (replies_in (accepted h) h s) (length (got (reverse L.events) s)) ≡ Some reply →
     first_fault_of_reply (identity_of world.shape L) (reverse L.events) reply ≡ None

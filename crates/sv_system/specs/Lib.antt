@@ -1,6 +1,7 @@
 -- The definitions of this crate, file by file.
 pub mod Fronts
 pub mod Places
+pub mod Clients
 pub mod Fits
 pub mod Journals
 pub mod Serial

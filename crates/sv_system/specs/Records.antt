@@ -8,6 +8,7 @@ use Rattle.sv_journal.specs.History.{actions_of, commit_of, committed_of}
 use Rattle.sv_journal.specs.Sessions.{is_end}
 use Rattle.sv_journal.specs.Answer.{Rules, scenario_rules, Legal}
 use Rattle.sv_client.specs.declared.trace.Trace.{Trace}
+use Rattle.sv_client.specs.Proper.{Proper}
 use Rattle.sv_scenario.specs.declared.scenario.Plan.{Plan}
 use Rattle.sv_scenario.specs.declared.scenario.Scenario.{Scenario}
 use Rattle.sv_scenario.specs.Sessions.{sessions_of_plan, session_count}
@@ -36,11 +37,12 @@ AreTracesOf k s (plan ∷ plans) (L ∷ Ls) =
     (L.client ≡ record { 0 = k }) × (L.interest ≡ plan.interest) × (L.first ≡ s) × AreTracesOf (suc k) (s + sessions_of_plan plan) plans Ls
 AreTracesOf k s _ _ = ⊥
 
--- The journal is legal and fits the traces; it has entries of the scenario's sessions alone, and exactly one End for each; and there is one
--- trace for each client.
+-- The journal is legal and fits the traces; each trace is one that a client of a scenario can have; the journal has entries of the scenario's
+-- sessions alone, and exactly one End for each; and there is one trace for each client.
 pub record IsRecordOf (scenario : Scenario) (h : List Entry) (Ls : List Trace) : Type 0 where
   pub legal : Legal (rules_of scenario) h
   pub fits : Fits scenario.world.shape h Ls
+  pub proper : All (Proper scenario.world.shape) Ls
   pub sessions : All (λ (e : Entry). e.session < session_count scenario) h
   pub ended : (s : ℕ) → s < session_count scenario → ends_in h s ≡ 1
   pub clients : AreTracesOf 0 0 scenario.clients Ls

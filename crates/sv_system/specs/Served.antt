@@ -11,8 +11,8 @@ use Rattle.sv_journal.specs.declared.entry.Entry.{Entry}
 use Rattle.sv_journal.specs.History.{client_of, accepted}
 use Rattle.sv_client.specs.declared.trace.Trace.{Trace}
 use Rattle.sv_client.specs.Traces.{got, requests_of}
-use Rattle.sv_client.specs.Proper.{Proper}
 use Rattle.sv_system.specs.Fronts.{IsFront}
+use Rattle.sv_system.specs.Clients.{IsClientTrace}
 use Rattle.sv_system.specs.Fits.{requests_in, replies_in, IsEndLast, has_session, FitsOne, AreAllApart}
 
 -- ---- Who is honest
@@ -59,5 +59,5 @@ pub record FitsInButValues (h : List Entry) (L : Trace) (s : ℕ) : Type 0 where
   pub ended : IsEndLast h s
 
 pub record FitsButValues (shape : Shape) (h : List Entry) (L : Trace) : Type 0 where
-  pub proper : Proper shape L
+  pub trace : IsClientTrace shape L
   pub sessions : (s : ℕ) → has_session L s ≡ true → FitsInButValues h L s

@@ -12,6 +12,8 @@ ghost use Rattle.sv_journal.specs.Answer.{Rules, scenario_rules, Legal};
 ghost use Rattle.sv_client.specs.declared.trace.Trace.{Trace};
 ghost use Rattle.sv_client.specs.Traces.{current_session, requests_of, got};
 ghost use Rattle.sv_client.specs.Proper.{Proper};
+ghost use Rattle.sv_client.specs.Seen.{ClientView};
+ghost use Rattle.sv_system.specs.Clients.{IsClientTrace, trace_in, IsNumberedIn};
 ghost use Rattle.sv_system.specs.Fits.{replies_in, Fits};
 ghost use Rattle.sv_system.specs.Laws.{NeverRefused, NeverRefusedInScenarios};
 ghost use Rattle.sv_system.specs.Within.{KeepsLimits};
@@ -32,4 +34,13 @@ pub fn honest_clients_are_never_refused()
     ensures scenarios { NeverRefusedInScenarios }
     ensures limits { (world : World) (bound : ℕ) (reach : Option ℕ) (sessions : ℕ) (shape : Shape) (h : List Entry) (L : Trace) (s : ℕ) → Proper shape L →
         length (requests_of L s) ≤ most_requests → KeepsLimits (scenario_rules world bound reach sessions) h L s }
+{}
+
+/// Whose traces the laws of this crate speak of: those of a scenario's clients, and those of clients that join as often and make as many actions as
+/// they like, while others' sessions stand between their own.
+///
+/// A client counts its own sessions from 0 on; `numbers` are those that the server gave them, one for each, in that order.
+pub fn traces_are_honest_clients()
+    ensures proper { (shape : Shape) (L : Trace) → Proper shape L → IsClientTrace shape L }
+    ensures numbered { (numbers : List ℕ) (c : ClientView) → IsNumberedIn numbers c → IsClientTrace c.who.shape (trace_in numbers c) }
 {}

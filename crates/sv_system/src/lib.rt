@@ -11,7 +11,7 @@ mod served;
 mod truth;
 
 pub use deliveries::lawful_deliveries_make_values_serial;
-pub use honest::honest_clients_are_never_refused;
+pub use honest::{honest_clients_are_never_refused, traces_are_honest_clients};
 pub use journals::legal_journals_make_lawful_deliveries;
 pub use outcomes::actions_have_outcomes;
 pub use played::Played;

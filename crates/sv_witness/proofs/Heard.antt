@@ -27,6 +27,7 @@ use Rattle.sv_system.proofs.Fronts.{get-push_cases}
 use Rattle.sv_system.proofs.Entered.{is_of}
 use Rattle.sv_system.proofs.Places.{map_at}
 use Rattle.sv_system.proofs.Asking.{same-request}
+use Rattle.sv_system.proofs.Clients.{client-trace}
 use Rattle.law_schedule.specs.Players.{Player, trace_of_player}
 use Rattle.law_schedule.specs.Serving.{Run, Server, traces_of}
 use Rattle.law_schedule.specs.Schedule.{rules_of}
@@ -128,7 +129,7 @@ but-values r liar (e ∷ h) s asked a =
 
 pub witness-fits : (r : Rules) (liar : Option ℕ) (shape : Shape) (h : List Entry) (L : Trace) → FitsServer (witness_of r liar) shape h L → FitsButValues shape h L
 witness-fits r liar shape h L f = record {
-  proper = f.proper;
+  trace = client-trace shape L f.proper;
   sessions = λ s j.
       (let one = f.sessions s j in
       record { got = one.got; asked = but-values r liar h s (requests_of L s) one.heard; ended = one.ended });
@@ -167,7 +168,7 @@ module _ (r : Rules) (liar : Option ℕ) (shape : Shape) (L : Trace) (differs : 
 
   honest-fits : (h : List Entry) → FitsServer server shape h L → FitsOne shape h L
   honest-fits h f = record {
-    proper = f.proper;
+    trace = client-trace shape L f.proper;
     sessions = λ s j. (let one = f.sessions s j in record { got = one.got; asked = heard-honest h s one.heard; ended = one.ended });
   }
 

@@ -10,6 +10,7 @@ use Rattle.sv_client.specs.Traces.{requests_of}
 use Rattle.sv_system.specs.Fits.{requests_in}
 use Rattle.sv_system.specs.Served.{HaveSameForm, AreSameButValues, FitsButValues}
 use Rattle.sv_system.proofs.Asking.{asked-but}
+use Rattle.sv_system.proofs.Clients.{client-trace}
 use Rattle.sv_witness.specs.Lies.{lied_value, lied_result, lied}
 use Rattle.sv_witness.specs.Tolerance.{IsLiar}
 
@@ -38,7 +39,7 @@ lied-same requests.End = refl
 
 pub liar-fits : (shape : Shape) (h : List Entry) (Ls : List Trace) (L : Trace) → IsLiar shape h Ls L → FitsButValues shape h L
 liar-fits shape h Ls L liar = record {
-  proper = liar.proper;
+  trace = client-trace shape L liar.proper;
   sessions = λ s has.
       (let f = liar.sessions s has in
       record { got = f.got; asked = asked-but lied lied-same (requests_in h s) (requests_of L s) f.asked; ended = f.ended });

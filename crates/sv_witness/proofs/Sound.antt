@@ -34,12 +34,13 @@ use Rattle.sv_system.proofs.Entered.{is_of, of-from}
 use Rattle.sv_system.proofs.Induction.{whole-well}
 use Rattle.sv_system.proofs.NextReply.{served-no_fault}
 use Rattle.sv_system.proofs.Within.{scenario-keeps}
-use Rattle.sv_asked.specs.Asked.{EventFits, HasNumbers, ServedRequestsFit, ServedRepliesFit}
+use Rattle.sv_asked.specs.Asked.{EventFits, CountsFit, HasNumbers, ServedRequestsFit, ServedRepliesFit}
 use Rattle.sv_asked.specs.Numbers.{ScenarioFits}
 use Rattle.sv_system.proofs.Every.{each-at, each-map, each-more, each-reverse}
 use Rattle.sv_system.proofs.Limits.{limits_of, objects_few}
 use Rattle.sv_system.proofs.Places.{map_at}
 use Rattle.sv_asked.proofs.Evaluated.{IsNumber}
+use Rattle.sv_asked.proofs.Counts.{proper-counts}
 use Rattle.sv_asked.proofs.Made.{Makes, Asks, asked-have}
 use Rattle.sv_asked.proofs.Owned.{entry-at, SubmitHas, submit-asked, end-submits, end-fits, event-makes, accepted-have}
 use Rattle.sv_asked.proofs.Spent.{served-few}
@@ -164,11 +165,13 @@ module _ (scenario : Scenario) (liar : Option ℕ) (run : Run) (good : IsGoodSce
 
   -- ---- No client refuses its next reply
 
+  server-fits : (k : ℕ) (p : Player) → slice_get run.players k ≡ Some p → FitsServer server shape H (trace_of_player p)
+  server-fits k p at =
+      each-at (FitsServer server shape H) (traces_of run) k (trace_of_player p) (recursion_from_All (FitsServer server shape H) (traces_of run) sound.fits)
+      (map_at trace_of_player run.players k p at)
+
   trace-fits : (k : ℕ) (p : Player) → slice_get run.players k ≡ Some p → FitsButValues shape H (trace_of_player p)
-  trace-fits k p at =
-      witness-fits r liar shape H (trace_of_player p)
-      (each-at (FitsServer server shape H) (traces_of run) k (trace_of_player p) (recursion_from_All (FitsServer server shape H) (traces_of run) sound.fits)
-      (map_at trace_of_player run.players k p at))
+  trace-fits k p at = witness-fits r liar shape H (trace_of_player p) (server-fits k p at)
 
   trace-owns : (k : ℕ) (p : Player) → slice_get run.players k ≡ Some p → OwnsSessions H (trace_of_player p)
   trace-owns k p at s c = any-turned (is_join_of s) p.events (session-owned server (heard-joins r liar) scenario run good sound k p at s c)
@@ -189,7 +192,7 @@ module _ (scenario : Scenario) (liar : Option ℕ) (run : Run) (good : IsGoodSce
       (served-no_fault agreed r H L (record { keeps = agreed-keeping; legal = legal; fits = trace-fits k p at }) (trace-owns k p at) s reply good.world.objects
       good.world.attrs good.bound (omega arith) room serial
       (subst (λ (t : List Event). current_session t ≡ Some s) back current)
-      (scenario-keeps scenario.world scenario.bound scenario.reach (session_count scenario) shape H L s (trace-fits k p at).proper
+      (scenario-keeps scenario.world scenario.bound scenario.reach (session_count scenario) shape H L s (server-fits k p at).proper
       (subst (λ (t : List Event). length (asked p.who.client p.who.interest t s) ≤ 1024) back few))
       (subst (λ (t : List Event). slice_get (replies_in (accepted H) H s) (length (got t s)) ≡ Some reply) back waits)))
 
@@ -240,6 +243,7 @@ module _ (scenario : Scenario) (liar : Option ℕ) (run : Run) (good : IsGoodSce
       objects = objects_few scenario good;
       opening = numbers.values;
       made = All-from_recursion (λ (M : Trace). All EventFits M.events) (trace_of_player p ∷ []) (made-at k p at, tt);
+      counts = All-from_recursion CountsFit (trace_of_player p ∷ []) (proper-counts shape (trace_of_player p) (server-fits k p at).proper, tt);
       positions = (let most = served-few agreed r H (session_count scenario) 1024 agreed-keeping refl legal sound.sessions in omega (arith, most, good.sessions));
     }
 

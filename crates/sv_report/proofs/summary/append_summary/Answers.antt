@@ -16,4 +16,4 @@ made_in-made-requires-clause-few c = omega (
 
 pub made_in-made-requires-clause-small : goal.made_in-made-requires-clause-small
 made_in-made-requires-clause-small c = subst (λ (Ls : List Trace). All (λ (L : Trace). makes (reverse L.events) ≤ 65536) Ls) (sym c.as_slice.ensures)
-    (few_made _ _ c.args.played.now.traces c.requires.played.traffic.fits)
+    (few_made _ c.args.played.now.traces c.requires.played.traffic.proper)

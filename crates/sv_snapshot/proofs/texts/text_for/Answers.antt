@@ -8,7 +8,7 @@ use Rattle.sv_snapshot.specs.Snapshots.{snapshots_of}
 use Rattle.sv_command.specs.declared.ending.Ending.TheVariants as endings
 use Rattle.sv_command.proofs.Counts.{raised_by, unlike}
 use Rattle.sv_snapshot.proofs.Endings.{early_by}
-use Rattle.sv_snapshot.proofs.Printing.{all_proper, printed_run, shaped_of_run}
+use Rattle.sv_snapshot.proofs.Printing.{printed_run, shaped_of_run}
 use Rattle.sv_snapshot.proofs.texts.text_for.Goals as goal
 
 pub returns-in_err-scenario-clause-raises : goal.returns-in_err-scenario-clause-raises
@@ -32,7 +32,7 @@ returns-clause-made g c = printed_run _ _ _ _ _ c.in_ok-scenario.ensures.read.0 
 pub played_text-requires-clause-proper : goal.played_text-requires-clause-proper
 played_text-requires-clause-proper g c =
     subst (λ (s : Shape). All (Proper s) c.in_ok-played.played.traces) (sym c.in_ok-played.ensures.played.shape)
-    (all_proper _ _ c.in_ok-played.played.traces c.in_ok-played.ensures.played.traffic.fits)
+    c.in_ok-played.ensures.played.traffic.proper
 
 pub played_text-requires-clause-shaped : goal.played_text-requires-clause-shaped
 played_text-requires-clause-shaped g c =

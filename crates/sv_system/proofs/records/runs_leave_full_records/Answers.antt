@@ -1,6 +1,6 @@
 -- Runs that come to their end leave full records.
 use Rattle.std.proofs.lemmas.List.Elements.{recursion_from_All}
-use Rattle.sv_system.specs.Fits.{FitsOne}
+use Rattle.sv_client.specs.Proper.{Proper}
 use Rattle.sv_system.specs.Records.{rules_of}
 use Rattle.sv_system.proofs.Full.{outcomes-each, scripts-done}
 use Rattle.sv_system.proofs.records.runs_leave_full_records.Goals as goal
@@ -15,7 +15,7 @@ returns c = λ scenario h Ls good traffic scripts.
       world = c.committed_world_is_serial.ensures.world r h Ls good.world.objects traffic.legal traffic.fits;
       relays = c.replicas_equal_serial_execution.ensures.relays r h Ls good.world.objects traffic.legal traffic.fits;
       seen = c.replicas_equal_serial_execution.ensures.seen r h Ls good.world.objects traffic.legal traffic.fits;
-      scripts = scripts-done c.steps_are_done_in_order.ensures.whole shape h scenario.clients Ls good.plans (recursion_from_All (FitsOne shape h) Ls traffic.fits.each) scripts;
+      scripts = scripts-done c.steps_are_done_in_order.ensures.whole shape scenario.clients Ls good.plans (recursion_from_All (Proper shape) Ls traffic.proper) scripts;
       outcomes = record {
         once = c.actions_have_outcomes.ensures.once h;
         judged = c.actions_have_outcomes.ensures.judged r h traffic.legal;
