@@ -1,5 +1,6 @@
 //! A connection that speaks frames.
 use crate::shared::{begins, hear, send_all};
+use std::alloc::{AllocError, Global};
 use std::hash::RandomState;
 use std::test::Fail;
 use sv_bytes::MemFiles;
@@ -11,37 +12,43 @@ const HELLO_AND_POLL: [u8; 27] = [
     0, 0, 0, 18, 8, 16, 0, 0, 0, 0, 0, 0, 0, 0, 0, 0, 0, 0, 0, 0, 0, 0, 0, 0, 0, 1, 4,
 ];
 
+// Hears the frames in two pieces, and answers whether nothing whole had come with the first.
+fn hear_cut(
+    alloc: Global,
+    keys: RandomState,
+    peer: &mut Peer,
+    files: &mut MemFiles,
+    cut: usize,
+) -> Result<bool, AllocError> {
+    let (first, second) = HELLO_AND_POLL.split_at(cut.min(HELLO_AND_POLL.len()));
+    hear(alloc, keys, peer, files, first)?;
+    let early = peer.next();
+    let is_early = matches!(&early, Heard::NotYet);
+    hear(alloc, keys, peer, files, second)?;
+    Ok(is_early)
+}
+
+fn next_is_hello(peer: &mut Peer) -> bool {
+    let heard = peer.next();
+    matches!(&heard, Heard::Hello(_))
+}
+
+fn next_is_poll(peer: &mut Peer) -> bool {
+    let heard = peer.next();
+    matches!(&heard, Heard::Request(Request::Poll))
+}
+
 #[test]
 fn frames_in_pieces(rt: HostRuntime) -> Result<(), Fail> {
     let mut files = MemFiles::new(rt.alloc());
     for cut in 1..26 {
+        let keys = RandomState::new(&rt)?;
         let mut peer = Peer::new(rt.alloc());
-        let (first, second) = HELLO_AND_POLL.split_at(cut);
-        hear(
-            rt.alloc(),
-            RandomState::new(&rt)?,
-            &mut peer,
-            &mut files,
-            first,
-        )?;
+        let is_early = hear_cut(rt.alloc(), keys, &mut peer, &mut files, cut)?;
+        assert!(rt; is_early == (cut < 22));
+        assert!(rt; !is_early || next_is_hello(&mut peer));
+        assert!(rt; next_is_poll(&mut peer));
         assert!(rt; peer.manner() == Manner::Frames);
-        let early = peer.next();
-        assert!(rt; matches!(&early, Heard::NotYet) == (cut < 22));
-        hear(
-            rt.alloc(),
-            RandomState::new(&rt)?,
-            &mut peer,
-            &mut files,
-            second,
-        )?;
-        if cut < 22 {
-            let hello = peer.next();
-            assert!(rt; matches!(&hello, Heard::Hello(_)));
-        }
-        let poll = peer.next();
-        assert!(rt; matches!(&poll, Heard::Request(Request::Poll)));
-        let last = peer.next();
-        assert!(rt; matches!(&last, Heard::NotYet));
     }
     Ok(())
 }

@@ -1,5 +1,6 @@
 //! A connection that becomes a WebSocket.
 use crate::shared::{begins, hear, send_all};
+use std::alloc::{AllocError, Global};
 use std::hash::RandomState;
 use std::test::Fail;
 use sv_bytes::MemFiles;
@@ -28,27 +29,36 @@ fn foreign_page(rt: HostRuntime) -> Result<(), Fail> {
     Ok(())
 }
 
-#[test]
-fn messages(rt: HostRuntime) -> Result<(), Fail> {
-    let mut files = MemFiles::new(rt.alloc());
-    let mut peer = Peer::new(rt.alloc());
-    hear(
-        rt.alloc(),
-        RandomState::new(&rt)?,
-        &mut peer,
-        &mut files,
-        UPGRADE,
-    )?;
-    assert!(rt; begins(&peer, b"HTTP/1.1 101 "));
-    assert!(rt; peer.manner() == Manner::Socket);
+// A connection that was upgraded, whose answer was sent.
+fn upgraded(alloc: Global, keys: RandomState, files: &mut MemFiles) -> Result<Peer, AllocError> {
+    let mut peer = Peer::new(alloc);
+    hear(alloc, keys, &mut peer, files, UPGRADE)?;
     send_all(&mut peer);
+    Ok(peer)
+}
+
+#[test]
+fn key_in_the_query(rt: HostRuntime) -> Result<(), Fail> {
+    let mut files = MemFiles::new(rt.alloc());
+    let mut peer = upgraded(rt.alloc(), RandomState::new(&rt)?, &mut files)?;
+    assert!(rt; peer.manner() == Manner::Socket);
     let hello = peer.next();
     assert!(rt; matches!(&hello, Heard::Hello(_)));
     let none = peer.next();
     assert!(rt; matches!(&none, Heard::NotYet));
+    Ok(())
+}
+
+#[test]
+fn message_and_reply(rt: HostRuntime) -> Result<(), Fail> {
+    let mut files = MemFiles::new(rt.alloc());
+    let mut peer = upgraded(rt.alloc(), RandomState::new(&rt)?, &mut files)?;
+    let hello = peer.next();
+    assert!(rt; matches!(&hello, Heard::Hello(_)));
+    let keys = RandomState::new(&rt)?;
     hear(
         rt.alloc(),
-        RandomState::new(&rt)?,
+        keys,
         &mut peer,
         &mut files,
         &[0x82, 0x81, 0, 0, 0, 0, 4],
@@ -57,10 +67,19 @@ fn messages(rt: HostRuntime) -> Result<(), Fail> {
     assert!(rt; matches!(&poll, Heard::Request(Request::Poll)));
     peer.say(&Reply::Idle)?;
     assert!(rt; begins(&peer, &[0x82, 1, 0x86]));
-    send_all(&mut peer);
+    Ok(())
+}
+
+#[test]
+fn text_closes(rt: HostRuntime) -> Result<(), Fail> {
+    let mut files = MemFiles::new(rt.alloc());
+    let mut peer = upgraded(rt.alloc(), RandomState::new(&rt)?, &mut files)?;
+    let hello = peer.next();
+    assert!(rt; matches!(&hello, Heard::Hello(_)));
+    let keys = RandomState::new(&rt)?;
     hear(
         rt.alloc(),
-        RandomState::new(&rt)?,
+        keys,
         &mut peer,
         &mut files,
         &[0x81, 0x81, 0, 0, 0, 0, b'a'],
