@@ -1,1 +1,6 @@
--- d
+-- The definitions of the server of a living world.
+pub mod Words
+pub mod Lines
+pub mod Inputs
+pub mod Rooms
+pub mod Statuses

@@ -1,12 +1,20 @@
 //! The loop, and its orderly end.
+ghost use Rattle.std.specs.Prelude.{◌≡◌, [], OnOk};
+ghost use Rattle.sv_living.specs.Sessions.{open_sessions};
+ghost use Rattle.sv_keeper.specs.Keeping.{AreSettled};
+ghost use Rattle.sv_office.specs.Entering.{GoesOn};
+ghost use Rattle.sv_office.specs.Offices.{session_of};
+ghost use Rattle.sv_host.specs.Rooms.{AreServed, IsAnEnd};
+
 use crate::host::Host;
 use crate::turn::Turned;
 use std::sync::Wait;
 use sv_bytes::{Files, Sink};
+use sv_keeper::Keeper;
 use sv_log::Folder;
+use sv_office::{Halt, Outside};
 use sv_ports::{Clock, Ports};
 use sv_wire::Request;
-use sv_office::{Halt, Outside};
 
 /// For how many turns it is waited at an orderly end for connections to take what they are sent.
 const LAST_TURNS: u32 = 20;
@@ -14,16 +22,53 @@ const LAST_TURNS: u32 = 20;
 /// For how long such a turn waits.
 const LAST_WAIT: u64 = 25;
 
+/// No world has so many open sessions.
+const MOST_ENDS: u32 = 70_000;
+
+// Enters the End of each session that is open.
+fn end_each<F: Folder>(keeper: &mut Keeper<F>) -> Result<(), Halt>
+    ensures ended { OnOk result (open_sessions keeper.new.world.history ≡ []) }
+    ensures added { GoesOn IsAnEnd keeper.old.world keeper.new.world }
+{
+    for _ in 0..MOST_ENDS {
+        let Some(session) = keeper.first_open() else {
+            return Ok(());
+        };
+        if keeper.step(session, &Request::End).is_err() {
+            return Err(Halt::Log);
+        }
+    }
+    Err(Halt::Log)
+}
+
+// Enters the End of each session that is open, and settles.
+fn end_all<F: Folder>(keeper: &mut Keeper<F>) -> Result<(), Halt>
+    ensures ended { OnOk result (open_sessions keeper.new.world.history ≡ []) }
+    ensures settled { OnOk result (AreSettled F.disk F.is_honest keeper.new) }
+    ensures added { GoesOn IsAnEnd keeper.old.world keeper.new.world }
+{
+    end_each(keeper)?;
+    match keeper.settle() {
+        Ok(()) => Ok(()),
+        Err(_) => Err(Halt::Log),
+    }
+}
+
 impl<F: Folder> Host<F> {
-    /// Serves until it is told to stop.
+    /// Serves until it is told to stop. Then each session has its End, and all is settled.
     pub fn serve<R: Wait, P: Ports, C: Clock, L: Files, E: Sink>(
         &mut self,
         rt: &R,
-        outside: &mut Outside<'_, P, L, E>,
+        outside: &mut Outside<'_, '_, '_, P, L, E>,
+        piece: &mut [u8],
         clock: &mut C,
-    ) -> Result<(), Halt> {
+    ) -> Result<(), Halt>
+        requires served { AreServed self.old.office.keeper.world (session_of self.old.office.steward) self.old.room.guests }
+        ensures ended { OnOk result (open_sessions self.new.office.keeper.world.history ≡ []) }
+        ensures settled { OnOk result (AreSettled F.disk F.is_honest self.new.office.keeper) }
+    {
         for _ in rt.forever() {
-            if self.turn(outside, clock)? == Turned::Stops {
+            if self.turn(outside, piece, clock)? == Turned::Stops {
                 return self.stop(outside.ports);
             }
         }
@@ -31,7 +76,10 @@ impl<F: Folder> Host<F> {
     }
 
     // Touches all connections, and answers whether something is to be sent to one of them.
-    fn touch_all(&mut self) -> Result<bool, Halt> {
+    fn touch_all(&mut self) -> Result<bool, Halt>
+        requires served { AreServed self.old.office.keeper.world (session_of self.old.office.steward) self.old.room.guests }
+        ensures served { AreServed self.new.office.keeper.world (session_of self.new.office.steward) self.new.room.guests }
+    {
         let mut waits = false;
         for place in 0..self.room.guests.len() {
             let Some(number) = self.room.guests.number_at(place) else {
@@ -46,7 +94,10 @@ impl<F: Folder> Host<F> {
     }
 
     // Sends what was stepped, as far as connections take it.
-    fn send_rest<P: Ports>(&mut self, ports: &mut P) -> Result<(), Halt> {
+    fn send_rest<P: Ports>(&mut self, ports: &mut P) -> Result<(), Halt>
+        requires served { AreServed self.old.office.keeper.world (session_of self.old.office.steward) self.old.room.guests }
+        ensures served { OnOk result (AreServed self.new.office.keeper.world (session_of self.new.office.steward) self.new.room.guests) }
+    {
         for _ in 0..LAST_TURNS {
             let waits = self.touch_all()?;
             self.send(ports)?;
@@ -59,20 +110,14 @@ impl<F: Folder> Host<F> {
         Ok(())
     }
 
-    /// Sends what was stepped, and enters the End of each session.
-    pub fn stop<P: Ports>(&mut self, ports: &mut P) -> Result<(), Halt> {
+    // Sends what was stepped, enters the End of each session, and settles.
+    fn stop<P: Ports>(&mut self, ports: &mut P) -> Result<(), Halt>
+        requires served { AreServed self.old.office.keeper.world (session_of self.old.office.steward) self.old.room.guests }
+        ensures ended { OnOk result (open_sessions self.new.office.keeper.world.history ≡ []) }
+        ensures settled { OnOk result (AreSettled F.disk F.is_honest self.new.office.keeper) }
+    {
         self.send_rest(ports)?;
-        for _ in 0..2000 {
-            let Some(session) = self.office.keeper.first_open() else {
-                break;
-            };
-            if self.office.keeper.step(session, &Request::End).is_err() {
-                return Err(Halt::Log);
-            }
-        }
-        match self.office.keeper.settle() {
-            Ok(_) => Ok(()),
-            Err(_) => Err(Halt::Log),
-        }
+        let office = &mut self.office;
+        end_all(&mut office.keeper)
     }
 }

@@ -1,4 +1,8 @@
 //! What is done because time has passed.
+ghost use Rattle.std.specs.Prelude.{OnOk};
+ghost use Rattle.sv_office.specs.Offices.{session_of};
+ghost use Rattle.sv_host.specs.Rooms.{AreServed};
+
 use crate::host::Host;
 use sv_log::Folder;
 use sv_office::Halt;
@@ -15,29 +19,30 @@ impl<F: Folder> Host<F> {
         match self.room.guests.get(number) {
             Some(guest) => {
                 guest.held.is_none()
-                    && self.office.now.saturating_sub(guest.heard) >= self.office.manners.idle
+                    && self.office.time.saturating_sub(guest.heard) >= self.office.manners.idle
             }
             None => false,
         }
     }
 
     // Ends a connection that is idle.
-    fn dismiss(&mut self, number: u64) -> Result<(), Halt> {
-        let Some(mut guest) = self.room.guests.take(number) else {
+    fn dismiss(&mut self, number: u64) -> Result<(), Halt>
+        requires served { AreServed self.old.office.keeper.world (session_of self.old.office.steward) self.old.room.guests }
+        ensures served { OnOk result (AreServed self.new.office.keeper.world (session_of self.new.office.steward) self.new.room.guests) }
+    {
+        let Some(mut guest) = self.take_out(number) else {
             return Ok(());
         };
-        guest.leave();
-        let ended = self.office.end(&mut guest);
-        self.room.put_back(number, guest)?;
-        ended
+        self.drop_guest(&mut guest);
+        self.end_guest(&mut guest)?;
+        self.put_back(number, guest)
     }
 
-    /// Ends the connections that are idle.
-    pub fn look_for_idle(&mut self) -> Result<(), Halt> {
-        if self.office.now < self.room.next_look {
-            return Ok(());
-        }
-        self.room.next_look = self.office.now.saturating_add(LOOK);
+    // Looks at all connections.
+    fn look_at_all(&mut self) -> Result<(), Halt>
+        requires served { AreServed self.old.office.keeper.world (session_of self.old.office.steward) self.old.room.guests }
+        ensures served { OnOk result (AreServed self.new.office.keeper.world (session_of self.new.office.steward) self.new.room.guests) }
+    {
         for place in 0..self.room.guests.len() {
             let Some(number) = self.room.guests.number_at(place) else {
                 return Ok(());
@@ -49,15 +54,34 @@ impl<F: Folder> Host<F> {
         Ok(())
     }
 
+    /// Ends the connections that are idle.
+    pub fn look_for_idle(&mut self) -> Result<(), Halt>
+        requires served { AreServed self.old.office.keeper.world (session_of self.old.office.steward) self.old.room.guests }
+        ensures served { OnOk result (AreServed self.new.office.keeper.world (session_of self.new.office.steward) self.new.room.guests) }
+    {
+        if self.office.time < self.room.next_look {
+            return Ok(());
+        }
+        self.room.next_look = self.office.time.saturating_add(LOOK);
+        self.look_at_all()
+    }
+
+    // Whether a turn has something to do at once.
+    fn is_pressed(&self) -> bool {
+        !self.room.busy.is_empty()
+            || !self.office.keeper.is_settled()
+            || (self.room.ready.door && !self.room.door_fails)
+    }
+
     /// For how long the next turn may wait.
-    pub fn limit(&mut self) -> u64 {
-        if !self.room.busy.is_empty() || !self.office.keeper.is_settled() {
+    pub fn limit(&mut self) -> u64
+        requires served { AreServed self.old.office.keeper.world (session_of self.old.office.steward) self.old.room.guests }
+        ensures served { AreServed self.new.office.keeper.world (session_of self.new.office.steward) self.new.room.guests }
+    {
+        if self.is_pressed() {
             return 0;
         }
-        if self.room.ready.door && !self.room.door_fails {
-            return 0;
-        }
-        let mut until = self.office.now.saturating_add(LONGEST_WAIT);
+        let mut until = self.office.time.saturating_add(LONGEST_WAIT);
         if !self.room.guests.is_empty() || self.room.door_fails {
             until = until.min(self.room.next_look);
         }
@@ -67,6 +91,6 @@ impl<F: Folder> Host<F> {
         if let Some(due) = self.office.report_due() {
             until = until.min(due);
         }
-        until.saturating_sub(self.office.now)
+        until.saturating_sub(self.office.time)
     }
 }

@@ -1,9 +1,13 @@
 //! A turn of the loop.
+ghost use Rattle.std.specs.Prelude.{OnOk};
+ghost use Rattle.sv_office.specs.Offices.{session_of};
+ghost use Rattle.sv_host.specs.Rooms.{AreServed};
+
 use crate::host::Host;
 use sv_bytes::{Files, Sink};
 use sv_log::Folder;
-use sv_ports::{Clock, PortRead, Ports, Waited};
 use sv_office::{Halt, Outside};
+use sv_ports::{Clock, PortRead, Ports, Waited};
 
 /// How a turn ends.
 #[derive(Clone, Copy, Debug, Drop, PartialEq, Eq)]
@@ -16,7 +20,10 @@ pub enum Turned {
 
 impl<F: Folder> Host<F> {
     // Waits until there is something to do.
-    fn wait<P: Ports, C: Clock>(&mut self, ports: &mut P, clock: &mut C) -> Result<(), Halt> {
+    fn wait<P: Ports, C: Clock>(&mut self, ports: &mut P, clock: &mut C) -> Result<(), Halt>
+        requires served { AreServed self.old.office.keeper.world (session_of self.old.office.steward) self.old.room.guests }
+        ensures served { AreServed self.new.office.keeper.world (session_of self.new.office.steward) self.new.room.guests }
+    {
         let limit = self.limit();
         self.room.ready.numbers.clear();
         self.room.ready.input = false;
@@ -24,36 +31,40 @@ impl<F: Folder> Host<F> {
             Waited::Done => {}
             Waited::Failed => return Err(Halt::Ports),
         }
-        self.office.now = self.office.now.max(clock.now());
+        self.office.time = self.office.time.max(clock.now());
         Ok(())
     }
 
     // Whether the input tells to stop.
-    fn is_told_to_stop<P: Ports>(&mut self, ports: &mut P) -> bool {
+    fn is_told_to_stop<P: Ports>(&mut self, ports: &mut P) -> Result<bool, Halt>
+        requires served { AreServed self.old.office.keeper.world (session_of self.old.office.steward) self.old.room.guests }
+        ensures served { AreServed self.new.office.keeper.world (session_of self.new.office.steward) self.new.room.guests }
+    {
         if !self.office.manners.stops || !self.room.ready.input {
-            return false;
+            return Ok(false);
         }
         let mut piece = [0; 512];
         match ports.read_input(&mut piece) {
-            PortRead::Got(count) => self.room.input.take(&piece[..count]),
-            PortRead::NotYet => false,
-            PortRead::Ended | PortRead::Failed => true,
+            PortRead::Got(count) => Ok(self.room.input.take(&piece[..count])),
+            PortRead::NotYet => Ok(false),
+            PortRead::Ended => Ok(true),
+            PortRead::Failed => Err(Halt::Ports),
         }
     }
 
     // Gives each connection that is ready, or had more, its turn.
     fn hear_all<P: Ports, L: Files, E: Sink>(
         &mut self,
-        outside: &mut Outside<'_, P, L, E>,
-    ) -> Result<(), Halt> {
+        outside: &mut Outside<'_, '_, '_, P, L, E>,
+        piece: &mut [u8],
+    ) -> Result<(), Halt>
+        requires served { AreServed self.old.office.keeper.world (session_of self.old.office.steward) self.old.room.guests }
+        ensures served { OnOk result (AreServed self.new.office.keeper.world (session_of self.new.office.steward) self.new.room.guests) }
+    {
         let mut busy = std::mem::replace(&mut self.room.busy, Vec::new(self.alloc));
-        for number in &busy {
-            self.hear(outside, *number)?;
-        }
+        self.hear_each(outside, &busy, piece)?;
         let ready = std::mem::replace(&mut self.room.ready.numbers, Vec::new(self.alloc));
-        for number in &ready {
-            self.hear(outside, *number)?;
-        }
+        self.hear_each(outside, &ready, piece)?;
         // Their room is used again.
         self.room.ready.numbers = ready;
         busy.clear();
@@ -61,22 +72,38 @@ impl<F: Folder> Host<F> {
         Ok(())
     }
 
-    /// One turn: what is ready is stepped, all lines are settled at once, and then the replies go out.
+    // What is ready is stepped, all lines are settled at once, and then the replies go out.
+    fn serve_all<P: Ports, L: Files, E: Sink>(
+        &mut self,
+        outside: &mut Outside<'_, '_, '_, P, L, E>,
+        piece: &mut [u8],
+    ) -> Result<(), Halt>
+        requires served { AreServed self.old.office.keeper.world (session_of self.old.office.steward) self.old.room.guests }
+        ensures served { OnOk result (AreServed self.new.office.keeper.world (session_of self.new.office.steward) self.new.room.guests) }
+    {
+        self.accept(outside.ports);
+        self.hear_all(outside, piece)?;
+        self.look_for_idle()?;
+        self.report()?;
+        self.look_at_held()?;
+        self.send(outside.ports)
+    }
+
+    /// One turn.
     pub fn turn<P: Ports, C: Clock, L: Files, E: Sink>(
         &mut self,
-        outside: &mut Outside<'_, P, L, E>,
+        outside: &mut Outside<'_, '_, '_, P, L, E>,
+        piece: &mut [u8],
         clock: &mut C,
-    ) -> Result<Turned, Halt> {
+    ) -> Result<Turned, Halt>
+        requires served { AreServed self.old.office.keeper.world (session_of self.old.office.steward) self.old.room.guests }
+        ensures served { OnOk result (AreServed self.new.office.keeper.world (session_of self.new.office.steward) self.new.room.guests) }
+    {
         self.wait(outside.ports, clock)?;
-        if self.is_told_to_stop(outside.ports) {
+        if self.is_told_to_stop(outside.ports)? {
             return Ok(Turned::Stops);
         }
-        self.accept(outside.ports);
-        self.hear_all(outside)?;
-        self.look_for_idle()?;
-        self.office.report_old()?;
-        self.look_at_held()?;
-        self.send(outside.ports)?;
+        self.serve_all(outside, piece)?;
         Ok(Turned::On)
     }
 }

@@ -1,0 +1,7 @@
+-- The lemmas of the server of a living world.
+pub mod Behind
+pub mod Taking
+pub mod Places
+pub mod Guests
+pub mod Rules
+pub mod Ends
