@@ -17,11 +17,11 @@ pub enum KeepFault {
 /// Why a line is not right.
 #[derive(Clone, Copy, Debug, Drop, PartialEq, Eq)]
 pub enum LineCause {
-    /// It is none that a log has, or its number is not the next one.
+    /// It is none that a log has.
     Unread,
     /// Its session is not open, and not the next one that may begin.
     Session,
-    /// It is not the line of what the request is answered.
+    /// It is not the next entry's line: its number is another one, or its request is answered otherwise.
     Other,
 }
 

@@ -1,4 +1,6 @@
 //! What answers: the kept world, who may join, and what is told of it.
+ghost use Rattle.sv_office.specs.Offices.{IsSound};
+
 use crate::ages::Ages;
 use crate::steward::Steward;
 use std::alloc::Global;
@@ -19,7 +21,8 @@ pub struct Manners {
     pub stops: bool,
 }
 
-/// What the connections are answered by. It knows of each only while it answers it.
+/// What the connections are answered by. It knows of each only while it answers it. Its world is within the limits, and its steward's session has
+/// entries.
 #[derive(Drop)]
 pub struct Office<F: Folder> {
     pub alloc: Global,
@@ -30,13 +33,14 @@ pub struct Office<F: Folder> {
     pub keys: Option<Keys>,
     pub ages: Ages,
     /// The time of this turn.
-    pub now: u64,
+    pub time: u64,
     /// For the connections that speak HTTP.
     pub random: RandomState,
     /// The folder of the site.
     pub site: Option<String>,
     /// Pages of these origins may upgrade too.
     pub origins: Vec<String>,
+    ghost sound: { IsSound keeper.world steward },
 }
 
 impl<F: Folder> Office<F> {
@@ -51,7 +55,7 @@ impl<F: Folder> Office<F> {
             commit: self.keeper.commit() as u64,
             log_bytes: self.keeper.log_bytes(),
             syncs: self.keeper.syncs(),
-            seconds: self.now / 1000,
+            seconds: self.time / 1000,
             counts: self.counts,
         }
     }

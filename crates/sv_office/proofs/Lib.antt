@@ -1,0 +1,14 @@
+-- The lemmas on what connections are told, and which entries calls add.
+pub mod Orders
+pub mod Adding
+pub mod Asked
+pub mod Asking
+pub mod Ending
+pub mod Entered
+pub mod Followed
+pub mod Messages
+pub mod Served
+pub mod Stewarding
+pub mod Answering
+pub mod Leaving
+pub mod Turns
