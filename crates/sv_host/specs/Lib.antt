@@ -1,1 +1,5 @@
--- d
+-- The definitions of the server of a living world.
+pub mod Words
+pub mod Lines
+pub mod Inputs
+pub mod Rooms

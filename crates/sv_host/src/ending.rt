@@ -1,4 +1,8 @@
 //! How the server ends.
+ghost use Rattle.std.specs.Prelude.{◌≡◌};
+ghost use Rattle.sv_bytes.specs.Writing.{GrewOrRose};
+ghost use Rattle.sv_host.specs.Lines.{ending_line, status_of};
+
 use std::alloc::AllocError;
 use sv_bytes::{Sink, write_pieces};
 
@@ -34,10 +38,15 @@ impl From<AllocError> for HostEnd {
     }
 }
 
-/// Writes the line that tells of an ending. At `Done` there is none.
-pub fn tell<E: Sink>(ending: &HostEnd, err: &mut E) {
+/// Writes the line that tells of an ending. At `Done` there is none. Where the writing fails, a front part of the line was written, and nobody is
+/// told.
+pub fn tell<E: Sink>(ending: &HostEnd, err: &mut E)
+    ensures { GrewOrRose (E.taken err.old) (E.taken err.new) (E.faults err.old) (E.faults err.new) (ending_line ending.now) }
+{
     match ending {
-        HostEnd::Done => {}
+        HostEnd::Done => {
+            write_pieces(err, &[]);
+        }
         HostEnd::Words => {
             write_pieces(err, &[b"words: host WORLD DIR [OPTION ..]\n"]);
         }
@@ -63,7 +72,9 @@ pub fn tell<E: Sink>(ending: &HostEnd, err: &mut E) {
 }
 
 /// The status with which the program ends.
-pub fn status_of(ending: &HostEnd) -> u8 {
+pub fn status_of(ending: &HostEnd) -> u8
+    ensures { result ≡ status_of ending.now }
+{
     match ending {
         HostEnd::Done => 0,
         HostEnd::Words => 2,

@@ -1,9 +1,12 @@
 //! The turn of one connection of the room.
+ghost use Rattle.std.specs.Prelude.{OnOk};
+ghost use Rattle.sv_host.specs.Rooms.{IsHosting};
+
 use crate::host::Host;
 use sv_bytes::{Files, Sink};
 use sv_log::Folder;
-use sv_ports::Ports;
 use sv_office::{Halt, Outside};
+use sv_ports::Ports;
 
 impl<F: Folder> Host<F> {
     /// A connection's turn.
@@ -11,18 +14,30 @@ impl<F: Folder> Host<F> {
         &mut self,
         outside: &mut Outside<'_, P, L, E>,
         number: u64,
-    ) -> Result<(), Halt> {
-        let Some(mut guest) = self.room.guests.take(number) else {
+    ) -> Result<(), Halt>
+        requires served { IsHosting self.old }
+        ensures served { OnOk result (IsHosting self.new) }
+    {
+        let Some(mut guest) = self.take_out(number) else {
             return Ok(());
         };
-        let heard = if guest.had_turn {
-            Ok(())
-        } else {
-            self.office.hear(outside, number, &mut guest)
-        };
-        let listed = self.room.list(number, &mut guest);
-        self.room.put_back(number, guest)?;
-        heard?;
-        listed
+        self.hear_guest(outside, number, &mut guest)?;
+        self.list(number, &mut guest)?;
+        self.put_back(number, guest)
+    }
+
+    /// Gives each of these connections its turn.
+    pub fn hear_each<P: Ports, L: Files, E: Sink>(
+        &mut self,
+        outside: &mut Outside<'_, P, L, E>,
+        numbers: &[u64],
+    ) -> Result<(), Halt>
+        requires served { IsHosting self.old }
+        ensures served { OnOk result (IsHosting self.new) }
+    {
+        for number in numbers {
+            self.hear(outside, *number)?;
+        }
+        Ok(())
     }
 }

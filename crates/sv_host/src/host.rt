@@ -1,8 +1,13 @@
 //! What the loop keeps.
+ghost use Rattle.std.specs.Prelude.{◌≡◌, IfSome, IfNone, OnOk};
+ghost use Rattle.sv_host.specs.Rooms.{IsHosting, IsOutOf};
+
 use crate::room::Room;
 use std::alloc::Global;
+use sv_bytes::{Files, Sink};
 use sv_log::Folder;
-use sv_office::Office;
+use sv_office::{Guest, Halt, Office, Outside};
+use sv_ports::Ports;
 
 /// The server of a living world, between two turns of its loop.
 #[derive(Drop)]
@@ -10,4 +15,101 @@ pub struct Host<F: Folder> {
     pub alloc: Global,
     pub office: Office<F>,
     pub room: Room,
+}
+
+impl<F: Folder> Host<F> {
+    /// Takes a connection out, where it is there.
+    pub fn take_out(&mut self, number: u64) -> Option<Guest>
+        requires served { IsHosting self.old }
+        ensures some { IfSome result (λ guest. IsOutOf self.new guest) }
+        ensures none { IfNone result (IsHosting self.new) }
+        ensures office { self.new.office ≡ self.old.office }
+    {
+        self.room.guests.take(number)
+    }
+
+    /// Puts a connection back that was taken out. Something may be sent to it.
+    pub fn put_back(&mut self, number: u64, guest: Guest) -> Result<(), Halt>
+        requires taken { IsOutOf self.old guest }
+        ensures served { IsHosting self.new }
+        ensures office { self.new.office ≡ self.old.office }
+    {
+        self.room.put_back(number, guest)
+    }
+
+    /// Puts a connection with a held Observe into the list of them.
+    pub fn list(&mut self, number: u64, guest: &mut Guest) -> Result<(), Halt>
+        requires taken { IsOutOf self.old guest.old }
+        ensures taken { IsOutOf self.new guest.new }
+        ensures office { self.new.office ≡ self.old.office }
+    {
+        self.room.list(number, guest)
+    }
+
+    /// Notes that a connection is in the list no more.
+    pub fn unlist(&mut self, guest: &mut Guest)
+        requires taken { IsOutOf self.old guest.old }
+        ensures taken { IsOutOf self.new guest.new }
+    {
+        guest.is_listed = false;
+    }
+
+    /// Closes a connection at once.
+    pub fn drop_guest(&mut self, guest: &mut Guest)
+        requires taken { IsOutOf self.old guest.old }
+        ensures taken { IsOutOf self.new guest.new }
+    {
+        guest.leave();
+    }
+
+    /// Takes what a connection asks, where it had no turn.
+    pub fn hear_guest<P: Ports, L: Files, E: Sink>(
+        &mut self,
+        outside: &mut Outside<'_, P, L, E>,
+        number: u64,
+        guest: &mut Guest,
+    ) -> Result<(), Halt>
+        requires taken { IsOutOf self.old guest.old }
+        ensures taken { OnOk result (IsOutOf self.new guest.new) }
+    {
+        if guest.had_turn {
+            return Ok(());
+        }
+        self.office.hear(outside, number, guest)?;
+        self.office.keeper.is_lawful();
+        Ok(())
+    }
+
+    /// Answers the held Observe of a connection, where it is served and has one.
+    pub fn release_guest(&mut self, guest: &mut Guest) -> Result<(), Halt>
+        requires taken { IsOutOf self.old guest.old }
+        ensures taken { OnOk result (IsOutOf self.new guest.new) }
+    {
+        if !guest.is_open() {
+            return Ok(());
+        }
+        self.office.release(guest)?;
+        self.office.keeper.is_lawful();
+        Ok(())
+    }
+
+    /// Enters the End of a connection's session, where it has one.
+    pub fn end_guest(&mut self, guest: &mut Guest) -> Result<(), Halt>
+        requires taken { IsOutOf self.old guest.old }
+        ensures taken { OnOk result (IsOutOf self.new guest.new) }
+    {
+        self.office.end(guest)?;
+        self.office.keeper.is_lawful();
+        Ok(())
+    }
+
+    /// Has the steward report what was without a result for too long.
+    pub fn report(&mut self) -> Result<(), Halt>
+        requires served { IsHosting self.old }
+        ensures served { OnOk result (IsHosting self.new) }
+    {
+        self.office.report_old()?;
+        self.office.keeper.is_lawful();
+        Ok(())
+    }
 }

@@ -1,8 +1,11 @@
 //! Connections that come and go.
+ghost use Rattle.std.specs.Prelude.{OnOk};
+ghost use Rattle.sv_host.specs.Rooms.{IsHosting};
+
 use crate::host::Host;
 use sv_log::Folder;
-use sv_ports::{Accepted, Ports};
 use sv_office::{Guest, Halt};
+use sv_ports::{Accepted, Ports};
 
 /// How many connections there are at most.
 const MOST_GUESTS: usize = 1024;
@@ -12,7 +15,10 @@ const MOST_ACCEPTS: u32 = 64;
 
 impl<F: Folder> Host<F> {
     // Takes a connection in, or closes it where there are too many.
-    fn admit<P: Ports>(&mut self, ports: &mut P, number: u64) {
+    fn admit<P: Ports>(&mut self, ports: &mut P, number: u64)
+        requires served { IsHosting self.old }
+        ensures served { IsHosting self.new }
+    {
         if self.room.guests.len() >= MOST_GUESTS {
             self.office.counts.refuse();
             ports.close(number);
@@ -25,7 +31,10 @@ impl<F: Folder> Host<F> {
     }
 
     /// Accepts connections, as long as some wait.
-    pub fn accept<P: Ports>(&mut self, ports: &mut P) {
+    pub fn accept<P: Ports>(&mut self, ports: &mut P)
+        requires served { IsHosting self.old }
+        ensures served { IsHosting self.new }
+    {
         if !self.room.ready.door {
             return;
         }
@@ -47,13 +56,16 @@ impl<F: Folder> Host<F> {
     }
 
     /// Closes a connection, whose session has its End.
-    pub fn depart<P: Ports>(&mut self, ports: &mut P, number: u64) -> Result<(), Halt> {
-        let Some(mut guest) = self.room.guests.take(number) else {
+    pub fn depart<P: Ports>(&mut self, ports: &mut P, number: u64) -> Result<(), Halt>
+        requires served { IsHosting self.old }
+        ensures served { OnOk result (IsHosting self.new) }
+    {
+        let Some(mut guest) = self.take_out(number) else {
             return Ok(());
         };
-        let ended = self.office.end(&mut guest);
+        self.end_guest(&mut guest)?;
         self.room.guests.remove(number);
         ports.close(number);
-        ended
+        Ok(())
     }
 }

@@ -1,4 +1,8 @@
 //! The words of a call.
+ghost use Rattle.std.specs.Prelude.{◌≡◌, ◌↔◌, false, None, Some, IsTrue, MatchBool, MatchOption, IfOk, IfErr, OnOk, OnErr, option_map, map, string_bytes};
+ghost use Rattle.sv_host.specs.Words.{Ask, AsksNothing, IsAddress, IsLocal, asked_by, flagged, measured, named, or_else, plain, syncs_by, taken};
+ghost use Rattle.sv_host.specs.declared.options.OptionFault.TheVariants as faults;
+
 use std::alloc::{AllocError, Global};
 use std::net::SocketAddr;
 use sv_command::number_in;
@@ -42,19 +46,26 @@ impl From<AllocError> for OptionFault {
 }
 
 /// Whether a text is an address with a port.
-fn is_address(text: &str) -> bool {
+fn is_address(text: &str) -> bool
+    ensures { IsTrue result ↔ IsAddress text.now }
+{
     text.parse::<SocketAddr>().is_ok()
 }
 
-/// Whether an address is of this machine alone.
-pub fn is_local(text: &str) -> bool {
+/// Whether a text is an address of this machine alone.
+pub fn is_local(text: &str) -> bool
+    ensures { IsTrue result ↔ IsLocal text.now }
+{
     match text.parse::<SocketAddr>() {
         Ok(address) => address.ip().is_loopback(),
         Err(_) => false,
     }
 }
 
-fn syncs_by(word: &str) -> Option<bool> {
+#[tactic(auto, unfolding(crate::specs::Words::syncs_by))]
+fn syncs_by(word: &str) -> Option<bool>
+    ensures { result ≡ syncs_by word.now }
+{
     match word {
         "batch" => Some(true),
         "none" => Some(false),
@@ -63,7 +74,9 @@ fn syncs_by(word: &str) -> Option<bool> {
 }
 
 impl<'a> Options<'a> {
-    fn first(alloc: Global, world: &'a str, folder: &'a str) -> Options<'a> {
+    fn first(alloc: Global, world: &'a str, folder: &'a str) -> Options<'a>
+        ensures { asked_by result ≡ plain world.entry.now folder.entry.now }
+    {
         Options {
             world,
             folder,
@@ -81,7 +94,12 @@ impl<'a> Options<'a> {
     }
 
     // An option without a value.
-    fn take_flag(&mut self, word: &str) -> bool {
+    #[tactic(auto, unfolding(crate::specs::Words::flagged))]
+    fn take_flag(&mut self, word: &str) -> bool
+        ensures taken { MatchBool result (flagged word.now (asked_by self.old) ≡ Some (asked_by self.new))
+            (flagged word.now (asked_by self.old) ≡ None) }
+        ensures same { result ≡ false → self.new ≡ self.old }
+    {
         match word {
             "--no-steward" => self.has_steward = false,
             "--stdin" => self.stops = true,
@@ -91,19 +109,27 @@ impl<'a> Options<'a> {
     }
 
     // An option that names something.
-    fn take_name(&mut self, word: &str, value: &'a str) -> Result<bool, OptionFault> {
+    #[tactic(auto, unfolding(crate::specs::Words::named))]
+    fn take_name(&mut self, word: &str, value: &'a str) -> Result<bool, AllocError>
+        ensures { IfOk result (λ is_one. MatchBool is_one (named word.now value.entry.now (asked_by self.old) ≡ Some (asked_by self.new))
+            ((named word.now value.entry.now (asked_by self.old) ≡ None) × (self.new ≡ self.old))) }
+    {
         match word {
-            "--at" if is_address(value) => self.at = value,
+            "--at" => self.at = value,
             "--site" => self.site = Some(value),
             "--keys" => self.keys = Some(value),
-            "--origin" => self.origins.push(value).map_err(|_| OptionFault::Memory)?,
+            "--origin" => self.origins.push(value).map_err(|_| AllocError)?,
             _ => return Ok(false),
         }
         Ok(true)
     }
 
     // An option with a number or a word of its own.
-    fn take_value(&mut self, word: &str, value: &str) -> Option<()> {
+    #[tactic(auto, unfolding(crate::specs::Words::measured))]
+    fn take_value(&mut self, word: &str, value: &str) -> Option<()>
+        ensures { MatchOption result (measured word.now value.now (asked_by self.old) ≡ None)
+            (λ _. measured word.now value.now (asked_by self.old) ≡ Some (asked_by self.new)) }
+    {
         match word {
             "--idle" => self.idle = number_in(value, 1, 1_000_000)? as u64 * 1000,
             "--report-within" => self.report_within = number_in(value, 0, 1_000_000)? as u64,
@@ -114,25 +140,35 @@ impl<'a> Options<'a> {
         Some(())
     }
 
+    // An option with a value.
+    fn take_valued(&mut self, word: &str, value: &'a str) -> Result<(), OptionFault>
+        ensures ok { OnOk result (or_else (named word.now value.entry.now (asked_by self.old)) (measured word.now value.entry.now (asked_by self.old)) ≡ Some (asked_by self.new)) }
+        ensures err { IfErr result (λ e. e ≡ faults.Words → or_else (named word.now value.entry.now (asked_by self.old)) (measured word.now value.entry.now (asked_by self.old)) ≡ None) }
+    {
+        if self.take_name(word, value)? {
+            return Ok(());
+        }
+        match self.take_value(word, value) {
+            Some(()) => Ok(()),
+            None => Err(OptionFault::Words),
+        }
+    }
+
     // Takes the options one by one.
-    fn take(&mut self, words: &'a [String]) -> Result<(), OptionFault> {
+    fn take(&mut self, words: &'a [String]) -> Result<(), OptionFault>
+        ensures ok { OnOk result (taken (map string_bytes words.entry.now) (asked_by self.old) ≡ Some (asked_by self.new)) }
+        ensures err { IfErr result (λ e. e ≡ faults.Words → taken (map string_bytes words.entry.now) (asked_by self.old) ≡ None) }
+    {
         let mut rest = words;
-        for _ in 0..words.len() {
-            let [word, behind @ ..] = rest else {
-                return Ok(());
-            };
+        while let Some((word, behind)) = rest.split_first() {
             if self.take_flag(word.as_str()) {
                 rest = behind;
                 continue;
             }
-            let [value, behind @ ..] = behind else {
+            let Some((value, behind)) = behind.split_first() else {
                 return Err(OptionFault::Words);
             };
-            if !self.take_name(word.as_str(), value.as_str())?
-                && self.take_value(word.as_str(), value.as_str()).is_none()
-            {
-                return Err(OptionFault::Words);
-            }
+            self.take_valued(word.as_str(), value.as_str())?;
             rest = behind;
         }
         Ok(())
@@ -140,7 +176,10 @@ impl<'a> Options<'a> {
 }
 
 /// What the words ask for: `host WORLD DIR` and options.
-pub fn options_of(alloc: Global, words: &[String]) -> Result<Options<'_>, OptionFault> {
+pub fn options_of(alloc: Global, words: &[String]) -> Result<Options<'_>, OptionFault>
+    ensures ok { IfOk result (λ options. Ask (map string_bytes words.now) (asked_by options)) }
+    ensures err { IfErr result (λ e. e ≡ faults.Words → AsksNothing (map string_bytes words.now)) }
+{
     let [word, world, folder, rest @ ..] = words else {
         return Err(OptionFault::Words);
     };
@@ -149,5 +188,8 @@ pub fn options_of(alloc: Global, words: &[String]) -> Result<Options<'_>, Option
     }
     let mut options = Options::first(alloc, world.as_str(), folder.as_str());
     options.take(rest)?;
+    if !is_address(options.at) {
+        return Err(OptionFault::Words);
+    }
     Ok(options)
 }

@@ -1,8 +1,12 @@
 //! The connections.
+ghost use Rattle.std.specs.Prelude.{◌≡◌, [], Some};
+ghost use Rattle.sv_ports.specs.Numbered.{with_item};
+ghost use Rattle.sv_host.specs.Inputs.{IsAtLine};
+
 use crate::input::InputLines;
 use std::alloc::Global;
-use sv_ports::{Numbered, Ready};
 use sv_office::{Guest, Halt};
+use sv_ports::{Numbered, Ready};
 
 /// The connections, and which of them are to be looked at.
 #[derive(Drop)]
@@ -28,10 +32,13 @@ pub struct Room {
 
 impl Room {
     /// Nobody is there. `last` is the last position.
-    pub fn new(alloc: Global, last: u32) -> Room {
+    pub fn new(alloc: Global, last: u32) -> Room
+        ensures guests { result.guests ≡ [] }
+        ensures input { IsAtLine result.input [] }
+    {
         Room {
             guests: Numbered::new(alloc),
-            input: InputLines::new(alloc),
+            input: InputLines::new(),
             ready: Ready::new(alloc),
             busy: Vec::new(alloc),
             touched: Vec::new(alloc),
@@ -44,14 +51,21 @@ impl Room {
     }
 
     /// Puts a connection back that was taken out. Something may be sent to it.
-    pub fn put_back(&mut self, number: u64, guest: Guest) -> Result<(), Halt> {
+    pub fn put_back(&mut self, number: u64, guest: Guest) -> Result<(), Halt>
+        ensures guests { self.new.guests ≡ with_item number (Some guest) self.old.guests }
+        ensures input { self.new.input ≡ self.old.input }
+    {
         self.guests.put(number, guest);
         self.touched.push(number)?;
         Ok(())
     }
 
     /// Puts a connection with a held Observe into the list of them.
-    pub fn list(&mut self, number: u64, guest: &mut Guest) -> Result<(), Halt> {
+    pub fn list(&mut self, number: u64, guest: &mut Guest) -> Result<(), Halt>
+        ensures guest { guest.new ≡ record guest.old { is_listed = guest.new.is_listed } }
+        ensures guests { self.new.guests ≡ self.old.guests }
+        ensures input { self.new.input ≡ self.old.input }
+    {
         let Some(held) = &guest.held else {
             return Ok(());
         };

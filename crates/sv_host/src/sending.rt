@@ -1,9 +1,13 @@
 //! Sending what was answered, once it is settled.
+ghost use Rattle.std.specs.Prelude.{◌≡◌, ℕ, Option, OnOk};
+ghost use Rattle.sv_living.specs.World.{WorldView};
+ghost use Rattle.sv_host.specs.Rooms.{AreServed, IsHosting, WasSent};
+
 use crate::host::Host;
 use sv_keeper::Settled;
 use sv_log::Folder;
-use sv_ports::{Numbered, PortWrote, Ports};
 use sv_office::{FULL, Guest, Halt, Standing};
+use sv_ports::{Numbered, PortWrote, Ports};
 use sv_site::Counts;
 
 /// How many writes are made to one connection in a turn.
@@ -16,7 +20,9 @@ fn flush<P: Ports>(
     guest: &mut Guest,
     counts: &mut Counts,
     settled: &Settled<'_>,
-) {
+)
+    ensures { WasSent guest.old guest.new }
+{
     for _ in 0..MOST_WRITES {
         if guest.peer.output().is_empty() {
             break;
@@ -56,6 +62,23 @@ fn then_of(guest: &Guest) -> Then {
     }
 }
 
+/// Sends to a connection that was taken out, and ends its turn.
+fn send_out<P: Ports>(
+    ports: &mut P,
+    number: u64,
+    guest: &mut Guest,
+    counts: &mut Counts,
+    settled: &Settled<'_>,
+) -> Then
+    ensures { WasSent guest.old guest.new }
+{
+    if guest.standing != Standing::Gone {
+        flush(ports, number, guest, counts, settled);
+    }
+    guest.had_turn = false;
+    then_of(guest)
+}
+
 /// Sends to a connection, and ends its turn.
 fn send_to<P: Ports>(
     ports: &mut P,
@@ -63,50 +86,68 @@ fn send_to<P: Ports>(
     number: u64,
     counts: &mut Counts,
     settled: &Settled<'_>,
-) -> Then {
+) -> Then
+    ensures { (v : WorldView) (steward : Option ℕ) → AreServed v steward guests.old → AreServed v steward guests.new }
+{
     let Some(mut guest) = guests.take(number) else {
         return Then::Waits;
     };
-    if guest.standing != Standing::Gone {
-        flush(ports, number, &mut guest, counts, settled);
-    }
-    guest.had_turn = false;
-    let then = then_of(&guest);
+    let then = send_out(ports, number, &mut guest, counts, settled);
     guests.put(number, guest);
     then
 }
 
 impl<F: Folder> Host<F> {
-    /// Settles, and sends to each connection that was touched. Those that are over then are closed.
-    pub fn send<P: Ports>(&mut self, ports: &mut P) -> Result<(), Halt> {
-        let mut touched = std::mem::replace(&mut self.room.touched, Vec::new(self.alloc));
+    // Sends to each of these, where all is settled. Those that have more are noted, and those that are over are given.
+    fn send_each<P: Ports>(&mut self, ports: &mut P, numbers: &[u64]) -> Result<Vec<u64>, Halt>
+        requires served { IsHosting self.old }
+        ensures served { IsHosting self.new }
+    {
         let mut gone = Vec::new(self.alloc);
-        if self.office.keeper.settle().is_err() {
-            return Err(Halt::Log);
-        }
         let Some(settled) = self.office.keeper.settled() else {
             return Err(Halt::Log);
         };
-        for number in &touched {
-            match send_to(
+        for number in numbers {
+            let then = send_to(
                 ports,
                 &mut self.room.guests,
                 *number,
                 &mut self.office.counts,
                 &settled,
-            ) {
+            );
+            match then {
                 Then::Waits => {}
                 Then::GoesOn => self.room.busy.push(*number)?,
                 Then::Goes => gone.push(*number)?,
             }
         }
-        drop(settled);
-        // Its room is used again.
-        touched.clear();
-        self.room.touched = touched;
-        for number in &gone {
+        Ok(gone)
+    }
+
+    // Closes each of these.
+    fn depart_each<P: Ports>(&mut self, ports: &mut P, numbers: &[u64]) -> Result<(), Halt>
+        requires served { IsHosting self.old }
+        ensures served { OnOk result (IsHosting self.new) }
+    {
+        for number in numbers {
             self.depart(ports, *number)?;
         }
         Ok(())
+    }
+
+    /// Settles, and sends to each connection that was touched. Those that are over then are closed.
+    pub fn send<P: Ports>(&mut self, ports: &mut P) -> Result<(), Halt>
+        requires served { IsHosting self.old }
+        ensures served { OnOk result (IsHosting self.new) }
+    {
+        if self.office.keeper.settle().is_err() {
+            return Err(Halt::Log);
+        }
+        let mut touched = std::mem::replace(&mut self.room.touched, Vec::new(self.alloc));
+        let gone = self.send_each(ports, &touched)?;
+        // Its room is used again.
+        touched.clear();
+        self.room.touched = touched;
+        self.depart_each(ports, &gone)
     }
 }

@@ -1,12 +1,17 @@
 //! The loop, and its orderly end.
+ghost use Rattle.std.specs.Prelude.{◌≡◌, [], OnOk};
+ghost use Rattle.sv_living.specs.Sessions.{open_sessions};
+ghost use Rattle.sv_keeper.specs.Keeping.{AreSettled};
+ghost use Rattle.sv_host.specs.Rooms.{IsHosting};
+
 use crate::host::Host;
 use crate::turn::Turned;
 use std::sync::Wait;
 use sv_bytes::{Files, Sink};
 use sv_log::Folder;
+use sv_office::{Halt, Outside};
 use sv_ports::{Clock, Ports};
 use sv_wire::Request;
-use sv_office::{Halt, Outside};
 
 /// For how many turns it is waited at an orderly end for connections to take what they are sent.
 const LAST_TURNS: u32 = 20;
@@ -14,14 +19,21 @@ const LAST_TURNS: u32 = 20;
 /// For how long such a turn waits.
 const LAST_WAIT: u64 = 25;
 
+/// No world has so many open sessions.
+const MOST_ENDS: u32 = 70_000;
+
 impl<F: Folder> Host<F> {
-    /// Serves until it is told to stop.
+    /// Serves until it is told to stop. Then each session has its End, and all is settled.
     pub fn serve<R: Wait, P: Ports, C: Clock, L: Files, E: Sink>(
         &mut self,
         rt: &R,
         outside: &mut Outside<'_, P, L, E>,
         clock: &mut C,
-    ) -> Result<(), Halt> {
+    ) -> Result<(), Halt>
+        requires served { IsHosting self.old }
+        ensures ended { OnOk result (open_sessions self.new.office.keeper.world.history ≡ []) }
+        ensures settled { OnOk result (AreSettled F.disk F.is_honest self.new.office.keeper) }
+    {
         for _ in rt.forever() {
             if self.turn(outside, clock)? == Turned::Stops {
                 return self.stop(outside.ports);
@@ -31,7 +43,10 @@ impl<F: Folder> Host<F> {
     }
 
     // Touches all connections, and answers whether something is to be sent to one of them.
-    fn touch_all(&mut self) -> Result<bool, Halt> {
+    fn touch_all(&mut self) -> Result<bool, Halt>
+        requires served { IsHosting self.old }
+        ensures served { IsHosting self.new }
+    {
         let mut waits = false;
         for place in 0..self.room.guests.len() {
             let Some(number) = self.room.guests.number_at(place) else {
@@ -46,7 +61,10 @@ impl<F: Folder> Host<F> {
     }
 
     // Sends what was stepped, as far as connections take it.
-    fn send_rest<P: Ports>(&mut self, ports: &mut P) -> Result<(), Halt> {
+    fn send_rest<P: Ports>(&mut self, ports: &mut P) -> Result<(), Halt>
+        requires served { IsHosting self.old }
+        ensures served { OnOk result (IsHosting self.new) }
+    {
         for _ in 0..LAST_TURNS {
             let waits = self.touch_all()?;
             self.send(ports)?;
@@ -59,17 +77,29 @@ impl<F: Folder> Host<F> {
         Ok(())
     }
 
-    /// Sends what was stepped, and enters the End of each session.
-    pub fn stop<P: Ports>(&mut self, ports: &mut P) -> Result<(), Halt> {
-        self.send_rest(ports)?;
-        for _ in 0..2000 {
+    // Enters the End of each session.
+    fn end_all(&mut self) -> Result<(), Halt>
+        ensures ended { OnOk result (open_sessions self.new.office.keeper.world.history ≡ []) }
+    {
+        for _ in 0..MOST_ENDS {
             let Some(session) = self.office.keeper.first_open() else {
-                break;
+                return Ok(());
             };
             if self.office.keeper.step(session, &Request::End).is_err() {
                 return Err(Halt::Log);
             }
         }
+        Err(Halt::Log)
+    }
+
+    // Sends what was stepped, enters the End of each session, and settles.
+    fn stop<P: Ports>(&mut self, ports: &mut P) -> Result<(), Halt>
+        requires served { IsHosting self.old }
+        ensures ended { OnOk result (open_sessions self.new.office.keeper.world.history ≡ []) }
+        ensures settled { OnOk result (AreSettled F.disk F.is_honest self.new.office.keeper) }
+    {
+        self.send_rest(ports)?;
+        self.end_all()?;
         match self.office.keeper.settle() {
             Ok(_) => Ok(()),
             Err(_) => Err(Halt::Log),

@@ -1,13 +1,16 @@
 //! Lines on standard error.
+ghost use Rattle.sv_bytes.specs.Writing.{GrewOrRose};
+ghost use Rattle.sv_host.specs.Lines.{open_line, standing_line};
+
 use itoa::Buffer;
 use sv_bytes::{Sink, write_pieces};
-use sv_keeper::Keeper;
-use sv_log::Folder;
 
 /// Writes a line that begins with a word and a name, and tells the last entry and the commit.
-pub fn tell_standing<F: Folder, E: Sink>(word: &str, name: &str, keeper: &Keeper<F>, err: &mut E) {
-    let mut entry = Buffer::new();
-    let mut commit = Buffer::new();
+pub fn tell_standing<E: Sink>(word: &str, name: &str, entries: u64, commit: u32, err: &mut E)
+    ensures { GrewOrRose (E.taken err.old) (E.taken err.new) (E.faults err.old) (E.faults err.new) (standing_line word.now name.now entries commit) }
+{
+    let mut last = Buffer::new();
+    let mut done = Buffer::new();
     write_pieces(
         err,
         &[
@@ -15,15 +18,17 @@ pub fn tell_standing<F: Folder, E: Sink>(word: &str, name: &str, keeper: &Keeper
             b" ",
             name.as_bytes(),
             b", entry ",
-            entry.format(keeper.entries()).as_bytes(),
+            last.format(entries).as_bytes(),
             b", commit ",
-            commit.format(keeper.commit()).as_bytes(),
+            done.format(commit).as_bytes(),
             b"\n",
         ],
     );
 }
 
-/// Writes a line.
-pub fn tell_plain<E: Sink>(line: &str, err: &mut E) {
-    write_pieces(err, &[line.as_bytes(), b"\n"]);
+/// Writes the line that tells that anybody may join.
+pub fn tell_open<E: Sink>(err: &mut E)
+    ensures { GrewOrRose (E.taken err.old) (E.taken err.new) (E.faults err.old) (E.faults err.new) open_line }
+{
+    write_pieces(err, &[b"anybody may join: there are no keys\n"]);
 }

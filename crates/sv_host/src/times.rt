@@ -1,4 +1,7 @@
 //! What is done because time has passed.
+ghost use Rattle.std.specs.Prelude.{OnOk};
+ghost use Rattle.sv_host.specs.Rooms.{IsHosting};
+
 use crate::host::Host;
 use sv_log::Folder;
 use sv_office::Halt;
@@ -22,22 +25,23 @@ impl<F: Folder> Host<F> {
     }
 
     // Ends a connection that is idle.
-    fn dismiss(&mut self, number: u64) -> Result<(), Halt> {
-        let Some(mut guest) = self.room.guests.take(number) else {
+    fn dismiss(&mut self, number: u64) -> Result<(), Halt>
+        requires served { IsHosting self.old }
+        ensures served { OnOk result (IsHosting self.new) }
+    {
+        let Some(mut guest) = self.take_out(number) else {
             return Ok(());
         };
-        guest.leave();
-        let ended = self.office.end(&mut guest);
-        self.room.put_back(number, guest)?;
-        ended
+        self.drop_guest(&mut guest);
+        self.end_guest(&mut guest)?;
+        self.put_back(number, guest)
     }
 
-    /// Ends the connections that are idle.
-    pub fn look_for_idle(&mut self) -> Result<(), Halt> {
-        if self.office.now < self.room.next_look {
-            return Ok(());
-        }
-        self.room.next_look = self.office.now.saturating_add(LOOK);
+    // Looks at all connections.
+    fn look_at_all(&mut self) -> Result<(), Halt>
+        requires served { IsHosting self.old }
+        ensures served { OnOk result (IsHosting self.new) }
+    {
         for place in 0..self.room.guests.len() {
             let Some(number) = self.room.guests.number_at(place) else {
                 return Ok(());
@@ -49,12 +53,31 @@ impl<F: Folder> Host<F> {
         Ok(())
     }
 
-    /// For how long the next turn may wait.
-    pub fn limit(&mut self) -> u64 {
-        if !self.room.busy.is_empty() || !self.office.keeper.is_settled() {
-            return 0;
+    /// Ends the connections that are idle.
+    pub fn look_for_idle(&mut self) -> Result<(), Halt>
+        requires served { IsHosting self.old }
+        ensures served { OnOk result (IsHosting self.new) }
+    {
+        if self.office.now < self.room.next_look {
+            return Ok(());
         }
-        if self.room.ready.door && !self.room.door_fails {
+        self.room.next_look = self.office.now.saturating_add(LOOK);
+        self.look_at_all()
+    }
+
+    // Whether a turn has something to do at once.
+    fn is_pressed(&self) -> bool {
+        !self.room.busy.is_empty()
+            || !self.office.keeper.is_settled()
+            || (self.room.ready.door && !self.room.door_fails)
+    }
+
+    /// For how long the next turn may wait.
+    pub fn limit(&mut self) -> u64
+        requires served { IsHosting self.old }
+        ensures served { IsHosting self.new }
+    {
+        if self.is_pressed() {
             return 0;
         }
         let mut until = self.office.now.saturating_add(LONGEST_WAIT);

@@ -4,7 +4,7 @@ use crate::hall::{DoorFault, Doors, FolderFault, Folders};
 use crate::host::Host;
 use crate::options::{OptionFault, Options, is_local, options_of};
 use crate::room::Room;
-use crate::telling::{tell_plain, tell_standing};
+use crate::telling::{tell_open, tell_standing};
 use std::alloc::{AllocError, Global};
 use std::hash::RandomState;
 use std::sync::Wait;
@@ -12,7 +12,7 @@ use sv_bytes::{FileFault, Files, Sink, read_all};
 use sv_keeper::{Keeper, LineCause, OpenFault, Opening};
 use sv_living::Stewards;
 use sv_log::{Cause, Folder, Refusal};
-use sv_ports::Clock;
+use sv_ports::{Clock, Ports};
 use sv_sequencer::Opened;
 use sv_worldfile::{MOST_BYTES, ReadFault, Results, WorldFile, append_fault_line, read_world};
 use sv_office::{Ages, Halt, Manners, Office, Outside, STEWARD_NUMBER, Steward};
@@ -24,6 +24,11 @@ const SPARE: usize = 1 << 20;
 
 fn owned(alloc: Global, name: &str) -> Result<String, AllocError> {
     String::from_str(alloc, name)
+}
+
+// Tells how a kept world stands.
+fn tell_keeper<F: Folder, E: Sink>(word: &str, name: &str, keeper: &Keeper<F>, err: &mut E) {
+    tell_standing(word, name, keeper.entries(), keeper.commit(), err);
 }
 
 /// The bytes of the world's file.
@@ -125,7 +130,7 @@ fn keeper_of<D: Folders>(
     };
     match Keeper::open(alloc, folder, opening) {
         Ok(keeper) => Ok(keeper),
-        Err(fault) => Err(unopened(alloc, options.folder, fault)?),
+        Err((fault, _)) => Err(unopened(alloc, options.folder, fault)?),
     }
 }
 
@@ -137,7 +142,7 @@ fn keys_of<L: Files, E: Sink>(
 ) -> Result<Option<Keys>, HostEnd> {
     let Some(name) = options.keys else {
         if !is_local(options.at) {
-            tell_plain("anybody may join: there are no keys", err);
+            tell_open(err);
         }
         return Ok(None);
     };
@@ -237,6 +242,25 @@ pub struct Place<'a, R, D, S, C, L, E> {
     pub err: &'a mut E,
 }
 
+// Serves who comes through a door, until it is told to stop.
+fn serve_over<R: Wait, P: Ports, C: Clock, L: Files, E: Sink, F: Folder>(
+    rt: &R,
+    ports: &mut P,
+    files: &mut L,
+    err: &mut E,
+    clock: &mut C,
+    host: &mut Host<F>,
+) -> Result<(), Halt> {
+    let mut piece = vec![in host.alloc; 0u8; 4096]?;
+    let mut outside = Outside {
+        ports,
+        files,
+        err,
+        piece: piece.as_mut_slice(),
+    };
+    host.serve(rt, &mut outside, clock)
+}
+
 // Serves what was opened, and answers how it ended.
 fn serve_at<R: Wait, D: Doors, S, C: Clock, L: Files, E: Sink, F: Folder>(
     place: &mut Place<'_, R, D, S, C, L, E>,
@@ -248,23 +272,17 @@ fn serve_at<R: Wait, D: Doors, S, C: Clock, L: Files, E: Sink, F: Folder>(
     if !place.doors.address(&ports, &mut address) {
         address = owned(place.alloc, options.at)?;
     }
-    tell_standing(
-        "listening",
-        address.as_str(),
-        &host.office.keeper,
+    tell_keeper("listening", address.as_str(), &host.office.keeper, place.err);
+    match serve_over(
+        place.rt,
+        &mut ports,
+        place.files,
         place.err,
-    );
-    let served = {
-        let mut outside = Outside {
-            ports: &mut ports,
-            files: &mut *place.files,
-            err: &mut *place.err,
-        };
-        host.serve(place.rt, &mut outside, place.clock)
-    };
-    match served {
+        place.clock,
+        host,
+    ) {
         Ok(()) => {
-            tell_standing("stop", options.folder, &host.office.keeper, place.err);
+            tell_keeper("stop", options.folder, &host.office.keeper, place.err);
             Ok(())
         }
         Err(halt) => Err(halted(place.alloc, host, halt)?),
@@ -284,7 +302,7 @@ fn run<R: Wait, D: Doors, S: Folders, C: Clock, L: Files, E: Sink>(
     }
     let keys = keys_of(alloc, options, place.files, place.err)?;
     let keeper = keeper_of(alloc, options, place.folders, file, &bytes)?;
-    tell_standing("start", options.folder, &keeper, place.err);
+    tell_keeper("start", options.folder, &keeper, place.err);
     let file = owned(alloc, keeper.file())?;
     let mut host = match host_of(alloc, options, keeper, keys, place.random, authority) {
         Ok(host) => host,

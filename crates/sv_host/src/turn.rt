@@ -1,9 +1,12 @@
 //! A turn of the loop.
+ghost use Rattle.std.specs.Prelude.{OnOk};
+ghost use Rattle.sv_host.specs.Rooms.{IsHosting};
+
 use crate::host::Host;
 use sv_bytes::{Files, Sink};
 use sv_log::Folder;
-use sv_ports::{Clock, PortRead, Ports, Waited};
 use sv_office::{Halt, Outside};
+use sv_ports::{Clock, PortRead, Ports, Waited};
 
 /// How a turn ends.
 #[derive(Clone, Copy, Debug, Drop, PartialEq, Eq)]
@@ -16,7 +19,10 @@ pub enum Turned {
 
 impl<F: Folder> Host<F> {
     // Waits until there is something to do.
-    fn wait<P: Ports, C: Clock>(&mut self, ports: &mut P, clock: &mut C) -> Result<(), Halt> {
+    fn wait<P: Ports, C: Clock>(&mut self, ports: &mut P, clock: &mut C) -> Result<(), Halt>
+        requires served { IsHosting self.old }
+        ensures served { IsHosting self.new }
+    {
         let limit = self.limit();
         self.room.ready.numbers.clear();
         self.room.ready.input = false;
@@ -29,15 +35,19 @@ impl<F: Folder> Host<F> {
     }
 
     // Whether the input tells to stop.
-    fn is_told_to_stop<P: Ports>(&mut self, ports: &mut P) -> bool {
+    fn is_told_to_stop<P: Ports>(&mut self, ports: &mut P) -> Result<bool, Halt>
+        requires served { IsHosting self.old }
+        ensures served { IsHosting self.new }
+    {
         if !self.office.manners.stops || !self.room.ready.input {
-            return false;
+            return Ok(false);
         }
         let mut piece = [0; 512];
         match ports.read_input(&mut piece) {
-            PortRead::Got(count) => self.room.input.take(&piece[..count]),
-            PortRead::NotYet => false,
-            PortRead::Ended | PortRead::Failed => true,
+            PortRead::Got(count) => Ok(self.room.input.take(&piece[..count])),
+            PortRead::NotYet => Ok(false),
+            PortRead::Ended => Ok(true),
+            PortRead::Failed => Err(Halt::Ports),
         }
     }
 
@@ -45,15 +55,14 @@ impl<F: Folder> Host<F> {
     fn hear_all<P: Ports, L: Files, E: Sink>(
         &mut self,
         outside: &mut Outside<'_, P, L, E>,
-    ) -> Result<(), Halt> {
+    ) -> Result<(), Halt>
+        requires served { IsHosting self.old }
+        ensures served { OnOk result (IsHosting self.new) }
+    {
         let mut busy = std::mem::replace(&mut self.room.busy, Vec::new(self.alloc));
-        for number in &busy {
-            self.hear(outside, *number)?;
-        }
+        self.hear_each(outside, &busy)?;
         let ready = std::mem::replace(&mut self.room.ready.numbers, Vec::new(self.alloc));
-        for number in &ready {
-            self.hear(outside, *number)?;
-        }
+        self.hear_each(outside, &ready)?;
         // Their room is used again.
         self.room.ready.numbers = ready;
         busy.clear();
@@ -61,22 +70,36 @@ impl<F: Folder> Host<F> {
         Ok(())
     }
 
-    /// One turn: what is ready is stepped, all lines are settled at once, and then the replies go out.
+    // What is ready is stepped, all lines are settled at once, and then the replies go out.
+    fn serve_all<P: Ports, L: Files, E: Sink>(
+        &mut self,
+        outside: &mut Outside<'_, P, L, E>,
+    ) -> Result<(), Halt>
+        requires served { IsHosting self.old }
+        ensures served { OnOk result (IsHosting self.new) }
+    {
+        self.accept(outside.ports);
+        self.hear_all(outside)?;
+        self.look_for_idle()?;
+        self.report()?;
+        self.look_at_held()?;
+        self.send(outside.ports)
+    }
+
+    /// One turn.
     pub fn turn<P: Ports, C: Clock, L: Files, E: Sink>(
         &mut self,
         outside: &mut Outside<'_, P, L, E>,
         clock: &mut C,
-    ) -> Result<Turned, Halt> {
+    ) -> Result<Turned, Halt>
+        requires served { IsHosting self.old }
+        ensures served { OnOk result (IsHosting self.new) }
+    {
         self.wait(outside.ports, clock)?;
-        if self.is_told_to_stop(outside.ports) {
+        if self.is_told_to_stop(outside.ports)? {
             return Ok(Turned::Stops);
         }
-        self.accept(outside.ports);
-        self.hear_all(outside)?;
-        self.look_for_idle()?;
-        self.office.report_old()?;
-        self.look_at_held()?;
-        self.send(outside.ports)?;
+        self.serve_all(outside)?;
         Ok(Turned::On)
     }
 }

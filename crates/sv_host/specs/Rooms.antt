@@ -1,0 +1,36 @@
+-- The connections of a world: each is served, and each has a session of its own.
+use Rattle.std.specs.Prelude.{◌≡◌, ◌⊎◌, ℕ, List, Option, Some}
+use Rattle.sv_living.specs.World.{WorldView}
+use Rattle.sv_ports.specs.declared.numbered.Place.{Place}
+use Rattle.sv_ports.specs.Numbered.{item_of}
+use Rattle.sv_office.specs.Offices.{AreApart, session_of}
+use Rattle.sv_office.specs.Telling.{IsServed}
+use Rattle.sv_office.specs.declared.guest.Guest.{Guest}
+use Rattle.sv_office.specs.declared.guest.Standing.TheVariants as standing
+use Rattle.sv_host.specs.declared.host.Host.{Host}
+
+-- Each connection was told what its session's entries say, no two have the same session, and none has the steward's.
+pub record AreServed (v : WorldView) (steward : Option ℕ) (guests : List (Place Guest)) : Type 0 where
+  pub served : (n : ℕ) (guest : Guest) → item_of n guests ≡ Some guest → IsServed v guest
+  pub apart : (n : ℕ) (guest : Guest) → item_of n guests ≡ Some guest → AreApart guest.session steward
+  pub distinct : (n m s : ℕ) (a b : Guest) → item_of n guests ≡ Some a → item_of m guests ≡ Some b → a.session ≡ Some s → b.session ≡ Some s → n ≡ m
+
+-- A connection that was taken out is served as the others are, and its session is none of theirs.
+pub record IsOut (v : WorldView) (steward : Option ℕ) (guests : List (Place Guest)) (guest : Guest) : Type 0 where
+  pub others : AreServed v steward guests
+  pub served : IsServed v guest
+  pub apart : AreApart guest.session steward
+  pub other : (n s : ℕ) (b : Guest) → item_of n guests ≡ Some b → b.session ≡ Some s → guest.session ≡ Some s → ⊥
+
+-- A connection was sent to, or it broke. It was told nothing more.
+pub record WasSent (old new : Guest) : Type 0 where
+  pub told : new.peer.told ≡ old.peer.told
+  pub session : new.session ≡ old.session
+  pub standing : (new.standing ≡ old.standing) ⊎ (new.standing ≡ standing.Gone)
+
+module _ {F : Type 0} where
+  abbrev pub IsHosting : Host F → Type 0
+  IsHosting host = AreServed host.office.keeper.world (session_of host.office.steward) host.room.guests
+
+  abbrev pub IsOutOf : Host F → Guest → Type 0
+  IsOutOf host guest = IsOut host.office.keeper.world (session_of host.office.steward) host.room.guests guest
