@@ -1,3 +1,6 @@
 -- The lemmas of the server of a living world.
 pub mod Behind
 pub mod Taking
+pub mod Places
+pub mod Guests
+pub mod Rules

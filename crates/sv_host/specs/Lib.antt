@@ -3,3 +3,4 @@ pub mod Words
 pub mod Lines
 pub mod Inputs
 pub mod Rooms
+pub mod Statuses

@@ -1,5 +1,7 @@
 -- The connections of a world: each is served, and each has a session of its own.
-use Rattle.std.specs.Prelude.{◌≡◌, ◌⊎◌, ℕ, List, Option, Some}
+use Rattle.std.specs.Prelude.{◌≡◌, ◌⊎◌, ℕ, true, List, Option, Some}
+use Rattle.sv_journal.specs.declared.entry.Entry.{Entry}
+use Rattle.sv_journal.specs.Sessions.{is_end}
 use Rattle.sv_living.specs.World.{WorldView}
 use Rattle.sv_ports.specs.declared.numbered.Place.{Place}
 use Rattle.sv_ports.specs.Numbered.{item_of}
@@ -21,6 +23,10 @@ pub record IsOut (v : WorldView) (steward : Option ℕ) (guests : List (Place Gu
   pub served : IsServed v guest
   pub apart : AreApart guest.session steward
   pub other : (n s : ℕ) (b : Guest) → item_of n guests ≡ Some b → b.session ≡ Some s → guest.session ≡ Some s → ⊥
+
+-- An entry is an End.
+abbrev pub IsAnEnd : Entry → Type 0
+IsAnEnd e = is_end e.request ≡ true
 
 -- A connection was sent to, or it broke. It was told nothing more.
 pub record WasSent (old new : Guest) : Type 0 where

@@ -1,4 +1,7 @@
 //! What opens folders and doors.
+ghost use Rattle.std.specs.Prelude.{IfOk};
+ghost use Rattle.sv_log.specs.Rests.{IsAtRest};
+
 use sv_log::Folder;
 use sv_ports::Ports;
 
@@ -15,8 +18,9 @@ pub enum FolderFault {
 pub trait Folders {
     type F: Folder + Drop;
 
-    /// Opens a folder. A sync of it waits for the disk, or does nothing.
-    fn open(&mut self, name: &str, syncs: bool) -> Result<Self::F, FolderFault>;
+    /// Opens a folder. A sync of it waits for the disk, or does nothing. All that stands in it is on the disk then, if it is honest.
+    fn open(&mut self, name: &str, syncs: bool) -> Result<Self::F, FolderFault>
+        ensures rest { IfOk result (λ folder. Self.F.is_honest folder → IsAtRest (Self.F.disk folder)) };
 }
 
 /// Why a door is not opened.

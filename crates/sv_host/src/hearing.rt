@@ -12,8 +12,9 @@ impl<F: Folder> Host<F> {
     /// A connection's turn.
     pub fn hear<P: Ports, L: Files, E: Sink>(
         &mut self,
-        outside: &mut Outside<'_, P, L, E>,
+        outside: &mut Outside<'_, '_, '_, P, L, E>,
         number: u64,
+        piece: &mut [u8],
     ) -> Result<(), Halt>
         requires served { IsHosting self.old }
         ensures served { OnOk result (IsHosting self.new) }
@@ -21,7 +22,7 @@ impl<F: Folder> Host<F> {
         let Some(mut guest) = self.take_out(number) else {
             return Ok(());
         };
-        self.hear_guest(outside, number, &mut guest)?;
+        self.hear_guest(outside, number, &mut guest, piece)?;
         self.list(number, &mut guest)?;
         self.put_back(number, guest)
     }
@@ -29,14 +30,15 @@ impl<F: Folder> Host<F> {
     /// Gives each of these connections its turn.
     pub fn hear_each<P: Ports, L: Files, E: Sink>(
         &mut self,
-        outside: &mut Outside<'_, P, L, E>,
+        outside: &mut Outside<'_, '_, '_, P, L, E>,
         numbers: &[u64],
+        piece: &mut [u8],
     ) -> Result<(), Halt>
         requires served { IsHosting self.old }
         ensures served { OnOk result (IsHosting self.new) }
     {
         for number in numbers {
-            self.hear(outside, *number)?;
+            self.hear(outside, *number, piece)?;
         }
         Ok(())
     }

@@ -60,7 +60,7 @@ impl<F: Folder> Host<F> {
         ensures served { OnOk result (IsHosting self.new) }
     {
         let last = self.office.keeper.last();
-        if last == self.room.seen_last && self.office.now < self.room.held_until {
+        if last == self.room.seen_last && self.office.time < self.room.held_until {
             return Ok(());
         }
         self.room.seen_last = last;

@@ -62,12 +62,13 @@ impl<F: Folder> Host<F> {
         guest.leave();
     }
 
-    /// Takes what a connection asks, where it had no turn.
+    /// Takes what a connection asks, where it had no turn. `piece` is for what is read at once.
     pub fn hear_guest<P: Ports, L: Files, E: Sink>(
         &mut self,
-        outside: &mut Outside<'_, P, L, E>,
+        outside: &mut Outside<'_, '_, '_, P, L, E>,
         number: u64,
         guest: &mut Guest,
+        piece: &mut [u8],
     ) -> Result<(), Halt>
         requires taken { IsOutOf self.old guest.old }
         ensures taken { OnOk result (IsOutOf self.new guest.new) }
@@ -75,7 +76,7 @@ impl<F: Folder> Host<F> {
         if guest.had_turn {
             return Ok(());
         }
-        self.office.hear(outside, number, guest)?;
+        self.office.hear(outside, number, guest, piece)?;
         self.office.keeper.is_lawful();
         Ok(())
     }

@@ -20,11 +20,12 @@ impl<F: Folder> Host<F> {
         ensures served { IsHosting self.new }
     {
         if self.room.guests.len() >= MOST_GUESTS {
-            self.office.counts.refuse();
+            let office = &mut self.office;
+            office.counts.refuse();
             ports.close(number);
             return;
         }
-        let guest = Guest::new(self.alloc, self.office.now);
+        let guest = Guest::new(self.alloc, self.office.time);
         if self.room.guests.push(number, guest).is_err() {
             ports.close(number);
         }

@@ -8,6 +8,7 @@ mod holding;
 mod host;
 mod input;
 mod leaving;
+mod opening;
 mod options;
 mod room;
 mod sending;

@@ -4,6 +4,8 @@ ghost use Rattle.sv_living.specs.World.{WorldView};
 ghost use Rattle.sv_host.specs.Rooms.{AreServed, IsHosting, WasSent};
 
 use crate::host::Host;
+use crate::room::Room;
+use std::alloc::Global;
 use sv_keeper::Settled;
 use sv_log::Folder;
 use sv_office::{FULL, Guest, Halt, Standing};
@@ -97,31 +99,62 @@ fn send_to<P: Ports>(
     then
 }
 
+/// Sends to each of these. Those that have more are noted, and those that are over are given.
+fn send_each<P: Ports>(
+    alloc: Global,
+    ports: &mut P,
+    room: &mut Room,
+    numbers: &[u64],
+    counts: &mut Counts,
+    settled: &Settled<'_>,
+) -> Result<Vec<u64>, Halt>
+    ensures { (v : WorldView) (steward : Option ℕ) → AreServed v steward room.old.guests → AreServed v steward room.new.guests }
+{
+    let mut gone = Vec::new(alloc);
+    for number in numbers {
+        match send_to(ports, &mut room.guests, *number, counts, settled) {
+            Then::Waits => {}
+            Then::GoesOn => room.busy.push(*number)?,
+            Then::Goes => gone.push(*number)?,
+        }
+    }
+    Ok(gone)
+}
+
 impl<F: Folder> Host<F> {
-    // Sends to each of these, where all is settled. Those that have more are noted, and those that are over are given.
-    fn send_each<P: Ports>(&mut self, ports: &mut P, numbers: &[u64]) -> Result<Vec<u64>, Halt>
+    // Settles all that was stepped.
+    fn settle(&mut self) -> Result<(), Halt>
         requires served { IsHosting self.old }
         ensures served { IsHosting self.new }
     {
-        let mut gone = Vec::new(self.alloc);
-        let Some(settled) = self.office.keeper.settled() else {
+        let office = &mut self.office;
+        match office.keeper.settle() {
+            Ok(()) => Ok(()),
+            Err(_) => Err(Halt::Log),
+        }
+    }
+
+    // Sends to each of these, where all is settled, and gives those that are over.
+    fn send_settled<P: Ports>(&mut self, ports: &mut P, numbers: &[u64]) -> Result<Vec<u64>, Halt>
+        requires served { IsHosting self.old }
+        ensures served { IsHosting self.new }
+    {
+        let mut counts = self.office.counts;
+        let office = &self.office;
+        let Some(settled) = office.keeper.settled() else {
             return Err(Halt::Log);
         };
-        for number in numbers {
-            let then = send_to(
-                ports,
-                &mut self.room.guests,
-                *number,
-                &mut self.office.counts,
-                &settled,
-            );
-            match then {
-                Then::Waits => {}
-                Then::GoesOn => self.room.busy.push(*number)?,
-                Then::Goes => gone.push(*number)?,
-            }
-        }
-        Ok(gone)
+        let gone = send_each(
+            self.alloc,
+            ports,
+            &mut self.room,
+            numbers,
+            &mut counts,
+            &settled,
+        );
+        drop(settled);
+        self.office.counts = counts;
+        gone
     }
 
     // Closes each of these.
@@ -140,14 +173,9 @@ impl<F: Folder> Host<F> {
         requires served { IsHosting self.old }
         ensures served { OnOk result (IsHosting self.new) }
     {
-        if self.office.keeper.settle().is_err() {
-            return Err(Halt::Log);
-        }
-        let mut touched = std::mem::replace(&mut self.room.touched, Vec::new(self.alloc));
-        let gone = self.send_each(ports, &touched)?;
-        // Its room is used again.
-        touched.clear();
-        self.room.touched = touched;
+        self.settle()?;
+        let touched = std::mem::replace(&mut self.room.touched, Vec::new(self.alloc));
+        let gone = self.send_settled(ports, &touched)?;
         self.depart_each(ports, &gone)
     }
 }

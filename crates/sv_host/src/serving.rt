@@ -2,12 +2,14 @@
 ghost use Rattle.std.specs.Prelude.{◌≡◌, [], OnOk};
 ghost use Rattle.sv_living.specs.Sessions.{open_sessions};
 ghost use Rattle.sv_keeper.specs.Keeping.{AreSettled};
-ghost use Rattle.sv_host.specs.Rooms.{IsHosting};
+ghost use Rattle.sv_office.specs.Entering.{GoesOn};
+ghost use Rattle.sv_host.specs.Rooms.{IsAnEnd, IsHosting};
 
 use crate::host::Host;
 use crate::turn::Turned;
 use std::sync::Wait;
 use sv_bytes::{Files, Sink};
+use sv_keeper::Keeper;
 use sv_log::Folder;
 use sv_office::{Halt, Outside};
 use sv_ports::{Clock, Ports};
@@ -22,12 +24,42 @@ const LAST_WAIT: u64 = 25;
 /// No world has so many open sessions.
 const MOST_ENDS: u32 = 70_000;
 
+// Enters the End of each session that is open.
+fn end_each<F: Folder>(keeper: &mut Keeper<F>) -> Result<(), Halt>
+    ensures ended { OnOk result (open_sessions keeper.new.world.history ≡ []) }
+    ensures added { GoesOn IsAnEnd keeper.old.world keeper.new.world }
+{
+    for _ in 0..MOST_ENDS {
+        let Some(session) = keeper.first_open() else {
+            return Ok(());
+        };
+        if keeper.step(session, &Request::End).is_err() {
+            return Err(Halt::Log);
+        }
+    }
+    Err(Halt::Log)
+}
+
+// Enters the End of each session that is open, and settles.
+fn end_all<F: Folder>(keeper: &mut Keeper<F>) -> Result<(), Halt>
+    ensures ended { OnOk result (open_sessions keeper.new.world.history ≡ []) }
+    ensures settled { OnOk result (AreSettled F.disk F.is_honest keeper.new) }
+    ensures added { GoesOn IsAnEnd keeper.old.world keeper.new.world }
+{
+    end_each(keeper)?;
+    match keeper.settle() {
+        Ok(()) => Ok(()),
+        Err(_) => Err(Halt::Log),
+    }
+}
+
 impl<F: Folder> Host<F> {
     /// Serves until it is told to stop. Then each session has its End, and all is settled.
     pub fn serve<R: Wait, P: Ports, C: Clock, L: Files, E: Sink>(
         &mut self,
         rt: &R,
-        outside: &mut Outside<'_, P, L, E>,
+        outside: &mut Outside<'_, '_, '_, P, L, E>,
+        piece: &mut [u8],
         clock: &mut C,
     ) -> Result<(), Halt>
         requires served { IsHosting self.old }
@@ -35,7 +67,7 @@ impl<F: Folder> Host<F> {
         ensures settled { OnOk result (AreSettled F.disk F.is_honest self.new.office.keeper) }
     {
         for _ in rt.forever() {
-            if self.turn(outside, clock)? == Turned::Stops {
+            if self.turn(outside, piece, clock)? == Turned::Stops {
                 return self.stop(outside.ports);
             }
         }
@@ -77,21 +109,6 @@ impl<F: Folder> Host<F> {
         Ok(())
     }
 
-    // Enters the End of each session.
-    fn end_all(&mut self) -> Result<(), Halt>
-        ensures ended { OnOk result (open_sessions self.new.office.keeper.world.history ≡ []) }
-    {
-        for _ in 0..MOST_ENDS {
-            let Some(session) = self.office.keeper.first_open() else {
-                return Ok(());
-            };
-            if self.office.keeper.step(session, &Request::End).is_err() {
-                return Err(Halt::Log);
-            }
-        }
-        Err(Halt::Log)
-    }
-
     // Sends what was stepped, enters the End of each session, and settles.
     fn stop<P: Ports>(&mut self, ports: &mut P) -> Result<(), Halt>
         requires served { IsHosting self.old }
@@ -99,10 +116,7 @@ impl<F: Folder> Host<F> {
         ensures settled { OnOk result (AreSettled F.disk F.is_honest self.new.office.keeper) }
     {
         self.send_rest(ports)?;
-        self.end_all()?;
-        match self.office.keeper.settle() {
-            Ok(_) => Ok(()),
-            Err(_) => Err(Halt::Log),
-        }
+        let office = &mut self.office;
+        end_all(&mut office.keeper)
     }
 }

@@ -18,7 +18,7 @@ impl<F: Folder> Host<F> {
         match self.room.guests.get(number) {
             Some(guest) => {
                 guest.held.is_none()
-                    && self.office.now.saturating_sub(guest.heard) >= self.office.manners.idle
+                    && self.office.time.saturating_sub(guest.heard) >= self.office.manners.idle
             }
             None => false,
         }
@@ -58,10 +58,10 @@ impl<F: Folder> Host<F> {
         requires served { IsHosting self.old }
         ensures served { OnOk result (IsHosting self.new) }
     {
-        if self.office.now < self.room.next_look {
+        if self.office.time < self.room.next_look {
             return Ok(());
         }
-        self.room.next_look = self.office.now.saturating_add(LOOK);
+        self.room.next_look = self.office.time.saturating_add(LOOK);
         self.look_at_all()
     }
 
@@ -80,7 +80,7 @@ impl<F: Folder> Host<F> {
         if self.is_pressed() {
             return 0;
         }
-        let mut until = self.office.now.saturating_add(LONGEST_WAIT);
+        let mut until = self.office.time.saturating_add(LONGEST_WAIT);
         if !self.room.guests.is_empty() || self.room.door_fails {
             until = until.min(self.room.next_look);
         }
@@ -90,6 +90,6 @@ impl<F: Folder> Host<F> {
         if let Some(due) = self.office.report_due() {
             until = until.min(due);
         }
-        until.saturating_sub(self.office.now)
+        until.saturating_sub(self.office.time)
     }
 }

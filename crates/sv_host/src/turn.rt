@@ -30,7 +30,7 @@ impl<F: Folder> Host<F> {
             Waited::Done => {}
             Waited::Failed => return Err(Halt::Ports),
         }
-        self.office.now = self.office.now.max(clock.now());
+        self.office.time = self.office.time.max(clock.now());
         Ok(())
     }
 
@@ -54,15 +54,16 @@ impl<F: Folder> Host<F> {
     // Gives each connection that is ready, or had more, its turn.
     fn hear_all<P: Ports, L: Files, E: Sink>(
         &mut self,
-        outside: &mut Outside<'_, P, L, E>,
+        outside: &mut Outside<'_, '_, '_, P, L, E>,
+        piece: &mut [u8],
     ) -> Result<(), Halt>
         requires served { IsHosting self.old }
         ensures served { OnOk result (IsHosting self.new) }
     {
         let mut busy = std::mem::replace(&mut self.room.busy, Vec::new(self.alloc));
-        self.hear_each(outside, &busy)?;
+        self.hear_each(outside, &busy, piece)?;
         let ready = std::mem::replace(&mut self.room.ready.numbers, Vec::new(self.alloc));
-        self.hear_each(outside, &ready)?;
+        self.hear_each(outside, &ready, piece)?;
         // Their room is used again.
         self.room.ready.numbers = ready;
         busy.clear();
@@ -73,13 +74,14 @@ impl<F: Folder> Host<F> {
     // What is ready is stepped, all lines are settled at once, and then the replies go out.
     fn serve_all<P: Ports, L: Files, E: Sink>(
         &mut self,
-        outside: &mut Outside<'_, P, L, E>,
+        outside: &mut Outside<'_, '_, '_, P, L, E>,
+        piece: &mut [u8],
     ) -> Result<(), Halt>
         requires served { IsHosting self.old }
         ensures served { OnOk result (IsHosting self.new) }
     {
         self.accept(outside.ports);
-        self.hear_all(outside)?;
+        self.hear_all(outside, piece)?;
         self.look_for_idle()?;
         self.report()?;
         self.look_at_held()?;
@@ -89,7 +91,8 @@ impl<F: Folder> Host<F> {
     /// One turn.
     pub fn turn<P: Ports, C: Clock, L: Files, E: Sink>(
         &mut self,
-        outside: &mut Outside<'_, P, L, E>,
+        outside: &mut Outside<'_, '_, '_, P, L, E>,
+        piece: &mut [u8],
         clock: &mut C,
     ) -> Result<Turned, Halt>
         requires served { IsHosting self.old }
@@ -99,7 +102,7 @@ impl<F: Folder> Host<F> {
         if self.is_told_to_stop(outside.ports)? {
             return Ok(Turned::Stops);
         }
-        self.serve_all(outside)?;
+        self.serve_all(outside, piece)?;
         Ok(Turned::On)
     }
 }
