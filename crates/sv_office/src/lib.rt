@@ -2,10 +2,12 @@
 #![tactic(auto)]
 
 mod ages;
+mod entering;
 mod guest;
 mod halt;
 mod hearing;
 mod holding;
+mod laws;
 mod office;
 mod outside;
 mod reporting;
@@ -17,6 +19,7 @@ pub use ages::Ages;
 pub use guest::{Guest, Held, Standing};
 pub use halt::Halt;
 pub use hearing::FULL;
+pub use laws::{all_stay_served, others_stay_served};
 pub use office::{Manners, Office};
 pub use outside::Outside;
 pub use stepping::STEWARD_NUMBER;

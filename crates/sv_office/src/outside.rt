@@ -4,10 +4,8 @@ use sv_ports::Ports;
 
 /// The connections, the files, and where lines are told.
 #[derive(Drop)]
-pub struct Outside<'a, P: Ports, L: Files, E: Sink> {
-    pub ports: &'a mut P,
-    pub files: &'a mut L,
-    pub err: &'a mut E,
-    /// Room for what is read at once.
-    pub piece: &'a mut [u8],
+pub struct Outside<'p, 'f, 'e, P: Ports, L: Files, E: Sink> {
+    pub ports: &'p mut P,
+    pub files: &'f mut L,
+    pub err: &'e mut E,
 }

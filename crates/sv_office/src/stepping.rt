@@ -1,26 +1,30 @@
 //! A request: it is refused a connection, held, answered without an entry, or stepped.
 ghost use Rattle.std.specs.Prelude.{◌≡◌, ◌≢◌, ◌⊎◌, ℕ, true, false, List, None, Some, IfOk, OnOk, IfSome, IfNone, option_map, length};
+ghost use Rattle.sv_world.specs.declared.world.ClientId.{ClientId};
 ghost use Rattle.sv_wire.specs.Grammar.{IsWireReply};
 ghost use Rattle.sv_journal.specs.declared.entry.Entry.{Entry};
 ghost use Rattle.sv_journal.specs.History.{accepted, full_reply};
 ghost use Rattle.sv_journal.specs.Laws.{AreWithinLimits};
 ghost use Rattle.sv_journal.specs.Sessions.{is_end};
 ghost use Rattle.sv_living.specs.Quiet.{IsQuiet};
+ghost use Rattle.sv_living.specs.Sessions.{AreInOrder};
 ghost use Rattle.sv_living.specs.World.{WorldView, after, reply_in};
 ghost use Rattle.sv_wire.specs.declared.message.Reply.{Reply};
 ghost use Rattle.sv_wire.specs.declared.message.Request.{Request};
-ghost use Rattle.sv_office.specs.Admitting.{is_admitted, number_in};
+ghost use Rattle.sv_office.specs.Admitting.{is_admitted, is_stewards_number, number_in, shows_key};
 ghost use Rattle.sv_office.specs.Entering.{GoesOn, KeepsOwn, IsEndOf, IsEnded, Follows, CameOf, CameOfAsking, WasFollowed, WasAnswered};
 ghost use Rattle.sv_office.specs.Guests.{Stays};
 ghost use Rattle.sv_office.specs.Offices.{AreApart, session_of};
 ghost use Rattle.sv_office.specs.Telling.{IsServed, IsOwed, WouldShowNothing, ShowsSomething};
 ghost use Rattle.sv_office.specs.declared.guest.Standing.TheVariants as standing;
 
-use crate::guest::{Guest, Held, Standing};
+use crate::entering::{asking_session, enter};
+use crate::guest::{Guest, Held};
 use crate::halt::Halt;
 use crate::office::Office;
 use sv_journal::served_replies_are_messages;
 use sv_keeper::{KeepFault, Keeper};
+use sv_keys::Keys;
 use sv_log::Folder;
 use sv_wire::{Refusal, Reply, Request, read_reply};
 use sv_world::ClientId;
@@ -47,7 +51,7 @@ fn stops(reply: &Reply) -> bool {
 }
 
 fn joining(request: &Request) -> Option<ClientId>
-    ensures { option_map (λ client. client.0) result ≡ number_in request.now }
+    ensures { option_map (λ (c : ClientId). c.0) result ≡ number_in request.now }
 {
     match request {
         Request::Join { client, .. } => Some(*client),
@@ -55,11 +59,37 @@ fn joining(request: &Request) -> Option<ClientId>
     }
 }
 
-/// What a session is answered next is a message.
+fn is_stewards(client: Option<ClientId>) -> bool
+    ensures { result ≡ is_stewards_number (option_map (λ (c : ClientId). c.0) client) }
+{
+    match client {
+        Some(client) => client.0 == STEWARD_NUMBER,
+        None => false,
+    }
+}
+
+/// Whether a key lets a client join, where keys are wanted, or lets ask anything else.
+fn shows_key(keys: &Option<Keys>, key: &Option<[u8; 32]>, client: Option<ClientId>) -> bool
+    ensures { result ≡ shows_key keys.now key.now (option_map (λ (c : ClientId). c.0) client) }
+{
+    let Some(keys) = keys else {
+        return true;
+    };
+    let Some(digest) = key else {
+        return false;
+    };
+    match client {
+        Some(client) => keys.has(client, digest),
+        None => true,
+    }
+}
+
+/// What a session is answered next is a message, and sessions began in order.
 fn answers_are_messages<F: Folder>(keeper: &Keeper<F>)
     requires { AreWithinLimits keeper.now.world.rules }
     ensures stepped { (s : ℕ) → (request : Request)
         → IsWireReply (full_reply (accepted (after keeper.now.world s request).history) (reply_in keeper.now.world s request)) }
+    ensures order { AreInOrder keeper.now.world.history }
     ensures quiet { (s : ℕ) → (request : Request) → (reply : Reply)
         → IsQuiet keeper.now.world.rules keeper.now.world.stewardship keeper.now.world.history s request (Some reply) → IsWireReply reply }
 {
@@ -87,19 +117,7 @@ impl<F: Folder> Office<F> {
         ensures { result ≡ is_admitted self.now.keys guest.now.key request.now }
     {
         let client = joining(request);
-        if client == Some(ClientId(STEWARD_NUMBER)) {
-            return false;
-        }
-        let Some(keys) = &self.keys else {
-            return true;
-        };
-        let Some(digest) = &guest.key else {
-            return false;
-        };
-        match client {
-            Some(client) => keys.has(client, digest),
-            None => true,
-        }
+        !is_stewards(client) && shows_key(&self.keys, &guest.key, client)
     }
 
     /// Takes a request of a connection that is served. An End is none: only the server enters one.
@@ -115,7 +133,7 @@ impl<F: Folder> Office<F> {
         ensures keys { self.new.keys ≡ self.old.keys }
         ensures key { guest.new.key ≡ guest.old.key }
     {
-        guest.heard = self.now;
+        guest.heard = self.time;
         guest.has_spoken = true;
         if !self.admits(guest, &request) {
             self.counts.refuse();
@@ -140,7 +158,7 @@ impl<F: Folder> Office<F> {
         requires served { IsServed self.old.keeper.world guest.old }
         requires apart { AreApart guest.old.session (session_of self.old.steward) }
         ensures served { OnOk result (IsServed self.new.keeper.world guest.new) }
-        ensures answered { OnOk result (WasAnswered (session_of self.old.steward) self.old.manners.authority self.old.keeper.world self.new.keeper.world request.now) }
+        ensures answered { OnOk result (WasAnswered (session_of self.old.steward) self.old.manners.authority guest.old.session self.old.keeper.world self.new.keeper.world request.now) }
         ensures added { GoesOn (CameOf self.old.keeper.world.history (session_of self.old.steward) guest.old.session request.now) self.old.keeper.world self.new.keeper.world }
         ensures session { KeepsOwn self.old.keeper.world.history guest.old.session guest.new.session }
         ensures steward { session_of self.new.steward ≡ session_of self.old.steward }
@@ -174,20 +192,17 @@ impl<F: Folder> Office<F> {
         requires served { IsServed self.old.keeper.world guest.old }
         requires apart { AreApart guest.old.session (session_of self.old.steward) }
         ensures served { OnOk result (IsServed self.new.keeper.world guest.new) }
-        ensures answered { OnOk result (WasAnswered (session_of self.old.steward) self.old.manners.authority self.old.keeper.world self.new.keeper.world request.now) }
+        ensures answered { OnOk result (WasAnswered (session_of self.old.steward) self.old.manners.authority guest.old.session self.old.keeper.world self.new.keeper.world request.now) }
         ensures added { GoesOn (CameOf self.old.keeper.world.history (session_of self.old.steward) guest.old.session request.now) self.old.keeper.world self.new.keeper.world }
         ensures session { KeepsOwn self.old.keeper.world.history guest.old.session guest.new.session }
         ensures steward { session_of self.new.steward ≡ session_of self.old.steward }
         ensures keys { self.new.keys ≡ self.old.keys }
         ensures guest { Stays guest.old guest.new }
     {
-        let session = match guest.session {
-            Some(session) => session,
-            None => self.keeper.next_session(),
-        };
+        let session = asking_session(&self.keeper, guest.session);
         answers_are_messages(&self.keeper);
         let before = self.standing_of(guest, request);
-        match self.keeper.step(session, request) {
+        match enter(&mut self.keeper, session, request) {
             Ok(reply) => {
                 guest.session = Some(session);
                 self.take_reply(guest, &reply, before)
@@ -249,6 +264,7 @@ impl<F: Folder> Office<F> {
         tell(guest, reply);
         if self.manners.authority && self.keeper.last() != before.last {
             self.report_accepted()?;
+            self.keeper.is_lawful();
         }
         if stops(reply) || !guest.is_open() {
             guest.close();
@@ -261,7 +277,7 @@ impl<F: Folder> Office<F> {
     pub fn end(&mut self, guest: &mut Guest) -> Result<(), Halt>
         requires served { IsServed self.old.keeper.world guest.old }
         ensures served { OnOk result (IsServed self.new.keeper.world guest.new) }
-        ensures ended { IsEnded guest.old.session self.old.keeper.world.history self.new.keeper.world.history }
+        ensures ended { OnOk result (IsEnded guest.old.session self.old.keeper.world.history self.new.keeper.world.history) }
         ensures added { GoesOn (IsEndOf guest.old.session) self.old.keeper.world self.new.keeper.world }
         ensures session { guest.new.session ≡ None }
         ensures standing { guest.old.session ≢ None → guest.new.standing ≢ standing.Open }
@@ -274,7 +290,7 @@ impl<F: Folder> Office<F> {
         };
         guest.close();
         guest.session = None;
-        match self.keeper.step(session, &Request::End) {
+        match enter(&mut self.keeper, session, &Request::End) {
             Ok(_) => Ok(()),
             Err(_) => Err(Halt::Log),
         }
