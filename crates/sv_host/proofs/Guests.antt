@@ -1,5 +1,5 @@
 -- The connections of a world, as it goes on.
-use Rattle.std.proofs.Common.{◌≡◌, ◌≢◌, ◌⊎◌, inl, inr, ℕ, Bool, true, false, nat_eq, List, [], ◌∷◌, ◌++◌, Option, Some, None, refl, sym, ap, ◌∙◌, subst}
+use Rattle.std.proofs.Common.{◌≡◌, ◌≢◌, ◌⊎◌, inl, inr, ℕ, Bool, true, false, not, nat_eq, List, [], ◌∷◌, ◌++◌, Option, Some, None, refl, sym, ap, ◌∙◌, subst}
 use Rattle.std.proofs.lemmas.Bool.{and_parts}
 use Rattle.sv_journal.specs.declared.entry.Entry.{Entry}
 use Rattle.sv_journal.specs.Sessions.{is_ended}
@@ -8,10 +8,11 @@ use Rattle.sv_living.specs.Sessions.{is_open, AreInOrder}
 use Rattle.sv_living.specs.World.{WorldView}
 use Rattle.sv_ports.specs.declared.numbered.Place.{Place}
 use Rattle.sv_ports.specs.Numbered.{item_of, with_item, without}
-use Rattle.sv_office.specs.Entering.{GoesOn, IsOf, IsOwn, KeepsOwn}
+use Rattle.sv_office.specs.Entering.{CameOfHeld, GoesOn, IsEndOf, IsGuests, IsOf, IsOwn, KeepsOwn}
 use Rattle.sv_office.specs.Offices.{AreApart, HasBegun}
 use Rattle.sv_office.specs.Telling.{IsServed, IsServedIn, is_gone}
 use Rattle.sv_office.specs.declared.guest.Guest.{Guest}
+use Rattle.sv_office.specs.declared.guest.Held.{Held}
 use Rattle.sv_office.specs.declared.guest.Standing.TheVariants as standing
 use Rattle.sv_office.proofs.Served.{served_stays, served_as}
 use Rattle.sv_office.proofs.Asking.{apart_stays}
@@ -21,11 +22,11 @@ use Rattle.sv_host.proofs.Places.{same_or_not, other_item, own_item, pushed_item
 one : {A : Type 0} {x y : A} → Some x ≡ Some y → x ≡ y
 one e = cc
 
+none_some : {A : Type 0} {x : A} → None ≡ Some x → ⊥
+none_some e = cc
+
 never : {A B : Type 0} {x : A} → None ≡ Some x → B
-never e = absurd (go e)
-  where
-    go : None ≡ Some _ → ⊥
-    go e = cc
+never e = absurd (none_some e)
 
 -- All that lie here lie there too.
 abbrev IsPart : List (Place Guest) → List (Place Guest) → Type 0
@@ -149,7 +150,7 @@ has_begun : (v : WorldView) (guest : Guest) (s : ℕ) → IsServed v guest → g
 has_begun v guest s served is = go (subst (λ (o : Option ℕ). IsServedIn v guest o) is served)
   where
     go : IsServedIn v guest (Some s) → has_entry v.history s ≡ true
-    go (lives, told) = (and_parts (has_entry v.history s) _ lives).0
+    go (lives, told) = (and_parts (has_entry v.history s) (not (is_ended v.history s)) lives).0
 
 clashes : {b : Bool} → b ≡ true → b ≡ false → ⊥
 clashes t f = let e : true ≡ false = sym t ∙ f in cc
@@ -206,3 +207,17 @@ out_as {v} {steward} {ps} old new same told stands out = record {
     shut : (new.standing ≡ old.standing) ⊎ (new.standing ≡ standing.Gone) → old.standing ≢ standing.Open → new.standing ≢ standing.Open
     shut (inl as) f e = f (sym as ∙ e)
     shut (inr gone) f e = clashes (ap is_gone gone) (ap is_gone e)
+
+pub guests_own : {h : List Entry} {steward mine : Option ℕ} → AreOwn h steward mine (IsGuests h steward mine)
+guests_own e (inl stewards) = inl stewards
+guests_own e (inr (own, number)) = inr own
+
+pub held_own : {h : List Entry} {steward mine : Option ℕ} {held : Option Held} → AreOwn h steward mine (CameOfHeld h steward mine held)
+held_own e (inl stewards) = inl stewards
+held_own e (inr (own, came)) = inr own
+
+pub end_own : {h : List Entry} {steward mine : Option ℕ} → AreOwn h steward mine (IsEndOf mine)
+end_own e is = inr (inl is.0)
+
+pub keeps_none : {h : List Entry} {mine after : Option ℕ} → after ≡ None → KeepsOwn h mine after
+keeps_none none s is = never (sym none ∙ is)

@@ -4,3 +4,4 @@ pub mod Taking
 pub mod Places
 pub mod Guests
 pub mod Rules
+pub mod Ends

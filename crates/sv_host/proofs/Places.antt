@@ -22,6 +22,7 @@ module _ {T : Type 0} where
     where
       put : Bool → Place T
       put b = if b then record p { item = item } else p
+
       go : (b : Bool) → nat_eq n p.number ≡ b → item_of m (with_item n item ps) ≡ item_of m ps
           → (if nat_eq m (put b).number then (put b).item else item_of m (with_item n item ps)) ≡ (if nat_eq m p.number then p.item else item_of m ps)
       go false e rest = ap (λ (o : Option T). if nat_eq m p.number then p.item else o) rest
@@ -37,6 +38,7 @@ module _ {T : Type 0} where
     where
       put : Bool → Place T
       put b = if b then record p { item = item } else p
+
       go : (b : Bool) → nat_eq n p.number ≡ b → (item_of n (with_item n item ps) ≡ item) ⊎ (item_of n (with_item n item ps) ≡ None)
           → ((if nat_eq n (put b).number then (put b).item else item_of n (with_item n item ps)) ≡ item)
           ⊎ ((if nat_eq n (put b).number then (put b).item else item_of n (with_item n item ps)) ≡ None)

@@ -5,11 +5,10 @@ use Rattle.sv_journal.specs.Sessions.{is_end}
 use Rattle.sv_living.specs.World.{WorldView}
 use Rattle.sv_ports.specs.declared.numbered.Place.{Place}
 use Rattle.sv_ports.specs.Numbered.{item_of}
-use Rattle.sv_office.specs.Offices.{AreApart, session_of}
+use Rattle.sv_office.specs.Offices.{AreApart}
 use Rattle.sv_office.specs.Telling.{IsServed}
 use Rattle.sv_office.specs.declared.guest.Guest.{Guest}
 use Rattle.sv_office.specs.declared.guest.Standing.TheVariants as standing
-use Rattle.sv_host.specs.declared.host.Host.{Host}
 
 -- Each connection was told what its session's entries say, no two have the same session, and none has the steward's.
 pub record AreServed (v : WorldView) (steward : Option ℕ) (guests : List (Place Guest)) : Type 0 where
@@ -33,10 +32,3 @@ pub record WasSent (old new : Guest) : Type 0 where
   pub told : new.peer.told ≡ old.peer.told
   pub session : new.session ≡ old.session
   pub standing : (new.standing ≡ old.standing) ⊎ (new.standing ≡ standing.Gone)
-
-module _ {F : Type 0} where
-  abbrev pub IsHosting : Host F → Type 0
-  IsHosting host = AreServed host.office.keeper.world (session_of host.office.steward) host.room.guests
-
-  abbrev pub IsOutOf : Host F → Guest → Type 0
-  IsOutOf host guest = IsOut host.office.keeper.world (session_of host.office.steward) host.room.guests guest

@@ -1,7 +1,8 @@
 //! How the server ends.
-ghost use Rattle.std.specs.Prelude.{◌≡◌};
+ghost use Rattle.std.specs.Prelude.{◌≡◌, ◌⊎◌};
 ghost use Rattle.sv_bytes.specs.Writing.{GrewOrRose};
 ghost use Rattle.sv_host.specs.Lines.{ending_line, status_of};
+ghost use Rattle.sv_host.specs.Statuses.{IsEarly, IsStatus};
 
 use std::alloc::AllocError;
 use sv_bytes::{Sink, write_pieces};
@@ -73,7 +74,9 @@ pub fn tell<E: Sink>(ending: &HostEnd, err: &mut E)
 
 /// The status with which the program ends.
 pub fn status_of(ending: &HostEnd) -> u8
-    ensures { result ≡ status_of ending.now }
+    ensures value { result ≡ status_of ending.now }
+    ensures range { IsStatus result }
+    ensures early { (result ≡ 2) ⊎ ((result ≡ 3) ⊎ (result ≡ 4)) → IsEarly ending.now }
 {
     match ending {
         HostEnd::Done => 0,

@@ -1,6 +1,7 @@
 //! The turn of one connection of the room.
 ghost use Rattle.std.specs.Prelude.{OnOk};
-ghost use Rattle.sv_host.specs.Rooms.{IsHosting};
+ghost use Rattle.sv_office.specs.Offices.{session_of};
+ghost use Rattle.sv_host.specs.Rooms.{AreServed};
 
 use crate::host::Host;
 use sv_bytes::{Files, Sink};
@@ -16,8 +17,8 @@ impl<F: Folder> Host<F> {
         number: u64,
         piece: &mut [u8],
     ) -> Result<(), Halt>
-        requires served { IsHosting self.old }
-        ensures served { OnOk result (IsHosting self.new) }
+        requires served { AreServed self.old.office.keeper.world (session_of self.old.office.steward) self.old.room.guests }
+        ensures served { OnOk result (AreServed self.new.office.keeper.world (session_of self.new.office.steward) self.new.room.guests) }
     {
         let Some(mut guest) = self.take_out(number) else {
             return Ok(());
@@ -34,8 +35,8 @@ impl<F: Folder> Host<F> {
         numbers: &[u64],
         piece: &mut [u8],
     ) -> Result<(), Halt>
-        requires served { IsHosting self.old }
-        ensures served { OnOk result (IsHosting self.new) }
+        requires served { AreServed self.old.office.keeper.world (session_of self.old.office.steward) self.old.room.guests }
+        ensures served { OnOk result (AreServed self.new.office.keeper.world (session_of self.new.office.steward) self.new.room.guests) }
     {
         for number in numbers {
             self.hear(outside, *number, piece)?;

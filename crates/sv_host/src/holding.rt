@@ -1,6 +1,7 @@
 //! Observes that wait for news.
 ghost use Rattle.std.specs.Prelude.{OnOk};
-ghost use Rattle.sv_host.specs.Rooms.{IsHosting};
+ghost use Rattle.sv_office.specs.Offices.{session_of};
+ghost use Rattle.sv_host.specs.Rooms.{AreServed};
 
 use crate::host::Host;
 use sv_log::Folder;
@@ -17,8 +18,8 @@ impl<F: Folder> Host<F> {
 
     // Takes a connection off the list, and answers its held Observe, where it has one.
     fn take_off(&mut self, number: u64) -> Result<(), Halt>
-        requires served { IsHosting self.old }
-        ensures served { OnOk result (IsHosting self.new) }
+        requires served { AreServed self.old.office.keeper.world (session_of self.old.office.steward) self.old.room.guests }
+        ensures served { OnOk result (AreServed self.new.office.keeper.world (session_of self.new.office.steward) self.new.room.guests) }
     {
         let Some(mut guest) = self.take_out(number) else {
             return Ok(());
@@ -30,8 +31,8 @@ impl<F: Folder> Host<F> {
 
     // Looks at a connection of the list, and keeps it there where it waits on.
     fn look_at(&mut self, number: u64) -> Result<(), Halt>
-        requires served { IsHosting self.old }
-        ensures served { OnOk result (IsHosting self.new) }
+        requires served { AreServed self.old.office.keeper.world (session_of self.old.office.steward) self.old.room.guests }
+        ensures served { OnOk result (AreServed self.new.office.keeper.world (session_of self.new.office.steward) self.new.room.guests) }
     {
         match self.standing_of(number) {
             Waiting::Until(time) => {
@@ -45,8 +46,8 @@ impl<F: Folder> Host<F> {
 
     // Looks at each of these.
     fn look_at_each(&mut self, numbers: &[u64]) -> Result<(), Halt>
-        requires served { IsHosting self.old }
-        ensures served { OnOk result (IsHosting self.new) }
+        requires served { AreServed self.old.office.keeper.world (session_of self.old.office.steward) self.old.room.guests }
+        ensures served { OnOk result (AreServed self.new.office.keeper.world (session_of self.new.office.steward) self.new.room.guests) }
     {
         for number in numbers {
             self.look_at(*number)?;
@@ -56,8 +57,8 @@ impl<F: Folder> Host<F> {
 
     /// Answers the held Observes for which there is news, or whose time has passed.
     pub fn look_at_held(&mut self) -> Result<(), Halt>
-        requires served { IsHosting self.old }
-        ensures served { OnOk result (IsHosting self.new) }
+        requires served { AreServed self.old.office.keeper.world (session_of self.old.office.steward) self.old.room.guests }
+        ensures served { OnOk result (AreServed self.new.office.keeper.world (session_of self.new.office.steward) self.new.room.guests) }
     {
         let last = self.office.keeper.last();
         if last == self.room.seen_last && self.office.time < self.room.held_until {

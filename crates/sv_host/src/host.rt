@@ -1,6 +1,7 @@
 //! What the loop keeps.
 ghost use Rattle.std.specs.Prelude.{◌≡◌, IfSome, IfNone, OnOk};
-ghost use Rattle.sv_host.specs.Rooms.{IsHosting, IsOutOf};
+ghost use Rattle.sv_office.specs.Offices.{session_of};
+ghost use Rattle.sv_host.specs.Rooms.{AreServed, IsOut};
 
 use crate::room::Room;
 use std::alloc::Global;
@@ -20,9 +21,9 @@ pub struct Host<F: Folder> {
 impl<F: Folder> Host<F> {
     /// Takes a connection out, where it is there.
     pub fn take_out(&mut self, number: u64) -> Option<Guest>
-        requires served { IsHosting self.old }
-        ensures some { IfSome result (λ guest. IsOutOf self.new guest) }
-        ensures none { IfNone result (IsHosting self.new) }
+        requires served { AreServed self.old.office.keeper.world (session_of self.old.office.steward) self.old.room.guests }
+        ensures some { IfSome result (λ guest. IsOut self.new.office.keeper.world (session_of self.new.office.steward) self.new.room.guests guest) }
+        ensures none { IfNone result (AreServed self.new.office.keeper.world (session_of self.new.office.steward) self.new.room.guests) }
         ensures office { self.new.office ≡ self.old.office }
     {
         self.room.guests.take(number)
@@ -30,8 +31,8 @@ impl<F: Folder> Host<F> {
 
     /// Puts a connection back that was taken out. Something may be sent to it.
     pub fn put_back(&mut self, number: u64, guest: Guest) -> Result<(), Halt>
-        requires taken { IsOutOf self.old guest }
-        ensures served { IsHosting self.new }
+        requires taken { IsOut self.old.office.keeper.world (session_of self.old.office.steward) self.old.room.guests guest }
+        ensures served { AreServed self.new.office.keeper.world (session_of self.new.office.steward) self.new.room.guests }
         ensures office { self.new.office ≡ self.old.office }
     {
         self.room.put_back(number, guest)
@@ -39,8 +40,8 @@ impl<F: Folder> Host<F> {
 
     /// Puts a connection with a held Observe into the list of them.
     pub fn list(&mut self, number: u64, guest: &mut Guest) -> Result<(), Halt>
-        requires taken { IsOutOf self.old guest.old }
-        ensures taken { IsOutOf self.new guest.new }
+        requires taken { IsOut self.old.office.keeper.world (session_of self.old.office.steward) self.old.room.guests guest.old }
+        ensures taken { IsOut self.new.office.keeper.world (session_of self.new.office.steward) self.new.room.guests guest.new }
         ensures office { self.new.office ≡ self.old.office }
     {
         self.room.list(number, guest)
@@ -48,16 +49,16 @@ impl<F: Folder> Host<F> {
 
     /// Notes that a connection is in the list no more.
     pub fn unlist(&mut self, guest: &mut Guest)
-        requires taken { IsOutOf self.old guest.old }
-        ensures taken { IsOutOf self.new guest.new }
+        requires taken { IsOut self.old.office.keeper.world (session_of self.old.office.steward) self.old.room.guests guest.old }
+        ensures taken { IsOut self.new.office.keeper.world (session_of self.new.office.steward) self.new.room.guests guest.new }
     {
         guest.is_listed = false;
     }
 
     /// Closes a connection at once.
     pub fn drop_guest(&mut self, guest: &mut Guest)
-        requires taken { IsOutOf self.old guest.old }
-        ensures taken { IsOutOf self.new guest.new }
+        requires taken { IsOut self.old.office.keeper.world (session_of self.old.office.steward) self.old.room.guests guest.old }
+        ensures taken { IsOut self.new.office.keeper.world (session_of self.new.office.steward) self.new.room.guests guest.new }
     {
         guest.leave();
     }
@@ -70,8 +71,8 @@ impl<F: Folder> Host<F> {
         guest: &mut Guest,
         piece: &mut [u8],
     ) -> Result<(), Halt>
-        requires taken { IsOutOf self.old guest.old }
-        ensures taken { OnOk result (IsOutOf self.new guest.new) }
+        requires taken { IsOut self.old.office.keeper.world (session_of self.old.office.steward) self.old.room.guests guest.old }
+        ensures taken { OnOk result (IsOut self.new.office.keeper.world (session_of self.new.office.steward) self.new.room.guests guest.new) }
     {
         if guest.had_turn {
             return Ok(());
@@ -83,8 +84,8 @@ impl<F: Folder> Host<F> {
 
     /// Answers the held Observe of a connection, where it is served and has one.
     pub fn release_guest(&mut self, guest: &mut Guest) -> Result<(), Halt>
-        requires taken { IsOutOf self.old guest.old }
-        ensures taken { OnOk result (IsOutOf self.new guest.new) }
+        requires taken { IsOut self.old.office.keeper.world (session_of self.old.office.steward) self.old.room.guests guest.old }
+        ensures taken { OnOk result (IsOut self.new.office.keeper.world (session_of self.new.office.steward) self.new.room.guests guest.new) }
     {
         if !guest.is_open() {
             return Ok(());
@@ -96,8 +97,8 @@ impl<F: Folder> Host<F> {
 
     /// Enters the End of a connection's session, where it has one.
     pub fn end_guest(&mut self, guest: &mut Guest) -> Result<(), Halt>
-        requires taken { IsOutOf self.old guest.old }
-        ensures taken { OnOk result (IsOutOf self.new guest.new) }
+        requires taken { IsOut self.old.office.keeper.world (session_of self.old.office.steward) self.old.room.guests guest.old }
+        ensures taken { OnOk result (IsOut self.new.office.keeper.world (session_of self.new.office.steward) self.new.room.guests guest.new) }
     {
         self.office.end(guest)?;
         self.office.keeper.is_lawful();
@@ -106,8 +107,8 @@ impl<F: Folder> Host<F> {
 
     /// Has the steward report what was without a result for too long.
     pub fn report(&mut self) -> Result<(), Halt>
-        requires served { IsHosting self.old }
-        ensures served { OnOk result (IsHosting self.new) }
+        requires served { AreServed self.old.office.keeper.world (session_of self.old.office.steward) self.old.room.guests }
+        ensures served { OnOk result (AreServed self.new.office.keeper.world (session_of self.new.office.steward) self.new.room.guests) }
     {
         self.office.report_old()?;
         self.office.keeper.is_lawful();

@@ -1,6 +1,7 @@
 //! Connections that come and go.
 ghost use Rattle.std.specs.Prelude.{OnOk};
-ghost use Rattle.sv_host.specs.Rooms.{IsHosting};
+ghost use Rattle.sv_office.specs.Offices.{session_of};
+ghost use Rattle.sv_host.specs.Rooms.{AreServed};
 
 use crate::host::Host;
 use sv_log::Folder;
@@ -16,8 +17,8 @@ const MOST_ACCEPTS: u32 = 64;
 impl<F: Folder> Host<F> {
     // Takes a connection in, or closes it where there are too many.
     fn admit<P: Ports>(&mut self, ports: &mut P, number: u64)
-        requires served { IsHosting self.old }
-        ensures served { IsHosting self.new }
+        requires served { AreServed self.old.office.keeper.world (session_of self.old.office.steward) self.old.room.guests }
+        ensures served { AreServed self.new.office.keeper.world (session_of self.new.office.steward) self.new.room.guests }
     {
         if self.room.guests.len() >= MOST_GUESTS {
             let office = &mut self.office;
@@ -33,8 +34,8 @@ impl<F: Folder> Host<F> {
 
     /// Accepts connections, as long as some wait.
     pub fn accept<P: Ports>(&mut self, ports: &mut P)
-        requires served { IsHosting self.old }
-        ensures served { IsHosting self.new }
+        requires served { AreServed self.old.office.keeper.world (session_of self.old.office.steward) self.old.room.guests }
+        ensures served { AreServed self.new.office.keeper.world (session_of self.new.office.steward) self.new.room.guests }
     {
         if !self.room.ready.door {
             return;
@@ -58,8 +59,8 @@ impl<F: Folder> Host<F> {
 
     /// Closes a connection, whose session has its End.
     pub fn depart<P: Ports>(&mut self, ports: &mut P, number: u64) -> Result<(), Halt>
-        requires served { IsHosting self.old }
-        ensures served { OnOk result (IsHosting self.new) }
+        requires served { AreServed self.old.office.keeper.world (session_of self.old.office.steward) self.old.room.guests }
+        ensures served { OnOk result (AreServed self.new.office.keeper.world (session_of self.new.office.steward) self.new.room.guests) }
     {
         let Some(mut guest) = self.take_out(number) else {
             return Ok(());

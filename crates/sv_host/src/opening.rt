@@ -4,7 +4,7 @@ ghost use Rattle.sv_journal.specs.Laws.{AreWithinLimits};
 ghost use Rattle.sv_log.specs.Rests.{IsAtRest};
 ghost use Rattle.sv_office.specs.Offices.{session_of};
 ghost use Rattle.sv_worldfile.specs.Limits.{IsGoodWorldFile};
-ghost use Rattle.sv_host.specs.Rooms.{IsHosting};
+ghost use Rattle.sv_host.specs.Rooms.{AreServed};
 ghost use Rattle.sv_host.specs.Statuses.{IsBefore, IsBehind};
 
 use crate::ending::HostEnd;
@@ -260,7 +260,7 @@ pub fn host_of<F: Folder + Drop>(
     authority: bool,
 ) -> Result<Host<F>, Halt>
     requires limits { AreWithinLimits keeper.world.rules }
-    ensures served { IfOk result IsHosting }
+    ensures served { IfOk result (λ host. AreServed host.office.keeper.world (session_of host.office.steward) host.room.guests) }
 {
     let steward = steward_of(alloc, options.has_steward, keeper.shape())?;
     let mut office = Office {

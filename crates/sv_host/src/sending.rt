@@ -1,7 +1,8 @@
 //! Sending what was answered, once it is settled.
 ghost use Rattle.std.specs.Prelude.{◌≡◌, ℕ, Option, OnOk};
 ghost use Rattle.sv_living.specs.World.{WorldView};
-ghost use Rattle.sv_host.specs.Rooms.{AreServed, IsHosting, WasSent};
+ghost use Rattle.sv_office.specs.Offices.{session_of};
+ghost use Rattle.sv_host.specs.Rooms.{AreServed, WasSent};
 
 use crate::host::Host;
 use crate::room::Room;
@@ -124,8 +125,8 @@ fn send_each<P: Ports>(
 impl<F: Folder> Host<F> {
     // Settles all that was stepped.
     fn settle(&mut self) -> Result<(), Halt>
-        requires served { IsHosting self.old }
-        ensures served { IsHosting self.new }
+        requires served { AreServed self.old.office.keeper.world (session_of self.old.office.steward) self.old.room.guests }
+        ensures served { AreServed self.new.office.keeper.world (session_of self.new.office.steward) self.new.room.guests }
     {
         let office = &mut self.office;
         match office.keeper.settle() {
@@ -136,8 +137,8 @@ impl<F: Folder> Host<F> {
 
     // Sends to each of these, where all is settled, and gives those that are over.
     fn send_settled<P: Ports>(&mut self, ports: &mut P, numbers: &[u64]) -> Result<Vec<u64>, Halt>
-        requires served { IsHosting self.old }
-        ensures served { IsHosting self.new }
+        requires served { AreServed self.old.office.keeper.world (session_of self.old.office.steward) self.old.room.guests }
+        ensures served { AreServed self.new.office.keeper.world (session_of self.new.office.steward) self.new.room.guests }
     {
         let mut counts = self.office.counts;
         let office = &self.office;
@@ -159,8 +160,8 @@ impl<F: Folder> Host<F> {
 
     // Closes each of these.
     fn depart_each<P: Ports>(&mut self, ports: &mut P, numbers: &[u64]) -> Result<(), Halt>
-        requires served { IsHosting self.old }
-        ensures served { OnOk result (IsHosting self.new) }
+        requires served { AreServed self.old.office.keeper.world (session_of self.old.office.steward) self.old.room.guests }
+        ensures served { OnOk result (AreServed self.new.office.keeper.world (session_of self.new.office.steward) self.new.room.guests) }
     {
         for number in numbers {
             self.depart(ports, *number)?;
@@ -170,8 +171,8 @@ impl<F: Folder> Host<F> {
 
     /// Settles, and sends to each connection that was touched. Those that are over then are closed.
     pub fn send<P: Ports>(&mut self, ports: &mut P) -> Result<(), Halt>
-        requires served { IsHosting self.old }
-        ensures served { OnOk result (IsHosting self.new) }
+        requires served { AreServed self.old.office.keeper.world (session_of self.old.office.steward) self.old.room.guests }
+        ensures served { OnOk result (AreServed self.new.office.keeper.world (session_of self.new.office.steward) self.new.room.guests) }
     {
         self.settle()?;
         let touched = std::mem::replace(&mut self.room.touched, Vec::new(self.alloc));

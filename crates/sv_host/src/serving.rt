@@ -3,7 +3,8 @@ ghost use Rattle.std.specs.Prelude.{◌≡◌, [], OnOk};
 ghost use Rattle.sv_living.specs.Sessions.{open_sessions};
 ghost use Rattle.sv_keeper.specs.Keeping.{AreSettled};
 ghost use Rattle.sv_office.specs.Entering.{GoesOn};
-ghost use Rattle.sv_host.specs.Rooms.{IsAnEnd, IsHosting};
+ghost use Rattle.sv_office.specs.Offices.{session_of};
+ghost use Rattle.sv_host.specs.Rooms.{AreServed, IsAnEnd};
 
 use crate::host::Host;
 use crate::turn::Turned;
@@ -62,7 +63,7 @@ impl<F: Folder> Host<F> {
         piece: &mut [u8],
         clock: &mut C,
     ) -> Result<(), Halt>
-        requires served { IsHosting self.old }
+        requires served { AreServed self.old.office.keeper.world (session_of self.old.office.steward) self.old.room.guests }
         ensures ended { OnOk result (open_sessions self.new.office.keeper.world.history ≡ []) }
         ensures settled { OnOk result (AreSettled F.disk F.is_honest self.new.office.keeper) }
     {
@@ -76,8 +77,8 @@ impl<F: Folder> Host<F> {
 
     // Touches all connections, and answers whether something is to be sent to one of them.
     fn touch_all(&mut self) -> Result<bool, Halt>
-        requires served { IsHosting self.old }
-        ensures served { IsHosting self.new }
+        requires served { AreServed self.old.office.keeper.world (session_of self.old.office.steward) self.old.room.guests }
+        ensures served { AreServed self.new.office.keeper.world (session_of self.new.office.steward) self.new.room.guests }
     {
         let mut waits = false;
         for place in 0..self.room.guests.len() {
@@ -94,8 +95,8 @@ impl<F: Folder> Host<F> {
 
     // Sends what was stepped, as far as connections take it.
     fn send_rest<P: Ports>(&mut self, ports: &mut P) -> Result<(), Halt>
-        requires served { IsHosting self.old }
-        ensures served { OnOk result (IsHosting self.new) }
+        requires served { AreServed self.old.office.keeper.world (session_of self.old.office.steward) self.old.room.guests }
+        ensures served { OnOk result (AreServed self.new.office.keeper.world (session_of self.new.office.steward) self.new.room.guests) }
     {
         for _ in 0..LAST_TURNS {
             let waits = self.touch_all()?;
@@ -111,7 +112,7 @@ impl<F: Folder> Host<F> {
 
     // Sends what was stepped, enters the End of each session, and settles.
     fn stop<P: Ports>(&mut self, ports: &mut P) -> Result<(), Halt>
-        requires served { IsHosting self.old }
+        requires served { AreServed self.old.office.keeper.world (session_of self.old.office.steward) self.old.room.guests }
         ensures ended { OnOk result (open_sessions self.new.office.keeper.world.history ≡ []) }
         ensures settled { OnOk result (AreSettled F.disk F.is_honest self.new.office.keeper) }
     {

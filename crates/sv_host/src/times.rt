@@ -1,6 +1,7 @@
 //! What is done because time has passed.
 ghost use Rattle.std.specs.Prelude.{OnOk};
-ghost use Rattle.sv_host.specs.Rooms.{IsHosting};
+ghost use Rattle.sv_office.specs.Offices.{session_of};
+ghost use Rattle.sv_host.specs.Rooms.{AreServed};
 
 use crate::host::Host;
 use sv_log::Folder;
@@ -26,8 +27,8 @@ impl<F: Folder> Host<F> {
 
     // Ends a connection that is idle.
     fn dismiss(&mut self, number: u64) -> Result<(), Halt>
-        requires served { IsHosting self.old }
-        ensures served { OnOk result (IsHosting self.new) }
+        requires served { AreServed self.old.office.keeper.world (session_of self.old.office.steward) self.old.room.guests }
+        ensures served { OnOk result (AreServed self.new.office.keeper.world (session_of self.new.office.steward) self.new.room.guests) }
     {
         let Some(mut guest) = self.take_out(number) else {
             return Ok(());
@@ -39,8 +40,8 @@ impl<F: Folder> Host<F> {
 
     // Looks at all connections.
     fn look_at_all(&mut self) -> Result<(), Halt>
-        requires served { IsHosting self.old }
-        ensures served { OnOk result (IsHosting self.new) }
+        requires served { AreServed self.old.office.keeper.world (session_of self.old.office.steward) self.old.room.guests }
+        ensures served { OnOk result (AreServed self.new.office.keeper.world (session_of self.new.office.steward) self.new.room.guests) }
     {
         for place in 0..self.room.guests.len() {
             let Some(number) = self.room.guests.number_at(place) else {
@@ -55,8 +56,8 @@ impl<F: Folder> Host<F> {
 
     /// Ends the connections that are idle.
     pub fn look_for_idle(&mut self) -> Result<(), Halt>
-        requires served { IsHosting self.old }
-        ensures served { OnOk result (IsHosting self.new) }
+        requires served { AreServed self.old.office.keeper.world (session_of self.old.office.steward) self.old.room.guests }
+        ensures served { OnOk result (AreServed self.new.office.keeper.world (session_of self.new.office.steward) self.new.room.guests) }
     {
         if self.office.time < self.room.next_look {
             return Ok(());
@@ -74,8 +75,8 @@ impl<F: Folder> Host<F> {
 
     /// For how long the next turn may wait.
     pub fn limit(&mut self) -> u64
-        requires served { IsHosting self.old }
-        ensures served { IsHosting self.new }
+        requires served { AreServed self.old.office.keeper.world (session_of self.old.office.steward) self.old.room.guests }
+        ensures served { AreServed self.new.office.keeper.world (session_of self.new.office.steward) self.new.room.guests }
     {
         if self.is_pressed() {
             return 0;

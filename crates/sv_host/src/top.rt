@@ -1,7 +1,8 @@
 //! The top call of the server.
 ghost use Rattle.std.specs.Prelude.{◌≡◌, ◌⊎◌, IfOk, IfErr, map, string_bytes};
 ghost use Rattle.sv_worldfile.specs.Limits.{IsGoodWorldFile};
-ghost use Rattle.sv_host.specs.Rooms.{IsHosting};
+ghost use Rattle.sv_office.specs.Offices.{session_of};
+ghost use Rattle.sv_host.specs.Rooms.{AreServed};
 ghost use Rattle.sv_host.specs.Statuses.{IsBehind, IsEarly, IsStatus};
 ghost use Rattle.sv_host.specs.Words.{AsksNothing};
 ghost use Rattle.sv_host.specs.declared.ending.HostEnd.TheVariants as endings;
@@ -74,7 +75,7 @@ fn serve_over<R: Wait, P: Ports, C: Clock, L: Files, E: Sink, F: Folder>(
     clock: &mut C,
     host: &mut Host<F>,
 ) -> Result<(), Halt>
-    requires served { IsHosting host.old }
+    requires served { AreServed host.old.office.keeper.world (session_of host.old.office.steward) host.old.room.guests }
 {
     let mut outside = Outside { ports, files, err };
     host.serve(rt, &mut outside, piece, clock)
@@ -86,7 +87,7 @@ fn serve_at<R: Wait, D: Doors, S, C: Clock, L: Files, E: Sink, F: Folder>(
     options: &Options<'_>,
     host: &mut Host<F>,
 ) -> Result<(), HostEnd>
-    requires served { IsHosting host.old }
+    requires served { AreServed host.old.office.keeper.world (session_of host.old.office.steward) host.old.room.guests }
     ensures err { IfErr result IsBehind }
 {
     let mut ports = door_of(place.alloc, options, place.doors)?;
@@ -94,7 +95,12 @@ fn serve_at<R: Wait, D: Doors, S, C: Clock, L: Files, E: Sink, F: Folder>(
     if !place.doors.address(&ports, &mut address) {
         address = owned(place.alloc, options.at)?;
     }
-    tell_keeper("listening", address.as_str(), &host.office.keeper, place.err);
+    tell_keeper(
+        "listening",
+        address.as_str(),
+        &host.office.keeper,
+        place.err,
+    );
     let mut piece = vec![in place.alloc; 0u8; PIECE]?;
     let served = serve_over(
         place.rt,

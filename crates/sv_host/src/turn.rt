@@ -1,6 +1,7 @@
 //! A turn of the loop.
 ghost use Rattle.std.specs.Prelude.{OnOk};
-ghost use Rattle.sv_host.specs.Rooms.{IsHosting};
+ghost use Rattle.sv_office.specs.Offices.{session_of};
+ghost use Rattle.sv_host.specs.Rooms.{AreServed};
 
 use crate::host::Host;
 use sv_bytes::{Files, Sink};
@@ -20,8 +21,8 @@ pub enum Turned {
 impl<F: Folder> Host<F> {
     // Waits until there is something to do.
     fn wait<P: Ports, C: Clock>(&mut self, ports: &mut P, clock: &mut C) -> Result<(), Halt>
-        requires served { IsHosting self.old }
-        ensures served { IsHosting self.new }
+        requires served { AreServed self.old.office.keeper.world (session_of self.old.office.steward) self.old.room.guests }
+        ensures served { AreServed self.new.office.keeper.world (session_of self.new.office.steward) self.new.room.guests }
     {
         let limit = self.limit();
         self.room.ready.numbers.clear();
@@ -36,8 +37,8 @@ impl<F: Folder> Host<F> {
 
     // Whether the input tells to stop.
     fn is_told_to_stop<P: Ports>(&mut self, ports: &mut P) -> Result<bool, Halt>
-        requires served { IsHosting self.old }
-        ensures served { IsHosting self.new }
+        requires served { AreServed self.old.office.keeper.world (session_of self.old.office.steward) self.old.room.guests }
+        ensures served { AreServed self.new.office.keeper.world (session_of self.new.office.steward) self.new.room.guests }
     {
         if !self.office.manners.stops || !self.room.ready.input {
             return Ok(false);
@@ -57,8 +58,8 @@ impl<F: Folder> Host<F> {
         outside: &mut Outside<'_, '_, '_, P, L, E>,
         piece: &mut [u8],
     ) -> Result<(), Halt>
-        requires served { IsHosting self.old }
-        ensures served { OnOk result (IsHosting self.new) }
+        requires served { AreServed self.old.office.keeper.world (session_of self.old.office.steward) self.old.room.guests }
+        ensures served { OnOk result (AreServed self.new.office.keeper.world (session_of self.new.office.steward) self.new.room.guests) }
     {
         let mut busy = std::mem::replace(&mut self.room.busy, Vec::new(self.alloc));
         self.hear_each(outside, &busy, piece)?;
@@ -77,8 +78,8 @@ impl<F: Folder> Host<F> {
         outside: &mut Outside<'_, '_, '_, P, L, E>,
         piece: &mut [u8],
     ) -> Result<(), Halt>
-        requires served { IsHosting self.old }
-        ensures served { OnOk result (IsHosting self.new) }
+        requires served { AreServed self.old.office.keeper.world (session_of self.old.office.steward) self.old.room.guests }
+        ensures served { OnOk result (AreServed self.new.office.keeper.world (session_of self.new.office.steward) self.new.room.guests) }
     {
         self.accept(outside.ports);
         self.hear_all(outside, piece)?;
@@ -95,8 +96,8 @@ impl<F: Folder> Host<F> {
         piece: &mut [u8],
         clock: &mut C,
     ) -> Result<Turned, Halt>
-        requires served { IsHosting self.old }
-        ensures served { OnOk result (IsHosting self.new) }
+        requires served { AreServed self.old.office.keeper.world (session_of self.old.office.steward) self.old.room.guests }
+        ensures served { OnOk result (AreServed self.new.office.keeper.world (session_of self.new.office.steward) self.new.room.guests) }
     {
         self.wait(outside.ports, clock)?;
         if self.is_told_to_stop(outside.ports)? {
