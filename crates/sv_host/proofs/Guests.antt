@@ -48,6 +48,7 @@ emptied n ps m guest at = go (same_or_not m n)
         both : (item_of n (with_item n None ps) ≡ None) ⊎ (item_of n (with_item n None ps) ≡ None) → item_of n (with_item n None ps) ≡ None
         both (inl e) = e
         both (inr e) = e
+
     go : (m ≡ n) ⊎ (nat_eq m n ≡ false) → item_of m ps ≡ Some guest
     go (inl same) = never (sym (none_at same) ∙ at)
     go (inr differ) = sym (other_item n m None ps differ) ∙ at
@@ -89,9 +90,11 @@ put_at n guest ps m b at = go (same_or_not m n)
   where
     is : m ≡ n → item_of n (with_item n (Some guest) ps) ≡ Some b
     is same = subst (λ (k : ℕ). item_of k (with_item n (Some guest) ps) ≡ Some b) same at
+
     own : item_of n (with_item n (Some guest) ps) ≡ Some b → (item_of n (with_item n (Some guest) ps) ≡ Some guest) ⊎ (item_of n (with_item n (Some guest) ps) ≡ None) → b ≡ guest
     own e (inl f) = one (sym e ∙ f)
     own e (inr f) = never (sym f ∙ e)
+
     go : (m ≡ n) ⊎ (nat_eq m n ≡ false) → ((m ≡ n) × (b ≡ guest)) ⊎ (item_of m ps ≡ Some b)
     go (inl same) = inl (same, own (is same) (own_item n (Some guest) ps))
     go (inr differ) = inr (sym (other_item n m (Some guest) ps differ) ∙ at)
@@ -101,9 +104,11 @@ module _ {v : WorldView} {steward : Option ℕ} (n : ℕ) (ps qs : List (Place G
   is_served : (m : ℕ) (b : Guest) → ((m ≡ n) × (b ≡ guest)) ⊎ (item_of m ps ≡ Some b) → IsServed v b
   is_served m b (inl (same, is)) = subst (λ (x : Guest). IsServed v x) (sym is) out.served
   is_served m b (inr there) = out.others.served m b there
+
   is_apart : (m : ℕ) (b : Guest) → ((m ≡ n) × (b ≡ guest)) ⊎ (item_of m ps ≡ Some b) → AreApart b.session steward
   is_apart m b (inl (same, is)) = subst (λ (x : Guest). AreApart x.session steward) (sym is) out.apart
   is_apart m b (inr there) = out.others.apart m b there
+
   are_one : (k m s : ℕ) (a b : Guest) → ((k ≡ n) × (a ≡ guest)) ⊎ (item_of k ps ≡ Some a) → ((m ≡ n) × (b ≡ guest)) ⊎ (item_of m ps ≡ Some b)
       → a.session ≡ Some s → b.session ≡ Some s → k ≡ m
   are_one k m s a b (inl x) (inl y) f g = x.0 ∙ sym y.0
@@ -135,6 +140,7 @@ new_in {v} {steward} n ps guest are none nothing = joined n ps (ps ++ record { n
       apart = λ s mine stewards. never (sym none ∙ mine);
       other = λ m s b there is mine. never (sym none ∙ mine);
     }
+
     at : (m : ℕ) (b : Guest) → item_of m (ps ++ record { number = n; item = Some guest } ∷ []) ≡ Some b → ((m ≡ n) × (b ≡ guest)) ⊎ (item_of m ps ≡ Some b)
     at m b there = go (pushed_item m (record { number = n; item = Some guest }) ps b there)
       where
@@ -202,10 +208,11 @@ out_as {v} {steward} {ps} old new same told stands out = record {
 }
   where
     here : (new.standing ≡ old.standing) ⊎ (new.standing ≡ standing.Gone) → is_gone new.standing ≡ false → is_gone old.standing ≡ false
-    here (inl as) f = ap is_gone (sym as) ∙ f
+    here (inl kept) f = ap is_gone (sym kept) ∙ f
     here (inr gone) f = absurd (clashes (ap is_gone gone) f)
+
     shut : (new.standing ≡ old.standing) ⊎ (new.standing ≡ standing.Gone) → old.standing ≢ standing.Open → new.standing ≢ standing.Open
-    shut (inl as) f e = f (sym as ∙ e)
+    shut (inl kept) f e = f (sym kept ∙ e)
     shut (inr gone) f e = clashes (ap is_gone gone) (ap is_gone e)
 
 pub guests_own : {h : List Entry} {steward mine : Option ℕ} → AreOwn h steward mine (IsGuests h steward mine)
