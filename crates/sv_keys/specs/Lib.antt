@@ -1,1 +1,4 @@
--- d
+-- The definitions of this crate.
+pub mod Cuts
+pub mod KeyLines
+pub mod Keeping

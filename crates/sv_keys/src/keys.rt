@@ -1,101 +1,64 @@
 //! Who may join: the digests of keys.
-use hex::FromHex;
-use std::alloc::{AllocError, Global};
-use sv_bytes::{FileFault, Files, Sink, read_all, write_pieces};
-use sv_command::number_in;
+ghost use Rattle.std.specs.Prelude.{◌≡◌, ◌≢◌, List, ℕ, IfOk, IfErr, Option, Some, Err};
+ghost use Rattle.sv_keys.specs.Keeping.{has_key, has_digest, fault_in, IsAllOf, IsRenewed, WasTold, WhyWrong};
+ghost use Rattle.sv_keys.specs.KeyLines.{AreKeys, IsWrongAt};
+ghost use Rattle.sv_keys.specs.declared.fault.KeysFault.{KeysFault};
+ghost use Rattle.sv_keys.specs.declared.fault.KeysFault.TheVariants as faults;
+
+use crate::fault::{KeysFault, tell};
+use crate::line::KeyRow;
+use crate::rows::rows_of;
+use std::alloc::Global;
+use std::marker::Model;
+use sv_bytes::{FileFault, Files, Sink, read_all};
 use sv_world::ClientId;
 
 /// How many bytes a file of keys may have.
 const MOST_BYTES: usize = 16_777_216;
 
-/// A client may join by the key of this digest.
-#[derive(Clone, Copy, Debug, Drop, PartialEq, Eq)]
-struct KeyRow {
-    client: ClientId,
-    digest: [u8; 32],
-}
-
-/// Why a file of keys is not taken.
-#[derive(Clone, Copy, Debug, Drop, PartialEq, Eq)]
-pub enum KeysFault {
-    File,
-    /// This line is wrong. Lines count from 1.
-    Line(u64),
-    Memory,
-}
-
-impl From<AllocError> for KeysFault {
-    ghost use Rattle.std.specs.Prelude.{◌≡◌};
-    ghost use Rattle.sv_keys.specs.declared.keys.KeysFault.TheVariants as faults;
-
-    ghost from_gives = { λ _ e. e ≡ faults.Memory };
-
-    fn from(_e: AllocError) -> KeysFault {
-        KeysFault::Memory
-    }
-}
-
 /// The keys of a file.
+///
+/// Contracts see what the file had when it was read last, and the keys that it had when it was right last.
 #[derive(Drop)]
 pub struct Keys {
     alloc: Global,
     file: String,
-    /// The file's bytes when it was read last.
     bytes: Vec<u8>,
-    /// The rows of its last good bytes.
     rows: Vec<KeyRow>,
 }
 
-// The row of a line, where it is one.
-fn row_of(line: &str) -> Option<KeyRow> {
-    let (client, digest) = line.split_once(" ")?;
-    let client = number_in(client, 0, 65_535)?;
-    let digest = <[u8; 32] as FromHex>::from_hex(digest.trim()).ok()?;
-    Some(KeyRow {
-        client: ClientId(client as u16),
-        digest,
-    })
+impl Model for Keys {
+    ghost use Rattle.std.specs.Prelude.{string_bytes};
+    ghost use Rattle.sv_keys.specs.Keeping.{KeysView};
+
+    ghost Value = { KeysView };
+
+    ghost view = { λ k. record { file = string_bytes k.file; bytes = k.bytes.items; rows = k.rows.items } };
 }
 
-// What a line has before a comment.
-fn before_comment(line: &str) -> &str {
-    match line.split_once("#") {
-        Some((front, _)) => front.trim(),
-        None => line.trim(),
+fn read_keys<L: Files>(alloc: Global, files: &mut L, name: &str) -> Result<Vec<u8>, KeysFault>
+    ensures all { IfOk result (λ bytes. IsAllOf (L.contents files.old name.now) bytes.items) }
+    ensures err { IfErr result (λ fault. (n : ℕ) → fault ≢ faults.Line n) }
+{
+    let bytes = match read_all(alloc, files, name, MOST_BYTES + 1) {
+        Ok(bytes) => bytes,
+        Err(FileFault::Failed) => return Err(KeysFault::File),
+        Err(FileFault::Memory) => return Err(KeysFault::Memory),
+    };
+    if bytes.as_slice().len() > MOST_BYTES {
+        return Err(KeysFault::File);
     }
-}
-
-fn rows_of(alloc: Global, bytes: &[u8]) -> Result<Vec<KeyRow>, KeysFault> {
-    let mut rows = Vec::new(alloc);
-    let mut number: u64 = 0;
-    for line in bytes.split(|byte| *byte == b'\n') {
-        number = number.saturating_add(1);
-        let Ok(line) = str::from_utf8(line) else {
-            return Err(KeysFault::Line(number));
-        };
-        let line = before_comment(line);
-        if line.is_empty() {
-            continue;
-        }
-        match row_of(line) {
-            Some(row) => rows.push(row).map_err(|_| KeysFault::Memory)?,
-            None => return Err(KeysFault::Line(number)),
-        }
-    }
-    Ok(rows)
-}
-
-fn read_keys<L: Files>(alloc: Global, files: &mut L, name: &str) -> Result<Vec<u8>, KeysFault> {
-    match read_all(alloc, files, name, MOST_BYTES) {
-        Ok(bytes) => Ok(bytes),
-        Err(FileFault::Failed) => Err(KeysFault::File),
-        Err(FileFault::Memory) => Err(KeysFault::Memory),
-    }
+    Ok(bytes)
 }
 
 impl Keys {
     /// The keys of this file.
-    pub fn open<L: Files>(alloc: Global, files: &mut L, name: &str) -> Result<Keys, KeysFault> {
+    pub fn open<L: Files>(alloc: Global, files: &mut L, name: &str) -> Result<Keys, KeysFault>
+        ensures file { IfOk result (λ keys. keys.file ≡ name.now) }
+        ensures all { IfOk result (λ keys. IsAllOf (L.contents files.old name.now) keys.bytes) }
+        ensures keys { IfOk result (λ keys. AreKeys keys.bytes keys.rows) }
+        ensures wrong { (n : ℕ) → result ≡ Err (faults.Line n) → (all : List ℕ) → L.contents files.old name.now ≡ Some all → IsWrongAt all n }
+    {
         let bytes = read_keys(alloc, files, name)?;
         let rows = rows_of(alloc, &bytes)?;
         Ok(Keys {
@@ -107,23 +70,38 @@ impl Keys {
     }
 
     /// Whether a client may join by the key of this digest.
-    pub fn has(&self, client: ClientId, digest: &[u8; 32]) -> bool {
-        let wanted = KeyRow {
-            client,
-            digest: *digest,
-        };
-        self.rows.iter().any(|row| *row == wanted)
+    pub fn has(&self, client: ClientId, digest: &[u8; 32]) -> bool
+        ensures { result ≡ has_key self.now client.0 digest.now }
+    {
+        self.rows
+            .iter()
+            .any(|row| row.client == client && row.digest == *digest)
     }
 
     // Reads the file again, and takes its keys where it has changed.
-    fn renew<L: Files>(&mut self, files: &mut L) -> Result<(), KeysFault> {
+    fn renew<L: Files>(&mut self, files: &mut L) -> Result<(), KeysFault>
+        ensures { IsRenewed (L.contents files.old self.old.file) self.old self.new (fault_in result) }
+    {
         let bytes = read_keys(self.alloc, files, self.file.as_str())?;
         if bytes.as_slice() == self.bytes.as_slice() {
             return Ok(());
         }
+        match rows_of(self.alloc, &bytes) {
+            Ok(rows) => self.rows = rows,
+            Err(KeysFault::Line(number)) => {
+                self.bytes = bytes;
+                return Err(KeysFault::Line(number));
+            }
+            Err(fault) => return Err(fault),
+        }
         self.bytes = bytes;
-        self.rows = rows_of(self.alloc, &self.bytes)?;
         Ok(())
+    }
+
+    fn has_digest(&self, digest: &[u8; 32]) -> bool
+        ensures { result ≡ has_digest self.now digest.now }
+    {
+        self.rows.iter().any(|row| row.digest == *digest)
     }
 
     /// Looks at the file, and answers whether it has a key of this digest. Where it is wrong now, that is told, and the last good one holds.
@@ -132,27 +110,15 @@ impl Keys {
         files: &mut L,
         err: &mut E,
         digest: &[u8; 32],
-    ) -> bool {
+    ) -> bool
+        ensures answer { result ≡ has_digest self.new digest.now }
+        ensures renewed { (fault : Option KeysFault)
+            × IsRenewed (L.contents files.old self.old.file) self.old self.new fault
+            × WasTold (E.taken err.old) (E.taken err.new) (E.faults err.old) (E.faults err.new) self.old.file fault }
+    {
         if let Err(fault) = self.renew(files) {
             tell(fault, self.file.as_str(), err);
         }
-        self.rows.iter().any(|row| row.digest == *digest)
-    }
-}
-
-/// Writes the line that tells of a file of keys that is not taken.
-pub fn tell<E: Sink>(fault: KeysFault, file: &str, err: &mut E) {
-    match fault {
-        KeysFault::Line(number) => {
-            let mut digits = itoa::Buffer::new();
-            let number = digits.format(number);
-            write_pieces(
-                err,
-                &[b"keys: ", file.as_bytes(), b":", number.as_bytes(), b"\n"],
-            );
-        }
-        KeysFault::File | KeysFault::Memory => {
-            write_pieces(err, &[b"keys: ", file.as_bytes(), b"\n"]);
-        }
+        self.has_digest(digest)
     }
 }
