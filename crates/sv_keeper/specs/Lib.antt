@@ -1,4 +1,7 @@
 -- The definitions of this crate.
 pub mod Histories
+pub mod Views
 pub mod Keeping
+pub mod Invariant
 pub mod Walks
+pub mod Opened

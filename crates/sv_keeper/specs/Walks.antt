@@ -1,18 +1,13 @@
 -- A walk over the lines of a log.
-use Rattle.std.specs.Prelude.{◌≡◌, ℕ, ◌+◌, ◌<◌, ◌^◌, true, List, [], ◌++◌, length}
+use Rattle.std.specs.Prelude.{◌≡◌, ◌≢◌, ℕ, ◌+◌, ◌<◌, ◌^◌, true, List, [], ◌++◌, length}
 use Rattle.sv_wire.specs.Ranges.{RequestFits}
 use Rattle.sv_wire.specs.declared.message.Request.{Request}
-use Rattle.sv_sequencer.specs.Step.{entry_of}
 use Rattle.sv_living.specs.Sessions.{may_ask}
-use Rattle.sv_living.specs.World.{WorldView, after, reply_in}
-use Rattle.sv_keeper.specs.Histories.{last_line}
+use Rattle.sv_living.specs.World.{WorldView, after}
+use Rattle.sv_keeper.specs.Keeping.{next_line}
 use Rattle.sv_keeper.specs.declared.walking.Walk.{Walk}
 use Rattle.sv_keeper.specs.declared.walking.WalkStop.{WalkStop}
 use Rattle.sv_keeper.specs.declared.walking.WalkStop.TheVariants as stops
-
--- The line of a request that a session makes next, by the answer table.
-abbrev pub next_line : WorldView → ℕ → Request → List ℕ
-next_line v s request = last_line v.rules.world.shape (entry_of s request (reply_in v s request)) v.history
 
 -- One line is taken from a text: that of a request of a session that may make one.
 pub record IsTaken (v w : WorldView) (text rest : List ℕ) : Type 0 where
@@ -48,7 +43,8 @@ pub record IsWrong (v : WorldView) (text : List ℕ) (number : ℕ) : Type 0 whe
   pub rest : List ℕ
   pub right : AreTaken v reached text rest
   pub wrong : IsNoLine reached rest
-  pub is_next : number ≡ length reached.history + 1
+  pub more : rest ≢ []
+  pub number_is : number ≡ length reached.history + 1
 
 abbrev pub WhyStopped : WorldView → List ℕ → ℕ → WalkStop → Type 0
 WhyStopped v text number (stops.Wrong cause) = IsWrong v text number

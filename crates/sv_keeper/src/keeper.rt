@@ -1,17 +1,23 @@
 //! A world that is kept on a log.
-ghost use Rattle.std.specs.Prelude.{◌≡◌, ◌+◌, ℕ, List, length, true, false, Some, IfOk, IfErr, IfSome, OnOk, OnErr};
-ghost use Rattle.sv_journal.specs.History.{accepted, full_reply};
-ghost use Rattle.sv_living.specs.World.{WorldView, after, reply_in, IsStepFault};
-ghost use Rattle.sv_living.specs.declared.fault.StepFault.TheVariants as causes;
+ghost use Rattle.std.specs.Prelude.{◌≡◌, ◌+◌, ◌==◌, ◌≤◌, ℕ, List, [], length, slice_index_or, true, false, Some, None, Err, IfOk, IfErr, IfSome, OnOk, OnErr, IsErr, IsSome, MatchOption, string_bytes};
+ghost use Rattle.sv_bytes.specs.Faults.{ReadAllCause};
+ghost use Rattle.sv_journal.specs.History.{accepted, commit_of, committed_of, next_seq};
+ghost use Rattle.sv_journal.specs.Serving.{LegalFor};
+ghost use Rattle.sv_journal.specs.Living.{living};
+ghost use Rattle.sv_living.specs.Quiet.{IsFirstOpen, IsQuiet};
+ghost use Rattle.sv_living.specs.Sessions.{next_session, open_sessions, AreInOrder};
+ghost use Rattle.sv_living.specs.World.{heeded_in};
 ghost use Rattle.sv_log.specs.Crashes.{LeavesOnly};
 ghost use Rattle.sv_log.specs.Names.{world_name};
 ghost use Rattle.sv_log.specs.OpenLogs.{shown, newest};
 ghost use Rattle.sv_keeper.specs.Histories.{HoldsFirst};
-ghost use Rattle.sv_keeper.specs.Keeping.{Keeps, IsKept, Stepped, IsStuck, WasNotStepped, AreSettled};
+ghost use Rattle.sv_keeper.specs.Keeping.{IsKept, Stepped, WasNotStepped, AreSettled};
 ghost use Rattle.sv_keeper.specs.declared.fault.KeepFault.TheVariants as faults;
 
 use crate::fault::KeepFault;
+use crate::putting::put_group;
 use crate::settled::Settled;
+use std::marker::Model;
 use sv_bytes::FileFault;
 use sv_entries::{LineBuffer, replies_have_one_text};
 use sv_living::{LivingCore, StepFault};
@@ -21,7 +27,8 @@ use sv_world::{ClientId, ObjectId, Shape, Value};
 
 /// A living world whose entries stand in a log.
 ///
-/// The lines of what was stepped and is not appended stand in `group`. They are the entries of the core from number `next` less their count on.
+/// The lines of what was stepped and is not appended stand in `group`: they are the lines of its latest entries. Contracts see the world, its
+/// log, these lines, and how many entries are synced. A keeper that is not broken is kept (`is_lawful`).
 #[derive(Drop)]
 pub struct Keeper<F: Folder> {
     pub(crate) core: LivingCore,
@@ -38,15 +45,28 @@ pub struct Keeper<F: Folder> {
     pub(crate) is_broken: bool,
 }
 
+impl<F: Folder> Model for Keeper<F> {
+    ghost use Rattle.std.specs.Coded.{codes};
+    ghost use Rattle.sv_journal.specs.contracts.entry.Entry as entry;
+    ghost use Rattle.sv_keeper.specs.Views.{KeeperView};
+
+    ghost Value = { KeeperView F };
+
+    ghost coded = { Prim.hlevel (codes, entry.the_row.coded) };
+
+    ghost use Rattle.sv_keeper.specs.Invariant.{view_of, IsKeeper};
+
+    ghost view = { view_of };
+
+    ghost invariant = { IsKeeper F.disk F.is_honest };
+}
+
 impl<F: Folder> Keeper<F> {
     /// Answers a request of a session, and puts its line into the group. Its reply may be sent once the keeper is settled.
     pub fn step(&mut self, session: u64, request: &Request) -> Result<Reply, KeepFault>
-        requires kept { self.old.is_broken ≡ false → IsKept F.disk F.is_honest self.old }
-        ensures kept { self.new.is_broken ≡ false → IsKept F.disk F.is_honest self.new }
-        ensures ok { IfOk result (Stepped F.disk F.is_honest self.old self.new session request.now) }
-        ensures whole { OnOk result (self.new.is_broken ≡ false) }
-        ensures err { IfErr result (WasNotStepped F.disk F.is_honest self.old self.new session request.now) }
-        ensures broken { self.old.is_broken ≡ true → self.new ≡ self.old }
+        ensures ok { IfOk result (Stepped self.old self.new session request.now) }
+        ensures err { IfErr result (WasNotStepped self.old self.new session request.now) }
+        ensures broken { self.old.is_broken ≡ true → (self.new ≡ self.old) × (result ≡ Err faults.Broken) }
     {
         if self.is_broken {
             return Err(KeepFault::Broken);
@@ -55,45 +75,20 @@ impl<F: Folder> Keeper<F> {
         let Some(next) = self.next.checked_add(1) else {
             return Err(KeepFault::Broken);
         };
-        match self.core.step(session, request) {
-            Ok(answer) => self.enter(session, request, answer.reply, next),
-            Err(StepFault::NotOpen) => Err(KeepFault::NotOpen),
-            Err(StepFault::NoRoom) => Err(KeepFault::NoRoom),
-            Err(StepFault::Memory) => Err(KeepFault::Memory),
-        }
-    }
-
-    // Puts the line of what was stepped into the group. Where there is no memory for it, the keeper is broken.
-    fn enter(
-        &mut self,
-        session: u64,
-        request: &Request,
-        reply: Reply,
-        next: u64,
-    ) -> Result<Reply, KeepFault>
-        ghost v: { WorldView }
-        requires kept { Keeps F.disk F.is_honest v self.old }
-        requires world { self.old.core ≡ after v session request.now }
-        requires reply { reply ≡ full_reply (accepted self.old.core.history) (reply_in v session request.now) }
-        requires next { next ≡ self.old.next + 1 }
-        requires whole { self.old.is_broken ≡ false }
-        ensures kept { OnOk result (IsKept F.disk F.is_honest self.new) }
-        ensures whole { OnOk result (self.new.is_broken ≡ false) }
-        ensures ok { IfOk result (λ r. r ≡ reply) }
-        ensures err { IfErr result (λ e. e ≡ faults.Broken) }
-        ensures broken { OnErr result (self.new.is_broken ≡ true) }
-        ensures core { self.new.core ≡ self.old.core }
-        ensures log { self.new.log ≡ self.old.log }
-        ensures synced { self.new.synced ≡ self.old.synced }
-    {
+        let answer = match self.core.step(session, request) {
+            Ok(answer) => answer,
+            Err(StepFault::NotOpen) => return Err(KeepFault::NotOpen),
+            Err(StepFault::NoRoom) => return Err(KeepFault::NoRoom),
+            Err(StepFault::Memory) => return Err(KeepFault::Memory),
+        };
         replies_have_one_text();
         match self
             .group
-            .append_line(self.shape, self.next, session, request, &reply)
+            .append_line(self.shape, self.next, session, request, &answer.reply)
         {
             Ok(()) => {
                 self.next = next;
-                Ok(reply)
+                Ok(answer.reply)
             }
             Err(_) => {
                 self.is_broken = true;
@@ -106,89 +101,120 @@ impl<F: Folder> Keeper<F> {
     ///
     /// After an `Err` the keeper is broken.
     pub fn settle(&mut self) -> Result<(), KeepFault>
-        requires kept { self.old.is_broken ≡ false → IsKept F.disk F.is_honest self.old }
-        ensures kept { self.new.is_broken ≡ false → IsKept F.disk F.is_honest self.new }
         ensures ok { OnOk result (AreSettled F.disk F.is_honest self.new) }
-        ensures whole { OnOk result (self.new.is_broken ≡ false) }
         ensures err { IfErr result (λ e. (e ≡ faults.Broken) × (self.new.is_broken ≡ true)) }
+        ensures broken { self.old.is_broken ≡ true → (self.new ≡ self.old) × (result ≡ Err faults.Broken) }
         ensures any_moment { F.is_honest self.new.log.segment.folder → self.old.is_broken ≡ false → (world : List ℕ)
             → shown F.disk self.old.log world_name ≡ Some world
             → LeavesOnly (F.disk self.old.log.segment.folder) (F.disk self.new.log.segment.folder)
-            (HoldsFirst self.old.shape world (newest F.disk self.old.log) self.old.core.history self.old.synced) }
+            (HoldsFirst self.old.world.rules.world.shape world (newest F.disk self.old.log) self.old.world.history self.old.synced) }
         ensures newest { F.is_honest self.new.log.segment.folder → OnOk result (newest F.disk self.new.log ≡ newest F.disk self.old.log) }
-        ensures world { F.is_honest self.new.log.segment.folder
+        ensures own { F.is_honest self.new.log.segment.folder
             → OnOk result (shown F.disk self.new.log world_name ≡ shown F.disk self.old.log world_name) }
         ensures honest { F.is_honest self.new.log.segment.folder → F.is_honest self.old.log.segment.folder }
-        ensures core { self.new.core ≡ self.old.core }
-        ensures next { self.new.next ≡ self.old.next }
+        ensures world { self.new.world ≡ self.old.world }
+    {
+        match self.settle_group() {
+            Ok(()) => Ok(()),
+            Err(_) => Err(KeepFault::Broken),
+        }
+    }
+
+    // Settles. A keeper that is broken is left as it is.
+    pub(crate) fn settle_group(&mut self) -> Result<(), FileFault>
+        ensures ok { OnOk result (AreSettled F.disk F.is_honest self.new) }
+        ensures err { OnErr result (self.new.is_broken ≡ true) }
+        ensures broken { self.old.is_broken ≡ true → (self.new ≡ self.old) × IsErr result }
+        ensures any_moment { F.is_honest self.new.log.segment.folder → self.old.is_broken ≡ false → (world : List ℕ)
+            → shown F.disk self.old.log world_name ≡ Some world
+            → LeavesOnly (F.disk self.old.log.segment.folder) (F.disk self.new.log.segment.folder)
+            (HoldsFirst self.old.world.rules.world.shape world (newest F.disk self.old.log) self.old.world.history self.old.synced) }
+        ensures newest { F.is_honest self.new.log.segment.folder → OnOk result (newest F.disk self.new.log ≡ newest F.disk self.old.log) }
+        ensures own { F.is_honest self.new.log.segment.folder
+            → OnOk result (shown F.disk self.new.log world_name ≡ shown F.disk self.old.log world_name) }
+        ensures honest { F.is_honest self.new.log.segment.folder → F.is_honest self.old.log.segment.folder }
+        ensures world { self.new.world ≡ self.old.world }
+        ensures cause { ReadAllCause (F.faults self.old.log.segment.folder) (F.faults self.new.log.segment.folder) result }
     {
         if self.is_broken {
-            return Err(KeepFault::Broken);
+            return Err(FileFault::Memory);
         }
         if self.group.is_empty() {
             return Ok(());
         }
-        match self.put() {
-            Ok(()) => Ok(()),
-            Err(_) => {
+        match put_group(&mut self.log, self.group.as_bytes()) {
+            Ok(()) => {
+                self.log_bytes = self.log_bytes.saturating_add(self.group.len() as u64);
+                self.syncs = self.syncs.saturating_add(1);
+                self.group.clear();
+                self.synced = self.next.saturating_sub(1);
+                Ok(())
+            }
+            Err(fault) => {
                 self.is_broken = true;
-                Err(KeepFault::Broken)
+                Err(fault)
             }
         }
     }
 
+    /// A law: a keeper that is not broken is kept. Its history is legal by the answer table, its sessions began in the order of their numbers,
+    /// and what a crash leaves of its log is a log with the lines of some first entries, at least of those that are synced.
+    pub fn is_lawful(&self)
+        ensures kept { self.now.is_broken ≡ false → IsKept F.disk F.is_honest self.now }
+        ensures legal { LegalFor (living self.now.world.stewardship) self.now.world.rules self.now.world.history }
+        ensures order { AreInOrder self.now.world.history }
+        ensures any_moment { F.is_honest self.now.log.segment.folder → self.now.is_broken ≡ false → (world : List ℕ)
+            → shown F.disk self.now.log world_name ≡ Some world
+            → LeavesOnly (F.disk self.now.log.segment.folder) (F.disk self.now.log.segment.folder)
+            (HoldsFirst self.now.world.rules.world.shape world (newest F.disk self.now.log) self.now.world.history self.now.synced) }
+    {
+        self.core.is_lawful();
+    }
+
+    /// The folder of the log.
+    pub fn into_folder(self) -> F
+        ensures { result ≡ self.log.segment.folder }
+    {
+        let Keeper { log, .. } = self;
+        let Log { segment, .. } = log;
+        segment.folder
+    }
+
     /// The leave to send, where all lines are settled. Nothing can be stepped while it lives.
     pub fn settled(&self) -> Option<Settled<'_>>
-        requires kept { self.now.is_broken ≡ false → IsKept F.disk F.is_honest self.now }
-        ensures { IfSome result (λ _. AreSettled F.disk F.is_honest self.now) }
+        ensures some { IfSome result (λ s. AreSettled F.disk F.is_honest self.now × (s ≡ length self.now.world.history)) }
+        ensures none { self.now.is_broken ≡ false → self.now.group ≡ [] → IsSome result }
     {
         if self.is_broken || !self.group.is_empty() {
             return None;
         }
-        Some(Settled { next: &self.next })
+        Some(Settled {
+            count: &self.synced,
+        })
     }
 
-    // Appends the group, and syncs it.
-    fn put(&mut self) -> Result<(), FileFault>
-        requires kept { IsKept F.disk F.is_honest self.old }
-        ensures kept { OnOk result (IsKept F.disk F.is_honest self.new) }
-        ensures ok { OnOk result (AreSettled F.disk F.is_honest self.new) }
-        ensures any_moment { F.is_honest self.new.log.segment.folder → (world : List ℕ) → shown F.disk self.old.log world_name ≡ Some world
-            → LeavesOnly (F.disk self.old.log.segment.folder) (F.disk self.new.log.segment.folder)
-            (HoldsFirst self.old.shape world (newest F.disk self.old.log) self.old.core.history self.old.synced) }
-        ensures newest { F.is_honest self.new.log.segment.folder → OnOk result (newest F.disk self.new.log ≡ newest F.disk self.old.log) }
-        ensures world { F.is_honest self.new.log.segment.folder
-            → OnOk result (shown F.disk self.new.log world_name ≡ shown F.disk self.old.log world_name) }
-        ensures honest { F.is_honest self.new.log.segment.folder → F.is_honest self.old.log.segment.folder }
-        ensures core { self.new.core ≡ self.old.core }
-        ensures shape { self.new.shape ≡ self.old.shape }
-        ensures next { self.new.next ≡ self.old.next }
+    /// Whether no line waits to be appended.
+    pub fn is_settled(&self) -> bool
+        ensures { result ≡ (length self.now.group == 0) }
     {
-        self.log.append(self.group.as_bytes())?;
-        self.log_bytes = self.log_bytes.saturating_add(self.group.len() as u64);
-        self.group.clear();
-        self.syncs = self.syncs.saturating_add(1);
-        self.log.sync()?;
-        self.synced = self.next.saturating_sub(1);
-        Ok(())
-    }
-
-    /// Whether all lines are settled.
-    pub fn is_settled(&self) -> bool {
         self.group.is_empty()
     }
 
     /// The name of the file that is appended to.
-    pub fn file(&self) -> &str {
+    pub fn file(&self) -> &str
+        ensures { result.now ≡ string_bytes self.now.log.segment.name }
+    {
         self.log.segment.name.as_str()
     }
 
     /// How many lines there are, of all segments.
-    pub fn entries(&self) -> u64 {
+    pub fn entries(&self) -> u64
+        ensures { self.now.is_broken ≡ false → result ≡ length self.now.world.history }
+    {
         self.next.saturating_sub(1)
     }
 
-    /// How often the log was synced.
+    /// How often the log was synced since it was opened.
     pub fn syncs(&self) -> u64 {
         self.syncs
     }
@@ -198,31 +224,43 @@ impl<F: Folder> Keeper<F> {
         self.log_bytes
     }
 
-    pub fn shape(&self) -> Shape {
+    pub fn shape(&self) -> Shape
+        ensures { result ≡ self.now.world.rules.world.shape }
+    {
         self.shape
     }
 
     /// The number of the next session.
-    pub fn next_session(&self) -> u64 {
+    pub fn next_session(&self) -> u64
+        ensures { result ≡ next_session self.now.world.history }
+    {
         self.core.next()
     }
 
-    pub fn open_count(&self) -> usize {
+    pub fn open_count(&self) -> usize
+        ensures { result ≡ length (open_sessions self.now.world.history) }
+    {
         self.core.open_count()
     }
 
     /// The least number of a session that is open.
-    pub fn first_open(&self) -> Option<u64> {
+    pub fn first_open(&self) -> Option<u64>
+        ensures { IsFirstOpen self.now.world.history result }
+    {
         self.core.first_open()
     }
 
     /// The last accepted position.
-    pub fn last(&self) -> u32 {
+    pub fn last(&self) -> u32
+        ensures { result ≡ length (accepted self.now.world.history) }
+    {
         self.core.last()
     }
 
     /// The greatest position up to which all results that count are installed.
-    pub fn commit(&self) -> u32 {
+    pub fn commit(&self) -> u32
+        ensures { result ≡ commit_of (heeded_in self.now.world) }
+    {
         self.core.commit()
     }
 
@@ -232,20 +270,30 @@ impl<F: Folder> Keeper<F> {
     }
 
     /// How many actions of a client have an outcome.
-    pub fn outcome_count(&self, client: ClientId) -> u32 {
+    pub fn outcome_count(&self, client: ClientId) -> u32
+        ensures { result + 1 ≡ next_seq (heeded_in self.now.world) client.0 }
+    {
         self.core.outcome_count(client)
     }
 
     /// What an Observe of an open session would be answered, where that shows nothing. It is no entry. Where the keeper is broken nothing is told.
-    pub fn quiet_answer(&self, session: u64, request: &Request) -> Option<Reply> {
+    pub fn quiet_answer(&self, session: u64, request: &Request) -> Option<Reply>
+        ensures some { IfSome result (λ reply. IsQuiet self.now.world.rules self.now.world.stewardship self.now.world.history session request.now (Some reply)) }
+        ensures none { self.now.is_broken ≡ false
+            → IsQuiet self.now.world.rules self.now.world.stewardship self.now.world.history session request.now result }
+        ensures broken { self.now.is_broken ≡ true → result ≡ None }
+    {
         if self.is_broken {
             return None;
         }
         self.core.quiet_answer(session, request)
     }
 
-    /// The value of an object at the commit.
-    pub fn committed(&self, object: ObjectId) -> Option<&Value> {
+    /// The value of an object at the commit, where there is such an object.
+    pub fn committed(&self, object: ObjectId) -> Option<&Value>
+        ensures { MatchOption result (self.now.world.rules.world.shape.objects ≤ object.0)
+            (λ value. value.now ≡ slice_index_or (committed_of self.now.world.rules.world.values (heeded_in self.now.world)) object.0 []) }
+    {
         if object.0 < self.shape.objects {
             Some(self.core.committed(object))
         } else {

@@ -6,6 +6,7 @@ mod fault;
 mod keeper;
 mod opening;
 mod place;
+mod putting;
 mod settled;
 mod walking;
 

@@ -1,19 +1,28 @@
 //! The leave to send.
 ghost use Rattle.std.specs.Prelude.{◌≡◌};
 
+use std::marker::Model;
+
 /// All lines of a kept world stand in its log, and by `Syncing::Batch` are synced. Only a [`Keeper`](crate::Keeper) makes one, and while it lives
-/// nothing can be stepped.
+/// nothing can be stepped. Contracts see how many lines there are.
 #[derive(Drop)]
 pub struct Settled<'a> {
-    /// The number of the next line: all below it are settled.
-    pub(crate) next: &'a u64,
+    pub(crate) count: &'a u64,
 }
 
-impl Settled<'_> {
-    /// The number of the next line.
-    pub fn next(&self) -> u64
-        ensures { result ≡ self.now.next.now }
+impl<'a> Model for Settled<'a> {
+    ghost use Rattle.std.specs.Prelude.{ℕ};
+
+    ghost Value = { ℕ };
+
+    ghost view = { λ s. s.count.now };
+}
+
+impl<'a> Settled<'a> {
+    /// How many lines are settled.
+    pub fn entries(&self) -> u64
+        ensures { result ≡ self.now }
     {
-        *self.next
+        *self.count
     }
 }

@@ -1,0 +1,91 @@
+-- Opening a world that is kept on a log.
+use Rattle.std.specs.Prelude.{◌≡◌, ◌⊎◌, ℕ, ◌+◌, ◌<◌, ◌≤◌, false, List, [], ◌∷◌, length, Some}
+use Rattle.std.specs.String.{string_bytes}
+use Rattle.sv_bytes.specs.Faults.{Rose}
+use Rattle.sv_wire.specs.declared.message.Request.TheVariants as requests
+use Rattle.sv_journal.specs.Answer.{Rules}
+use Rattle.sv_living.specs.declared.stewards.Stewards.{Stewards}
+use Rattle.sv_living.specs.Keeping.{stewardship_of}
+use Rattle.sv_living.specs.Sessions.{open_sessions}
+use Rattle.sv_living.specs.World.{WorldView, after}
+use Rattle.sv_log.specs.Pictures.{Picture, Disk, seen}
+use Rattle.sv_log.specs.Crashes.{LeavesOnly}
+use Rattle.sv_log.specs.Texts.{IsFront}
+use Rattle.sv_log.specs.Names.{segment_name, state_name, world_name}
+use Rattle.sv_log.specs.Chains.{StateFile, no_state, NoneBetween, Holds}
+use Rattle.sv_log.specs.OpenLogs.{shown}
+use Rattle.sv_log.specs.Refusals.{CauseCount, IsWhy, HasNoLog}
+use Rattle.sv_keeper.specs.Histories.{HoldsFirst}
+use Rattle.sv_keeper.specs.Views.{KeeperView}
+use Rattle.sv_keeper.specs.Keeping.{AreSettled}
+use Rattle.sv_keeper.specs.Walks.{AreTaken, IsWrong}
+use Rattle.sv_keeper.specs.declared.fault.OpenFault.{OpenFault}
+use Rattle.sv_keeper.specs.declared.fault.OpenFault.TheVariants as faults
+
+-- A world in which nobody has asked anything.
+abbrev pub start_of : Rules → Stewards → WorldView
+start_of rules stewards = record { rules = rules; stewardship = stewardship_of stewards; history = [] }
+
+-- Each session that is open has its End, the least first, and then none is open.
+pub data AreEnded : WorldView → WorldView → Type 0 where
+  none : {v : WorldView} → open_sessions v.history ≡ [] → AreEnded v v
+  some : {v w : WorldView} {s : ℕ} {others : List ℕ} → open_sessions v.history ≡ s ∷ others → AreEnded (after v s requests.End) w → AreEnded v w
+
+-- A log of this world without a state, that has these lines, and maybe more behind them.
+abbrev pub HasAll : List ℕ → List ℕ → Picture → Type 0
+HasAll world text p = (longer : List ℕ) × Holds world no_state longer p × IsFront text longer
+
+-- The line of this number is this one of this file.
+pub record StandsAt (p : Picture) (number : ℕ) (file : List ℕ) (line : ℕ) : Type 0 where
+  pub first : ℕ
+  pub name : file ≡ segment_name first
+  pub there : (bytes : List ℕ) × (p file ≡ Some bytes)
+  pub begins : first ≤ number
+  pub counts : line + first ≡ number + 1
+  pub none : NoneBetween p (first + 1) (number + 1)
+
+module _ {F : Type 0} (disk : F → Disk) (is_honest : F → Type 0) where
+  -- A keeper was opened over what a folder had: it took all lines that were read, and then the sessions that were open had their Ends. All is
+  -- settled. A crash at any moment left a log with the lines that were read, and maybe some of the Ends.
+  pub record IsOpened (left : Disk) (world : List ℕ) (start : WorldView) (keeper : KeeperView F) : Type 0 where
+    pub text : List ℕ
+    pub reached : WorldView
+    pub read : is_honest keeper.log.segment.folder → Holds world no_state text (seen left)
+    pub taken : AreTaken start reached text []
+    pub ended : AreEnded reached keeper.world
+    pub settled : AreSettled disk is_honest keeper
+    pub own : is_honest keeper.log.segment.folder → shown disk keeper.log world_name ≡ Some world
+    pub crash : is_honest keeper.log.segment.folder
+        → LeavesOnly left (disk keeper.log.segment.folder)
+        (HoldsFirst keeper.world.rules.world.shape world no_state keeper.world.history (length reached.history))
+
+-- A line that was read is not right: all before it are taken, and it is none that may stand there.
+pub record IsWrongLine (left : Disk) (world : List ℕ) (start : WorldView) (file : List ℕ) (line : ℕ) : Type 0 where
+  pub text : List ℕ
+  pub number : ℕ
+  pub read : Holds world no_state text (seen left)
+  pub wrong : IsWrong start text number
+  pub stands : StandsAt (seen left) number file line
+
+-- The log has a state.
+pub record HasState (left : Disk) (world : List ℕ) (file : List ℕ) (line : ℕ) : Type 0 where
+  pub state : StateFile
+  pub text : List ℕ
+  pub some : 0 < state.0
+  pub read : Holds world state text (seen left)
+  pub name : file ≡ state_name state.0
+  pub at : line ≡ 1
+
+-- Why it was not opened. But where the disk failed or memory was wanting the folder's files are as they were.
+abbrev pub WhyNotOpened : Disk → Disk → List ℕ → WorldView → OpenFault → Type 0
+WhyNotOpened left now world start (faults.Refused refusal) = (now ≡ left) × IsWhy (HasNoLog world (seen left)) refusal.cause
+WhyNotOpened left now world start (faults.Line file line cause) =
+    (now ≡ left) × (IsWrongLine left world start (string_bytes file) line ⊎ HasState left world (string_bytes file) line)
+WhyNotOpened left now world start faults.Disk = Unit {0}
+WhyNotOpened left now world start faults.Memory = Unit {0}
+
+-- The count of faults: it rose just where the disk failed.
+abbrev pub OpenCause : ℕ → ℕ → OpenFault → Type 0
+OpenCause before now (faults.Refused refusal) = CauseCount before now refusal.cause
+OpenCause before now faults.Disk = Rose before now
+OpenCause before now _ = now ≡ before
