@@ -3,7 +3,7 @@ ghost use Rattle.std.specs.Prelude.{◌≡◌};
 ghost use Rattle.sv_bytes.specs.Writing.{GrewOrRose};
 ghost use Rattle.sv_keys.specs.Keeping.{keys_line};
 
-use std::alloc::AllocError;
+use std::alloc::{AllocError, AllocFailed};
 use sv_bytes::{Sink, write_pieces};
 
 /// Why a file of keys is not taken.
@@ -23,6 +23,17 @@ impl From<AllocError> for KeysFault {
     ghost from_gives = { λ _ e. e ≡ faults.Memory };
 
     fn from(_e: AllocError) -> KeysFault {
+        KeysFault::Memory
+    }
+}
+
+impl<T: Drop> From<AllocFailed<T>> for KeysFault {
+    ghost use Rattle.std.specs.Prelude.{◌≡◌};
+    ghost use Rattle.sv_keys.specs.declared.fault.KeysFault.TheVariants as faults;
+
+    ghost from_gives = { λ _ e. e ≡ faults.Memory };
+
+    fn from(_e: AllocFailed<T>) -> KeysFault {
         KeysFault::Memory
     }
 }

@@ -20,7 +20,7 @@ pub(crate) fn rows_of(alloc: Global, bytes: &[u8]) -> Result<Vec<KeyRow>, KeysFa
         number += 1;
         match line_of(line) {
             Line::Blank => {}
-            Line::Key(row) => rows.push(row).map_err(|_| KeysFault::Memory)?,
+            Line::Key(row) => rows.push(row)?,
             Line::Wrong => return Err(KeysFault::Line(number)),
         }
         rest = more;

@@ -1,1 +1,7 @@
--- d
+-- The definitions of this crate.
+pub mod Admitting
+pub mod Entering
+pub mod Guests
+pub mod Telling
+pub mod Holding
+pub mod Offices

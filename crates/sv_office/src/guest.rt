@@ -1,4 +1,7 @@
 //! A connection, as the loop keeps it.
+ghost use Rattle.std.specs.Prelude.{◌≡◌, true};
+ghost use Rattle.sv_office.specs.Admitting.{is_observe};
+
 use std::alloc::Global;
 use sv_peer::Peer;
 use sv_wire::Request;
@@ -21,6 +24,7 @@ pub struct Held {
     pub request: Request,
     /// The time at which it is answered at the latest.
     pub until: u64,
+    ghost observes: { is_observe request ≡ true },
 }
 
 /// A connection.
@@ -48,7 +52,17 @@ pub struct Guest {
 }
 
 impl Guest {
-    pub fn new(alloc: Global, now: u64) -> Guest {
+    ghost use Rattle.std.specs.Prelude.{◌↔◌, None, IsTrue};
+    ghost use Rattle.sv_peer.specs.View.{new_peer};
+    ghost use Rattle.sv_office.specs.declared.guest.Standing.TheVariants as standing;
+    ghost use Rattle.sv_office.specs.Guests.{Closes};
+
+    pub fn new(alloc: Global, now: u64) -> Guest
+        ensures peer { result.peer ≡ new_peer }
+        ensures session { result.session ≡ None }
+        ensures key { result.key ≡ None }
+        ensures standing { result.standing ≡ standing.Open }
+    {
         Guest {
             peer: Peer::new(alloc),
             session: None,
@@ -65,7 +79,9 @@ impl Guest {
     }
 
     /// Nothing more is taken of it.
-    pub fn close(&mut self) {
+    pub fn close(&mut self)
+        ensures { Closes self.old self.new }
+    {
         if self.standing == Standing::Open {
             self.standing = Standing::Closing;
             self.peer.finish();
@@ -75,13 +91,17 @@ impl Guest {
     }
 
     /// It is closed at once.
-    pub fn leave(&mut self) {
+    pub fn leave(&mut self)
+        ensures { self.new ≡ record self.old { standing = standing.Gone; held = None; has_more = false } }
+    {
         self.standing = Standing::Gone;
         self.held = None;
         self.has_more = false;
     }
 
-    pub fn is_open(&self) -> bool {
+    pub fn is_open(&self) -> bool
+        ensures { IsTrue result ↔ (self.now.standing ≡ standing.Open) }
+    {
         self.standing == Standing::Open
     }
 }

@@ -1,5 +1,16 @@
 //! A connection's turn: requests are taken of it, at most so many, and read on.
-use crate::guest::{Guest, Standing};
+ghost use Rattle.std.specs.Prelude.{◌≡◌, ◌≤◌, ℕ, false, None, Some, IfOk, OnOk, length};
+ghost use Rattle.sv_journal.specs.Sessions.{is_end};
+ghost use Rattle.sv_living.specs.World.{WorldView};
+ghost use Rattle.sv_office.specs.Entering.{GoesOn, KeepsOwn, IsGuests};
+ghost use Rattle.sv_office.specs.Guests.{IsHeardOf};
+ghost use Rattle.sv_office.specs.Offices.{AreApart, session_of};
+ghost use Rattle.sv_office.specs.Telling.{IsServed};
+ghost use Rattle.sv_office.specs.declared.guest.Standing.TheVariants as standing;
+ghost use Rattle.sv_office.specs.declared.hearing.Course.TheVariants as courses;
+ghost use Rattle.sv_office.specs.declared.hearing.Taken.TheVariants as takes;
+
+use crate::guest::Guest;
 use crate::halt::Halt;
 use crate::office::Office;
 use crate::outside::Outside;
@@ -19,8 +30,15 @@ const MOST_READS: u32 = 64;
 /// While so many bytes wait to be sent to a connection, nothing is taken of it.
 pub const FULL: usize = 65_536;
 
-/// How many bytes are read at once.
-const PIECE: usize = 4096;
+/// What was taken of a connection.
+#[derive(Clone, Copy, Debug, Drop, PartialEq, Eq)]
+enum Taken {
+    Request,
+    /// A key, or the end.
+    Other,
+    /// Nothing whole has come.
+    Nothing,
+}
 
 /// How a turn goes on.
 #[derive(Clone, Copy, Debug, Drop, PartialEq, Eq)]
@@ -32,7 +50,11 @@ enum Course {
 }
 
 /// Reads what comes, and closes a connection of which no more will come. The answer is how many bytes came.
-fn read_piece<P: Ports>(ports: &mut P, number: u64, guest: &mut Guest, piece: &mut [u8]) -> usize {
+fn read_piece<P: Ports>(ports: &mut P, number: u64, guest: &mut Guest, piece: &mut [u8]) -> usize
+    ensures count { result ≤ length piece.new }
+    ensures served { (v : WorldView) → IsServed v guest.old → IsServed v guest.new }
+    ensures guest { IsHeardOf guest.old guest.new }
+{
     let room = guest.peer.spare().min(piece.len());
     if room == 0 {
         return 0;
@@ -47,10 +69,12 @@ fn read_piece<P: Ports>(ports: &mut P, number: u64, guest: &mut Guest, piece: &m
 }
 
 /// Reads what comes of a connection that is closing, and throws it away.
-fn drain<P: Ports>(ports: &mut P, number: u64, guest: &mut Guest) {
-    let mut piece = [0; PIECE];
+fn drain<P: Ports>(ports: &mut P, number: u64, guest: &mut Guest, piece: &mut [u8])
+    ensures served { (v : WorldView) → IsServed v guest.old → IsServed v guest.new }
+    ensures guest { IsHeardOf guest.old guest.new }
+{
     for _ in 0..MOST_READS {
-        match ports.read(number, &mut piece) {
+        match ports.read(number, piece) {
             PortRead::Got(_) => {}
             PortRead::NotYet | PortRead::Ended => return,
             PortRead::Failed => {
@@ -61,6 +85,16 @@ fn drain<P: Ports>(ports: &mut P, number: u64, guest: &mut Guest) {
     }
 }
 
+/// What a request asks. An End is none that a connection may make.
+fn asked(request: Request) -> Request
+    ensures { is_end result ≡ false }
+{
+    match request {
+        Request::End => Request::Bad,
+        other => other,
+    }
+}
+
 impl<F: Folder> Office<F> {
     /// The turn of a connection that is taken out.
     pub fn hear<P: Ports, L: Files, E: Sink>(
@@ -68,10 +102,17 @@ impl<F: Folder> Office<F> {
         outside: &mut Outside<'_, P, L, E>,
         number: u64,
         guest: &mut Guest,
-    ) -> Result<(), Halt> {
+    ) -> Result<(), Halt>
+        requires served { IsServed self.old.keeper.world guest.old }
+        requires apart { AreApart guest.old.session (session_of self.old.steward) }
+        ensures served { OnOk result (IsServed self.new.keeper.world guest.new) }
+        ensures added { GoesOn (IsGuests self.old.keeper.world.history (session_of self.old.steward) guest.old.session) self.old.keeper.world self.new.keeper.world }
+        ensures session { KeepsOwn self.old.keeper.world.history guest.old.session guest.new.session }
+        ensures steward { session_of self.new.steward ≡ session_of self.old.steward }
+    {
         guest.had_turn = true;
-        if guest.standing != Standing::Open {
-            drain(outside.ports, number, guest);
+        if !guest.is_open() {
+            drain(outside.ports, number, guest, outside.piece);
             return Ok(());
         }
         guest.has_more = false;
@@ -79,7 +120,7 @@ impl<F: Folder> Office<F> {
             self.take_piece(outside.files, guest, &[]);
             guest.has_more = guest.peer.is_paused();
         }
-        if guest.has_more {
+        if guest.has_more || !guest.is_open() {
             return Ok(());
         }
         self.take_all(outside, number, guest)
@@ -91,7 +132,15 @@ impl<F: Folder> Office<F> {
         outside: &mut Outside<'_, P, L, E>,
         number: u64,
         guest: &mut Guest,
-    ) -> Result<(), Halt> {
+    ) -> Result<(), Halt>
+        requires open { guest.old.standing ≡ standing.Open }
+        requires served { IsServed self.old.keeper.world guest.old }
+        requires apart { AreApart guest.old.session (session_of self.old.steward) }
+        ensures served { OnOk result (IsServed self.new.keeper.world guest.new) }
+        ensures added { GoesOn (IsGuests self.old.keeper.world.history (session_of self.old.steward) guest.old.session) self.old.keeper.world self.new.keeper.world }
+        ensures session { KeepsOwn self.old.keeper.world.history guest.old.session guest.new.session }
+        ensures steward { session_of self.new.steward ≡ session_of self.old.steward }
+    {
         let mut left = MOST_REQUESTS;
         for _ in 0..MOST_READS {
             if self.take_requests(outside, guest, &mut left)? == Course::Over {
@@ -111,12 +160,20 @@ impl<F: Folder> Office<F> {
         outside: &mut Outside<'_, P, L, E>,
         number: u64,
         guest: &mut Guest,
-    ) -> Result<Course, Halt> {
-        let mut piece = [0; PIECE];
-        let count = read_piece(outside.ports, number, guest, &mut piece);
+    ) -> Result<Course, Halt>
+        requires open { guest.old.standing ≡ standing.Open }
+        requires served { IsServed self.old.keeper.world guest.old }
+        requires apart { AreApart guest.old.session (session_of self.old.steward) }
+        ensures open { IfOk result (λ course. course ≡ courses.On → guest.new.standing ≡ standing.Open) }
+        ensures served { OnOk result (IsServed self.new.keeper.world guest.new) }
+        ensures added { GoesOn (IsGuests self.old.keeper.world.history (session_of self.old.steward) guest.old.session) self.old.keeper.world self.new.keeper.world }
+        ensures session { KeepsOwn self.old.keeper.world.history guest.old.session guest.new.session }
+        ensures steward { session_of self.new.steward ≡ session_of self.old.steward }
+    {
+        let count = read_piece(outside.ports, number, guest, outside.piece);
         self.counts.came(count);
-        if count > 0 && count <= piece.len() {
-            self.take_piece(outside.files, guest, &piece[..count]);
+        if count > 0 {
+            self.take_piece(outside.files, guest, &outside.piece[..count]);
         }
         if !guest.is_open() {
             self.end(guest)?;
@@ -130,7 +187,11 @@ impl<F: Folder> Office<F> {
     }
 
     // Takes bytes in that came. HTTP requests are answered at once.
-    fn take_piece<L: Files>(&mut self, files: &mut L, guest: &mut Guest, piece: &[u8]) {
+    fn take_piece<L: Files>(&mut self, files: &mut L, guest: &mut Guest, piece: &[u8])
+        ensures served { (v : WorldView) → IsServed v guest.old → IsServed v guest.new }
+        ensures guest { IsHeardOf guest.old guest.new }
+        ensures same { self.new ≡ self.old }
+    {
         let mut site = Site {
             alloc: self.alloc,
             files,
@@ -157,21 +218,24 @@ impl<F: Folder> Office<F> {
         outside: &mut Outside<'_, P, L, E>,
         guest: &mut Guest,
         left: &mut u32,
-    ) -> Result<Course, Halt> {
+    ) -> Result<Course, Halt>
+        requires open { guest.old.standing ≡ standing.Open }
+        requires served { IsServed self.old.keeper.world guest.old }
+        requires apart { AreApart guest.old.session (session_of self.old.steward) }
+        ensures open { IfOk result (λ course. course ≡ courses.On → guest.new.standing ≡ standing.Open) }
+        ensures served { OnOk result (IsServed self.new.keeper.world guest.new) }
+        ensures added { GoesOn (IsGuests self.old.keeper.world.history (session_of self.old.steward) guest.old.session) self.old.keeper.world self.new.keeper.world }
+        ensures session { KeepsOwn self.old.keeper.world.history guest.old.session guest.new.session }
+        ensures steward { session_of self.new.steward ≡ session_of self.old.steward }
+    {
         for _ in 0..=MOST_REQUESTS {
             if *left == 0 || guest.peer.output().len() >= FULL {
-                guest.has_more = true;
-                return Ok(Course::Over);
+                break;
             }
-            match guest.peer.next() {
-                Heard::NotYet => return Ok(Course::On),
-                Heard::Memory => guest.leave(),
-                Heard::Closed => guest.close(),
-                Heard::Hello(digest) => self.greet(outside, guest, digest)?,
-                Heard::Request(request) => {
-                    *left -= 1;
-                    self.take_request(guest, request)?;
-                }
+            match self.take_one(outside, guest)? {
+                Taken::Request => *left -= 1,
+                Taken::Other => {}
+                Taken::Nothing => return Ok(Course::On),
             }
             if !guest.is_open() {
                 self.end(guest)?;
@@ -182,13 +246,49 @@ impl<F: Folder> Office<F> {
         Ok(Course::Over)
     }
 
+    // Takes what comes next.
+    fn take_one<P: Ports, L: Files, E: Sink>(
+        &mut self,
+        outside: &mut Outside<'_, P, L, E>,
+        guest: &mut Guest,
+    ) -> Result<Taken, Halt>
+        requires open { guest.old.standing ≡ standing.Open }
+        requires served { IsServed self.old.keeper.world guest.old }
+        requires apart { AreApart guest.old.session (session_of self.old.steward) }
+        ensures open { IfOk result (λ taken. taken ≡ takes.Nothing → guest.new.standing ≡ standing.Open) }
+        ensures served { OnOk result (IsServed self.new.keeper.world guest.new) }
+        ensures added { GoesOn (IsGuests self.old.keeper.world.history (session_of self.old.steward) guest.old.session) self.old.keeper.world self.new.keeper.world }
+        ensures session { KeepsOwn self.old.keeper.world.history guest.old.session guest.new.session }
+        ensures steward { session_of self.new.steward ≡ session_of self.old.steward }
+    {
+        match guest.peer.next() {
+            Heard::NotYet => return Ok(Taken::Nothing),
+            Heard::Memory => guest.leave(),
+            Heard::Closed => guest.close(),
+            Heard::Hello(digest) => self.greet(outside, guest, digest)?,
+            Heard::Request(request) => {
+                self.take_request(guest, asked(request))?;
+                return Ok(Taken::Request);
+            }
+        }
+        Ok(Taken::Other)
+    }
+
     // Takes a Hello: the first message where keys are wanted, passed over where they are not, and no request behind the first one.
     fn greet<P: Ports, L: Files, E: Sink>(
         &mut self,
         outside: &mut Outside<'_, P, L, E>,
         guest: &mut Guest,
         digest: [u8; 32],
-    ) -> Result<(), Halt> {
+    ) -> Result<(), Halt>
+        requires open { guest.old.standing ≡ standing.Open }
+        requires served { IsServed self.old.keeper.world guest.old }
+        requires apart { AreApart guest.old.session (session_of self.old.steward) }
+        ensures served { OnOk result (IsServed self.new.keeper.world guest.new) }
+        ensures added { GoesOn (IsGuests self.old.keeper.world.history (session_of self.old.steward) guest.old.session) self.old.keeper.world self.new.keeper.world }
+        ensures session { KeepsOwn self.old.keeper.world.history guest.old.session guest.new.session }
+        ensures steward { session_of self.new.steward ≡ session_of self.old.steward }
+    {
         if guest.has_spoken {
             return self.take_request(guest, Request::Bad);
         }

@@ -1,24 +1,24 @@
 //! Observes that wait for news.
+ghost use Rattle.std.specs.Prelude.{◌≡◌, ◌≤◌, ◌<◌, ℕ, false, None, Some, IfSome, OnOk};
+ghost use Rattle.sv_office.specs.Entering.{GoesOn, KeepsOwn, CameOfHeld, WasReleased};
+ghost use Rattle.sv_office.specs.Guests.{Stays};
+ghost use Rattle.sv_office.specs.Holding.{IsHeld, IsWaiting};
+ghost use Rattle.sv_office.specs.Offices.{AreApart, session_of};
+ghost use Rattle.sv_office.specs.Telling.{IsServed};
+ghost use Rattle.sv_office.specs.declared.guest.Standing.TheVariants as standing;
+
 use crate::guest::Guest;
 use crate::halt::Halt;
 use crate::office::Office;
+use crate::waiting::Waiting;
 use sv_log::Folder;
 use sv_wire::Request;
 
-/// How a held Observe stands.
-#[derive(Clone, Copy, Debug, Drop, PartialEq, Eq)]
-pub enum Waiting {
-    /// It waits until this time, or until there is news.
-    Until(u64),
-    /// It is to be answered now.
-    Due,
-    /// There is none.
-    Nothing,
-}
-
 impl<F: Folder> Office<F> {
     /// Until when a request of a connection is held, where it is: an Observe with a wait, as long as its answer would show nothing.
-    pub fn holds_until(&self, guest: &Guest, request: &Request) -> Option<u64> {
+    pub fn holds_until(&self, guest: &Guest, request: &Request) -> Option<u64>
+        ensures { IfSome result (λ until. IsHeld self.now.keeper.world self.now.now guest.now request.now until) }
+    {
         let Request::Observe { wait, .. } = request else {
             return None;
         };
@@ -29,8 +29,20 @@ impl<F: Folder> Office<F> {
         Some(self.now.saturating_add(*wait as u64))
     }
 
-    /// Answers the held Observe of a connection, where it has one.
-    pub fn release(&mut self, guest: &mut Guest) -> Result<(), Halt> {
+    /// Answers the held Observe of a connection, where it has one. Then none is held of it.
+    pub fn release(&mut self, guest: &mut Guest) -> Result<(), Halt>
+        requires open { guest.old.standing ≡ standing.Open }
+        requires served { IsServed self.old.keeper.world guest.old }
+        requires apart { AreApart guest.old.session (session_of self.old.steward) }
+        ensures served { OnOk result (IsServed self.new.keeper.world guest.new) }
+        ensures once { OnOk result (WasReleased (session_of self.old.steward) self.old.manners.authority self.old.keeper.world self.new.keeper.world guest.old.held) }
+        ensures held { guest.new.held ≡ None }
+        ensures added { GoesOn (CameOfHeld self.old.keeper.world.history (session_of self.old.steward) guest.old.session guest.old.held) self.old.keeper.world self.new.keeper.world }
+        ensures session { KeepsOwn self.old.keeper.world.history guest.old.session guest.new.session }
+        ensures steward { session_of self.new.steward ≡ session_of self.old.steward }
+        ensures keys { self.new.keys ≡ self.old.keys }
+        ensures key { guest.new.key ≡ guest.old.key }
+    {
         let Some(held) = guest.held.take() else {
             return Ok(());
         };
@@ -39,7 +51,9 @@ impl<F: Folder> Office<F> {
     }
 
     /// How the held Observe of a connection stands.
-    pub fn standing_of_held(&self, guest: &Guest) -> Waiting {
+    pub fn standing_of_held(&self, guest: &Guest) -> Waiting
+        ensures { self.now.keeper.is_broken ≡ false → IsWaiting self.now.keeper.world self.now.now guest.now result }
+    {
         let Some(held) = &guest.held else {
             return Waiting::Nothing;
         };

@@ -11,13 +11,14 @@ mod outside;
 mod reporting;
 mod stepping;
 mod steward;
+mod waiting;
 
 pub use ages::Ages;
 pub use guest::{Guest, Held, Standing};
 pub use halt::Halt;
 pub use hearing::FULL;
-pub use holding::Waiting;
 pub use office::{Manners, Office};
 pub use outside::Outside;
 pub use stepping::STEWARD_NUMBER;
 pub use steward::Steward;
+pub use waiting::Waiting;

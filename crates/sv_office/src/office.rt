@@ -1,4 +1,6 @@
 //! What answers: the kept world, who may join, and what is told of it.
+ghost use Rattle.sv_office.specs.Offices.{IsSound};
+
 use crate::ages::Ages;
 use crate::steward::Steward;
 use std::alloc::Global;
@@ -19,7 +21,8 @@ pub struct Manners {
     pub stops: bool,
 }
 
-/// What the connections are answered by. It knows of each only while it answers it.
+/// What the connections are answered by. It knows of each only while it answers it. Its world is within the limits, and its steward's session has
+/// entries.
 #[derive(Drop)]
 pub struct Office<F: Folder> {
     pub alloc: Global,
@@ -37,6 +40,7 @@ pub struct Office<F: Folder> {
     pub site: Option<String>,
     /// Pages of these origins may upgrade too.
     pub origins: Vec<String>,
+    ghost sound: { IsSound keeper.world steward },
 }
 
 impl<F: Folder> Office<F> {

@@ -1,4 +1,10 @@
 //! When the steward reports.
+ghost use Rattle.std.specs.Prelude.{◌≡◌, ℕ, None, Some, OnOk};
+ghost use Rattle.sv_journal.specs.declared.entry.Entry.{Entry};
+ghost use Rattle.sv_keeper.specs.Keeping.{AreSettled};
+ghost use Rattle.sv_office.specs.Entering.{GoesOn, IsOf, IsOwn, IsReported};
+ghost use Rattle.sv_office.specs.Offices.{session_of};
+
 use crate::halt::Halt;
 use crate::office::Office;
 use sv_log::Folder;
@@ -8,7 +14,13 @@ const MOST_REPORTS: u32 = 64;
 
 impl<F: Folder> Office<F> {
     // Has the steward report what its polls are answered, at most so often.
-    fn report_once(&mut self) -> Result<bool, Halt> {
+    fn report_once(&mut self) -> Result<bool, Halt>
+        ensures steward { session_of self.new.steward ≡ session_of self.old.steward }
+        ensures reported { (t : ℕ) → session_of self.old.steward ≡ Some t → OnOk result (IsReported t self.old.keeper.world.history self.new.keeper.world.history) }
+        ensures none { self.old.steward ≡ None → self.new ≡ self.old }
+        ensures added { GoesOn (IsOf (session_of self.old.steward)) self.old.keeper.world self.new.keeper.world }
+        ensures keys { self.new.keys ≡ self.old.keys }
+    {
         let Some(steward) = &mut self.steward else {
             return Ok(false);
         };
@@ -18,13 +30,23 @@ impl<F: Folder> Office<F> {
     }
 
     /// With authority: has the steward report what was accepted just now.
-    pub fn report_accepted(&mut self) -> Result<(), Halt> {
+    pub fn report_accepted(&mut self) -> Result<(), Halt>
+        ensures steward { session_of self.new.steward ≡ session_of self.old.steward }
+        ensures reported { (t : ℕ) → session_of self.old.steward ≡ Some t → OnOk result (IsReported t self.old.keeper.world.history self.new.keeper.world.history) }
+        ensures none { self.old.steward ≡ None → self.new ≡ self.old }
+        ensures added { GoesOn (IsOf (session_of self.old.steward)) self.old.keeper.world self.new.keeper.world }
+        ensures keys { self.new.keys ≡ self.old.keys }
+    {
         self.report_once()?;
         Ok(())
     }
 
     /// When the steward is to report, where something is without a result.
-    pub fn report_due(&mut self) -> Option<u64> {
+    pub fn report_due(&mut self) -> Option<u64>
+        ensures keeper { self.new.keeper ≡ self.old.keeper }
+        ensures steward { self.new.steward ≡ self.old.steward }
+        ensures keys { self.new.keys ≡ self.old.keys }
+    {
         if self.steward.is_none() || self.manners.authority {
             return None;
         }
@@ -32,41 +54,80 @@ impl<F: Folder> Office<F> {
         Some(oldest.saturating_add(self.manners.report_within))
     }
 
-    /// Has the steward report what was without a result for too long.
-    pub fn report_old(&mut self) -> Result<(), Halt> {
-        if self.steward.is_none() || self.manners.authority {
-            return Ok(());
-        }
+    // Notes up to which position actions were accepted, where some have no result.
+    fn note_last(&mut self) -> Result<(), Halt>
+        ensures keeper { self.new.keeper ≡ self.old.keeper }
+        ensures steward { self.new.steward ≡ self.old.steward }
+        ensures keys { self.new.keys ≡ self.old.keys }
+    {
         if self.keeper.commit() < self.keeper.last() {
             self.ages.note(self.keeper.last(), self.now)?;
         }
+        Ok(())
+    }
+
+    // Whether the steward is to report now.
+    fn is_report_due(&mut self) -> bool
+        ensures keeper { self.new.keeper ≡ self.old.keeper }
+        ensures steward { self.new.steward ≡ self.old.steward }
+        ensures keys { self.new.keys ≡ self.old.keys }
+    {
+        match self.report_due() {
+            Some(due) => due <= self.now,
+            None => false,
+        }
+    }
+
+    /// Has the steward report what was without a result for too long.
+    pub fn report_old(&mut self) -> Result<(), Halt>
+        ensures steward { session_of self.new.steward ≡ session_of self.old.steward }
+        ensures added { GoesOn (IsOf (session_of self.old.steward)) self.old.keeper.world self.new.keeper.world }
+        ensures keys { self.new.keys ≡ self.old.keys }
+    {
+        if self.steward.is_none() || self.manners.authority {
+            return Ok(());
+        }
+        self.note_last()?;
         for _ in 0..MOST_REPORTS {
-            match self.report_due() {
-                Some(due) if due <= self.now => {}
-                _ => return Ok(()),
-            }
-            if !self.report_once()? {
-                return Ok(());
+            if !self.is_report_due() || !self.report_once()? {
+                break;
             }
         }
         Ok(())
     }
 
     /// Has the steward report until there is nothing without a result.
-    pub fn report_all(&mut self) -> Result<(), Halt> {
+    pub fn report_all(&mut self) -> Result<(), Halt>
+        ensures steward { session_of self.new.steward ≡ session_of self.old.steward }
+        ensures added { GoesOn (IsOf (session_of self.old.steward)) self.old.keeper.world self.new.keeper.world }
+        ensures keys { self.new.keys ≡ self.old.keys }
+    {
         for _ in 0..u64::MAX {
             if !self.report_once()? {
-                return Ok(());
+                break;
             }
         }
         Ok(())
     }
 
-    /// The steward joins and reports, before anybody is served.
-    pub fn begin(&mut self) -> Result<(), Halt> {
+    // The steward joins, where there is one.
+    fn join(&mut self) -> Result<(), Halt>
+        ensures added { GoesOn (λ (e : Entry). IsOwn self.old.keeper.world.history (session_of self.old.steward) e.session) self.old.keeper.world self.new.keeper.world }
+        ensures keys { self.new.keys ≡ self.old.keys }
+    {
         if let Some(steward) = &mut self.steward {
             steward.join(&mut self.keeper)?;
         }
+        Ok(())
+    }
+
+    /// The steward joins and reports, before anybody is served.
+    pub fn begin(&mut self) -> Result<(), Halt>
+        ensures added { GoesOn (λ (e : Entry). IsOwn self.old.keeper.world.history (session_of self.old.steward) e.session) self.old.keeper.world self.new.keeper.world }
+        ensures settled { OnOk result (AreSettled F.disk F.is_honest self.new.keeper) }
+        ensures keys { self.new.keys ≡ self.old.keys }
+    {
+        self.join()?;
         self.report_all()?;
         match self.keeper.settle() {
             Ok(()) => Ok(()),

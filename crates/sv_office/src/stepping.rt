@@ -1,10 +1,28 @@
 //! A request: it is refused a connection, held, answered without an entry, or stepped.
+ghost use Rattle.std.specs.Prelude.{◌≡◌, ◌≢◌, ◌⊎◌, ℕ, true, false, List, None, Some, IfOk, OnOk, IfSome, IfNone, option_map, length};
+ghost use Rattle.sv_wire.specs.Grammar.{IsWireReply};
+ghost use Rattle.sv_journal.specs.declared.entry.Entry.{Entry};
+ghost use Rattle.sv_journal.specs.History.{accepted, full_reply};
+ghost use Rattle.sv_journal.specs.Laws.{AreWithinLimits};
+ghost use Rattle.sv_journal.specs.Sessions.{is_end};
+ghost use Rattle.sv_living.specs.Quiet.{IsQuiet};
+ghost use Rattle.sv_living.specs.World.{WorldView, after, reply_in};
+ghost use Rattle.sv_wire.specs.declared.message.Reply.{Reply};
+ghost use Rattle.sv_wire.specs.declared.message.Request.{Request};
+ghost use Rattle.sv_office.specs.Admitting.{is_admitted, number_in};
+ghost use Rattle.sv_office.specs.Entering.{GoesOn, KeepsOwn, IsEndOf, IsEnded, Follows, CameOf, CameOfAsking, WasFollowed, WasAnswered};
+ghost use Rattle.sv_office.specs.Guests.{Stays};
+ghost use Rattle.sv_office.specs.Offices.{AreApart, session_of};
+ghost use Rattle.sv_office.specs.Telling.{IsServed, IsOwed, WouldShowNothing, ShowsSomething};
+ghost use Rattle.sv_office.specs.declared.guest.Standing.TheVariants as standing;
+
 use crate::guest::{Guest, Held, Standing};
 use crate::halt::Halt;
 use crate::office::Office;
-use sv_keeper::KeepFault;
+use sv_journal::served_replies_are_messages;
+use sv_keeper::{KeepFault, Keeper};
 use sv_log::Folder;
-use sv_wire::{Refusal, Reply, Request};
+use sv_wire::{Refusal, Reply, Request, read_reply};
 use sv_world::ClientId;
 
 /// The client number of the steward.
@@ -28,16 +46,46 @@ fn stops(reply: &Reply) -> bool {
     }
 }
 
-fn joining(request: &Request) -> Option<ClientId> {
+fn joining(request: &Request) -> Option<ClientId>
+    ensures { option_map (λ client. client.0) result ≡ number_in request.now }
+{
     match request {
         Request::Join { client, .. } => Some(*client),
         _ => None,
     }
 }
 
+/// What a session is answered next is a message.
+fn answers_are_messages<F: Folder>(keeper: &Keeper<F>)
+    requires { AreWithinLimits keeper.now.world.rules }
+    ensures stepped { (s : ℕ) → (request : Request)
+        → IsWireReply (full_reply (accepted (after keeper.now.world s request).history) (reply_in keeper.now.world s request)) }
+    ensures quiet { (s : ℕ) → (request : Request) → (reply : Reply)
+        → IsQuiet keeper.now.world.rules keeper.now.world.stewardship keeper.now.world.history s request (Some reply) → IsWireReply reply }
+{
+    keeper.is_lawful();
+    served_replies_are_messages();
+}
+
+// Puts a reply behind what is to be sent.
+fn tell(guest: &mut Guest, reply: &Reply)
+    requires message { IsWireReply reply.now }
+    requires open { guest.old.standing ≡ standing.Open }
+    ensures served { (v : WorldView) → IsOwed v guest.old reply.now → IsServed v guest.new }
+    ensures session { guest.new.session ≡ guest.old.session }
+    ensures guest { Stays guest.old guest.new }
+{
+    read_reply(reply);
+    if guest.peer.say(reply).is_err() {
+        guest.leave();
+    }
+}
+
 impl<F: Folder> Office<F> {
     // Whether a connection may ask this: where keys are wanted it showed one, it joins under no number but its key's, and never under the steward's.
-    fn admits(&self, guest: &Guest, request: &Request) -> bool {
+    fn admits(&self, guest: &Guest, request: &Request) -> bool
+        ensures { result ≡ is_admitted self.now.keys guest.now.key request.now }
+    {
         let client = joining(request);
         if client == Some(ClientId(STEWARD_NUMBER)) {
             return false;
@@ -54,8 +102,19 @@ impl<F: Folder> Office<F> {
         }
     }
 
-    /// Takes a request of a connection.
-    pub fn take_request(&mut self, guest: &mut Guest, request: Request) -> Result<(), Halt> {
+    /// Takes a request of a connection that is served. An End is none: only the server enters one.
+    pub fn take_request(&mut self, guest: &mut Guest, request: Request) -> Result<(), Halt>
+        requires asks { is_end request ≡ false }
+        requires open { guest.old.standing ≡ standing.Open }
+        requires served { IsServed self.old.keeper.world guest.old }
+        requires apart { AreApart guest.old.session (session_of self.old.steward) }
+        ensures served { OnOk result (IsServed self.new.keeper.world guest.new) }
+        ensures added { GoesOn (CameOfAsking self.old.keeper.world.history (session_of self.old.steward) self.old.keys guest.old request) self.old.keeper.world self.new.keeper.world }
+        ensures session { KeepsOwn self.old.keeper.world.history guest.old.session guest.new.session }
+        ensures steward { session_of self.new.steward ≡ session_of self.old.steward }
+        ensures keys { self.new.keys ≡ self.old.keys }
+        ensures key { guest.new.key ≡ guest.old.key }
+    {
         guest.heard = self.now;
         guest.has_spoken = true;
         if !self.admits(guest, &request) {
@@ -75,16 +134,32 @@ impl<F: Folder> Office<F> {
     }
 
     /// Answers a request: without an entry, where it is an Observe that would show nothing, and else by a step.
-    pub fn answer(&mut self, guest: &mut Guest, request: &Request) -> Result<(), Halt> {
+    pub fn answer(&mut self, guest: &mut Guest, request: &Request) -> Result<(), Halt>
+        requires asks { is_end request.now ≡ false }
+        requires open { guest.old.standing ≡ standing.Open }
+        requires served { IsServed self.old.keeper.world guest.old }
+        requires apart { AreApart guest.old.session (session_of self.old.steward) }
+        ensures served { OnOk result (IsServed self.new.keeper.world guest.new) }
+        ensures answered { OnOk result (WasAnswered (session_of self.old.steward) self.old.manners.authority self.old.keeper.world self.new.keeper.world request.now) }
+        ensures added { GoesOn (CameOf self.old.keeper.world.history (session_of self.old.steward) guest.old.session request.now) self.old.keeper.world self.new.keeper.world }
+        ensures session { KeepsOwn self.old.keeper.world.history guest.old.session guest.new.session }
+        ensures steward { session_of self.new.steward ≡ session_of self.old.steward }
+        ensures keys { self.new.keys ≡ self.old.keys }
+        ensures guest { Stays guest.old guest.new }
+    {
         if let Some(reply) = self.quiet_answer(guest, request) {
-            self.tell(guest, &reply);
+            answers_are_messages(&self.keeper);
+            tell(guest, &reply);
             return Ok(());
         }
         self.step(guest, request)
     }
 
     /// What an Observe of a connection would be answered, where that shows nothing.
-    pub fn quiet_answer(&self, guest: &Guest, request: &Request) -> Option<Reply> {
+    pub fn quiet_answer(&self, guest: &Guest, request: &Request) -> Option<Reply>
+        ensures some { IfSome result (λ reply. WouldShowNothing self.now.keeper.world guest.now request.now reply) }
+        ensures none { self.now.keeper.is_broken ≡ false → IfNone result (ShowsSomething self.now.keeper.world guest.now request.now) }
+    {
         let Request::Observe { .. } = request else {
             return None;
         };
@@ -92,19 +167,25 @@ impl<F: Folder> Office<F> {
         self.keeper.quiet_answer(session, request)
     }
 
-    // Puts a reply behind what is to be sent.
-    fn tell(&mut self, guest: &mut Guest, reply: &Reply) {
-        if guest.peer.say(reply).is_err() {
-            guest.leave();
-        }
-    }
-
     // Steps a request, and does what its reply asks for.
-    fn step(&mut self, guest: &mut Guest, request: &Request) -> Result<(), Halt> {
+    fn step(&mut self, guest: &mut Guest, request: &Request) -> Result<(), Halt>
+        requires asks { is_end request.now ≡ false }
+        requires open { guest.old.standing ≡ standing.Open }
+        requires served { IsServed self.old.keeper.world guest.old }
+        requires apart { AreApart guest.old.session (session_of self.old.steward) }
+        ensures served { OnOk result (IsServed self.new.keeper.world guest.new) }
+        ensures answered { OnOk result (WasAnswered (session_of self.old.steward) self.old.manners.authority self.old.keeper.world self.new.keeper.world request.now) }
+        ensures added { GoesOn (CameOf self.old.keeper.world.history (session_of self.old.steward) guest.old.session request.now) self.old.keeper.world self.new.keeper.world }
+        ensures session { KeepsOwn self.old.keeper.world.history guest.old.session guest.new.session }
+        ensures steward { session_of self.new.steward ≡ session_of self.old.steward }
+        ensures keys { self.new.keys ≡ self.old.keys }
+        ensures guest { Stays guest.old guest.new }
+    {
         let session = match guest.session {
             Some(session) => session,
             None => self.keeper.next_session(),
         };
+        answers_are_messages(&self.keeper);
         let before = self.standing_of(guest, request);
         match self.keeper.step(session, request) {
             Ok(reply) => {
@@ -123,23 +204,22 @@ impl<F: Folder> Office<F> {
             }
         }
     }
-
     // What a request may change: the last position, and by a Submit how many outcomes its client has.
-    fn standing_of(&mut self, guest: &mut Guest, request: &Request) -> Before {
+    fn standing_of(&mut self, guest: &mut Guest, request: &Request) -> Before
+        ensures last { result.last ≡ length (accepted self.old.keeper.world.history) }
+        ensures same { self.new ≡ self.old }
+        ensures guest { guest.new ≡ record guest.old { client = guest.new.client } }
+    {
         if let Request::Join { client, .. } = request {
             guest.client = Some(*client);
         }
-        let submits = match request {
-            Request::Submit { .. } => true,
-            _ => false,
+        let outcomes = match request {
+            Request::Submit { .. } => self.outcomes_of(guest),
+            _ => None,
         };
         Before {
             last: self.keeper.last(),
-            outcomes: if submits {
-                self.outcomes_of(guest)
-            } else {
-                None
-            },
+            outcomes,
         }
     }
 
@@ -148,11 +228,25 @@ impl<F: Folder> Office<F> {
         Some(self.keeper.outcome_count(client))
     }
 
-    fn take_reply(&mut self, guest: &mut Guest, reply: &Reply, before: Before) -> Result<(), Halt> {
+    // Tells the reply of what was stepped. With authority the steward reports what was accepted. Where the session is over, its End is entered.
+    fn take_reply(&mut self, guest: &mut Guest, reply: &Reply, before: Before) -> Result<(), Halt>
+        requires message { IsWireReply reply.now }
+        requires open { guest.old.standing ≡ standing.Open }
+        requires owed { IsOwed self.old.keeper.world guest.old reply.now }
+        requires apart { AreApart guest.old.session (session_of self.old.steward) }
+        ensures served { OnOk result (IsServed self.new.keeper.world guest.new) }
+        ensures followed { OnOk result (WasFollowed (session_of self.old.steward) self.old.manners.authority before.last guest.old.session
+            self.old.keeper.world.history self.new.keeper.world.history) }
+        ensures added { GoesOn (Follows (session_of self.old.steward) guest.old.session) self.old.keeper.world self.new.keeper.world }
+        ensures session { guest.new.session ≡ guest.old.session ⊎ guest.new.session ≡ None }
+        ensures steward { session_of self.new.steward ≡ session_of self.old.steward }
+        ensures keys { self.new.keys ≡ self.old.keys }
+        ensures guest { Stays guest.old guest.new }
+    {
         if before.outcomes.is_some() && self.outcomes_of(guest) != before.outcomes {
             self.counts.answer(reply);
         }
-        self.tell(guest, reply);
+        tell(guest, reply);
         if self.manners.authority && self.keeper.last() != before.last {
             self.report_accepted()?;
         }
@@ -163,15 +257,23 @@ impl<F: Folder> Office<F> {
         Ok(())
     }
 
-    /// Enters the End of a connection's session, where it has one.
-    pub fn end(&mut self, guest: &mut Guest) -> Result<(), Halt> {
+    /// Enters the End of a connection's session, where it has one. Then it has none, and is served no more.
+    pub fn end(&mut self, guest: &mut Guest) -> Result<(), Halt>
+        requires served { IsServed self.old.keeper.world guest.old }
+        ensures served { OnOk result (IsServed self.new.keeper.world guest.new) }
+        ensures ended { IsEnded guest.old.session self.old.keeper.world.history self.new.keeper.world.history }
+        ensures added { GoesOn (IsEndOf guest.old.session) self.old.keeper.world self.new.keeper.world }
+        ensures session { guest.new.session ≡ None }
+        ensures standing { guest.old.session ≢ None → guest.new.standing ≢ standing.Open }
+        ensures steward { session_of self.new.steward ≡ session_of self.old.steward }
+        ensures keys { self.new.keys ≡ self.old.keys }
+        ensures guest { Stays guest.old guest.new }
+    {
         let Some(session) = guest.session else {
             return Ok(());
         };
+        guest.close();
         guest.session = None;
-        if guest.standing == Standing::Open {
-            guest.close();
-        }
         match self.keeper.step(session, &Request::End) {
             Ok(_) => Ok(()),
             Err(_) => Err(Halt::Log),

@@ -1,9 +1,17 @@
 //! The steward: an honest client within the server.
+ghost use Rattle.std.specs.Prelude.{◌≡◌, ℕ, None, Some, IfOk, OnOk};
+ghost use Rattle.sv_journal.specs.declared.entry.Entry.{Entry};
+ghost use Rattle.sv_journal.specs.History.{accepted, full_reply};
+ghost use Rattle.sv_living.specs.World.{after, reply_in};
+ghost use Rattle.sv_wire.specs.declared.message.Request.TheVariants as requests;
+ghost use Rattle.sv_office.specs.Entering.{IsOwn, KeepsOwn, GoesOn, IsOf, IsReported};
+ghost use Rattle.sv_office.specs.Offices.{HasBegun};
+
 use crate::halt::Halt;
 use crate::stepping::STEWARD_NUMBER;
 use std::alloc::{AllocError, Global};
 use sv_client::{LeanClient, PollFault, TakeFault};
-use sv_keeper::Keeper;
+use sv_keeper::{KeepFault, Keeper};
 use sv_log::Folder;
 use sv_wire::{Refusal, Reply, Request};
 use sv_world::{ClientId, List, Shape};
@@ -14,7 +22,8 @@ const MOST_SESSIONS: u32 = 4_000_000_000;
 /// A client that is asked by calls and not over a connection.
 #[derive(Drop)]
 pub struct Steward {
-    client: LeanClient,
+    alloc: Global,
+    client: Box<LeanClient>,
     session: Option<u64>,
 }
 
@@ -33,74 +42,109 @@ fn results_in(request: &Request) -> u64 {
     }
 }
 
+/// The life that a refused Join is told, where another one was greater.
+fn told_life(reply: &Reply) -> Option<u32> {
+    match reply {
+        Reply::Refused { code, detail } if *code == Refusal::OldLife.code() => Some(*detail),
+        _ => None,
+    }
+}
+
+/// Enters what a session asks.
+fn ask<F: Folder>(
+    keeper: &mut Keeper<F>,
+    session: u64,
+    request: &Request,
+) -> Result<Reply, Halt>
+    ensures ok { IfOk result (λ reply. (keeper.new.world ≡ after keeper.old.world session request.now)
+        × (reply ≡ full_reply (accepted keeper.new.world.history) (reply_in keeper.old.world session request.now))) }
+    ensures added { GoesOn (λ (e : Entry). (e.session ≡ session) × (e.request ≡ request.now)) keeper.old.world keeper.new.world }
+{
+    match keeper.step(session, request) {
+        Ok(reply) => Ok(reply),
+        Err(KeepFault::Broken) => Err(Halt::Log),
+        Err(_) => Err(Halt::Memory),
+    }
+}
+
 impl Steward {
-    pub fn new(alloc: Global, shape: Shape) -> Result<Steward, AllocError> {
+    pub fn new(alloc: Global, shape: Shape) -> Result<Steward, AllocError>
+        ensures { IfOk result (λ steward. steward.session ≡ None) }
+    {
+        let client = LeanClient::new(alloc, ClientId(STEWARD_NUMBER), shape, List::new(alloc))?;
         Ok(Steward {
-            client: LeanClient::new(alloc, ClientId(STEWARD_NUMBER), shape, List::new(alloc))?,
+            alloc,
+            client: Box::new(alloc, client)?,
             session: None,
         })
     }
 
-    // Asks, in its session or the next one.
-    fn ask<F: Folder>(&mut self, keeper: &mut Keeper<F>, request: &Request) -> Result<Reply, Halt> {
-        let session = match self.session {
-            Some(session) => session,
-            None => keeper.next_session(),
-        };
-        match keeper.step(session, request) {
-            Ok(reply) => {
-                self.session = Some(session);
-                Ok(reply)
-            }
-            Err(sv_keeper::KeepFault::Broken) => Err(Halt::Log),
-            Err(_) => Err(Halt::Memory),
-        }
-    }
-
-    fn take(&mut self, reply: &Reply) -> Result<Option<Request>, Halt> {
+    fn take(&mut self, reply: &Reply) -> Result<Option<Request>, Halt>
+        ensures session { self.new.session ≡ self.old.session }
+    {
         match self.client.take(reply) {
             Ok(done) => Ok(done),
             Err(fault) => Err(fault_of_take(fault)),
         }
     }
 
-    // Asks to join with its next life.
-    fn begin<F: Folder>(&mut self, keeper: &mut Keeper<F>) -> Result<Reply, Halt> {
+    // Asks to join with its next life, in its session or in the next one.
+    fn begin<F: Folder>(&mut self, keeper: &mut Keeper<F>) -> Result<Reply, Halt>
+        ensures begun { OnOk result (HasBegun keeper.new.world self.new.session) }
+        ensures session { KeepsOwn keeper.old.world.history self.old.session self.new.session }
+        ensures added { GoesOn (λ (e : Entry). IsOwn keeper.old.world.history self.old.session e.session) keeper.old.world keeper.new.world }
+    {
         if self.client.sessions() >= MOST_SESSIONS {
             return Err(Halt::Steward);
         }
         let requests = self.client.join()?;
-        match requests.first() {
-            Some(request) => self.ask(keeper, request),
-            None => Err(Halt::Steward),
-        }
+        let Some(request) = requests.first() else {
+            return Err(Halt::Steward);
+        };
+        let session = match self.session {
+            Some(session) => session,
+            None => keeper.next_session(),
+        };
+        let reply = ask(keeper, session, request)?;
+        self.session = Some(session);
+        Ok(reply)
     }
 
-    // Passes over the lives up to one, which were of earlier runs.
-    fn pass_over(&mut self, life: u32) -> Result<(), Halt> {
-        for _ in self.client.sessions()..life.min(MOST_SESSIONS) {
-            if self.client.sessions() >= MOST_SESSIONS {
-                return Err(Halt::Steward);
-            }
-            let _ = self.client.join()?;
-        }
+    // It is as one that began so many sessions in runs that are over.
+    fn renew(&mut self, sessions: u32) -> Result<(), AllocError>
+        ensures session { self.new.session ≡ self.old.session }
+    {
+        let shape = self.client.shape();
+        let client = LeanClient::after(
+            self.alloc,
+            ClientId(STEWARD_NUMBER),
+            shape,
+            List::new(self.alloc),
+            sessions,
+        )?;
+        self.client = Box::new(self.alloc, client)?;
         Ok(())
     }
 
     /// Joins. A refusal tells the greatest life that there was, and it joins with the next one.
-    pub fn join<F: Folder>(&mut self, keeper: &mut Keeper<F>) -> Result<(), Halt> {
+    pub fn join<F: Folder>(&mut self, keeper: &mut Keeper<F>) -> Result<(), Halt>
+        ensures begun { OnOk result (HasBegun keeper.new.world self.new.session) }
+        ensures session { KeepsOwn keeper.old.world.history self.old.session self.new.session }
+        ensures added { GoesOn (λ (e : Entry). IsOwn keeper.old.world.history self.old.session e.session) keeper.old.world keeper.new.world }
+    {
         let mut reply = self.begin(keeper)?;
-        if let Reply::Refused { code, detail } = &reply {
-            if *code == Refusal::OldLife.code() {
-                self.pass_over(*detail)?;
-                reply = self.begin(keeper)?;
-            }
+        if let Some(life) = told_life(&reply) {
+            self.renew(life)?;
+            reply = self.begin(keeper)?;
         }
         let _ = self.take(&reply)?;
         Ok(())
     }
 
-    fn poll(&mut self) -> Result<Request, Halt> {
+    fn poll(&mut self) -> Result<Request, Halt>
+        ensures session { self.new.session ≡ self.old.session }
+        ensures poll { IfOk result (λ request. request ≡ requests.Poll) }
+    {
         if !self.client.in_session() {
             return Err(Halt::Steward);
         }
@@ -111,15 +155,36 @@ impl Steward {
         }
     }
 
-    /// Polls, and reports what it is sent. The answer is how many results it reported, 0 where it was answered Idle.
-    pub fn report<F: Folder>(&mut self, keeper: &mut Keeper<F>) -> Result<u64, Halt> {
-        let request = self.poll()?;
-        let reply = self.ask(keeper, &request)?;
-        let Some(done) = self.take(&reply)? else {
-            return Ok(0);
+    /// Polls, and reports what it is sent. The answer is how many results it reported, 0 where it was answered Idle. Without a session it is an error.
+    pub fn report<F: Folder>(&mut self, keeper: &mut Keeper<F>) -> Result<u64, Halt>
+        ensures session { self.new.session ≡ self.old.session }
+        ensures reported { OnOk result ((t : ℕ) × (self.old.session ≡ Some t) × IsReported t keeper.old.world.history keeper.new.world.history) }
+        ensures added { GoesOn (IsOf self.old.session) keeper.old.world keeper.new.world }
+    {
+        let Some(session) = self.session else {
+            return Err(Halt::Steward);
         };
-        let noted = self.ask(keeper, &done)?;
+        let request = self.poll()?;
+        let reply = ask(keeper, session, &request)?;
+        match self.take(&reply)? {
+            Some(done) => self.note(keeper, session, &done),
+            None => Ok(0),
+        }
+    }
+
+    // Reports what it was sent.
+    fn note<F: Folder>(
+        &mut self,
+        keeper: &mut Keeper<F>,
+        session: u64,
+        done: &Request,
+    ) -> Result<u64, Halt>
+        ensures session { self.new.session ≡ self.old.session }
+        ensures reported { OnOk result (keeper.new.world ≡ after keeper.old.world session done.now) }
+        ensures added { GoesOn (λ (e : Entry). e.session ≡ session) keeper.old.world keeper.new.world }
+    {
+        let noted = ask(keeper, session, done)?;
         let _ = self.take(&noted)?;
-        Ok(results_in(&done))
+        Ok(results_in(done))
     }
 }

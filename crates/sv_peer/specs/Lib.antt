@@ -1,1 +1,6 @@
--- The definitions of this crate.
+-- The definitions of this crate, file by file.
+pub mod Past
+pub mod Hellos
+pub mod Sockets
+pub mod View
+pub mod Invariant

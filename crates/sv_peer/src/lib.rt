@@ -2,11 +2,16 @@
 #![tactic(auto)]
 
 mod desk;
+mod heard;
 mod hello;
+mod manner;
+mod past;
 mod peer;
 mod socket;
 mod web;
 
 pub use desk::Desk;
+pub use heard::Heard;
 pub use hello::digest_of;
-pub use peer::{Heard, Peer};
+pub use manner::Manner;
+pub use peer::Peer;

@@ -1,46 +1,42 @@
 //! A connection, whichever way it is spoken.
+ghost use Rattle.std.specs.Prelude.{◌≡◌, ◌⊎◌, ◌+◌, ◌-◌, ◌++◌, [], length, take, drop, IfOk, OnOk, OnErr, IsTrue};
+ghost use Rattle.sv_wire.specs.Laws.{IsReply};
+ghost use Rattle.sv_frame.specs.Frames.{greatest_frame, FitsFrame};
+ghost use Rattle.sv_peer.specs.View.{new_peer, is_letter, begun, IsInStep, Keeps, Tells, Upgrades, Answers, TakesIn, Hears, Nexts, TakesFrame, Puts, after_sent};
+ghost use Rattle.sv_peer.specs.Invariant.{manner_of, heard_by};
+
 use crate::desk::Desk;
+use crate::heard::Heard;
 use crate::hello::heard_of;
+use crate::manner::Manner;
+use crate::past::{Sent, Told};
 use crate::socket::Socket;
-use crate::web::{Became, Web};
+use crate::web::{Course, Web};
 use std::alloc::{AllocError, Global};
 use std::hash::RandomState;
+use std::marker::Model;
+use sv_exchange::Message;
 use sv_frame::{FrameReader, Next, put_frame};
-use sv_wire::{Reply, Request, encode_reply_into};
+use sv_wire::{Reply, Request};
 use websocket::protocol::CloseCode;
 
 /// How many bytes of HTTP are taken in at once.
 const PIECE: usize = 4096;
 
-/// How a connection is spoken.
+/// How a connection is spoken, with what came of it.
 #[derive(Drop)]
 enum Voice {
     /// No byte came yet.
     Unknown,
     /// Frames.
     Plain(FrameReader),
-    Web(Web),
+    Web(Box<Web>),
     Socket(Socket),
     /// Nothing more is taken.
     Closed,
 }
 
-/// What came next.
-#[derive(Drop)]
-pub enum Heard {
-    /// A request. It is `Bad` where a payload is none, or is too long.
-    Request(Request),
-    /// A key was shown, of which this is the digest.
-    Hello([u8; 32]),
-    /// Nothing whole has come.
-    NotYet,
-    /// Nothing more will come.
-    Closed,
-    /// There was no memory for it. It stays.
-    Memory,
-}
-
-/// A connection: what came and was not taken, and what is to be sent.
+/// A connection: what came and was not taken, and what is to be sent. Contracts see it as a `PeerView`.
 #[derive(Drop)]
 pub struct Peer {
     alloc: Global,
@@ -49,10 +45,31 @@ pub struct Peer {
     shown: Option<[u8; 32]>,
     output: Vec<u8>,
     payload: Vec<u8>,
+    told: Told,
+    sent: Sent,
+}
+
+impl Model for Peer {
+    ghost use Rattle.std.specs.Coded.{codes};
+    ghost use Rattle.sv_wire.specs.contracts.message.Reply as reply;
+    ghost use Rattle.sv_peer.specs.contracts.manner.Manner as manner;
+    ghost use Rattle.sv_peer.specs.View.{PeerView};
+
+    ghost Value = { PeerView };
+
+    ghost coded = { Prim.hlevel (codes, reply.the_row.coded, manner.the_row.coded) };
+
+    ghost use Rattle.sv_peer.specs.Invariant.{view_of, IsPeer};
+
+    ghost view = { view_of };
+
+    ghost invariant = { IsPeer };
 }
 
 // Takes the first frame off.
-fn next_framed(alloc: Global, reader: &mut FrameReader) -> Heard {
+fn next_framed(alloc: Global, reader: &mut FrameReader) -> Heard
+    ensures { TakesFrame reader.old result reader.new }
+{
     let heard = match reader.first() {
         Next::NotYet => return Heard::NotYet,
         // It stays: no frame can be read from here on.
@@ -66,24 +83,100 @@ fn next_framed(alloc: Global, reader: &mut FrameReader) -> Heard {
     heard
 }
 
-fn is_letter(byte: u8) -> bool {
+fn is_letter(byte: u8) -> bool
+    ensures { result ≡ is_letter byte }
+{
     byte.is_ascii_alphabetic()
+}
+
+// The first byte tells how a connection is spoken: HTTP, where it is a letter, and else frames.
+fn begin(alloc: Global, first: u8, keys: RandomState) -> Result<Voice, AllocError>
+    ensures manner { IfOk result (λ voice. manner_of voice ≡ begun first) }
+    ensures heard { IfOk result (λ voice. heard_by voice ≡ []) }
+{
+    if is_letter(first) {
+        Ok(Voice::Web(Box::new(alloc, Web::new(alloc, keys))?))
+    } else {
+        Ok(Voice::Plain(FrameReader::new(alloc)?))
+    }
+}
+
+// Takes in what there is room for.
+fn feed(reader: &mut FrameReader, piece: &[u8])
+    ensures { reader.new ≡ reader.old ++ take (greatest_frame - length reader.old) piece.now }
+{
+    let count = piece.len().min(reader.spare());
+    reader.feed(&piece[..count]);
+}
+
+// Puts a payload behind the output.
+fn put(voice: &mut Voice, payload: &[u8], output: &mut Vec<u8>) -> Result<(), AllocError>
+    requires { FitsFrame payload.now }
+    ensures same { voice.new ≡ voice.old }
+    ensures ok { OnOk result (Puts (manner_of voice.old) payload.now output.old.items output.new.items) }
+    ensures err { OnErr result (output.new.items ≡ output.old.items) }
+{
+    match voice {
+        Voice::Plain(_) => put_frame(payload, output),
+        Voice::Socket(socket) => socket.say(payload, output),
+        Voice::Unknown | Voice::Web(_) | Voice::Closed => Err(AllocError),
+    }
+}
+
+fn cut_front(bytes: &mut Vec<u8>, count: usize)
+    ensures { bytes.new.items ≡ drop count bytes.old.items }
+{
+    if count >= bytes.len() {
+        bytes.clear();
+    } else {
+        bytes.drain(..count);
+    }
+}
+
+// The WebSocket that a connection became.
+fn upgraded(alloc: Global, voice: &mut Voice) -> Result<(), AllocError>
+    ensures { (manner_of voice.new ≡ Manner.Socket) ⊎ (manner_of voice.new ≡ Manner.Closed) }
+{
+    let Voice::Web(web) = std::mem::replace(voice, Voice::Closed) else {
+        return Ok(());
+    };
+    *voice = Voice::Socket(Box::into_inner(web).into_socket(alloc)?);
+    Ok(())
 }
 
 impl Peer {
     /// Nothing came, and nothing is to be sent.
-    pub fn new(alloc: Global) -> Peer {
+    pub fn new(alloc: Global) -> Peer
+        ensures { result ≡ new_peer }
+    {
         Peer {
             alloc,
             voice: Voice::Unknown,
             shown: None,
             output: Vec::new(alloc),
             payload: Vec::new(alloc),
+            told: Told::new(),
+            sent: Sent::new(),
+        }
+    }
+
+    /// How it is spoken.
+    pub fn manner(&self) -> Manner
+        ensures { result ≡ self.now.manner }
+    {
+        match &self.voice {
+            Voice::Unknown => Manner::Unknown,
+            Voice::Plain(_) => Manner::Frames,
+            Voice::Web(_) => Manner::Http,
+            Voice::Socket(_) => Manner::Socket,
+            Voice::Closed => Manner::Closed,
         }
     }
 
     /// How many bytes may come now.
-    pub fn spare(&self) -> usize {
+    pub fn spare(&self) -> usize
+        ensures frames { self.now.manner ≡ Manner.Frames → result + length self.now.heard ≡ greatest_frame }
+    {
         match &self.voice {
             Voice::Unknown => PIECE,
             Voice::Web(web) if web.is_paused() => 0,
@@ -95,61 +188,81 @@ impl Peer {
     }
 
     // The first byte tells how the connection is spoken: HTTP, where it is a letter, and else frames.
-    fn begin(&mut self, first: u8, keys: RandomState) -> Result<(), AllocError> {
-        let Voice::Unknown = &self.voice else {
-            return Ok(());
-        };
-        if is_letter(first) {
-            self.voice = Voice::Web(Web::new(self.alloc, keys));
-        } else {
-            self.voice = Voice::Plain(FrameReader::new(self.alloc)?);
-        }
+    fn begin(&mut self, first: u8, keys: RandomState) -> Result<(), AllocError>
+        requires { self.old.manner ≡ Manner.Unknown }
+        ensures ok { OnOk result (self.new ≡ record self.old { manner = begun first }) }
+        ensures err { OnErr result (self.new ≡ self.old) }
+    {
+        self.voice = begin(self.alloc, first, keys)?;
         Ok(())
     }
 
-    fn turn_into(&mut self, became: Became) {
-        match became {
-            Became::Web(web) => self.voice = Voice::Web(web),
-            Became::Socket(socket, shown) => {
-                self.voice = Voice::Socket(socket);
-                self.shown = shown;
+    // It speaks HTTP no more.
+    fn upgrade<D: Desk>(&mut self, desk: &mut D) -> Result<(), AllocError>
+        requires { self.old.manner ≡ Manner.Http }
+        ensures { Upgrades self.old self.new }
+    {
+        upgraded(self.alloc, &mut self.voice)?;
+        self.shown = desk.take_key();
+        Ok(())
+    }
+
+    fn hear_web<D: Desk>(&mut self, piece: &[u8], desk: &mut D) -> Result<(), AllocError>
+        requires { self.old.manner ≡ Manner.Http }
+        ensures { Answers self.old self.new }
+    {
+        let Voice::Web(web) = &mut self.voice else {
+            return Ok(());
+        };
+        match web.hear(desk, piece, &mut self.output)? {
+            Course::On => Ok(()),
+            Course::Closed => {
+                self.voice = Voice::Closed;
+                Ok(())
             }
-            Became::Closed => self.voice = Voice::Closed,
+            Course::Upgraded => self.upgrade(desk),
         }
     }
 
-    /// Takes bytes in that came, at most as many as there is room for. HTTP requests are answered by the desk.
+    fn take_in<D: Desk>(&mut self, piece: &[u8], desk: &mut D) -> Result<(), AllocError>
+        ensures ok { OnOk result (TakesIn self.old.manner self.old piece.now self.new) }
+        ensures kept { Keeps self.old self.new }
+    {
+        match &mut self.voice {
+            Voice::Unknown | Voice::Closed => Ok(()),
+            Voice::Plain(reader) => {
+                feed(reader, piece);
+                Ok(())
+            }
+            Voice::Socket(socket) => socket.hear(piece),
+            Voice::Web(_) => self.hear_web(piece, desk),
+        }
+    }
+
+    /// Takes bytes in that came, at most as many as there is room for. HTTP requests are answered by the desk. After an error the connection can
+    /// only be closed.
     pub fn hear<D: Desk>(
         &mut self,
         piece: &[u8],
         keys: RandomState,
         desk: &mut D,
-    ) -> Result<(), AllocError> {
-        if let Some(first) = piece.first() {
+    ) -> Result<(), AllocError>
+        ensures ok { OnOk result (Hears self.old piece.now self.new) }
+        ensures kept { Keeps self.old self.new }
+    {
+        if let Manner::Unknown = self.manner() {
+            let Some(first) = piece.first() else {
+                return Ok(());
+            };
             self.begin(*first, keys)?;
         }
-        match std::mem::replace(&mut self.voice, Voice::Closed) {
-            Voice::Unknown => self.voice = Voice::Unknown,
-            Voice::Closed => {}
-            Voice::Plain(mut reader) => {
-                let count = piece.len().min(reader.spare());
-                reader.feed(&piece[..count]);
-                self.voice = Voice::Plain(reader);
-            }
-            Voice::Web(web) => {
-                let became = web.hear(self.alloc, desk, piece, &mut self.output)?;
-                self.turn_into(became);
-            }
-            Voice::Socket(mut socket) => {
-                socket.hear(piece)?;
-                self.voice = Voice::Socket(socket);
-            }
-        }
-        Ok(())
+        self.take_in(piece, desk)
     }
 
     /// Whether HTTP requests may be left that came and are not answered, since too much waits to be sent.
-    pub fn is_paused(&self) -> bool {
+    pub fn is_paused(&self) -> bool
+        ensures { IsTrue result → self.now.manner ≡ Manner.Http }
+    {
         match &self.voice {
             Voice::Web(web) => web.is_paused(),
             _ => false,
@@ -157,7 +270,10 @@ impl Peer {
     }
 
     /// Takes what came next.
-    pub fn next(&mut self) -> Heard {
+    pub fn next(&mut self) -> Heard
+        ensures next { Nexts self.old result self.new }
+        ensures kept { Keeps self.old self.new }
+    {
         if let Some(digest) = self.shown.take() {
             return Heard::Hello(digest);
         }
@@ -169,33 +285,44 @@ impl Peer {
         }
     }
 
-    /// Puts a reply behind what is to be sent. Without memory the connection can only be closed.
-    pub fn say(&mut self, reply: &Reply) -> Result<(), AllocError> {
-        encode_reply_into(&mut self.payload, reply)?;
-        match &mut self.voice {
-            Voice::Socket(socket) => socket.say(&self.payload, &mut self.output),
-            _ => put_frame(&self.payload, &mut self.output),
-        }
+    /// Puts a reply behind what is to be sent. The error is for want of memory, and where the connection speaks no frames and is no open WebSocket:
+    /// it can only be closed then.
+    pub fn say(&mut self, reply: &Reply) -> Result<(), AllocError>
+        requires { IsReply reply.now }
+        ensures ok { OnOk result (Tells self.old reply.now self.new) }
+        ensures err { OnErr result (self.new ≡ self.old) }
+    {
+        reply.encode_into(&mut self.payload)?;
+        put(&mut self.voice, &self.payload, &mut self.output)?;
+        self.told.add(reply);
+        Ok(())
     }
 
     /// Puts the end behind what is to be sent, where the way it is spoken has one.
-    pub fn finish(&mut self) {
+    pub fn finish(&mut self)
+        ensures kept { Keeps self.old self.new }
+        ensures same { self.new ≡ record self.old { output = self.new.output } }
+        ensures frames { self.old.manner ≡ Manner.Frames → self.new ≡ self.old }
+    {
         if let Voice::Socket(socket) = &mut self.voice {
             socket.close(Some(CloseCode::Normal), &mut self.output);
         }
     }
 
     /// What is to be sent.
-    pub fn output(&self) -> &[u8] {
+    pub fn output(&self) -> &[u8]
+        ensures value { result.now ≡ self.now.output }
+        // With what was sent it is what the replies are told by, in order.
+        ensures in_step { IsInStep self.now }
+    {
         self.output.as_slice()
     }
 
-    /// So many of these bytes were sent.
-    pub fn sent(&mut self, count: usize) {
-        if count >= self.output.len() {
-            self.output.clear();
-        } else {
-            self.output.drain(..count);
-        }
+    /// So many of these bytes, or all of them, were sent.
+    pub fn sent(&mut self, count: usize)
+        ensures { self.new ≡ after_sent self.old count }
+    {
+        self.sent.add(&self.output, count);
+        cut_front(&mut self.output, count);
     }
 }

@@ -1,7 +1,11 @@
 //! A WebSocket over buffers. Each binary message is one payload.
+ghost use Rattle.std.specs.Prelude.{◌≡◌, ◌-◌, ◌++◌, length, is_ok, if◌then◌else◌, OnOk, OnErr};
+ghost use Rattle.sv_peer.specs.Sockets.{new_socket, message_frame, GainsControls};
+
+use crate::heard::Heard;
 use crate::hello::heard_of;
-use crate::peer::Heard;
 use std::alloc::{AllocError, Global};
+use std::marker::Model;
 use websocket::error::Error;
 use websocket::protocol::{
     CloseCode, CloseFrame, FrameStatus, Message, NoMask, Role, WebSocketConfig, WebSocketContext,
@@ -13,15 +17,26 @@ const MOST_MESSAGE: usize = 65_536;
 /// How many bytes are kept that were not taken: a frame of the greatest length, and its head.
 const ROOM: usize = MOST_MESSAGE + 14;
 
-/// How many control messages and fragments are passed over at once.
-const MOST_PASSED: u32 = 1000;
-
 /// A connection after its upgrade.
 #[derive(Drop)]
 pub struct Socket {
     alloc: Global,
     context: WebSocketContext,
     input: Vec<u8>,
+}
+
+impl Model for Socket {
+    ghost use Rattle.std.specs.Prelude.{◌≡◌};
+    ghost use Rattle.websocket.specs.declared.protocol.config.Role.TheVariants.{Server};
+    ghost use Rattle.sv_peer.specs.Sockets.{SocketView, socket_code};
+
+    ghost Value = { SocketView };
+
+    ghost coded = { socket_code };
+
+    ghost view = { λ s. record { connection = s.context; input = s.input.items } };
+
+    ghost invariant = { λ s. s.context.role ≡ Server };
 }
 
 /// What one frame of the input is.
@@ -52,7 +67,9 @@ fn framed_of(alloc: Global, message: Message<'_>) -> Framed {
 }
 
 impl Socket {
-    pub fn new(alloc: Global) -> Socket {
+    pub fn new(alloc: Global) -> Socket
+        ensures { result ≡ new_socket }
+    {
         let config = WebSocketConfig::default()
             .max_message_size(Some(MOST_MESSAGE))
             .max_frame_size(Some(MOST_MESSAGE));
@@ -63,16 +80,22 @@ impl Socket {
         }
     }
 
-    pub fn spare(&self) -> usize {
+    pub fn spare(&self) -> usize
+        ensures { result ≡ ROOM - length self.now.input }
+    {
         ROOM.saturating_sub(self.input.len())
     }
 
-    pub fn hear(&mut self, piece: &[u8]) -> Result<(), AllocError> {
+    pub fn hear(&mut self, piece: &[u8]) -> Result<(), AllocError>
+        ensures { self.new ≡ (if is_ok result then record self.old { input = self.old.input ++ piece.now } else self.old) }
+    {
         self.input.extend_from_slice(piece)
     }
 
     // Takes one frame off.
-    fn step(&mut self, output: &mut Vec<u8>) -> Framed {
+    fn step(&mut self, output: &mut Vec<u8>) -> Framed
+        ensures { GainsControls output.old.items output.new.items }
+    {
         let status = match self.context.read(&mut self.input, output, &mut NoMask) {
             Ok(status) => status,
             Err(error) => return Framed::Close(code_of(error)),
@@ -91,8 +114,11 @@ impl Socket {
     }
 
     /// Takes the next message off. What its protocol answers is put behind the output.
-    pub fn next(&mut self, output: &mut Vec<u8>) -> Heard {
-        for _ in 0..MOST_PASSED {
+    pub fn next(&mut self, output: &mut Vec<u8>) -> Heard
+        ensures { GainsControls output.old.items output.new.items }
+    {
+        // Each frame that is passed over takes bytes off.
+        'frames: for _ in 0..=self.input.len() {
             match self.step(output) {
                 Framed::Heard(heard) => return heard,
                 Framed::Passed => {}
@@ -106,7 +132,9 @@ impl Socket {
     }
 
     /// Puts the end behind the output, with a code where there is one.
-    pub fn close(&mut self, code: Option<CloseCode>, output: &mut Vec<u8>) {
+    pub fn close(&mut self, code: Option<CloseCode>, output: &mut Vec<u8>)
+        ensures { GainsControls output.old.items output.new.items }
+    {
         let Some(code) = code else {
             return;
         };
@@ -115,7 +143,11 @@ impl Socket {
     }
 
     /// Puts a payload behind the output as one message.
-    pub fn say(&mut self, payload: &[u8], output: &mut Vec<u8>) -> Result<(), AllocError> {
+    pub fn say(&mut self, payload: &[u8], output: &mut Vec<u8>) -> Result<(), AllocError>
+        ensures same { self.new ≡ self.old }
+        ensures ok { OnOk result (output.new.items ≡ output.old.items ++ message_frame payload.now) }
+        ensures err { OnErr result (output.new.items ≡ output.old.items) }
+    {
         match self
             .context
             .write(Message::Binary(payload), output, &mut NoMask)

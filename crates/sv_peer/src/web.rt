@@ -1,4 +1,6 @@
 //! HTTP over buffers, up to an upgrade.
+ghost use Rattle.sv_peer.specs.Sockets.{Grows};
+
 use crate::desk::Desk;
 use crate::socket::Socket;
 use http_server::{Config, Connection, State};
@@ -24,13 +26,13 @@ pub struct Web {
     is_paused: bool,
 }
 
-/// What became of a connection that spoke HTTP.
-#[derive(Drop)]
-pub enum Became {
+/// What becomes of a connection that speaks HTTP.
+#[derive(Clone, Copy, Drop)]
+pub enum Course {
     /// It goes on.
-    Web(Web),
-    /// It is a WebSocket, and showed a key or none.
-    Socket(Socket, Option<[u8; 32]>),
+    On,
+    /// It is to be a WebSocket.
+    Upgraded,
     /// It is to be closed.
     Closed,
 }
@@ -67,20 +69,33 @@ impl Web {
         Ok(())
     }
 
+    // Hands out what the connection puts out next. Answers how many bytes that are.
+    fn hand_out(&mut self, output: &mut Vec<u8>) -> Result<usize, AllocError>
+        ensures { Grows output.old.items output.new.items }
+    {
+        let piece = self.connection.output();
+        let count = piece.len();
+        output.extend_from_slice(piece)?;
+        self.connection.sent(count);
+        Ok(count)
+    }
+
     // One step. False where nothing came of it.
-    fn step<D: Desk>(&mut self, desk: &mut D, output: &mut Vec<u8>) -> Result<bool, AllocError> {
+    fn step<D: Desk>(&mut self, desk: &mut D, output: &mut Vec<u8>) -> Result<bool, AllocError>
+        ensures { Grows output.old.items output.new.items }
+    {
         self.take_in()?;
         self.connection.advance(desk);
-        let count = self.connection.output().len();
-        output.extend_from_slice(self.connection.output())?;
-        self.connection.sent(count);
+        let count = self.hand_out(output)?;
         Ok(!self.connection.is_done() && (count > 0 || !self.rest.is_empty()))
     }
 
     // Answers what came, as long as not too much waits to be sent.
-    fn go_on<D: Desk>(&mut self, desk: &mut D, output: &mut Vec<u8>) -> Result<(), AllocError> {
+    fn go_on<D: Desk>(&mut self, desk: &mut D, output: &mut Vec<u8>) -> Result<(), AllocError>
+        ensures { Grows output.old.items output.new.items }
+    {
         self.is_paused = true;
-        for _ in 0..MOST_STEPS {
+        'steps: for _ in 0..MOST_STEPS {
             if output.len() >= FULL {
                 return Ok(());
             }
@@ -94,20 +109,27 @@ impl Web {
 
     /// Takes bytes in that came, and answers the requests that are whole. What is answered is put behind the output.
     pub fn hear<D: Desk>(
-        mut self,
-        alloc: Global,
+        &mut self,
         desk: &mut D,
         piece: &[u8],
         output: &mut Vec<u8>,
-    ) -> Result<Became, AllocError> {
+    ) -> Result<Course, AllocError>
+        ensures { Grows output.old.items output.new.items }
+    {
         self.rest.extend_from_slice(piece)?;
         self.go_on(desk, output)?;
         if !self.connection.is_done() {
-            return Ok(Became::Web(self));
+            return Ok(Course::On);
         }
-        if self.connection.state() != State::Upgraded {
-            return Ok(Became::Closed);
+        if self.connection.state() == State::Upgraded {
+            Ok(Course::Upgraded)
+        } else {
+            Ok(Course::Closed)
         }
+    }
+
+    /// The WebSocket that it became, with what came of it.
+    pub fn into_socket(self, alloc: Global) -> Result<Socket, AllocError> {
         let Web {
             connection,
             rest,
@@ -117,6 +139,6 @@ impl Web {
         let mut socket = Socket::new(alloc);
         socket.hear(unread.as_slice())?;
         socket.hear(&rest)?;
-        Ok(Became::Socket(socket, desk.take_key()))
+        Ok(socket)
     }
 }

@@ -1,4 +1,7 @@
 //! The standing of the server, as it is told.
+ghost use Rattle.std.specs.Prelude.{◌≡◌, ◌++◌, ◌-◌, codes, string_bytes, OnOk};
+ghost use Rattle.sv_site.specs.Figures.{figure, sessions_text, actions_text, commit_text, bytes_text, process_text, status_text};
+
 use crate::counts::Counts;
 use std::alloc::AllocError;
 
@@ -17,43 +20,73 @@ pub struct Figures {
     pub counts: Counts,
 }
 
-/// Appends the figures as a JSON object.
-pub fn append_figures(figures: &Figures, out: &mut String) -> Result<(), AllocError> {
+// Appends a name with its number, and what stands behind it.
+fn append(name: &str, number: u64, behind: &str, out: &mut String) -> Result<(), AllocError>
+    ensures { OnOk result (string_bytes out.new ≡ string_bytes out.old ++ figure name.now number behind.now) }
+{
+    write!(out, "\"{name}\":{number}{behind}")
+}
+
+fn append_sessions(figures: &Figures, out: &mut String) -> Result<(), AllocError>
+    ensures { OnOk result (string_bytes out.new ≡ string_bytes out.old ++ sessions_text figures.now) }
+{
+    append("clients", figures.clients, ",", out)?;
+    append("sessions", figures.sessions, ",", out)?;
+    append("open", figures.open, ",", out)
+}
+
+fn append_actions(figures: &Figures, out: &mut String) -> Result<(), AllocError>
+    ensures { OnOk result (string_bytes out.new ≡ string_bytes out.old ++ actions_text figures.now) }
+{
+    append("entries", figures.entries, ",", out)?;
+    append("accepted", figures.accepted, ",", out)?;
+    append("dropped", figures.counts.dropped, ",", out)?;
+    append("denied", figures.counts.denied, ",", out)
+}
+
+fn append_commit(figures: &Figures, out: &mut String) -> Result<(), AllocError>
+    ensures { OnOk result (string_bytes out.new ≡ string_bytes out.old ++ commit_text figures.now) }
+{
     let uncommitted = figures.accepted.saturating_sub(figures.commit);
-    let clients = figures.clients;
-    let sessions = figures.sessions;
-    let open = figures.open;
-    let entries = figures.entries;
-    let accepted = figures.accepted;
-    let dropped = figures.counts.dropped;
-    let denied = figures.counts.denied;
-    let commit = figures.commit;
-    let reported = figures.counts.reported_by_steward;
-    let came = figures.counts.bytes_in;
-    let went = figures.counts.bytes_out;
-    let log = figures.log_bytes;
-    let syncs = figures.syncs;
-    let refused = figures.counts.refused_connections;
-    let seconds = figures.seconds;
-    write!(
+    append("commit", figures.commit, ",", out)?;
+    append("uncommitted", uncommitted, ",", out)?;
+    append(
+        "reported_by_steward",
+        figures.counts.reported_by_steward,
+        ",",
         out,
-        "{{\"clients\":{clients},\"sessions\":{sessions},\"open\":{open},"
-    )?;
-    write!(
+    )
+}
+
+fn append_bytes(figures: &Figures, out: &mut String) -> Result<(), AllocError>
+    ensures { OnOk result (string_bytes out.new ≡ string_bytes out.old ++ bytes_text figures.now) }
+{
+    append("bytes_in", figures.counts.bytes_in, ",", out)?;
+    append("bytes_out", figures.counts.bytes_out, ",", out)?;
+    append("log_bytes", figures.log_bytes, ",", out)
+}
+
+fn append_process(figures: &Figures, out: &mut String) -> Result<(), AllocError>
+    ensures { OnOk result (string_bytes out.new ≡ string_bytes out.old ++ process_text figures.now) }
+{
+    append("syncs", figures.syncs, ",", out)?;
+    append(
+        "refused_connections",
+        figures.counts.refused_connections,
+        ",",
         out,
-        "\"entries\":{entries},\"accepted\":{accepted},\"dropped\":{dropped},"
     )?;
-    write!(
-        out,
-        "\"denied\":{denied},\"commit\":{commit},\"uncommitted\":{uncommitted},"
-    )?;
-    write!(
-        out,
-        "\"reported_by_steward\":{reported},\"bytes_in\":{came},\"bytes_out\":{went},"
-    )?;
-    write!(
-        out,
-        "\"log_bytes\":{log},\"syncs\":{syncs},\"refused_connections\":{refused},"
-    )?;
-    write!(out, "\"seconds\":{seconds}}}\n")
+    append("seconds", figures.seconds, "}\n", out)
+}
+
+/// Appends the figures as a JSON object.
+pub fn append_figures(figures: &Figures, out: &mut String) -> Result<(), AllocError>
+    ensures { OnOk result (string_bytes out.new ≡ string_bytes out.old ++ status_text figures.now) }
+{
+    out.push_str("{")?;
+    append_sessions(figures, out)?;
+    append_actions(figures, out)?;
+    append_commit(figures, out)?;
+    append_bytes(figures, out)?;
+    append_process(figures, out)
 }

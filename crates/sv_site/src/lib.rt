@@ -3,8 +3,11 @@
 
 mod counts;
 mod figures;
+mod kinds;
 mod origins;
+mod parts;
 mod paths;
+mod route;
 mod site;
 
 pub use counts::Counts;

@@ -1,14 +1,19 @@
 //! What HTTP requests get: files of a folder, the standing of the server, and the way to a WebSocket.
+ghost use Rattle.std.specs.Prelude.{◌≡◌, ◌++◌, ◌⊎◌, IfOk, OnOk, OnErr, option_map, option_copied, string_bytes};
+ghost use Rattle.sv_site.specs.Figures.{status_text};
+ghost use Rattle.sv_site.specs.Answers.{named_in, FileStatus, Gives};
+
 use crate::figures::{Figures, append_figures};
-use crate::origins::is_welcome;
-use crate::paths::{KindOfFile, kind_of, path_in};
+use crate::kinds::{KindOfFile, kind_of};
+use crate::parts::cut_at;
+use crate::paths::path_in;
+use crate::route::{Route, route_of};
 use bytes::Bytes;
-use http::{HeaderName, HeaderValue, Method, Request, StatusCode, header};
+use http::{HeaderValue, Request, StatusCode, header};
 use http_server::{Response, Service};
 use std::alloc::{AllocError, Global};
 use sv_bytes::{FileFault, Files, read_all};
 use sv_peer::{Desk, digest_of};
-use websocket::handshake::server::accept_key;
 
 /// How many bytes a file of the site may have.
 const MOST_BYTES: usize = 1 << 26;
@@ -44,129 +49,125 @@ fn type_of(kind: KindOfFile) -> HeaderValue {
     }
 }
 
-fn put(response: &mut Response, kind: KindOfFile, body: Bytes) -> Result<(), AllocError> {
+fn put(response: &mut Response, kind: KindOfFile, body: Bytes) -> Result<(), AllocError>
+    ensures { response.new.status ≡ response.old.status }
+{
     response.add_header(header::CONTENT_TYPE, type_of(kind))?;
     response.body.push(body)
 }
 
-/// The bytes of a header of a request, where it has it.
-fn header_of<'a>(request: &'a Request<Bytes>, name: HeaderName) -> Option<&'a [u8]> {
-    let value = request.headers().get(name)?;
-    Some(value.as_bytes())
+// The standing of the server.
+fn put_standing(alloc: Global, figures: &Figures, response: &mut Response) -> Result<(), AllocError>
+    ensures { response.new.status ≡ response.old.status }
+{
+    let mut text = String::new(alloc);
+    append_figures(figures, &mut text)?;
+    let body = Bytes::copy_from_slice(alloc, text.as_bytes())?;
+    put(response, KindOfFile::Json, body)
 }
 
-/// Whether a page that asks to upgrade may.
-fn may_upgrade(request: &Request<Bytes>, origins: &[String]) -> bool {
-    let Some(origin) = header_of(request, header::ORIGIN) else {
-        return true;
+// The file that a path names, where there is a folder.
+fn named_in(alloc: Global, folder: Option<&str>, path: &str) -> Result<Option<String>, AllocError>
+    ensures { IfOk result (λ name. option_map string_bytes name ≡ named_in (option_copied folder.entry) path.now) }
+{
+    match folder {
+        Some(folder) => path_in(alloc, folder, path),
+        None => Ok(None),
+    }
+}
+
+// A file, where it can be read.
+fn put_file<L: Files>(
+    alloc: Global,
+    files: &mut L,
+    name: &str,
+    response: &mut Response,
+) -> Result<(), AllocError>
+    requires { response.old.status ≡ 200 }
+    ensures { OnOk result ((response.new.status ≡ 200) ⊎ (response.new.status ≡ 404)) }
+{
+    match read_all(alloc, files, name, MOST_BYTES) {
+        Ok(bytes) => {
+            let body = Bytes::copy_from_slice(alloc, &bytes)?;
+            put(response, kind_of(name), body)
+        }
+        Err(FileFault::Failed) => {
+            response.status = StatusCode::NOT_FOUND;
+            Ok(())
+        }
+        Err(FileFault::Memory) => Err(AllocError),
+    }
+}
+
+// What a path gets.
+fn put_path<L: Files>(
+    alloc: Global,
+    files: &mut L,
+    folder: Option<&str>,
+    path: &str,
+    response: &mut Response,
+) -> Result<(), AllocError>
+    requires { response.old.status ≡ 200 }
+    ensures { OnOk result (FileStatus (named_in (option_copied folder.entry) path.now) response.new.status) }
+{
+    match named_in(alloc, folder, path)? {
+        Some(name) => put_file(alloc, files, name.as_str(), response),
+        None => {
+            response.status = StatusCode::NOT_FOUND;
+            Ok(())
+        }
+    }
+}
+
+// The way to a WebSocket.
+fn put_upgrade(alloc: Global, accept: &[u8; 28], response: &mut Response) -> Result<(), AllocError>
+    ensures { OnOk result (response.new.status ≡ 101) }
+{
+    let Ok(value) = HeaderValue::from_bytes(alloc, accept.as_slice()) else {
+        return Err(AllocError);
     };
-    is_welcome(origin, header_of(request, header::HOST), origins)
+    response.status = StatusCode::SWITCHING_PROTOCOLS;
+    response.add_header(header::CONNECTION, HeaderValue::from_static("Upgrade"))?;
+    response.add_header(header::UPGRADE, HeaderValue::from_static("websocket"))?;
+    response.add_header(header::SEC_WEBSOCKET_ACCEPT, value)
+}
+
+// 500, where memory ran out.
+fn mend(filled: Result<(), AllocError>, response: &mut Response)
+    ensures ok { OnOk filled (response.new ≡ response.old) }
+    ensures err { OnErr filled (response.new.status ≡ 500) }
+{
+    if filled.is_err() {
+        response.clear();
+        response.status = StatusCode::INTERNAL_SERVER_ERROR;
+    }
 }
 
 /// What a query has under the name `key`.
-fn key_part(query: &str) -> Option<&str> {
-    for part in query.split('&') {
-        if let Some(digits) = part.strip_prefix("key=") {
+fn key_part(query: &[u8]) -> Option<&[u8]> {
+    let mut left = Some(query);
+    while let Some(text) = left {
+        let (part, rest) = cut_at(text, b'&');
+        if let Some(digits) = part.strip_prefix(b"key=") {
             return Some(digits);
         }
+        left = rest;
     }
     None
 }
 
 /// The digest of the key that a query has in hexadecimal.
 fn key_in(alloc: Global, query: &str) -> Option<[u8; 32]> {
-    let key = hex::decode(alloc, key_part(query)?).ok()?;
+    let key = hex::decode(alloc, key_part(query.as_bytes())?).ok()?;
     digest_of(&key)
 }
 
-impl<L: Files> Site<'_, L> {
-    fn status(&mut self, response: &mut Response) -> Result<(), AllocError> {
-        let mut text = String::new(self.alloc);
-        append_figures(&self.figures, &mut text)?;
-        put(
-            response,
-            KindOfFile::Json,
-            Bytes::copy_from_slice(self.alloc, text.as_bytes())?,
-        )
-    }
-
-    fn file(&mut self, path: &str, response: &mut Response) -> Result<(), AllocError> {
-        let Some(folder) = self.folder else {
-            response.status = StatusCode::NOT_FOUND;
-            return Ok(());
-        };
-        let Some(name) = path_in(self.alloc, folder, path)? else {
-            response.status = StatusCode::NOT_FOUND;
-            return Ok(());
-        };
-        match read_all(self.alloc, self.files, name.as_str(), MOST_BYTES) {
-            Ok(bytes) => put(
-                response,
-                kind_of(name.as_str()),
-                Bytes::copy_from_slice(self.alloc, &bytes)?,
-            ),
-            Err(FileFault::Failed) => {
-                response.status = StatusCode::NOT_FOUND;
-                Ok(())
-            }
-            Err(FileFault::Memory) => Err(AllocError),
-        }
-    }
-
-    fn upgrade(
-        &mut self,
-        request: &Request<Bytes>,
-        response: &mut Response,
-    ) -> Result<(), AllocError> {
-        if !may_upgrade(request, self.origins) {
-            response.status = StatusCode::FORBIDDEN;
-            return Ok(());
-        }
-        let Some(key) = header_of(request, header::SEC_WEBSOCKET_KEY) else {
-            response.status = StatusCode::BAD_REQUEST;
-            return Ok(());
-        };
-        let Ok(accept) = accept_key(key) else {
-            response.status = StatusCode::BAD_REQUEST;
-            return Ok(());
-        };
-        let Ok(value) = HeaderValue::from_bytes(self.alloc, accept.as_slice()) else {
-            return Err(AllocError);
-        };
-        response.status = StatusCode::SWITCHING_PROTOCOLS;
-        response.add_header(header::CONNECTION, HeaderValue::from_static("Upgrade"))?;
-        response.add_header(header::UPGRADE, HeaderValue::from_static("websocket"))?;
-        response.add_header(header::SEC_WEBSOCKET_ACCEPT, value)?;
-        self.key = match request.uri().query() {
-            Some(query) => key_in(self.alloc, query),
-            None => None,
-        };
-        Ok(())
-    }
-
-    fn answer(
-        &mut self,
-        request: &Request<Bytes>,
-        response: &mut Response,
-    ) -> Result<(), AllocError> {
-        if *request.method() != Method::GET {
-            response.status = StatusCode::METHOD_NOT_ALLOWED;
-            return Ok(());
-        }
-        if header_of(request, header::SEC_WEBSOCKET_KEY).is_some() {
-            return self.upgrade(request, response);
-        }
-        match request.uri().path() {
-            "/status" => self.status(response),
-            path => self.file(path, response),
-        }
-    }
-}
-
 impl<L: Files> Service for Site<'_, L> {
-    ghost use Rattle.std.specs.Prelude.{⊤};
+    ghost use Rattle.std.specs.Prelude.{map, string_bytes, option_copied};
+    ghost use Rattle.http.specs.Request.{head_of};
+    ghost use Rattle.sv_site.specs.Answers.{AnswersHead};
 
-    ghost answers = { λ _ _ _ _. ⊤ };
+    ghost answers = { λ site request response after. AnswersHead (map string_bytes site.origins.now) (option_copied site.folder) (head_of request) response };
 
     fn call(
         &mut self,
@@ -174,15 +175,32 @@ impl<L: Files> Service for Site<'_, L> {
         response: &mut Response,
     ) -> Result<(), AllocError> {
         self.calls = self.calls.saturating_add(1);
-        if self.answer(request, response).is_err() {
-            response.clear();
-            response.status = StatusCode::INTERNAL_SERVER_ERROR;
+        match route_of(request, self.origins) {
+            Route::Refused => response.status = StatusCode::METHOD_NOT_ALLOWED,
+            Route::Stranger => response.status = StatusCode::FORBIDDEN,
+            Route::BadKey => response.status = StatusCode::BAD_REQUEST,
+            Route::Upgrade(accept) => {
+                self.key = match request.uri().query() {
+                    Some(query) => key_in(self.alloc, query),
+                    None => None,
+                };
+                mend(put_upgrade(self.alloc, &accept, response), response);
+            }
+            Route::Standing => {
+                mend(put_standing(self.alloc, &self.figures, response), response);
+            }
+            Route::File(path) => {
+                let filled = put_path(self.alloc, self.files, self.folder, path, response);
+                mend(filled, response);
+            }
         }
         Ok(())
     }
 }
 
 impl<L: Files> Desk for Site<'_, L> {
+    ghost shown = { λ site. site.key };
+
     fn take_key(&mut self) -> Option<[u8; 32]> {
         self.key.take()
     }

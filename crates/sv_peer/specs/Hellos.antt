@@ -1,0 +1,47 @@
+-- The message by which a client shows its key, and what a payload is heard as.
+use Rattle.std.specs.Prelude.{◌≡◌, ℕ, ◌==◌, ◌&&◌, nat_le, Bool, List, [], ◌∷◌, length, Option, None, Some, Result, Ok, Err, if◌then◌else◌}
+use Rattle.sha2.specs.Sha256.{sha256}
+use Rattle.sv_wire.specs.declared.fault.Malformed.{Malformed}
+use Rattle.sv_wire.specs.declared.message.Request.{Request}
+use Rattle.sv_wire.specs.declared.message.Request.TheVariants.{Bad}
+use Rattle.sv_wire.specs.Messages.{request_at}
+use Rattle.sv_peer.specs.declared.heard.Heard.{Heard}
+use Rattle.sv_peer.specs.declared.heard.Heard.TheVariants as heard
+
+-- the kind of the message
+abbrev pub hello_kind : ℕ
+hello_kind = 8
+
+-- a key has 16 to 64 bytes
+abbrev pub is_key : List ℕ → Bool
+is_key key = nat_le 16 (length key) && nat_le (length key) 64
+
+abbrev pub key_if_fit : List ℕ → Option (List ℕ)
+key_if_fit key = if is_key key then Some key else None
+
+-- the message that shows a key: its kind, how many bytes the key has, and these bytes
+abbrev pub hello_bytes : List ℕ → List ℕ
+hello_bytes key = hello_kind ∷ length key ∷ key
+
+-- the key that such a message shows, behind its kind
+abbrev pub key_behind : List ℕ → Option (List ℕ)
+key_behind [] = None
+key_behind (count ∷ key) = if count == length key then key_if_fit key else None
+
+-- a key that is shown is heard by its digest; a misshapen message is no request
+abbrev pub hello_or_bad : Option (List ℕ) → Heard
+hello_or_bad None = heard.Request Bad
+hello_or_bad (Some key) = heard.Hello (sha256 key)
+
+abbrev pub read_or_bad : Result Request Malformed → Heard
+read_or_bad (Ok request) = heard.Request request
+read_or_bad (Err fault) = heard.Request Bad
+
+-- the request that a payload is read as, or Bad
+abbrev pub request_or_bad : List ℕ → Heard
+request_or_bad payload = read_or_bad (request_at payload)
+
+-- what a payload is heard as: a key, where it is of that kind, and else a request
+abbrev pub heard_in : List ℕ → Heard
+heard_in [] = request_or_bad []
+heard_in (kind ∷ rest) = if kind == hello_kind then hello_or_bad (key_behind rest) else request_or_bad (kind ∷ rest)
