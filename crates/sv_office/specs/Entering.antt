@@ -3,11 +3,13 @@ use Rattle.std.specs.Prelude.{◌≡◌, ◌≢◌, ◌⊎◌, ℕ, Bool, true, 
 use Rattle.sv_wire.specs.declared.message.Done1.{Done1}
 use Rattle.sv_wire.specs.declared.message.Request.{Request}
 use Rattle.sv_wire.specs.declared.message.Request.TheVariants as requests
+use Rattle.sv_wire.specs.declared.message.Reply.{Reply}
 use Rattle.sv_journal.specs.declared.entry.Entry.{Entry}
-use Rattle.sv_journal.specs.History.{accepted}
+use Rattle.sv_journal.specs.History.{accepted, full_reply}
 use Rattle.sv_journal.specs.Sessions.{is_end}
 use Rattle.sv_sequencer.specs.Rows.{has_entry}
-use Rattle.sv_living.specs.World.{WorldView, after}
+use Rattle.sv_living.specs.Sessions.{may_ask}
+use Rattle.sv_living.specs.World.{WorldView, after, reply_in}
 use Rattle.sv_keys.specs.Keeping.{KeysView}
 use Rattle.sv_office.specs.Admitting.{is_admitted, number_in, is_stewards_number}
 use Rattle.sv_office.specs.declared.guest.Guest.{Guest}
@@ -23,6 +25,16 @@ pub record GoesOn (may : Entry → Type 0) (v w : WorldView) : Type 0 where
   pub rules : w.rules ≡ v.rules
   pub stewardship : w.stewardship ≡ v.stewardship
   pub added : AreAdded may v.history w.history
+
+-- The entry of a request of a session.
+abbrev pub IsEntry : ℕ → Request → Entry → Type 0
+IsEntry s request e = (e.session ≡ s) × (e.request ≡ request)
+
+-- A request of a session was entered, and answered in full.
+pub record WasEntered (v w : WorldView) (s : ℕ) (request : Request) (reply : Reply) : Type 0 where
+  pub asks : may_ask v.history s ≡ true
+  pub world : w ≡ after v s request
+  pub whole : reply ≡ full_reply (accepted w.history) (reply_in v s request)
 
 -- A session is one's own: the one that one has, or one that begins later.
 abbrev pub IsOwn : List Entry → Option ℕ → ℕ → Type 0
@@ -69,6 +81,11 @@ pub data IsReported (t : ℕ) (h : List Entry) : List Entry → Type 0 where
   reported : {p d : Entry} (results : List Done1) → p.session ≡ t → p.request ≡ requests.Poll → d.session ≡ t → d.request ≡ requests.Done results
       → IsReported t h (d ∷ p ∷ h)
 
+-- The steward reported, where it is in a session.
+abbrev pub WasReported : Option ℕ → List Entry → List Entry → Type 0
+WasReported None h g = g ≡ h
+WasReported (Some t) h g = IsReported t h g
+
 -- The End of a session was entered, or nothing.
 abbrev pub IsEnded : Option ℕ → List Entry → List Entry → Type 0
 IsEnded mine h g = (g ≡ h) ⊎ ((e : Entry) × IsEndOf mine e × (g ≡ e ∷ h))
@@ -77,8 +94,8 @@ IsEnded mine h g = (g ≡ h) ⊎ ((e : Entry) × IsEndOf mine e × (g ≡ e ∷ 
 -- position was not this one before.
 pub record WasFollowed (steward : Option ℕ) (authority : Bool) (last : ℕ) (mine : Option ℕ) (h g : List Entry) : Type 0 where
   pub middle : List Entry
-  pub reported : (middle ≡ h) ⊎ ((t : ℕ) × (steward ≡ Some t) × IsReported t h middle)
-  pub at_once : (t : ℕ) → authority ≡ true → steward ≡ Some t → length (accepted h) ≢ last → IsReported t h middle
+  pub reported : (middle ≡ h) ⊎ WasReported steward h middle
+  pub at_once : authority ≡ true → length (accepted h) ≢ last → WasReported steward h middle
   pub ended : IsEnded mine middle g
 
 -- A request was stepped, once.

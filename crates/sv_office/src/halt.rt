@@ -1,5 +1,6 @@
 //! Why the loop stops.
 use std::alloc::{AllocError, AllocFailed};
+use sv_keeper::KeepFault;
 
 #[derive(Clone, Copy, Debug, Drop, PartialEq, Eq)]
 pub enum Halt {
@@ -31,5 +32,14 @@ impl<T: Drop> From<AllocFailed<T>> for Halt {
 
     fn from(_e: AllocFailed<T>) -> Halt {
         Halt::Memory
+    }
+}
+
+impl From<KeepFault> for Halt {
+    fn from(fault: KeepFault) -> Halt {
+        match fault {
+            KeepFault::Broken => Halt::Log,
+            _ => Halt::Memory,
+        }
     }
 }

@@ -2,6 +2,7 @@
 #![tactic(auto)]
 
 mod ages;
+mod entering;
 mod guest;
 mod halt;
 mod hearing;

@@ -1,8 +1,8 @@
 //! When the steward reports.
-ghost use Rattle.std.specs.Prelude.{◌≡◌, ℕ, None, Some, OnOk};
+ghost use Rattle.std.specs.Prelude.{◌≡◌, OnOk};
 ghost use Rattle.sv_journal.specs.declared.entry.Entry.{Entry};
 ghost use Rattle.sv_keeper.specs.Keeping.{AreSettled};
-ghost use Rattle.sv_office.specs.Entering.{GoesOn, IsOf, IsOwn, IsReported};
+ghost use Rattle.sv_office.specs.Entering.{GoesOn, IsOf, IsOwn, WasReported};
 ghost use Rattle.sv_office.specs.Offices.{session_of};
 
 use crate::halt::Halt;
@@ -16,8 +16,7 @@ impl<F: Folder> Office<F> {
     // Has the steward report what its polls are answered, at most so often.
     fn report_once(&mut self) -> Result<bool, Halt>
         ensures steward { session_of self.new.steward ≡ session_of self.old.steward }
-        ensures reported { (t : ℕ) → session_of self.old.steward ≡ Some t → OnOk result (IsReported t self.old.keeper.world.history self.new.keeper.world.history) }
-        ensures none { self.old.steward ≡ None → self.new ≡ self.old }
+        ensures reported { OnOk result (WasReported (session_of self.old.steward) self.old.keeper.world.history self.new.keeper.world.history) }
         ensures added { GoesOn (IsOf (session_of self.old.steward)) self.old.keeper.world self.new.keeper.world }
         ensures keys { self.new.keys ≡ self.old.keys }
     {
@@ -32,8 +31,7 @@ impl<F: Folder> Office<F> {
     /// With authority: has the steward report what was accepted just now.
     pub fn report_accepted(&mut self) -> Result<(), Halt>
         ensures steward { session_of self.new.steward ≡ session_of self.old.steward }
-        ensures reported { (t : ℕ) → session_of self.old.steward ≡ Some t → OnOk result (IsReported t self.old.keeper.world.history self.new.keeper.world.history) }
-        ensures none { self.old.steward ≡ None → self.new ≡ self.old }
+        ensures reported { OnOk result (WasReported (session_of self.old.steward) self.old.keeper.world.history self.new.keeper.world.history) }
         ensures added { GoesOn (IsOf (session_of self.old.steward)) self.old.keeper.world self.new.keeper.world }
         ensures keys { self.new.keys ≡ self.old.keys }
     {

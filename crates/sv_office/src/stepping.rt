@@ -16,7 +16,8 @@ ghost use Rattle.sv_office.specs.Offices.{AreApart, session_of};
 ghost use Rattle.sv_office.specs.Telling.{IsServed, IsOwed, WouldShowNothing, ShowsSomething};
 ghost use Rattle.sv_office.specs.declared.guest.Standing.TheVariants as standing;
 
-use crate::guest::{Guest, Held, Standing};
+use crate::entering::enter;
+use crate::guest::{Guest, Held};
 use crate::halt::Halt;
 use crate::office::Office;
 use sv_journal::served_replies_are_messages;
@@ -187,7 +188,7 @@ impl<F: Folder> Office<F> {
         };
         answers_are_messages(&self.keeper);
         let before = self.standing_of(guest, request);
-        match self.keeper.step(session, request) {
+        match enter(&mut self.keeper, session, request) {
             Ok(reply) => {
                 guest.session = Some(session);
                 self.take_reply(guest, &reply, before)
@@ -274,7 +275,7 @@ impl<F: Folder> Office<F> {
         };
         guest.close();
         guest.session = None;
-        match self.keeper.step(session, &Request::End) {
+        match enter(&mut self.keeper, session, &Request::End) {
             Ok(_) => Ok(()),
             Err(_) => Err(Halt::Log),
         }

@@ -1,17 +1,18 @@
 //! The steward: an honest client within the server.
-ghost use Rattle.std.specs.Prelude.{◌≡◌, ℕ, None, Some, IfOk, OnOk};
+ghost use Rattle.std.specs.Prelude.{◌≡◌, ℕ, List, None, Some, IfOk, IfSome, OnOk};
 ghost use Rattle.sv_journal.specs.declared.entry.Entry.{Entry};
-ghost use Rattle.sv_journal.specs.History.{accepted, full_reply};
-ghost use Rattle.sv_living.specs.World.{after, reply_in};
+ghost use Rattle.sv_living.specs.World.{after};
+ghost use Rattle.sv_wire.specs.declared.message.Done1.{Done1};
 ghost use Rattle.sv_wire.specs.declared.message.Request.TheVariants as requests;
 ghost use Rattle.sv_office.specs.Entering.{IsOwn, KeepsOwn, GoesOn, IsOf, IsReported};
 ghost use Rattle.sv_office.specs.Offices.{HasBegun};
 
+use crate::entering::enter;
 use crate::halt::Halt;
 use crate::stepping::STEWARD_NUMBER;
 use std::alloc::{AllocError, Global};
 use sv_client::{LeanClient, PollFault, TakeFault};
-use sv_keeper::{KeepFault, Keeper};
+use sv_keeper::Keeper;
 use sv_log::Folder;
 use sv_wire::{Refusal, Reply, Request};
 use sv_world::{ClientId, List, Shape};
@@ -50,23 +51,6 @@ fn told_life(reply: &Reply) -> Option<u32> {
     }
 }
 
-/// Enters what a session asks.
-fn ask<F: Folder>(
-    keeper: &mut Keeper<F>,
-    session: u64,
-    request: &Request,
-) -> Result<Reply, Halt>
-    ensures ok { IfOk result (λ reply. (keeper.new.world ≡ after keeper.old.world session request.now)
-        × (reply ≡ full_reply (accepted keeper.new.world.history) (reply_in keeper.old.world session request.now))) }
-    ensures added { GoesOn (λ (e : Entry). (e.session ≡ session) × (e.request ≡ request.now)) keeper.old.world keeper.new.world }
-{
-    match keeper.step(session, request) {
-        Ok(reply) => Ok(reply),
-        Err(KeepFault::Broken) => Err(Halt::Log),
-        Err(_) => Err(Halt::Memory),
-    }
-}
-
 impl Steward {
     pub fn new(alloc: Global, shape: Shape) -> Result<Steward, AllocError>
         ensures { IfOk result (λ steward. steward.session ≡ None) }
@@ -79,8 +63,10 @@ impl Steward {
         })
     }
 
+    // Takes a reply. What it asks then is a Done.
     fn take(&mut self, reply: &Reply) -> Result<Option<Request>, Halt>
         ensures session { self.new.session ≡ self.old.session }
+        ensures done { IfOk result (λ done. IfSome done (λ request. (results : List Done1) × (request ≡ requests.Done results))) }
     {
         match self.client.take(reply) {
             Ok(done) => Ok(done),
@@ -90,10 +76,11 @@ impl Steward {
 
     // Asks to join with its next life, in its session or in the next one.
     fn begin<F: Folder>(&mut self, keeper: &mut Keeper<F>) -> Result<Reply, Halt>
-        ensures begun { OnOk result (HasBegun keeper.new.world self.new.session) }
+        ensures begun { HasBegun keeper.old.world self.old.session → HasBegun keeper.new.world self.new.session }
         ensures session { KeepsOwn keeper.old.world.history self.old.session self.new.session }
         ensures added { GoesOn (λ (e : Entry). IsOwn keeper.old.world.history self.old.session e.session) keeper.old.world keeper.new.world }
     {
+        keeper.is_lawful();
         if self.client.sessions() >= MOST_SESSIONS {
             return Err(Halt::Steward);
         }
@@ -105,7 +92,7 @@ impl Steward {
             Some(session) => session,
             None => keeper.next_session(),
         };
-        let reply = ask(keeper, session, request)?;
+        let reply = enter(keeper, session, request)?;
         self.session = Some(session);
         Ok(reply)
     }
@@ -128,7 +115,7 @@ impl Steward {
 
     /// Joins. A refusal tells the greatest life that there was, and it joins with the next one.
     pub fn join<F: Folder>(&mut self, keeper: &mut Keeper<F>) -> Result<(), Halt>
-        ensures begun { OnOk result (HasBegun keeper.new.world self.new.session) }
+        ensures begun { HasBegun keeper.old.world self.old.session → HasBegun keeper.new.world self.new.session }
         ensures session { KeepsOwn keeper.old.world.history self.old.session self.new.session }
         ensures added { GoesOn (λ (e : Entry). IsOwn keeper.old.world.history self.old.session e.session) keeper.old.world keeper.new.world }
     {
@@ -165,7 +152,7 @@ impl Steward {
             return Err(Halt::Steward);
         };
         let request = self.poll()?;
-        let reply = ask(keeper, session, &request)?;
+        let reply = enter(keeper, session, &request)?;
         match self.take(&reply)? {
             Some(done) => self.note(keeper, session, &done),
             None => Ok(0),
@@ -183,7 +170,7 @@ impl Steward {
         ensures reported { OnOk result (keeper.new.world ≡ after keeper.old.world session done.now) }
         ensures added { GoesOn (λ (e : Entry). e.session ≡ session) keeper.old.world keeper.new.world }
     {
-        let noted = ask(keeper, session, done)?;
+        let noted = enter(keeper, session, done)?;
         let _ = self.take(&noted)?;
         Ok(results_in(done))
     }
