@@ -11,7 +11,7 @@ use Rattle.sv_journal.specs.Sessions.{is_end, is_ended}
 use Rattle.sv_sequencer.specs.Rows.{has_entry}
 use Rattle.sv_living.specs.Sessions.{is_open, may_ask, AreInOrder}
 use Rattle.sv_living.specs.World.{WorldView, after, reply_in}
-use Rattle.sv_office.specs.Entering.{AreAdded, GoesOn}
+use Rattle.sv_office.specs.Entering.{AreAdded, GoesOn, AsksIn}
 use Rattle.sv_office.specs.Telling.{WereTold, WereToldIn, is_gone, IsTold, IsServed, IsServedIn, IsOwed}
 use Rattle.sv_office.specs.declared.guest.Guest.{Guest}
 use Rattle.sv_office.specs.declared.guest.Standing.{Standing}
@@ -126,14 +126,14 @@ served_gone v old new reply same told gone owed =
 
 -- What an open connection was told before it asks.
 pub told_before : (v : WorldView) (guest : Guest) → AreInOrder v.history → guest.standing ≡ standing.Open → IsServed v guest → (s : ℕ)
-    → (guest.session ≡ Some s) ⊎ ((guest.session ≡ None) × (has_entry v.history s ≡ false)) → WereToldIn v s guest.peer.told
+    → AsksIn v.history guest.session s → WereToldIn v s guest.peer.told
 told_before v guest order open_is served s which = go guest.session refl served which
   where
     one : (s t : ℕ) → Some s ≡ Some t → s ≡ t
     one s t e = cc
     still : is_gone guest.standing ≡ false
     still = ap is_gone open_is
-    go : (o : Option ℕ) → guest.session ≡ o → IsServedIn v guest o → (o ≡ Some s) ⊎ ((o ≡ None) × (has_entry v.history s ≡ false)) → WereToldIn v s guest.peer.told
+    go : (o : Option ℕ) → guest.session ≡ o → IsServedIn v guest o → AsksIn v.history o s → WereToldIn v s guest.peer.told
     go (Some t) is (lives, told) (inl same) =
         subst (λ (x : ℕ). WereToldIn v x guest.peer.told) (one t s same)
         (subst (λ (xs : List Reply). WereToldIn v t xs) (ap (λ (xs : List Reply). guest.peer.told ++ xs) (told.whole still) ∙ append-nil guest.peer.told) told.replies)

@@ -40,6 +40,10 @@ pub record WasEntered (v w : WorldView) (s : ℕ) (request : Request) (reply : R
 abbrev pub IsOwn : List Entry → Option ℕ → ℕ → Type 0
 IsOwn h mine s = (mine ≡ Some s) ⊎ (has_entry h s ≡ false)
 
+-- The session in which one asks: the one that one has, and without one a session that has no entry.
+abbrev pub AsksIn : List Entry → Option ℕ → ℕ → Type 0
+AsksIn h mine s = (mine ≡ Some s) ⊎ ((mine ≡ None) × (has_entry h s ≡ false))
+
 -- The session that one has afterwards is one's own.
 abbrev pub KeepsOwn : List Entry → Option ℕ → Option ℕ → Type 0
 KeepsOwn h before after = (s : ℕ) → after ≡ Some s → IsOwn h before s

@@ -52,7 +52,7 @@ pub struct Guest {
 }
 
 impl Guest {
-    ghost use Rattle.std.specs.Prelude.{◌↔◌, None, IsTrue};
+    ghost use Rattle.std.specs.Prelude.{◌↔◌, false, None, IsTrue};
     ghost use Rattle.sv_peer.specs.View.{new_peer};
     ghost use Rattle.sv_office.specs.declared.guest.Standing.TheVariants as standing;
     ghost use Rattle.sv_office.specs.Guests.{Closes};

@@ -85,6 +85,13 @@ fn drain<P: Ports>(ports: &mut P, number: u64, guest: &mut Guest, piece: &mut [u
     }
 }
 
+fn folder_of(site: &Option<String>) -> Option<&str> {
+    match site {
+        Some(folder) => Some(folder.as_str()),
+        None => None,
+    }
+}
+
 /// What a request asks. An End is none that a connection may make.
 fn asked(request: Request) -> Request
     ensures { is_end result ≡ false }
@@ -96,12 +103,13 @@ fn asked(request: Request) -> Request
 }
 
 impl<F: Folder> Office<F> {
-    /// The turn of a connection that is taken out.
+    /// The turn of a connection that is taken out. `room` is for what is read at once.
     pub fn hear<P: Ports, L: Files, E: Sink>(
         &mut self,
         outside: &mut Outside<'_, P, L, E>,
         number: u64,
         guest: &mut Guest,
+        room: &mut [u8],
     ) -> Result<(), Halt>
         requires served { IsServed self.old.keeper.world guest.old }
         requires apart { AreApart guest.old.session (session_of self.old.steward) }
@@ -112,7 +120,7 @@ impl<F: Folder> Office<F> {
     {
         guest.had_turn = true;
         if !guest.is_open() {
-            drain(outside.ports, number, guest, outside.piece);
+            drain(outside.ports, number, guest, room);
             return Ok(());
         }
         guest.has_more = false;
@@ -123,7 +131,7 @@ impl<F: Folder> Office<F> {
         if guest.has_more || !guest.is_open() {
             return Ok(());
         }
-        self.take_all(outside, number, guest)
+        self.take_all(outside, number, guest, room)
     }
 
     // Takes requests and reads on, as long as more may be taken.
@@ -132,6 +140,7 @@ impl<F: Folder> Office<F> {
         outside: &mut Outside<'_, P, L, E>,
         number: u64,
         guest: &mut Guest,
+        room: &mut [u8],
     ) -> Result<(), Halt>
         requires open { guest.old.standing ≡ standing.Open }
         requires served { IsServed self.old.keeper.world guest.old }
@@ -146,7 +155,7 @@ impl<F: Folder> Office<F> {
             if self.take_requests(outside, guest, &mut left)? == Course::Over {
                 return Ok(());
             }
-            if self.read_guest(outside, number, guest)? == Course::Over {
+            if self.read_guest(outside, number, guest, room)? == Course::Over {
                 return Ok(());
             }
         }
@@ -160,6 +169,7 @@ impl<F: Folder> Office<F> {
         outside: &mut Outside<'_, P, L, E>,
         number: u64,
         guest: &mut Guest,
+        room: &mut [u8],
     ) -> Result<Course, Halt>
         requires open { guest.old.standing ≡ standing.Open }
         requires served { IsServed self.old.keeper.world guest.old }
@@ -170,10 +180,10 @@ impl<F: Folder> Office<F> {
         ensures session { KeepsOwn self.old.keeper.world.history guest.old.session guest.new.session }
         ensures steward { session_of self.new.steward ≡ session_of self.old.steward }
     {
-        let count = read_piece(outside.ports, number, guest, outside.piece);
+        let count = read_piece(outside.ports, number, guest, room);
         self.counts.came(count);
         if count > 0 {
-            self.take_piece(outside.files, guest, &outside.piece[..count]);
+            self.take_piece(outside.files, guest, &room[..count]);
         }
         if !guest.is_open() {
             self.end(guest)?;
@@ -192,13 +202,11 @@ impl<F: Folder> Office<F> {
         ensures guest { IsHeardOf guest.old guest.new }
         ensures same { self.new ≡ self.old }
     {
+        let folder = folder_of(&self.site);
         let mut site = Site {
             alloc: self.alloc,
             files,
-            folder: match &self.site {
-                Some(folder) => Some(folder.as_str()),
-                None => None,
-            },
+            folder,
             origins: self.origins.as_slice(),
             figures: self.figures(),
             key: None,
@@ -208,7 +216,7 @@ impl<F: Folder> Office<F> {
             guest.leave();
         }
         if site.calls > 0 {
-            guest.heard = self.now;
+            guest.heard = self.time;
         }
     }
 

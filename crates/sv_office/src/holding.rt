@@ -17,7 +17,7 @@ use sv_wire::Request;
 impl<F: Folder> Office<F> {
     /// Until when a request of a connection is held, where it is: an Observe with a wait, as long as its answer would show nothing.
     pub fn holds_until(&self, guest: &Guest, request: &Request) -> Option<u64>
-        ensures { IfSome result (λ until. IsHeld self.now.keeper.world self.now.now guest.now request.now until) }
+        ensures { IfSome result (λ until. IsHeld self.now.keeper.world self.now.time guest.now request.now until) }
     {
         let Request::Observe { wait, .. } = request else {
             return None;
@@ -26,7 +26,7 @@ impl<F: Folder> Office<F> {
             return None;
         }
         let _quiet = self.quiet_answer(guest, request)?;
-        Some(self.now.saturating_add(*wait as u64))
+        Some(self.time.saturating_add(*wait as u64))
     }
 
     /// Answers the held Observe of a connection, where it has one. Then none is held of it.
@@ -46,18 +46,18 @@ impl<F: Folder> Office<F> {
         let Some(held) = guest.held.take() else {
             return Ok(());
         };
-        guest.heard = self.now;
+        guest.heard = self.time;
         self.answer(guest, &held.request)
     }
 
     /// How the held Observe of a connection stands.
     pub fn standing_of_held(&self, guest: &Guest) -> Waiting
-        ensures { self.now.keeper.is_broken ≡ false → IsWaiting self.now.keeper.world self.now.now guest.now result }
+        ensures { self.now.keeper.is_broken ≡ false → IsWaiting self.now.keeper.world self.now.time guest.now result }
     {
         let Some(held) = &guest.held else {
             return Waiting::Nothing;
         };
-        if held.until <= self.now || self.quiet_answer(guest, &held.request).is_none() {
+        if held.until <= self.time || self.quiet_answer(guest, &held.request).is_none() {
             return Waiting::Due;
         }
         Waiting::Until(held.until)

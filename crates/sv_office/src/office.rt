@@ -33,7 +33,7 @@ pub struct Office<F: Folder> {
     pub keys: Option<Keys>,
     pub ages: Ages,
     /// The time of this turn.
-    pub now: u64,
+    pub time: u64,
     /// For the connections that speak HTTP.
     pub random: RandomState,
     /// The folder of the site.
@@ -55,7 +55,7 @@ impl<F: Folder> Office<F> {
             commit: self.keeper.commit() as u64,
             log_bytes: self.keeper.log_bytes(),
             syncs: self.keeper.syncs(),
-            seconds: self.now / 1000,
+            seconds: self.time / 1000,
             counts: self.counts,
         }
     }

@@ -8,6 +8,4 @@ pub struct Outside<'a, P: Ports, L: Files, E: Sink> {
     pub ports: &'a mut P,
     pub files: &'a mut L,
     pub err: &'a mut E,
-    /// Room for what is read at once.
-    pub piece: &'a mut [u8],
 }

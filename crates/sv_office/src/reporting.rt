@@ -59,7 +59,7 @@ impl<F: Folder> Office<F> {
         ensures keys { self.new.keys ≡ self.old.keys }
     {
         if self.keeper.commit() < self.keeper.last() {
-            self.ages.note(self.keeper.last(), self.now)?;
+            self.ages.note(self.keeper.last(), self.time)?;
         }
         Ok(())
     }
@@ -71,7 +71,7 @@ impl<F: Folder> Office<F> {
         ensures keys { self.new.keys ≡ self.old.keys }
     {
         match self.report_due() {
-            Some(due) => due <= self.now,
+            Some(due) => due <= self.time,
             None => false,
         }
     }

@@ -1,5 +1,6 @@
 //! A request: it is refused a connection, held, answered without an entry, or stepped.
 ghost use Rattle.std.specs.Prelude.{◌≡◌, ◌≢◌, ◌⊎◌, ℕ, true, false, List, None, Some, IfOk, OnOk, IfSome, IfNone, option_map, length};
+ghost use Rattle.sv_world.specs.declared.world.ClientId.{ClientId};
 ghost use Rattle.sv_wire.specs.Grammar.{IsWireReply};
 ghost use Rattle.sv_journal.specs.declared.entry.Entry.{Entry};
 ghost use Rattle.sv_journal.specs.History.{accepted, full_reply};
@@ -9,19 +10,20 @@ ghost use Rattle.sv_living.specs.Quiet.{IsQuiet};
 ghost use Rattle.sv_living.specs.World.{WorldView, after, reply_in};
 ghost use Rattle.sv_wire.specs.declared.message.Reply.{Reply};
 ghost use Rattle.sv_wire.specs.declared.message.Request.{Request};
-ghost use Rattle.sv_office.specs.Admitting.{is_admitted, number_in};
+ghost use Rattle.sv_office.specs.Admitting.{is_admitted, is_stewards_number, number_in, shows_key};
 ghost use Rattle.sv_office.specs.Entering.{GoesOn, KeepsOwn, IsEndOf, IsEnded, Follows, CameOf, CameOfAsking, WasFollowed, WasAnswered};
 ghost use Rattle.sv_office.specs.Guests.{Stays};
 ghost use Rattle.sv_office.specs.Offices.{AreApart, session_of};
 ghost use Rattle.sv_office.specs.Telling.{IsServed, IsOwed, WouldShowNothing, ShowsSomething};
 ghost use Rattle.sv_office.specs.declared.guest.Standing.TheVariants as standing;
 
-use crate::entering::enter;
+use crate::entering::{asking_session, enter};
 use crate::guest::{Guest, Held};
 use crate::halt::Halt;
 use crate::office::Office;
 use sv_journal::served_replies_are_messages;
 use sv_keeper::{KeepFault, Keeper};
+use sv_keys::Keys;
 use sv_log::Folder;
 use sv_wire::{Refusal, Reply, Request, read_reply};
 use sv_world::ClientId;
@@ -48,11 +50,36 @@ fn stops(reply: &Reply) -> bool {
 }
 
 fn joining(request: &Request) -> Option<ClientId>
-    ensures { option_map (λ client. client.0) result ≡ number_in request.now }
+    ensures { option_map (λ (c : ClientId). c.0) result ≡ number_in request.now }
 {
     match request {
         Request::Join { client, .. } => Some(*client),
         _ => None,
+    }
+}
+
+fn is_stewards(client: Option<ClientId>) -> bool
+    ensures { result ≡ is_stewards_number (option_map (λ (c : ClientId). c.0) client) }
+{
+    match client {
+        Some(client) => client.0 == STEWARD_NUMBER,
+        None => false,
+    }
+}
+
+/// Whether a key lets a client join, where keys are wanted, or lets ask anything else.
+fn shows_key(keys: &Option<Keys>, key: &Option<[u8; 32]>, client: Option<ClientId>) -> bool
+    ensures { result ≡ shows_key keys.now key.now (option_map (λ (c : ClientId). c.0) client) }
+{
+    let Some(keys) = keys else {
+        return true;
+    };
+    let Some(digest) = key else {
+        return false;
+    };
+    match client {
+        Some(client) => keys.has(client, digest),
+        None => true,
     }
 }
 
@@ -88,19 +115,7 @@ impl<F: Folder> Office<F> {
         ensures { result ≡ is_admitted self.now.keys guest.now.key request.now }
     {
         let client = joining(request);
-        if client == Some(ClientId(STEWARD_NUMBER)) {
-            return false;
-        }
-        let Some(keys) = &self.keys else {
-            return true;
-        };
-        let Some(digest) = &guest.key else {
-            return false;
-        };
-        match client {
-            Some(client) => keys.has(client, digest),
-            None => true,
-        }
+        !is_stewards(client) && shows_key(&self.keys, &guest.key, client)
     }
 
     /// Takes a request of a connection that is served. An End is none: only the server enters one.
@@ -116,7 +131,7 @@ impl<F: Folder> Office<F> {
         ensures keys { self.new.keys ≡ self.old.keys }
         ensures key { guest.new.key ≡ guest.old.key }
     {
-        guest.heard = self.now;
+        guest.heard = self.time;
         guest.has_spoken = true;
         if !self.admits(guest, &request) {
             self.counts.refuse();
@@ -182,10 +197,7 @@ impl<F: Folder> Office<F> {
         ensures keys { self.new.keys ≡ self.old.keys }
         ensures guest { Stays guest.old guest.new }
     {
-        let session = match guest.session {
-            Some(session) => session,
-            None => self.keeper.next_session(),
-        };
+        let session = asking_session(&self.keeper, guest.session);
         answers_are_messages(&self.keeper);
         let before = self.standing_of(guest, request);
         match enter(&mut self.keeper, session, request) {

@@ -7,7 +7,7 @@ ghost use Rattle.sv_wire.specs.declared.message.Request.TheVariants as requests;
 ghost use Rattle.sv_office.specs.Entering.{IsOwn, KeepsOwn, GoesOn, IsOf, IsReported};
 ghost use Rattle.sv_office.specs.Offices.{HasBegun};
 
-use crate::entering::enter;
+use crate::entering::{asking_session, enter};
 use crate::halt::Halt;
 use crate::stepping::STEWARD_NUMBER;
 use std::alloc::{AllocError, Global};
@@ -80,7 +80,6 @@ impl Steward {
         ensures session { KeepsOwn keeper.old.world.history self.old.session self.new.session }
         ensures added { GoesOn (λ (e : Entry). IsOwn keeper.old.world.history self.old.session e.session) keeper.old.world keeper.new.world }
     {
-        keeper.is_lawful();
         if self.client.sessions() >= MOST_SESSIONS {
             return Err(Halt::Steward);
         }
@@ -88,10 +87,7 @@ impl Steward {
         let Some(request) = requests.first() else {
             return Err(Halt::Steward);
         };
-        let session = match self.session {
-            Some(session) => session,
-            None => keeper.next_session(),
-        };
+        let session = asking_session(keeper, self.session);
         let reply = enter(keeper, session, request)?;
         self.session = Some(session);
         Ok(reply)
