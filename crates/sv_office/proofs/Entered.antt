@@ -1,14 +1,16 @@
 -- What entering a request adds.
-use Rattle.std.proofs.Common.{◌≡◌, ◌≢◌, ◌⊎◌, inl, inr, ℕ, Option, Some, refl, sym, ap, ◌∙◌, subst}
+use Rattle.std.proofs.Common.{◌≡◌, ◌≢◌, ◌⊎◌, inl, inr, ℕ, List, Option, Some, tt, refl, sym, ap, ◌∙◌, subst}
+use Rattle.std.specs.Prelude.{Result, Ok, Err, IfOk, IfErr}
 use Rattle.sv_wire.specs.declared.message.Request.{Request}
+use Rattle.sv_wire.specs.declared.message.Reply.{Reply}
 use Rattle.sv_journal.specs.declared.entry.Entry.{Entry}
 use Rattle.sv_journal.specs.Laws.{AreWithinLimits}
 use Rattle.sv_living.specs.World.{WorldView, after}
 use Rattle.sv_keeper.specs.Views.{KeeperView}
-use Rattle.sv_keeper.specs.Keeping.{WasNotStepped}
+use Rattle.sv_keeper.specs.Keeping.{Stepped, WasNotStepped}
 use Rattle.sv_keeper.specs.declared.fault.KeepFault.{KeepFault}
 use Rattle.sv_keeper.specs.declared.fault.KeepFault.TheVariants as faults
-use Rattle.sv_office.specs.Entering.{AreAdded, GoesOn, IsEntry}
+use Rattle.sv_office.specs.Entering.{AreAdded, GoesOn, IsEntry, WasEntered, AsksIn, IsOwn}
 use Rattle.sv_office.specs.Offices.{IsSound, session_of}
 use Rattle.sv_office.specs.declared.steward.Steward.{Steward}
 use Rattle.sv_office.proofs.Adding.{goes_nowhere, entry_stays}
@@ -35,9 +37,28 @@ module _ {F : Type 0} (old new : KeeperView F) (s : ℕ) (request : Request) whe
   same_err faults.Memory why other = ap (λ (k : KeeperView F). k.world) why.0
   same_err faults.Broken why other = absurd (other refl)
 
+  pub step_ok : (result : Result Reply KeepFault) → IfOk result (Stepped old new s request) → IfOk result (WasEntered old.world new.world s request)
+  step_ok (Ok reply) is = record { asks = is.asks; world = is.world; whole = is.whole }
+  step_ok (Err fault) is = tt
+
+  pub step_same : (result : Result Reply KeepFault) → IfErr result (WasNotStepped old new s request)
+      → IfErr result (λ fault. fault ≢ faults.Broken → new.world ≡ old.world)
+  step_same (Ok reply) is = tt
+  step_same (Err fault) is = same_err fault is
+
+  pub step_added : (result : Result Reply KeepFault) → IfOk result (Stepped old new s request) → IfErr result (WasNotStepped old new s request)
+      → GoesOn (IsEntry s request) old.world new.world
+  step_added (Ok reply) ok err = added_one old.world new.world s request ok.world
+  step_added (Err fault) ok err = added_err fault err
+
 -- What an office keeps stays, while its world goes on.
 pub sound_stays : {may : Entry → Type 0} {v w : WorldView} {old new : Option Steward} → GoesOn may v w → session_of new ≡ session_of old → IsSound v old → IsSound w new
 sound_stays on same s = record {
   limits = subst AreWithinLimits (sym on.rules) s.limits;
   begun = λ t is. entry_stays on.added t (s.begun t (sym same ∙ is));
 }
+
+-- Who asks asks in a session of its own.
+pub asks_own : {h : List Entry} {mine : Option ℕ} {s : ℕ} {request : Request} → AsksIn h mine s → (e : Entry) → IsEntry s request e → IsOwn h mine e.session
+asks_own {h} {mine} {s} (inl has) e is = subst (λ (t : ℕ). IsOwn h mine t) (sym is.0) (inl has)
+asks_own {h} {mine} {s} (inr none) e is = subst (λ (t : ℕ). IsOwn h mine t) (sym is.0) (inr none.1)

@@ -11,7 +11,11 @@ use Rattle.sv_journal.specs.Sessions.{is_end, is_ended}
 use Rattle.sv_sequencer.specs.Rows.{has_entry}
 use Rattle.sv_living.specs.Sessions.{is_open, may_ask, AreInOrder}
 use Rattle.sv_living.specs.World.{WorldView, after, reply_in}
-use Rattle.sv_office.specs.Entering.{AreAdded, GoesOn, AsksIn}
+use Rattle.sv_living.proofs.Turns.{open-parts}
+use Rattle.sv_office.specs.Entering.{AreAdded, GoesOn, AsksIn, IsGuests}
+use Rattle.sv_office.specs.Laws.{OthersStay, AllStay}
+use Rattle.sv_wire.specs.declared.message.Request.TheVariants as requests
+use Rattle.sv_office.specs.Guests.{Closes, closed}
 use Rattle.sv_office.specs.Telling.{WereTold, WereToldIn, is_gone, IsTold, IsServed, IsServedIn, IsOwed}
 use Rattle.sv_office.specs.declared.guest.Guest.{Guest}
 use Rattle.sv_office.specs.declared.guest.Standing.{Standing}
@@ -157,3 +161,52 @@ owed_step v s request told reply order ask more whole t = (
   open_after v.history order s ask request (reply_in v s request) more,
   WereTold.entry refl more t (ap (λ (r : Reply). told ++ r ∷ []) whole),
 )
+
+closed_shut : (x : Standing) → closed x ≢ standing.Open
+closed_shut standing.Open e = cc
+closed_shut standing.Closing e = cc
+closed_shut standing.Gone e = cc
+
+closed_gone : (x : Standing) → is_gone (closed x) ≡ false → is_gone x ≡ false
+closed_gone standing.Open e = refl
+closed_gone standing.Closing e = refl
+closed_gone standing.Gone e = e
+
+-- A connection that is closed stands as it stood.
+pub served_closed : (v : WorldView) (old new : Guest) → Closes old new → IsServed v old → IsServed v new
+served_closed v old new c = served_as v old new c.session c.told
+    (λ here. closed_gone old.standing (subst (λ (x : Standing). is_gone x ≡ false) c.standing here))
+    (λ shut is. closed_shut old.standing (sym c.standing ∙ is))
+
+-- Its session has its End.
+pub served_ended : (v w : WorldView) (s : ℕ) (old new : Guest) → old.session ≡ Some s → new.peer.told ≡ old.peer.told → new.standing ≡ closed old.standing
+    → new.session ≡ None → w ≡ after v s requests.End → IsServed v old → IsServed w new
+served_ended v w s old new has told standing_is none world h =
+    subst (λ (o : Option ℕ). IsServedIn w new o) (sym none) (inr (shut, s, ended, is_told (subst (λ (o : Option ℕ). IsServedIn v old o) has h)))
+  where
+    shut : new.standing ≢ standing.Open
+    shut is = closed_shut old.standing (sym standing_is ∙ is)
+    ended : is_ended w.history s ≡ true
+    ended = subst (λ (x : WorldView). is_ended x.history s ≡ true) (sym world) (ap (λ (b : Bool). (b && true) || is_ended v.history s) (eq-eqb s s refl))
+    is_told : (is_open v.history s ≡ true) × IsTold v s old → IsTold w s new
+    is_told (lives, t) = record {
+      rest = t.rest;
+      replies = subst (λ (x : WorldView). WereToldIn x s (new.peer.told ++ t.rest)) (sym world)
+          (WereTold.ended refl refl (subst (λ (xs : List Reply). WereToldIn v s (xs ++ t.rest)) (sym told) t.replies));
+      whole = λ here. t.whole (closed_gone old.standing (subst (λ (x : Standing). is_gone x ≡ false) standing_is here));
+    }
+
+-- A connection that is served has a session with entries.
+has_begun : (v : WorldView) (guest : Guest) (s : ℕ) → guest.session ≡ Some s → IsServed v guest → has_entry v.history s ≡ true
+has_begun v guest s is h = (open-parts v.history s (subst (λ (o : Option ℕ). IsServedIn v guest o) is h).0).0
+
+pub others_stay : OthersStay
+others_stay v w guest steward mine order on away other h = served_stays guest order on unlike h
+  where
+    unlike : (e : Entry) (s : ℕ) → guest.session ≡ Some s → IsGuests v.history steward mine e → e.session ≢ s
+    unlike e s is (inl stewards) same = away s is (stewards ∙ ap (λ (t : ℕ). Some t) same)
+    unlike e s is (inr (inl own, number)) same = other s is (own ∙ ap (λ (t : ℕ). Some t) same)
+    unlike e s is (inr (inr none, number)) same = apart v.history s e.session (has_begun v guest s is h) none (sym same)
+
+pub all_stay : AllStay
+all_stay v w guest steward order on away h = served_stays guest order on (λ e s is stewards same. away s is (stewards ∙ ap (λ (t : ℕ). Some t) same)) h

@@ -107,14 +107,14 @@ pub record WasStepped (steward : Option ℕ) (authority : Bool) (v w : WorldView
   pub session : ℕ
   pub followed : WasFollowed steward authority (length (accepted v.history)) (Some session) (after v session request).history w.history
 
--- A request was answered without an entry, or stepped.
-abbrev pub WasAnswered : Option ℕ → Bool → WorldView → WorldView → Request → Type 0
-WasAnswered steward authority v w request = (w ≡ v) ⊎ WasStepped steward authority v w request
+-- A request was answered without an entry, or not at all, and then the End of the session may be entered; or it was stepped.
+abbrev pub WasAnswered : Option ℕ → Bool → Option ℕ → WorldView → WorldView → Request → Type 0
+WasAnswered steward authority mine v w request = IsEnded mine v.history w.history ⊎ WasStepped steward authority v w request
 
 -- What is held of a connection was answered, once.
-abbrev pub WasReleased : Option ℕ → Bool → WorldView → WorldView → Option Held → Type 0
-WasReleased steward authority v w None = w ≡ v
-WasReleased steward authority v w (Some held) = WasAnswered steward authority v w held.request
+abbrev pub WasReleased : Option ℕ → Bool → Option ℕ → WorldView → WorldView → Option Held → Type 0
+WasReleased steward authority mine v w None = w ≡ v
+WasReleased steward authority mine v w (Some held) = WasAnswered steward authority mine v w held.request
 
 -- An entry that comes of what is held of a connection.
 abbrev pub CameOfHeld : List Entry → Option ℕ → Option ℕ → Option Held → Entry → Type 0

@@ -5,3 +5,4 @@ pub mod Guests
 pub mod Telling
 pub mod Holding
 pub mod Offices
+pub mod Laws

@@ -35,7 +35,7 @@ impl<F: Folder> Office<F> {
         requires served { IsServed self.old.keeper.world guest.old }
         requires apart { AreApart guest.old.session (session_of self.old.steward) }
         ensures served { OnOk result (IsServed self.new.keeper.world guest.new) }
-        ensures once { OnOk result (WasReleased (session_of self.old.steward) self.old.manners.authority self.old.keeper.world self.new.keeper.world guest.old.held) }
+        ensures once { OnOk result (WasReleased (session_of self.old.steward) self.old.manners.authority guest.old.session self.old.keeper.world self.new.keeper.world guest.old.held) }
         ensures held { guest.new.held ≡ None }
         ensures added { GoesOn (CameOfHeld self.old.keeper.world.history (session_of self.old.steward) guest.old.session guest.old.held) self.old.keeper.world self.new.keeper.world }
         ensures session { KeepsOwn self.old.keeper.world.history guest.old.session guest.new.session }

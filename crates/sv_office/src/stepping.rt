@@ -156,7 +156,7 @@ impl<F: Folder> Office<F> {
         requires served { IsServed self.old.keeper.world guest.old }
         requires apart { AreApart guest.old.session (session_of self.old.steward) }
         ensures served { OnOk result (IsServed self.new.keeper.world guest.new) }
-        ensures answered { OnOk result (WasAnswered (session_of self.old.steward) self.old.manners.authority self.old.keeper.world self.new.keeper.world request.now) }
+        ensures answered { OnOk result (WasAnswered (session_of self.old.steward) self.old.manners.authority guest.old.session self.old.keeper.world self.new.keeper.world request.now) }
         ensures added { GoesOn (CameOf self.old.keeper.world.history (session_of self.old.steward) guest.old.session request.now) self.old.keeper.world self.new.keeper.world }
         ensures session { KeepsOwn self.old.keeper.world.history guest.old.session guest.new.session }
         ensures steward { session_of self.new.steward ≡ session_of self.old.steward }
@@ -190,7 +190,7 @@ impl<F: Folder> Office<F> {
         requires served { IsServed self.old.keeper.world guest.old }
         requires apart { AreApart guest.old.session (session_of self.old.steward) }
         ensures served { OnOk result (IsServed self.new.keeper.world guest.new) }
-        ensures answered { OnOk result (WasAnswered (session_of self.old.steward) self.old.manners.authority self.old.keeper.world self.new.keeper.world request.now) }
+        ensures answered { OnOk result (WasAnswered (session_of self.old.steward) self.old.manners.authority guest.old.session self.old.keeper.world self.new.keeper.world request.now) }
         ensures added { GoesOn (CameOf self.old.keeper.world.history (session_of self.old.steward) guest.old.session request.now) self.old.keeper.world self.new.keeper.world }
         ensures session { KeepsOwn self.old.keeper.world.history guest.old.session guest.new.session }
         ensures steward { session_of self.new.steward ≡ session_of self.old.steward }
@@ -274,7 +274,7 @@ impl<F: Folder> Office<F> {
     pub fn end(&mut self, guest: &mut Guest) -> Result<(), Halt>
         requires served { IsServed self.old.keeper.world guest.old }
         ensures served { OnOk result (IsServed self.new.keeper.world guest.new) }
-        ensures ended { IsEnded guest.old.session self.old.keeper.world.history self.new.keeper.world.history }
+        ensures ended { OnOk result (IsEnded guest.old.session self.old.keeper.world.history self.new.keeper.world.history) }
         ensures added { GoesOn (IsEndOf guest.old.session) self.old.keeper.world self.new.keeper.world }
         ensures session { guest.new.session ≡ None }
         ensures standing { guest.old.session ≢ None → guest.new.standing ≢ standing.Open }
