@@ -18,9 +18,9 @@ use Rattle.sv_office.proofs.Orders.{apart}
 
 -- The steward's session is none of a connection's.
 pub apart_stays : {v : WorldView} {mine mid steward : Option ℕ} → HasBegun v steward → AreApart mine steward → KeepsOwn v.history mine mid → AreApart mid steward
-apart_stays {v} begun away keeps s is stewards = go (keeps s is)
+apart_stays {v} {mine} begun away keeps s is stewards = go (keeps s is)
   where
-    go : IsOwn v.history _ s → ⊥
+    go : IsOwn v.history mine s → ⊥
     go (inl own) = away s own stewards
     go (inr none) = apart v.history s s (begun s stewards) none refl
 

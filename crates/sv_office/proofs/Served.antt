@@ -1,7 +1,8 @@
 -- What a connection was told, as its world goes on.
-use Rattle.std.proofs.Common.{◌≡◌, ◌≢◌, ◌⊎◌, inl, inr, ℕ, Bool, true, false, ◌&&◌, ◌||◌, nat_eq, not, List, [], ◌∷◌, ◌++◌, Option, Some, None, refl, sym, ap, ap₂, ◌∙◌, subst, append-nil, eq-eqb}
-use Rattle.std.proofs.lemmas.Bool.{ne_eqb, eqb-true, or_parts}
+use Rattle.std.proofs.Common.{◌≡◌, ◌≢◌, ◌⊎◌, inl, inr, ℕ, Bool, true, false, ◌&&◌, ◌||◌, nat_eq, not, List, [], ◌∷◌, ◌++◌, Option, Some, None, refl, sym, ap, ap₂, ◌∙◌, subst, append-nil, eq-eqb, ne_eqb}
+use Rattle.std.proofs.lemmas.Bool.{or_parts}
 use Rattle.sv_wire.specs.declared.message.Reply.{Reply}
+use Rattle.sv_wire.specs.Grammar.{IsWireReply}
 use Rattle.sv_wire.specs.declared.message.Request.{Request}
 use Rattle.sv_journal.specs.declared.entry.Entry.{Entry}
 use Rattle.sv_journal.specs.Answer.{Rules}
@@ -12,11 +13,11 @@ use Rattle.sv_sequencer.specs.Rows.{has_entry}
 use Rattle.sv_living.specs.Sessions.{is_open, may_ask, AreInOrder}
 use Rattle.sv_living.specs.World.{WorldView, after, reply_in}
 use Rattle.sv_living.proofs.Turns.{open-parts}
-use Rattle.sv_office.specs.Entering.{AreAdded, GoesOn, AsksIn, IsGuests}
+use Rattle.sv_office.specs.Entering.{AreAdded, GoesOn, AsksIn, IsGuests, WasEntered}
 use Rattle.sv_office.specs.Laws.{OthersStay, AllStay}
 use Rattle.sv_wire.specs.declared.message.Request.TheVariants as requests
 use Rattle.sv_office.specs.Guests.{Closes, closed}
-use Rattle.sv_office.specs.Telling.{WereTold, WereToldIn, is_gone, IsTold, IsServed, IsServedIn, IsOwed}
+use Rattle.sv_office.specs.Telling.{WereTold, WereToldIn, is_gone, IsTold, IsServed, IsServedIn, IsOwed, WouldShowNothing}
 use Rattle.sv_office.specs.declared.guest.Guest.{Guest}
 use Rattle.sv_office.specs.declared.guest.Standing.{Standing}
 use Rattle.sv_office.specs.declared.guest.Standing.TheVariants as standing
@@ -141,15 +142,15 @@ told_before v guest order open_is served s which = go guest.session refl served 
     go (Some t) is (lives, told) (inl same) =
         subst (λ (x : ℕ). WereToldIn v x guest.peer.told) (one t s same)
         (subst (λ (xs : List Reply). WereToldIn v t xs) (ap (λ (xs : List Reply). guest.peer.told ++ xs) (told.whole still) ∙ append-nil guest.peer.told) told.replies)
-    go (Some t) is h (inr (no, none)) = absurd (never no)
+    go (Some t) is h (inr (without, none)) = absurd (never without)
       where
         never : {x : ℕ} → Some x ≡ None → ⊥
         never e = cc
-    go None is h (inl no) = absurd (never no)
+    go None is h (inl with_one) = absurd (never with_one)
       where
         never : {x : ℕ} → None ≡ Some x → ⊥
         never e = cc
-    go None is (inl told) (inr (no, none)) =
+    go None is (inl told) (inr (without, none)) =
         subst (λ (xs : List Reply). WereToldIn v s xs) (sym told) (told_fresh v.rules v.stewardship s v.history none)
     go None is (inr (shut, rest)) h = absurd (shut open_is)
 
@@ -210,3 +211,43 @@ others_stay v w guest steward mine order on away other h = served_stays guest or
 
 pub all_stay : AllStay
 all_stay v w guest steward order on away h = served_stays guest order on (λ e s is stewards same. away s is (stewards ∙ ap (λ (t : ℕ). Some t) same)) h
+
+-- A connection that is open and has a session was told what its session was.
+pub told_now : (v : WorldView) (guest : Guest) (s : ℕ) → guest.standing ≡ standing.Open → guest.session ≡ Some s → IsServed v guest
+    → (is_open v.history s ≡ true) × WereToldIn v s guest.peer.told
+told_now v guest s open_is has h = go (subst (λ (o : Option ℕ). IsServedIn v guest o) has h)
+  where
+    go : (is_open v.history s ≡ true) × IsTold v s guest → (is_open v.history s ≡ true) × WereToldIn v s guest.peer.told
+    go (lives, t) = (
+      lives,
+      subst (λ (xs : List Reply). WereToldIn v s xs) (ap (λ (xs : List Reply). guest.peer.told ++ xs) (t.whole (ap is_gone open_is)) ∙ append-nil guest.peer.told) t.replies,
+    )
+
+-- What an Observe would be answered that shows nothing is owed.
+pub owed_quiet : (v : WorldView) (guest : Guest) (request : Request) (reply : Reply) → guest.standing ≡ standing.Open → IsServed v guest
+    → WouldShowNothing v guest request reply → IsOwed v guest reply
+owed_quiet v guest request reply open_is h (observe, s, has, quiet_is) =
+    let told = told_now v guest s open_is has h in
+    record { session = s; has = has; lives = told.0; replies = WereTold.quiet request reply quiet_is told.1 refl }
+
+-- The reply of what was entered is owed.
+pub owed_entered : (v w : WorldView) (guest new : Guest) (s : ℕ) (request : Request) (reply : Reply) → AreInOrder v.history → guest.standing ≡ standing.Open
+    → IsServed v guest → AsksIn v.history guest.session s → is_end request ≡ false → WasEntered v w s request reply → new.session ≡ Some s
+    → new.peer.told ≡ guest.peer.told → IsOwed w new reply
+owed_entered v w guest new s request reply order open_is served asks more e has same =
+    let told = told_before v guest order open_is served s asks in
+    let whole = e.whole ∙ ap (λ (x : WorldView). full_reply (accepted x.history) (reply_in v s request)) e.world in
+    let o = owed_step v s request guest.peer.told reply order e.asks more whole told in
+    record {
+      session = s;
+      has = has;
+      lives = subst (λ (x : WorldView). is_open x.history s ≡ true) (sym e.world) o.0;
+      replies = subst (λ (x : WorldView). WereToldIn x s (new.peer.told ++ reply ∷ [])) (sym e.world)
+          (subst (λ (xs : List Reply). WereToldIn (after v s request) s (xs ++ reply ∷ [])) (sym same) o.1);
+    }
+
+-- It is a message.
+pub message_entered : (v w : WorldView) (s : ℕ) (request : Request) (reply : Reply)
+    → IsWireReply (full_reply (accepted (after v s request).history) (reply_in v s request)) → WasEntered v w s request reply → IsWireReply reply
+message_entered v w s request reply message e =
+    subst IsWireReply (sym (e.whole ∙ ap (λ (x : WorldView). full_reply (accepted x.history) (reply_in v s request)) e.world)) message

@@ -7,6 +7,7 @@ ghost use Rattle.sv_journal.specs.History.{accepted, full_reply};
 ghost use Rattle.sv_journal.specs.Laws.{AreWithinLimits};
 ghost use Rattle.sv_journal.specs.Sessions.{is_end};
 ghost use Rattle.sv_living.specs.Quiet.{IsQuiet};
+ghost use Rattle.sv_living.specs.Sessions.{AreInOrder};
 ghost use Rattle.sv_living.specs.World.{WorldView, after, reply_in};
 ghost use Rattle.sv_wire.specs.declared.message.Reply.{Reply};
 ghost use Rattle.sv_wire.specs.declared.message.Request.{Request};
@@ -83,11 +84,12 @@ fn shows_key(keys: &Option<Keys>, key: &Option<[u8; 32]>, client: Option<ClientI
     }
 }
 
-/// What a session is answered next is a message.
+/// What a session is answered next is a message, and sessions began in order.
 fn answers_are_messages<F: Folder>(keeper: &Keeper<F>)
     requires { AreWithinLimits keeper.now.world.rules }
     ensures stepped { (s : ℕ) → (request : Request)
         → IsWireReply (full_reply (accepted (after keeper.now.world s request).history) (reply_in keeper.now.world s request)) }
+    ensures order { AreInOrder keeper.now.world.history }
     ensures quiet { (s : ℕ) → (request : Request) → (reply : Reply)
         → IsQuiet keeper.now.world.rules keeper.now.world.stewardship keeper.now.world.history s request (Some reply) → IsWireReply reply }
 {
@@ -262,6 +264,7 @@ impl<F: Folder> Office<F> {
         tell(guest, reply);
         if self.manners.authority && self.keeper.last() != before.last {
             self.report_accepted()?;
+            self.keeper.is_lawful();
         }
         if stops(reply) || !guest.is_open() {
             guest.close();
