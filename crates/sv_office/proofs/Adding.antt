@@ -52,5 +52,5 @@ own_before added keeps s (inr none) = inr (unused_before added s none)
 pub keeps_then : {may : Entry → Type 0} {h g : List Entry} {mine mid after : Option ℕ} → AreAdded may h g → KeepsOwn h mine mid → KeepsOwn g mid after → KeepsOwn h mine after
 keeps_then added first next s is = own_before added first s (next s is)
 
-pub keeps_same : {h : List Entry} {mine after : Option ℕ} → after ≡ mine → KeepsOwn h mine after
-keeps_same same s is = inl (sym same ∙ is)
+pub keeps_same : (h : List Entry) {mine after : Option ℕ} → after ≡ mine → KeepsOwn h mine after
+keeps_same h same s is = inl (sym same ∙ is)

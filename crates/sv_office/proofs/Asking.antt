@@ -17,35 +17,35 @@ use Rattle.sv_office.proofs.Adding.{goes_as, goes_then, own_before, keeps_then}
 use Rattle.sv_office.proofs.Orders.{apart}
 
 -- The steward's session is none of a connection's.
-pub apart_stays : {v : WorldView} {mine mid steward : Option ℕ} → HasBegun v steward → AreApart mine steward → KeepsOwn v.history mine mid → AreApart mid steward
-apart_stays {v} {mine} begun away keeps s is stewards = go (keeps s is)
+pub apart_stays : (v : WorldView) {mine mid steward : Option ℕ} → HasBegun v steward → AreApart mine steward → KeepsOwn v.history mine mid → AreApart mid steward
+apart_stays v {mine} begun away keeps s is stewards = go (keeps s is)
   where
     go : IsOwn v.history mine s → ⊥
     go (inl own) = away s own stewards
     go (inr none) = apart v.history s s (begun s stewards) none refl
 
-pub end_came : {h : List Entry} {steward mine : Option ℕ} {request : Request} (e : Entry) → IsEndOf mine e → CameOf h steward mine request e
-end_came e is = inr (inl is.0, inl is.1)
+pub end_came : (h : List Entry) (steward mine : Option ℕ) (request : Request) (e : Entry) → IsEndOf mine e → CameOf h steward mine request e
+end_came h steward mine request e is = inr (inl is.0, inl is.1)
 
-pub follows_came : {h : List Entry} {steward mine : Option ℕ} {request : Request} (e : Entry) → Follows steward mine e → CameOf h steward mine request e
-follows_came e (inl stewards) = inl stewards
-follows_came e (inr ends) = end_came e ends
+pub follows_came : (h : List Entry) (steward mine : Option ℕ) (request : Request) (e : Entry) → Follows steward mine e → CameOf h steward mine request e
+follows_came h steward mine request e (inl stewards) = inl stewards
+follows_came h steward mine request e (inr ends) = end_came h steward mine request e ends
 
-pub end_asked : {h : List Entry} {steward : Option ℕ} {keys : Option KeysView} {guest : Guest} {request : Request} (e : Entry) → IsEndOf guest.session e
+pub end_asked : (h : List Entry) (steward : Option ℕ) (keys : Option KeysView) (guest : Guest) (request : Request) (e : Entry) → IsEndOf guest.session e
     → CameOfAsking h steward keys guest request e
-end_asked e is = inr (inl is.0, inl is.1)
+end_asked h steward keys guest request e is = inr (inl is.0, inl is.1)
 
-pub held_asked : {h : List Entry} {steward : Option ℕ} {keys : Option KeysView} {guest : Guest} {request : Request} (e : Entry)
+pub held_asked : (h : List Entry) (steward : Option ℕ) (keys : Option KeysView) (guest : Guest) (request : Request) (e : Entry)
     → CameOfHeld h steward guest.session guest.held e → CameOfAsking h steward keys guest request e
-held_asked e (inl stewards) = inl stewards
-held_asked e (inr (own, inl ends)) = inr (own, inl ends)
-held_asked e (inr (own, inr held)) = inr (own, inr (inl held))
+held_asked h steward keys guest request e (inl stewards) = inl stewards
+held_asked h steward keys guest request e (inr (own, inl ends)) = inr (own, inl ends)
+held_asked h steward keys guest request e (inr (own, inr held)) = inr (own, inr (inl held))
 
-pub request_asked : {may : Entry → Type 0} {h g : List Entry} {steward mid : Option ℕ} {keys : Option KeysView} {guest : Guest} {request : Request} → AreAdded may h g
+pub request_asked : {may : Entry → Type 0} {h g : List Entry} {mid : Option ℕ} (steward : Option ℕ) (keys : Option KeysView) (guest : Guest) (request : Request) → AreAdded may h g
     → KeepsOwn h guest.session mid → is_admitted keys guest.key request ≡ true → (e : Entry) → CameOf g steward mid request e → CameOfAsking h steward keys guest request e
-request_asked added keeps admitted e (inl stewards) = inl stewards
-request_asked added keeps admitted e (inr (own, inl ends)) = inr (own_before added keeps e.session own, inl ends)
-request_asked added keeps admitted e (inr (own, inr is)) = inr (own_before added keeps e.session own, inr (inr (is, admitted)))
+request_asked steward keys guest request added keeps admitted e (inl stewards) = inl stewards
+request_asked steward keys guest request added keeps admitted e (inr (own, inl ends)) = inr (own_before added keeps e.session own, inl ends)
+request_asked steward keys guest request added keeps admitted e (inr (own, inr is)) = inr (own_before added keeps e.session own, inr (inr (is, admitted)))
 
 none_of_end : (request : Request) → is_end request ≡ true → is_stewards_number (number_in request) ≡ false
 none_of_end requests.End e = refl
@@ -76,19 +76,19 @@ none_of_held (Some held) request is = subst (λ (r : Request). is_stewards_numbe
 none_of_held None request is = absurd is
 
 -- No connection joins as the steward.
-pub asked_guests : {h : List Entry} {steward : Option ℕ} {keys : Option KeysView} {guest : Guest} {request : Request} (e : Entry)
+pub asked_guests : (h : List Entry) (steward : Option ℕ) (keys : Option KeysView) (guest : Guest) (request : Request) (e : Entry)
     → CameOfAsking h steward keys guest request e → IsGuests h steward guest.session e
-asked_guests e (inl stewards) = inl stewards
-asked_guests e (inr (own, inl ends)) = inr (own, none_of_end e.request ends)
-asked_guests {guest = guest} e (inr (own, inr (inl held))) = inr (own, none_of_held guest.held e.request held)
-asked_guests {keys = keys} {guest = guest} {request = request} e (inr (own, inr (inr (is, admitted)))) = inr (
+asked_guests h steward keys guest request e (inl stewards) = inl stewards
+asked_guests h steward keys guest request e (inr (own, inl ends)) = inr (own, none_of_end e.request ends)
+asked_guests h steward keys guest request e (inr (own, inr (inl held))) = inr (own, none_of_held guest.held e.request held)
+asked_guests h steward keys guest request e (inr (own, inr (inr (is, admitted)))) = inr (
   own,
   subst (λ (r : Request). is_stewards_number (number_in r) ≡ false) (sym is)
   (not_off (is_stewards_number (number_in request)) (and_parts (not (is_stewards_number (number_in request))) (shows_key keys guest.key (number_in request)) admitted).0),
 )
 
-pub end_guests : {h : List Entry} {steward mine : Option ℕ} (e : Entry) → IsEndOf mine e → IsGuests h steward mine e
-end_guests e is = inr (inl is.0, none_of_end e.request is.1)
+pub end_guests : (h : List Entry) (steward mine : Option ℕ) (e : Entry) → IsEndOf mine e → IsGuests h steward mine e
+end_guests h steward mine e is = inr (inl is.0, none_of_end e.request is.1)
 
 -- What a connection's turn has done so far: entries of it and of the steward were added, and its session is its own.
 pub record IsGoing (v : WorldView) (steward mine : Option ℕ) (w : WorldView) (now : Option ℕ) (stewards : Option ℕ) : Type 0 where

@@ -1,5 +1,5 @@
 -- What entering a request adds.
-use Rattle.std.proofs.Common.{◌≡◌, ◌≢◌, ◌⊎◌, inl, inr, ℕ, List, Option, Some, tt, refl, sym, ap, ◌∙◌, subst}
+use Rattle.std.proofs.Common.{◌≡◌, ◌≢◌, ◌⊎◌, inl, inr, ℕ, List, Option, Some, refl, sym, ap, ◌∙◌, subst}
 use Rattle.std.specs.Prelude.{Result, Ok, Err, IfOk, IfErr}
 use Rattle.sv_wire.specs.declared.message.Request.{Request}
 use Rattle.sv_wire.specs.declared.message.Reply.{Reply}
@@ -59,6 +59,6 @@ sound_stays on same s = record {
 }
 
 -- Who asks asks in a session of its own.
-pub asks_own : {h : List Entry} {mine : Option ℕ} {s : ℕ} {request : Request} → AsksIn h mine s → (e : Entry) → IsEntry s request e → IsOwn h mine e.session
-asks_own {h} {mine} {s} (inl has) e is = subst (λ (t : ℕ). IsOwn h mine t) (sym is.0) (inl has)
-asks_own {h} {mine} {s} (inr none) e is = subst (λ (t : ℕ). IsOwn h mine t) (sym is.0) (inr none.1)
+pub asks_own : (h : List Entry) (mine : Option ℕ) (s : ℕ) (request : Request) → AsksIn h mine s → (e : Entry) → IsEntry s request e → IsOwn h mine e.session
+asks_own h mine s request (inl has) e is = subst (λ (t : ℕ). IsOwn h mine t) (sym is.0) (inl has)
+asks_own h mine s request (inr none) e is = subst (λ (t : ℕ). IsOwn h mine t) (sym is.0) (inr none.1)

@@ -14,6 +14,7 @@ use Rattle.sv_journal.specs.Living.{living}
 use Rattle.sv_journal.specs.Serving.{LegalFor, reply_for}
 use Rattle.sv_journal.proofs.Stewards.{living-keeping}
 use Rattle.sv_sequencer.specs.Seeing.{shows_nothing}
+use Rattle.sv_sequencer.specs.Step.{entry_of}
 use Rattle.sv_living.specs.Quiet.{IsQuiet}
 use Rattle.sv_living.specs.Sessions.{is_open}
 use Rattle.sv_living.specs.World.{WorldView, after, reply_in}
@@ -21,7 +22,7 @@ use Rattle.sv_living.specs.World.{WorldView, after, reply_in}
 pub steps_are_messages : ServedRepliesAreMessages → (v : WorldView) → AreWithinLimits v.rules → LegalFor (living v.stewardship) v.rules v.history
     → (s : ℕ) (request : Request) → IsWireReply (full_reply (accepted (after v s request).history) (reply_in v s request))
 steps_are_messages law v limits legal s request =
-    All-head _ _ _ (law (living v.stewardship) v.rules (after v s request).history (living-keeping v.stewardship) limits (refl, legal))
+    All-head (λ (x : Entry). IsWireReply (full_reply (accepted (after v s request).history) x.reply)) (entry_of s request (reply_in v s request)) v.history (law (living v.stewardship) v.rules (after v s request).history (living-keeping v.stewardship) limits (refl, legal))
 
 nothing_is_work : (most : ℕ) → IsWireWork most [] []
 nothing_is_work most = record {

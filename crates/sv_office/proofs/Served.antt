@@ -31,9 +31,7 @@ told_fresh r w s (e ∷ h) none =
     WereTold.other (unlike parts.0) (told_fresh r w s h parts.1)
   where
     unlike : nat_eq e.session s ≡ false → e.session ≢ s
-    unlike f same = let t : nat_eq e.session s ≡ true = eq_is same in let clash : true ≡ false = sym t ∙ f in cc
-    eq_is : e.session ≡ s → nat_eq e.session s ≡ true
-    eq_is same = subst (λ (t : ℕ). nat_eq e.session t ≡ true) same (eq-eqb e.session e.session refl)
+    unlike f same = let clash : true ≡ false = sym (eq-eqb e.session s same) ∙ f in cc
 
 -- Entries of other sessions tell a session nothing, and leave it open.
 pub told_stays : {may : Entry → Type 0} {r : Rules} {w : Stewardship} {s : ℕ} {h g : List Entry} {told : List Reply} → AreAdded may h g
@@ -68,7 +66,7 @@ told_over {s = s} order (AreAdded.one {g = g} {e = e} before m) over t = WereTol
         let none = unended_who_asks g order.1 e.session order.0 in
         let clash : true ≡ false = sym (ended_stays before s over) ∙ ap (is_ended g) (sym same) ∙ none in cc
 
-module _ {v w : WorldView} (rules : w.rules ≡ v.rules) (stewardship : w.stewardship ≡ v.stewardship) where
+module _ (v w : WorldView) (rules : w.rules ≡ v.rules) (stewardship : w.stewardship ≡ v.stewardship) where
   moved : (s : ℕ) (told : List Reply) → WereTold v.rules v.stewardship s w.history told → WereToldIn w s told
   moved s told t = subst (λ (x : Rules). WereTold x w.stewardship s w.history told) (sym rules)
       (subst (λ (x : Stewardship). WereTold v.rules x s w.history told) (sym stewardship) t)
@@ -79,19 +77,20 @@ pub served_stays : {may : Entry → Type 0} {v w : WorldView} (guest : Guest) �
 served_stays {may} {v} {w} guest order on others = go guest.session refl
   where
     stays : (s : ℕ) (told : List Reply) → ((e : Entry) → may e → e.session ≢ s) → WereToldIn v s told → WereToldIn w s told
-    stays s told other t = moved on.rules on.stewardship s told (told_stays on.added other t)
+    stays s told other t = moved v w on.rules on.stewardship s told (told_stays on.added other t)
     over : (s : ℕ) (told : List Reply) → is_ended v.history s ≡ true → WereToldIn v s told → WereToldIn w s told
-    over s told ended t = moved on.rules on.stewardship s told (told_over order on.added ended t)
+    over s told ended t = moved v w on.rules on.stewardship s told (told_over order on.added ended t)
     go : (o : Option ℕ) → guest.session ≡ o → IsServedIn v guest o → IsServedIn w guest o
     go (Some s) is (lives, t) = (
       open_stays on.added (λ e. others e s is) lives,
       record { rest = t.rest; replies = stays s (guest.peer.told ++ t.rest) (λ e. others e s is) t.replies; whole = t.whole },
     )
     go None is (inl none) = inl none
-    go None is (inr (shut, s, ended, t)) = inr (
-      shut, s, ended_stays on.added s ended,
+    go None is (inr (shut, (s, ended, t))) = inr (shut, (
+      s,
+      ended_stays on.added s ended,
       record { rest = t.rest; replies = over s (guest.peer.told ++ t.rest) ended t.replies; whole = t.whole },
-    )
+    ))
 
 -- A connection that was told nothing more stands as it stood.
 pub served_as : (v : WorldView) (old new : Guest) → new.session ≡ old.session → new.peer.told ≡ old.peer.told
@@ -108,7 +107,7 @@ served_as v old new same told gone shut h = subst (λ (o : Option ℕ). IsServed
     go : (o : Option ℕ) → IsServedIn v old o → IsServedIn v new o
     go (Some s) (lives, t) = (lives, told_as s t)
     go None (inl none) = inl (told ∙ none)
-    go None (inr (closed, s, ended, t)) = inr (shut closed, s, ended, told_as s t)
+    go None (inr (was, (s, ended, t))) = inr (shut was, (s, ended, told_as s t))
 
 -- A connection that is told what it is owed is served; or it is gone.
 pub served_told : (v : WorldView) (old new : Guest) (reply : Reply) → new.session ≡ old.session → new.peer.told ≡ old.peer.told ++ reply ∷ []
@@ -183,7 +182,7 @@ served_closed v old new c = served_as v old new c.session c.told
 pub served_ended : (v w : WorldView) (s : ℕ) (old new : Guest) → old.session ≡ Some s → new.peer.told ≡ old.peer.told → new.standing ≡ closed old.standing
     → new.session ≡ None → w ≡ after v s requests.End → IsServed v old → IsServed w new
 served_ended v w s old new has told standing_is none world h =
-    subst (λ (o : Option ℕ). IsServedIn w new o) (sym none) (inr (shut, s, ended, is_told (subst (λ (o : Option ℕ). IsServedIn v old o) has h)))
+    subst (λ (o : Option ℕ). IsServedIn w new o) (sym none) (inr (shut, (s, ended, is_told (subst (λ (o : Option ℕ). IsServedIn v old o) has h))))
   where
     shut : new.standing ≢ standing.Open
     shut is = closed_shut old.standing (sym standing_is ∙ is)
@@ -226,7 +225,7 @@ told_now v guest s open_is has h = go (subst (λ (o : Option ℕ). IsServedIn v 
 -- What an Observe would be answered that shows nothing is owed.
 pub owed_quiet : (v : WorldView) (guest : Guest) (request : Request) (reply : Reply) → guest.standing ≡ standing.Open → IsServed v guest
     → WouldShowNothing v guest request reply → IsOwed v guest reply
-owed_quiet v guest request reply open_is h (observe, s, has, quiet_is) =
+owed_quiet v guest request reply open_is h (observe, (s, has, quiet_is)) =
     let told = told_now v guest s open_is has h in
     record { session = s; has = has; lives = told.0; replies = WereTold.quiet request reply quiet_is told.1 refl }
 
