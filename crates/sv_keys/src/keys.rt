@@ -105,12 +105,7 @@ impl Keys {
     }
 
     /// Looks at the file, and answers whether it has a key of this digest. Where it is wrong now, that is told, and the last good one holds.
-    pub fn look<L: Files, E: Sink>(
-        &mut self,
-        files: &mut L,
-        err: &mut E,
-        digest: &[u8; 32],
-    ) -> bool
+    pub fn look<L: Files, E: Sink>(&mut self, files: &mut L, err: &mut E, digest: &[u8; 32]) -> bool
         ensures answer { result ≡ has_digest self.new digest.now }
         ensures renewed { (fault : Option KeysFault)
             × IsRenewed (L.contents files.old self.old.file) self.old self.new fault

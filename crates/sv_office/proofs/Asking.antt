@@ -84,7 +84,7 @@ asked_guests h steward keys guest request e (inr (own, inr (inl held))) = inr (o
 asked_guests h steward keys guest request e (inr (own, inr (inr (is, admitted)))) = inr (
   own,
   subst (λ (r : Request). is_stewards_number (number_in r) ≡ false) (sym is)
-  (not_off (is_stewards_number (number_in request)) (and_parts (not (is_stewards_number (number_in request))) (shows_key keys guest.key (number_in request)) admitted).0),
+      (not_off (is_stewards_number (number_in request)) (and_parts (not (is_stewards_number (number_in request))) (shows_key keys guest.key (number_in request)) admitted).0),
 )
 
 pub end_guests : (h : List Entry) (steward mine : Option ℕ) (e : Entry) → IsEndOf mine e → IsGuests h steward mine e

@@ -78,19 +78,24 @@ served_stays {may} {v} {w} guest order on others = go guest.session refl
   where
     stays : (s : ℕ) (told : List Reply) → ((e : Entry) → may e → e.session ≢ s) → WereToldIn v s told → WereToldIn w s told
     stays s told other t = moved v w on.rules on.stewardship s told (told_stays on.added other t)
+
     over : (s : ℕ) (told : List Reply) → is_ended v.history s ≡ true → WereToldIn v s told → WereToldIn w s told
     over s told ended t = moved v w on.rules on.stewardship s told (told_over order on.added ended t)
+
     go : (o : Option ℕ) → guest.session ≡ o → IsServedIn v guest o → IsServedIn w guest o
     go (Some s) is (lives, t) = (
       open_stays on.added (λ e. others e s is) lives,
       record { rest = t.rest; replies = stays s (guest.peer.told ++ t.rest) (λ e. others e s is) t.replies; whole = t.whole },
     )
     go None is (inl none) = inl none
-    go None is (inr (shut, (s, ended, t))) = inr (shut, (
-      s,
-      ended_stays on.added s ended,
-      record { rest = t.rest; replies = over s (guest.peer.told ++ t.rest) ended t.replies; whole = t.whole },
-    ))
+    go None is (inr (shut, (s, ended, t))) = inr (
+      shut,
+      (
+        s,
+        ended_stays on.added s ended,
+        record { rest = t.rest; replies = over s (guest.peer.told ++ t.rest) ended t.replies; whole = t.whole },
+      ),
+    )
 
 -- A connection that was told nothing more stands as it stood.
 pub served_as : (v : WorldView) (old new : Guest) → new.session ≡ old.session → new.peer.told ≡ old.peer.told
@@ -104,6 +109,7 @@ served_as v old new same told gone shut h = subst (λ (o : Option ℕ). IsServed
       replies = subst (λ (xs : List Reply). WereToldIn v s (xs ++ t.rest)) (sym told) t.replies;
       whole = λ here. t.whole (gone here);
     }
+
     go : (o : Option ℕ) → IsServedIn v old o → IsServedIn v new o
     go (Some s) (lives, t) = (lives, told_as s t)
     go None (inl none) = inl (told ∙ none)
@@ -113,20 +119,26 @@ served_as v old new same told gone shut h = subst (λ (o : Option ℕ). IsServed
 pub served_told : (v : WorldView) (old new : Guest) (reply : Reply) → new.session ≡ old.session → new.peer.told ≡ old.peer.told ++ reply ∷ []
     → IsOwed v old reply → IsServed v new
 served_told v old new reply same told owed =
-    subst (λ (o : Option ℕ). IsServedIn v new o) (sym (same ∙ owed.has)) (owed.lives, record {
-      rest = [];
-      replies = subst (λ (xs : List Reply). WereToldIn v owed.session xs) (sym (append-nil new.peer.told ∙ told)) owed.replies;
-      whole = λ here. refl;
-    })
+    subst (λ (o : Option ℕ). IsServedIn v new o) (sym (same ∙ owed.has)) (
+      owed.lives,
+      record {
+        rest = [];
+        replies = subst (λ (xs : List Reply). WereToldIn v owed.session xs) (sym (append-nil new.peer.told ∙ told)) owed.replies;
+        whole = λ here. refl;
+      },
+    )
 
 pub served_gone : (v : WorldView) (old new : Guest) (reply : Reply) → new.session ≡ old.session → new.peer.told ≡ old.peer.told
     → new.standing ≡ standing.Gone → IsOwed v old reply → IsServed v new
 served_gone v old new reply same told gone owed =
-    subst (λ (o : Option ℕ). IsServedIn v new o) (sym (same ∙ owed.has)) (owed.lives, record {
-      rest = reply ∷ [];
-      replies = subst (λ (xs : List Reply). WereToldIn v owed.session (xs ++ reply ∷ [])) (sym told) owed.replies;
-      whole = λ here. let clash : true ≡ false = sym (ap is_gone gone) ∙ here in cc;
-    })
+    subst (λ (o : Option ℕ). IsServedIn v new o) (sym (same ∙ owed.has)) (
+      owed.lives,
+      record {
+        rest = reply ∷ [];
+        replies = subst (λ (xs : List Reply). WereToldIn v owed.session (xs ++ reply ∷ [])) (sym told) owed.replies;
+        whole = λ here. let clash : true ≡ false = sym (ap is_gone gone) ∙ here in cc;
+      },
+    )
 
 -- What an open connection was told before it asks.
 pub told_before : (v : WorldView) (guest : Guest) → AreInOrder v.history → guest.standing ≡ standing.Open → IsServed v guest → (s : ℕ)
@@ -135,8 +147,10 @@ told_before v guest order open_is served s which = go guest.session refl served 
   where
     one : (s t : ℕ) → Some s ≡ Some t → s ≡ t
     one s t e = cc
+
     still : is_gone guest.standing ≡ false
     still = ap is_gone open_is
+
     go : (o : Option ℕ) → guest.session ≡ o → IsServedIn v guest o → AsksIn v.history o s → WereToldIn v s guest.peer.told
     go (Some t) is (lives, told) (inl same) =
         subst (λ (x : ℕ). WereToldIn v x guest.peer.told) (one t s same)
@@ -186,8 +200,10 @@ served_ended v w s old new has told standing_is none world h =
   where
     shut : new.standing ≢ standing.Open
     shut is = closed_shut old.standing (sym standing_is ∙ is)
+
     ended : is_ended w.history s ≡ true
     ended = subst (λ (x : WorldView). is_ended x.history s ≡ true) (sym world) (ap (λ (b : Bool). (b && true) || is_ended v.history s) (eq-eqb s s refl))
+
     is_told : (is_open v.history s ≡ true) × IsTold v s old → IsTold w s new
     is_told (lives, t) = record {
       rest = t.rest;

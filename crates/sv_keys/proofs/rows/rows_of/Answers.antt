@@ -13,7 +13,7 @@ loop-rest-preserved-in-Blank c =
 pub loop-rest-preserved : goal.loop-rest-preserved
 loop-rest-preserved c =
     let next = walk_key c.loop-rest.invariant c.cut.result.0.now c.cut.result.1.now c.cut.ensures.before c.cut.ensures.behind c.in-Key.row c.in-Key.ensures
-        (c.cut.ensures.less (some_left _ c.loop-rest-test.ensures)) in
+    (c.cut.ensures.less (some_left _ c.loop-rest-test.ensures)) in
     rw c.in_ok-push-in-Key.ensures.items next
 
 pub returns-clause-ok : goal.returns-clause-ok
