@@ -1,6 +1,6 @@
 -- What a server keeps of each client that ever joined.
 use Rattle.std.specs.Prelude.{◌≡◌, ℕ, suc, ◌+◌, ◌-◌, nat_eq, nat_le, nat_lt, Bool, ◌&&◌, List, [], ◌∷◌, ◌++◌, map, length, drop, slice_get, Option, None, option_map, unwrap_or, if◌then◌else◌}
-use Rattle.indexmap.specs.IndexMap.{get}
+use Rattle.indexmap.specs.IndexMap.{get, index_map_len}
 use Rattle.sv_journal.specs.History.{Outcome, Accepted, Dropped, Denied}
 use Rattle.sv_journal.specs.Sessions.{outcome_at, kept_count}
 use Rattle.sv_clients.specs.declared.clients.Clients.{Clients}
@@ -29,6 +29,10 @@ no_client = record { life = 0; count = 0; kept = [] }
 -- What is kept of a client, by its number.
 abbrev pub client_row : Clients → ℕ → ClientView
 client_row clients k = unwrap_or (option_map view_of (get nat_eq clients.rows k)) no_client
+
+-- How many clients there is a row of.
+abbrev pub row_count : Clients → ℕ
+row_count clients = index_map_len clients.rows
 
 -- The last n elements, all where there are not so many.
 abbrev pub last_of : {A : Type 0} → ℕ → List A → List A

@@ -2,7 +2,7 @@
 ghost use Rattle.std.specs.Prelude.{◌≡◌, ℕ, ◌<◌, nat_eq, List, option_map, OnOk, OnErr, if◌then◌else◌};
 ghost use Rattle.sv_journal.specs.History.{Outcome as OutcomeValue};
 ghost use Rattle.sv_world.specs.Limits.{most_positions};
-ghost use Rattle.sv_clients.specs.Clients.{client_row, no_client, outcome_value, KeepsOutcomes, settled, kept_among};
+ghost use Rattle.sv_clients.specs.Clients.{client_row, row_count, no_client, outcome_value, KeepsOutcomes, settled, kept_among};
 
 use crate::{ClientRow, Outcome};
 use indexmap::IndexMap;
@@ -31,7 +31,9 @@ impl Clients {
     }
 
     /// How many clients ever joined.
-    pub fn len(&self) -> usize {
+    pub fn len(&self) -> usize
+        ensures { result ≡ row_count self.now }
+    {
         self.rows.len()
     }
 

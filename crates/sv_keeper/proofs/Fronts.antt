@@ -114,6 +114,35 @@ module _ (shape : Shape) where
   first_all n [] many = refl
   first_all n (e ∷ h) many = first_most n e h (omega (arith, many))
 
+  -- ---- Which texts begin with which
+
+  front_all : (n : ℕ) (h : List Entry) → IsFront (text (first_entries n h)) (text h)
+  front_all n [] = ([], refl)
+  front_all n (e ∷ h) = go (cases_lt (length h) n) (front_all n h)
+    where
+      go : (length h < n) ⊎ (n ≤ length h) → IsFront (text (first_entries n h)) (text h) → IsFront (text (first_entries n (e ∷ h))) (text (e ∷ h))
+      go (inl many) before =
+          ([], sym (append-nil (text (first_entries n (e ∷ h))) ∙ ap (λ (l : List Entry). text l) (first_most n e h many)))
+      go (inr few) before = (
+        before.0 ++ last_line shape e h,
+        ap (λ (l : List ℕ). l ++ last_line shape e h) before.1 ∙ append_assoc (text (first_entries n h)) before.0 (last_line shape e h)
+            ∙ ap (λ (l : List Entry). text l ++ (before.0 ++ last_line shape e h)) (sym (first_less n e h few)),
+      )
+
+  -- The text of more entries begins with that of fewer.
+  pub front_more : (n m : ℕ) (h : List Entry) → n ≤ m → IsFront (text (first_entries n h)) (text (first_entries m h))
+  front_more n m [] less = ([], refl)
+  front_more n m (e ∷ h) less = go (cases_lt (length h) n) (cases_lt (length h) m) (front_more n m h less)
+    where
+      go : (length h < n) ⊎ (n ≤ length h) → (length h < m) ⊎ (m ≤ length h) → IsFront (text (first_entries n h)) (text (first_entries m h))
+          → IsFront (text (first_entries n (e ∷ h))) (text (first_entries m (e ∷ h)))
+      go a (inl many) before =
+          subst (λ (l : List Entry). IsFront (text (first_entries n (e ∷ h))) (text l)) (sym (first_most m e h many)) (front_all n (e ∷ h))
+      go (inl many) (inr few) before = absurd (omega (arith, less, many, few))
+      go (inr few) (inr less_still) before =
+          subst (λ (l : List Entry). IsFront (text l) (text (first_entries m (e ∷ h)))) (sym (first_less n e h few))
+          (subst (λ (l : List Entry). IsFront (text (first_entries n h)) (text l)) (sym (first_less m e h less_still)) before)
+
   -- ---- How long their texts are
 
   text_most : (m : ℕ) (h : List Entry) → length (text (first_entries m h)) ≤ length (text h)

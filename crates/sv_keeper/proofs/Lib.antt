@@ -2,4 +2,14 @@
 pub mod Shown
 pub mod Fronts
 pub mod Entered
+pub mod Synced
 pub mod Settling
+pub mod Kept
+pub mod Asking
+pub mod Lines
+pub mod Judged
+pub mod Taken
+pub mod Placed
+pub mod Ended
+pub mod Grown
+pub mod Begun

@@ -4,4 +4,5 @@ pub mod Views
 pub mod Keeping
 pub mod Invariant
 pub mod Walks
+pub mod Places
 pub mod Opened

@@ -2,6 +2,8 @@
 use Rattle.std.specs.Prelude.{◌≡◌, ◌⊎◌, ℕ, ◌+◌, ◌<◌, ◌≤◌, false, List, [], ◌∷◌, length, Some}
 use Rattle.std.specs.String.{string_bytes}
 use Rattle.sv_bytes.specs.Faults.{Rose}
+use Rattle.sv_bytes.specs.declared.reading.FileFault.{FileFault}
+use Rattle.sv_bytes.specs.declared.reading.FileFault.TheVariants as fault
 use Rattle.sv_wire.specs.declared.message.Request.TheVariants as requests
 use Rattle.sv_journal.specs.Answer.{Rules}
 use Rattle.sv_living.specs.declared.stewards.Stewards.{Stewards}
@@ -11,11 +13,13 @@ use Rattle.sv_living.specs.World.{WorldView, after}
 use Rattle.sv_log.specs.Pictures.{Picture, Disk, seen}
 use Rattle.sv_log.specs.Crashes.{LeavesOnly}
 use Rattle.sv_log.specs.Texts.{IsFront}
-use Rattle.sv_log.specs.Names.{segment_name, state_name, world_name}
-use Rattle.sv_log.specs.Chains.{StateFile, no_state, NoneBetween, Holds}
+use Rattle.sv_log.specs.Names.{state_name, world_name}
+use Rattle.sv_log.specs.Chains.{StateFile, no_state, Holds}
 use Rattle.sv_log.specs.OpenLogs.{shown}
+use Rattle.sv_log.specs.declared.reading.Reading.{Reading}
 use Rattle.sv_log.specs.Refusals.{CauseCount, IsWhy, HasNoLog}
 use Rattle.sv_keeper.specs.Histories.{HoldsFirst}
+use Rattle.sv_keeper.specs.Places.{IsFirstOf, IsPlaceIn, StandsAt}
 use Rattle.sv_keeper.specs.Views.{KeeperView}
 use Rattle.sv_keeper.specs.Keeping.{AreSettled}
 use Rattle.sv_keeper.specs.Walks.{AreTaken, IsWrong}
@@ -31,18 +35,9 @@ pub data AreEnded : WorldView → WorldView → Type 0 where
   none : {v : WorldView} → open_sessions v.history ≡ [] → AreEnded v v
   some : {v w : WorldView} {s : ℕ} {others : List ℕ} → open_sessions v.history ≡ s ∷ others → AreEnded (after v s requests.End) w → AreEnded v w
 
--- A log of this world without a state, that has these lines, and maybe more behind them.
-abbrev pub HasAll : List ℕ → List ℕ → Picture → Type 0
-HasAll world text p = (longer : List ℕ) × Holds world no_state longer p × IsFront text longer
-
--- The line of this number is this one of this file.
-pub record StandsAt (p : Picture) (number : ℕ) (file : List ℕ) (line : ℕ) : Type 0 where
-  pub first : ℕ
-  pub name : file ≡ segment_name first
-  pub there : (bytes : List ℕ) × (p file ≡ Some bytes)
-  pub begins : first ≤ number
-  pub counts : line + first ≡ number + 1
-  pub none : NoneBetween p (first + 1) (number + 1)
+-- A log of this world, behind whose newest state stand these lines, and maybe more behind them.
+abbrev pub HasAll : List ℕ → StateFile → List ℕ → Picture → Type 0
+HasAll world state text p = (longer : List ℕ) × Holds world state longer p × IsFront text longer
 
 module _ {F : Type 0} (disk : F → Disk) (is_honest : F → Type 0) where
   -- A keeper was opened over what a folder had: it took all lines that were read, and then the sessions that were open had their Ends. All is
@@ -74,7 +69,7 @@ pub record HasState (left : Disk) (world : List ℕ) (file : List ℕ) (line : �
   pub some : 0 < state.0
   pub read : Holds world state text (seen left)
   pub name : file ≡ state_name state.0
-  pub at : line ≡ 1
+  pub line_is : line ≡ 1
 
 -- Why it was not opened. But where the disk failed or memory was wanting the folder's files are as they were.
 abbrev pub WhyNotOpened : Disk → Disk → List ℕ → WorldView → OpenFault → Type 0
@@ -89,3 +84,29 @@ abbrev pub OpenCause : ℕ → ℕ → OpenFault → Type 0
 OpenCause before now (faults.Refused refusal) = CauseCount before now refusal.cause
 OpenCause before now faults.Disk = Rose before now
 OpenCause before now _ = now ≡ before
+
+-- ---- By what was read
+
+-- The first line that is wrong, of the lines that were read.
+pub record IsFirstWrong (start : WorldView) (reading : Reading) (file : List ℕ) (line : ℕ) : Type 0 where
+  pub number : ℕ
+  pub first : ℕ
+  pub stateless : reading.state ≡ 0
+  pub wrong : IsWrong start reading.text.items number
+  pub begins : IsFirstOf reading.closed.items reading.last number first
+  pub place : IsPlaceIn first number file line
+
+-- A state was read.
+abbrev pub IsStated : Reading → List ℕ → ℕ → Type 0
+IsStated reading file line = (0 < reading.state) × (file ≡ state_name reading.state) × (line ≡ 1)
+
+-- Why not all of the lines are taken, unless memory was wanting.
+abbrev pub WhyNotWalked : WorldView → Reading → OpenFault → Type 0
+WhyNotWalked start reading (faults.Line file line cause) = IsFirstWrong start reading (string_bytes file) line ⊎ IsStated reading (string_bytes file) line
+WhyNotWalked start reading faults.Memory = Unit {0}
+WhyNotWalked start reading _ = ⊥
+
+-- A fault of the disk or of memory, as why a world is not opened.
+abbrev pub IsFaultOf : FileFault → OpenFault → Type 0
+IsFaultOf fault.Failed e = e ≡ faults.Disk
+IsFaultOf fault.Memory e = e ≡ faults.Memory

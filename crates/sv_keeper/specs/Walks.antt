@@ -1,9 +1,18 @@
 -- A walk over the lines of a log.
-use Rattle.std.specs.Prelude.{◌≡◌, ◌≢◌, ℕ, ◌+◌, ◌<◌, ◌^◌, true, List, [], ◌++◌, length}
+use Rattle.std.specs.Prelude.{◌≡◌, ◌≢◌, ℕ, ◌+◌, ◌<◌, ◌^◌, true, List, [], ◌++◌, length, Some}
+use Rattle.std.specs.Option.{unwrap_or}
+use Rattle.sv_world.specs.declared.world.Shape.{Shape}
+use Rattle.sv_world.specs.declared.action.Action.{Action}
+use Rattle.sv_world.specs.declared.check.BadAction.TheVariants.{NoReads}
+use Rattle.sv_world.specs.Faults.{first_fault_of_action}
+use Rattle.sv_world.specs.Worlds.{IsGoodShape}
 use Rattle.sv_wire.specs.Ranges.{RequestFits}
 use Rattle.sv_wire.specs.declared.message.Request.{Request}
+use Rattle.sv_wire.specs.declared.message.Request.TheVariants as requests
 use Rattle.sv_living.specs.Sessions.{may_ask}
 use Rattle.sv_living.specs.World.{WorldView, after}
+use Rattle.sv_entries.specs.declared.read.LineRequest.{LineRequest}
+use Rattle.sv_entries.specs.declared.read.LineRequest.TheVariants as asked
 use Rattle.sv_keeper.specs.Keeping.{next_line}
 use Rattle.sv_keeper.specs.declared.walking.Walk.{Walk}
 use Rattle.sv_keeper.specs.declared.walking.WalkStop.{WalkStop}
@@ -22,15 +31,31 @@ pub data AreTaken : WorldView → WorldView → List ℕ → List ℕ → Type 0
   none : {v : WorldView} {text : List ℕ} → AreTaken v v text text
   some : {v w x : WorldView} {text middle rest : List ℕ} → IsTaken v w text middle → AreTaken w x middle rest → AreTaken v x text rest
 
--- The text does not begin with the line of any request that may be made next.
+-- The text does not begin with the line of this request, if it may be made next.
+abbrev pub IsNotTheLine : WorldView → ℕ → Request → List ℕ → Type 0
+IsNotTheLine v s request text = may_ask v.history s ≡ true → (rest : List ℕ) → text ≢ next_line v s request ++ rest
+
+-- It does not begin with the line of any request that may be made next.
 abbrev pub IsNoLine : WorldView → List ℕ → Type 0
-IsNoLine v text = (s : ℕ) → (request : Request) → (rest : List ℕ) → s < 2 ^ 64 → RequestFits request → may_ask v.history s ≡ true
-    → text ≡ next_line v s request ++ rest → ⊥
+IsNoLine v text = (s : ℕ) → (request : Request) → s < 2 ^ 64 → RequestFits request → IsNotTheLine v s request text
+
+-- What a line asks for: what it tells, or, where an action is left out, any that is refused for the cause that is told.
+abbrev pub IsAskedBy : Shape → LineRequest → Request → Type 0
+IsAskedBy shape (asked.Whole told) request = request ≡ told
+IsAskedBy shape (asked.BadSubmit seq cause) request =
+    (action : Action) × (request ≡ requests.Submit seq action) × (first_fault_of_action shape action ≡ Some (unwrap_or cause NoReads))
 
 -- What a walk is: its shape is that of its core, whose next entry has the next number.
 pub record IsWalk (walk : Walk) : Type 0 where
   pub shape : walk.shape ≡ walk.core.rules.world.shape
+  pub good : IsGoodShape walk.shape
   pub next : walk.next ≡ length walk.core.history + 1
+  pub few : walk.next < 2 ^ 64
+
+-- Why the line of this request is not taken, unless memory was wanting.
+abbrev pub WhyNotThis : WorldView → ℕ → Request → List ℕ → WalkStop → Type 0
+WhyNotThis v s request text (stops.Wrong cause) = IsNotTheLine v s request text
+WhyNotThis v s request text stops.Memory = Unit {0}
 
 -- Why no line is taken, unless memory was wanting.
 abbrev pub WhyNone : WorldView → List ℕ → WalkStop → Type 0

@@ -22,6 +22,7 @@ use sv_bytes::FileFault;
 use sv_entries::{LineBuffer, replies_have_one_text};
 use sv_living::{LivingCore, StepFault};
 use sv_log::{Folder, Log};
+use sv_sequencer::Answer;
 use sv_wire::{Reply, Request};
 use sv_world::{ClientId, ObjectId, Shape, Value};
 
@@ -75,22 +76,24 @@ impl<F: Folder> Keeper<F> {
         let Some(next) = self.next.checked_add(1) else {
             return Err(KeepFault::Broken);
         };
-        let answer = match self.core.step(session, request) {
+        let Answer { logged, reply } = match self.core.step(session, request) {
             Ok(answer) => answer,
             Err(StepFault::NotOpen) => return Err(KeepFault::NotOpen),
             Err(StepFault::NoRoom) => return Err(KeepFault::NoRoom),
             Err(StepFault::Memory) => return Err(KeepFault::Memory),
         };
+        drop(logged);
         replies_have_one_text();
         match self
             .group
-            .append_line(self.shape, self.next, session, request, &answer.reply)
+            .append_line(self.shape, self.next, session, request, &reply)
         {
             Ok(()) => {
                 self.next = next;
-                Ok(answer.reply)
+                Ok(reply)
             }
             Err(_) => {
+                drop(reply);
                 self.is_broken = true;
                 Err(KeepFault::Broken)
             }

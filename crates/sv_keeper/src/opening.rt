@@ -1,21 +1,29 @@
 //! Opening a world that is kept on a log.
-ghost use Rattle.std.specs.Prelude.{◌≡◌, ◌≤◌, ◌<◌, ℕ, List, [], false, None, IfOk, IfErr, OnOk};
+ghost use Rattle.std.specs.Prelude.{◌≡◌, ◌≢◌, ◌≤◌, ℕ, List, [], length, true, false, Some, None, IfOk, IfErr, OnOk};
 ghost use Rattle.sv_bytes.specs.Faults.{ReadAllCause};
+ghost use Rattle.sv_bytes.specs.declared.reading.FileFault.TheVariants as fault;
 ghost use Rattle.sv_world.specs.Limits.{most_positions};
 ghost use Rattle.sv_world.specs.Worlds.{IsGoodWorld};
-ghost use Rattle.sv_living.specs.Keeping.{stewardship_of};
+ghost use Rattle.sv_living.specs.World.{WorldView};
 ghost use Rattle.sv_log.specs.Pictures.{seen};
 ghost use Rattle.sv_log.specs.Crashes.{LeavesOnly};
+ghost use Rattle.sv_log.specs.Causes.{FaultCause};
 ghost use Rattle.sv_log.specs.Rests.{IsAtRest};
+ghost use Rattle.sv_log.specs.Logs.{HasSizes};
+ghost use Rattle.sv_log.specs.Names.{world_name};
 ghost use Rattle.sv_log.specs.Chains.{no_state, Holds};
+ghost use Rattle.sv_log.specs.OpenLogs.{IsOpenLog, shown, newest, log_text, log_synced};
 ghost use Rattle.sv_log.specs.Readings.{Reads};
-ghost use Rattle.sv_keeper.specs.Opened.{start_of, HasAll, IsOpened, WhyNotOpened, OpenCause};
+ghost use Rattle.sv_keeper.specs.Histories.{HoldsFirst};
+ghost use Rattle.sv_keeper.specs.Keeping.{text_of, AreSettled};
+ghost use Rattle.sv_keeper.specs.Walks.{AreTaken, IsWalk, IsWrong};
+ghost use Rattle.sv_keeper.specs.Opened.{start_of, AreEnded, HasAll, IsOpened, WhyNotOpened, OpenCause, WhyNotWalked, IsFaultOf};
 
 use crate::fault::{LineCause, OpenFault};
 use crate::keeper::Keeper;
-use crate::place::place_of;
+use crate::place::{first_of, place_in};
 use crate::walking::{Walk, WalkStop};
-use std::alloc::Global;
+use std::alloc::{AllocError, Global};
 use sv_bytes::FileFault;
 use sv_entries::LineBuffer;
 use sv_living::{LivingCore, Stewards};
@@ -34,24 +42,39 @@ pub struct Opening<'a> {
     pub spare: usize,
 }
 
-// The core of a world in which nobody has asked anything.
-fn begun(alloc: Global, shape: Shape, core: LivingCore) -> Walk {
-    Walk {
+// A walk at the beginning of a log: nobody has asked anything.
+fn begun(alloc: Global, opened: Opened, stewards: Stewards) -> Result<Walk, AllocError>
+    requires world { IsGoodWorld opened.world }
+    requires endless { opened.sessions ≡ None }
+    requires positions { opened.positions ≤ most_positions }
+    ensures { IfOk result (λ walk. IsWalk walk × (walk.core ≡ start_of opened stewards)) }
+{
+    let shape = opened.world().shape;
+    let core = LivingCore::new(alloc, opened, stewards)?;
+    Ok(Walk {
         alloc,
         shape,
         core,
         next: 1,
         line: LineBuffer::new(alloc),
-    }
+    })
 }
 
-// Steps all lines of what was read, over a core in which nobody has asked anything.
+// Takes all lines that were read.
 fn walked(
     alloc: Global,
     opened: Opened,
     stewards: Stewards,
     reading: &Reading,
-) -> Result<Walk, OpenFault> {
+) -> Result<Walk, OpenFault>
+    requires world { IsGoodWorld opened.world }
+    requires endless { opened.sessions ≡ None }
+    requires positions { opened.positions ≤ most_positions }
+    ensures walk { IfOk result IsWalk }
+    ensures stateless { OnOk result (reading.now.state ≡ 0) }
+    ensures taken { IfOk result (λ walk. AreTaken (start_of opened stewards) walk.core reading.now.text.items []) }
+    ensures why { IfErr result (WhyNotWalked (start_of opened stewards) reading.now) }
+{
     // What a core holds is not read from a state, so nothing that stands behind one can be judged.
     if reading.state != 0 {
         return Err(OpenFault::Line {
@@ -60,9 +83,7 @@ fn walked(
             cause: LineCause::Unread,
         });
     }
-    let shape = opened.world().shape;
-    let core = LivingCore::new(alloc, opened, stewards)?;
-    let mut walk = begun(alloc, shape, core);
+    let mut walk = begun(alloc, opened, stewards)?;
     match walk.take_all(&reading.text) {
         Ok(()) => Ok(walk),
         Err(WalkStop::Memory) => Err(OpenFault::Memory),
@@ -71,8 +92,13 @@ fn walked(
 }
 
 // The line of this number is wrong.
-fn wrong_line(alloc: Global, reading: &Reading, number: u64, cause: LineCause) -> OpenFault {
-    match place_of(alloc, &reading.closed, reading.last, number) {
+fn wrong_line(alloc: Global, reading: &Reading, number: u64, cause: LineCause) -> OpenFault
+    requires stateless { reading.now.state ≡ 0 }
+    requires some { 1 ≤ number }
+    ensures { (start : WorldView) → IsWrong start reading.now.text.items number → WhyNotWalked start reading.now result }
+{
+    let first = first_of(&reading.closed, reading.last, number);
+    match place_in(alloc, first, number) {
         Ok(place) => OpenFault::Line {
             file: place.file,
             line: place.line,
@@ -82,7 +108,9 @@ fn wrong_line(alloc: Global, reading: &Reading, number: u64, cause: LineCause) -
     }
 }
 
-fn fault_of(fault: FileFault) -> OpenFault {
+fn fault_of(fault: FileFault) -> OpenFault
+    ensures { IsFaultOf fault result }
+{
     match fault {
         FileFault::Failed => OpenFault::Disk,
         FileFault::Memory => OpenFault::Memory,
@@ -103,13 +131,13 @@ impl<F: Folder> Keeper<F> {
         requires endless { opening.opened.sessions ≡ None }
         requires positions { opening.opened.positions ≤ most_positions }
         requires rest { F.is_honest folder → IsAtRest (F.disk folder) }
-        ensures ok { IfOk result (IsOpened F.disk F.is_honest (F.disk folder) opening.world.now (start_of opening.opened opening.stewards)) }
+        ensures ok { IfOk result (IsOpened F.disk F.is_honest (F.disk folder) opening.entry.world.now (start_of opening.entry.opened opening.entry.stewards)) }
         ensures honest { IfOk result (λ keeper. F.is_honest keeper.log.segment.folder → F.is_honest folder) }
         ensures calm { IfOk result (λ keeper. F.faults keeper.log.segment.folder ≡ F.faults folder) }
         ensures err { IfErr result (λ e. F.is_honest e.1
-            → WhyNotOpened (F.disk folder) (F.disk e.1) opening.world.now (start_of opening.opened opening.stewards) e.0) }
-        ensures any_moment_err { IfErr result (λ e. F.is_honest e.1 → (text : List ℕ) → Holds opening.world.now no_state text (seen (F.disk folder))
-            → LeavesOnly (F.disk folder) (F.disk e.1) (HasAll opening.world.now text)) }
+            → WhyNotOpened (F.disk folder) (F.disk e.1) opening.entry.world.now (start_of opening.entry.opened opening.entry.stewards) e.0) }
+        ensures any_moment_err { IfErr result (λ e. F.is_honest e.1 → (text : List ℕ) → Holds opening.entry.world.now no_state text (seen (F.disk folder))
+            → LeavesOnly (F.disk folder) (F.disk e.1) (HasAll opening.entry.world.now no_state text)) }
         ensures honest_err { IfErr result (λ e. F.is_honest e.1 → F.is_honest folder) }
         ensures cause { IfErr result (λ e. OpenCause (F.faults folder) (F.faults e.1) e.0) }
     {
@@ -123,13 +151,17 @@ impl<F: Folder> Keeper<F> {
             Ok(reading) => reading,
             Err(refusal) => return Err((OpenFault::Refused(refusal), folder)),
         };
-        match walked(alloc, opened, stewards, &reading) {
-            Ok(walk) => Keeper::over(alloc, folder, reading, walk, world, spare),
-            Err(fault) => Err((fault, folder)),
+        let walk = match walked(alloc, opened, stewards, &reading) {
+            Ok(walk) => walk,
+            Err(fault) => return Err((fault, folder)),
+        };
+        match Keeper::over(alloc, folder, reading, walk, world, spare) {
+            Ok(keeper) => Ok(keeper),
+            Err((fault, folder)) => Err((fault_of(fault), folder)),
         }
     }
 
-    // Opens the log that was read and taken, and ends all sessions.
+    // Opens the log whose lines were all taken, and ends all sessions.
     fn over(
         alloc: Global,
         folder: F,
@@ -137,11 +169,25 @@ impl<F: Folder> Keeper<F> {
         walk: Walk,
         world: &[u8],
         spare: usize,
-    ) -> Result<Keeper<F>, (OpenFault, F)> {
+    ) -> Result<Keeper<F>, (FileFault, F)>
+        requires rest { F.is_honest folder → IsAtRest (F.disk folder) }
+        requires read { F.is_honest folder → Reads world.now (seen (F.disk folder)) reading }
+        requires stateless { reading.state ≡ 0 }
+        requires walk { IsWalk walk }
+        requires text { text_of walk.core ≡ reading.text.items }
+        ensures ok { (start : WorldView) → AreTaken start walk.core reading.text.items []
+            → IfOk result (IsOpened F.disk F.is_honest (F.disk folder) world.now start) }
+        ensures honest { IfOk result (λ keeper. F.is_honest keeper.log.segment.folder → F.is_honest folder) }
+        ensures calm { IfOk result (λ keeper. F.faults keeper.log.segment.folder ≡ F.faults folder) }
+        ensures any_moment_err { IfErr result (λ e. F.is_honest e.1
+            → LeavesOnly (F.disk folder) (F.disk e.1) (HasAll world.now no_state reading.text.items)) }
+        ensures honest_err { IfErr result (λ e. F.is_honest e.1 → F.is_honest folder) }
+        ensures cause { IfErr result (λ e. FaultCause (F.faults folder) (F.faults e.1) e.0) }
+    {
         let log_bytes = reading.text.len() as u64;
         let log = match Log::open(alloc, folder, reading, world, spare) {
             Ok(log) => log,
-            Err((fault, folder)) => return Err((fault_of(fault), folder)),
+            Err(error) => return Err(error),
         };
         let mut keeper = Keeper::joined(alloc, walk, log, log_bytes);
         match keeper.end_all() {
@@ -150,8 +196,15 @@ impl<F: Folder> Keeper<F> {
         }
     }
 
-    // The keeper of a world whose lines were all read from a log.
-    fn joined(alloc: Global, walk: Walk, log: Log<F>, log_bytes: u64) -> Keeper<F> {
+    // The keeper of a world whose lines are those of a log.
+    fn joined(alloc: Global, walk: Walk, log: Log<F>, log_bytes: u64) -> Keeper<F>
+        requires walk { IsWalk walk }
+        requires sizes { HasSizes log.segment }
+        requires open { F.is_honest log.segment.folder → IsOpenLog F.disk log }
+        requires text { F.is_honest log.segment.folder → log_text F.disk log ≡ text_of walk.core }
+        requires synced { F.is_honest log.segment.folder → log_synced F.disk log ≡ text_of walk.core }
+        ensures { result ≡ record { world = walk.core; log = log; group = []; synced = length walk.core.history; is_broken = false } }
+    {
         let Walk {
             shape,
             core,
@@ -164,7 +217,7 @@ impl<F: Folder> Keeper<F> {
             log,
             group: LineBuffer::new(alloc),
             next,
-            synced: next.saturating_sub(1),
+            synced: next - 1,
             syncs: 0,
             log_bytes,
             is_broken: false,
@@ -172,16 +225,42 @@ impl<F: Folder> Keeper<F> {
     }
 
     // Enters the End of each session that is open, the least first, and settles.
-    fn end_all(&mut self) -> Result<(), OpenFault> {
+    fn end_all(&mut self) -> Result<(), FileFault>
+        requires sound { self.old.is_broken ≡ false }
+        ensures ended { OnOk result (AreEnded self.old.world self.new.world) }
+        ensures settled { OnOk result (AreSettled F.disk F.is_honest self.new) }
+        ensures any_moment { F.is_honest self.new.log.segment.folder → (world : List ℕ) → shown F.disk self.old.log world_name ≡ Some world
+            → LeavesOnly (F.disk self.old.log.segment.folder) (F.disk self.new.log.segment.folder)
+            (HasAll world (newest F.disk self.old.log) (log_synced F.disk self.old.log)) }
+        ensures any_moment_ok { F.is_honest self.new.log.segment.folder → (world : List ℕ) → shown F.disk self.old.log world_name ≡ Some world
+            → OnOk result (LeavesOnly (F.disk self.old.log.segment.folder) (F.disk self.new.log.segment.folder)
+            (HoldsFirst self.new.world.rules.world.shape world (newest F.disk self.old.log) self.new.world.history self.old.synced)) }
+        ensures own { F.is_honest self.new.log.segment.folder
+            → OnOk result (shown F.disk self.new.log world_name ≡ shown F.disk self.old.log world_name) }
+        ensures honest { F.is_honest self.new.log.segment.folder → F.is_honest self.old.log.segment.folder }
+        ensures cause { ReadAllCause (F.faults self.old.log.segment.folder) (F.faults self.new.log.segment.folder) result }
+    {
+        self.is_lawful();
+        self.end_sessions()?;
+        self.settle_group()
+    }
+
+    // Enters the End of each session that is open, the least first. It fails with `Memory` alone.
+    fn end_sessions(&mut self) -> Result<(), FileFault>
+        requires sound { self.old.is_broken ≡ false }
+        ensures ended { OnOk result (AreEnded self.old.world self.new.world) }
+        ensures sound { OnOk result (self.new.is_broken ≡ false) }
+        ensures log { self.new.log ≡ self.old.log }
+        ensures synced { OnOk result (self.new.synced ≡ self.old.synced) }
+        ensures err { IfErr result (λ e. e ≡ fault.Memory) }
+    {
         while let Some(session) = self.first_open() {
-            // Its session is open: so memory was wanting.
-            if self.step(session, &Request::End).is_err() {
-                return Err(OpenFault::Memory);
+            match self.step(session, &Request::End) {
+                Ok(reply) => drop(reply),
+                // The session is open, so only memory can be wanting.
+                Err(_) => return Err(FileFault::Memory),
             }
         }
-        match self.settle_group() {
-            Ok(()) => Ok(()),
-            Err(fault) => Err(fault_of(fault)),
-        }
+        Ok(())
     }
 }

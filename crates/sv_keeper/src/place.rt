@@ -1,38 +1,51 @@
 //! Where a line stands.
+ghost use Rattle.std.specs.Prelude.{◌≤◌, IfOk, string_bytes};
+ghost use Rattle.sv_keeper.specs.Places.{IsFirstOf, IsLaterOf, IsPlaceIn};
+
 use std::alloc::{AllocError, Global};
 use sv_log::segment_name;
 
-/// A line of a file.
+/// A line of a file. Lines count from 1.
 #[derive(Drop)]
 pub(crate) struct Place {
     pub(crate) file: String,
     pub(crate) line: u64,
 }
 
-/// The greatest number of these at or below one, and 1 where there is none.
-fn first_of(closed: &[u64], last: Option<u64>, number: u64) -> u64 {
-    let mut first = 1;
+/// The greatest number of these up to one, and 1 where there is none.
+pub(crate) fn first_of(closed: &[u64], last: Option<u64>, number: u64) -> u64
+    requires { 1 ≤ number }
+    ensures { IsFirstOf closed.now last number result }
+{
+    let mut first = match last {
+        Some(start) if 1 < start && start <= number => start,
+        _ => 1,
+    };
     for start in closed {
-        if *start <= number && first < *start {
-            first = *start;
-        }
+        first = later_of(first, *start, number);
     }
-    match last {
-        Some(start) if start <= number && first < start => start,
-        _ => first,
+    first
+}
+
+/// The second number, where it is later than the first one and not above a third; else the first one.
+fn later_of(first: u64, start: u64, number: u64) -> u64
+    ensures { IsLaterOf first start number result }
+{
+    if first < start && start <= number {
+        start
+    } else {
+        first
     }
 }
 
-/// Where the line of this number stands. `closed` and `last` are the numbers of the first lines of the segments.
-pub(crate) fn place_of(
-    alloc: Global,
-    closed: &[u64],
-    last: Option<u64>,
-    number: u64,
-) -> Result<Place, AllocError> {
-    let first = first_of(closed, last, number);
+/// The place of the line of a number in the segment that begins with the line of another.
+pub(crate) fn place_in(alloc: Global, first: u64, number: u64) -> Result<Place, AllocError>
+    requires some { 1 ≤ first }
+    requires within { first ≤ number }
+    ensures { IfOk result (λ place. IsPlaceIn first number (string_bytes place.file) place.line) }
+{
     Ok(Place {
         file: segment_name(alloc, first)?,
-        line: number.saturating_sub(first).saturating_add(1),
+        line: number - first + 1,
     })
 }

@@ -1,12 +1,17 @@
 //! Taking the lines of a log again.
-ghost use Rattle.std.specs.Prelude.{◌≡◌, ◌≤◌, ◌++◌, [], IfOk, IfErr, OnOk, length};
-ghost use Rattle.sv_keeper.specs.Walks.{IsTaken, AreTaken, IsWalk, WhyNone, WhyStopped};
+ghost use Rattle.std.specs.Prelude.{◌≡◌, [], IfOk, IfErr, OnOk, OnErr};
+ghost use Rattle.sv_world.specs.Worlds.{IsGoodShape};
+ghost use Rattle.sv_keeper.specs.Walks.{IsTaken, AreTaken, IsAskedBy, IsWalk, WhyNotThis, WhyNone, WhyStopped};
 
 use crate::fault::LineCause;
 use std::alloc::{AllocError, Global};
-use sv_entries::{LineAsked, LineBuffer, LineRequest, bad_action, line_at};
+use sv_entries::{
+    LineAsked, LineBuffer, LineRequest, bad_action, causes_are_told, line_at, replies_go_by_faults,
+    replies_have_one_text,
+};
 use sv_lines::{Unread, take_line};
 use sv_living::{LivingCore, StepFault};
+use sv_sequencer::Answer;
 use sv_wire::Request;
 use sv_world::{BadAction, Shape};
 
@@ -28,40 +33,43 @@ pub(crate) struct Walk {
     pub(crate) line: LineBuffer,
 }
 
-impl Walk {
-    // What a line asks for. An action that was left out is any that is refused for the cause that the line tells.
-    fn request_of(&self, asked: LineRequest) -> Result<Request, AllocError> {
-        match asked {
-            LineRequest::Whole(request) => Ok(request),
-            LineRequest::BadSubmit { seq, cause } => {
-                let cause = cause.unwrap_or(BadAction::NoReads);
-                Ok(Request::Submit {
-                    seq,
-                    action: bad_action(self.alloc, self.shape, cause)?,
-                })
-            }
+// What a line asks for. An action that was left out is any that is refused for the cause that the line tells.
+fn request_of(alloc: Global, shape: Shape, asked: LineRequest) -> Result<Request, AllocError>
+    requires good { IsGoodShape shape }
+    ensures { IfOk result (IsAskedBy shape asked) }
+{
+    match asked {
+        LineRequest::Whole(request) => Ok(request),
+        LineRequest::BadSubmit { seq, cause } => {
+            let cause = cause.unwrap_or(BadAction::NoReads);
+            let action = bad_action(alloc, shape, cause)?;
+            Ok(Request::Submit { seq, action })
         }
     }
+}
 
+impl Walk {
     /// Takes the first line of a text: steps its request, prints its entry and compares. Gives what stands behind it.
     fn take_first<'a>(&mut self, text: &'a [u8]) -> Result<&'a [u8], WalkStop>
         requires walk { IsWalk self.old }
         ensures walk { OnOk result (IsWalk self.new) }
         ensures taken { IfOk result (λ rest. IsTaken self.old.core self.new.core text.now rest.now) }
         ensures why { IfErr result (WhyNone self.old.core text.now) }
-        ensures next { IfErr result (λ _. self.new.next ≡ self.old.next) }
+        ensures next { OnErr result (self.new.next ≡ self.old.next) }
     {
-        let asked = match line_at(self.alloc, self.shape, text) {
-            Ok(asked) => asked,
-            Err(Unread::Wrong) => return Err(WalkStop::Wrong(LineCause::Unread)),
-            Err(Unread::Memory) => return Err(WalkStop::Memory),
-        };
+        replies_have_one_text();
+        causes_are_told();
+        replies_go_by_faults();
         let LineAsked {
             number: _,
             session,
             asked,
-        } = asked;
-        match self.request_of(asked) {
+        } = match line_at(self.alloc, self.shape, text) {
+            Ok(asked) => asked,
+            Err(Unread::Wrong) => return Err(WalkStop::Wrong(LineCause::Unread)),
+            Err(Unread::Memory) => return Err(WalkStop::Memory),
+        };
+        match request_of(self.alloc, self.shape, asked) {
             Ok(request) => self.step(session, &request, text),
             Err(_) => Err(WalkStop::Memory),
         }
@@ -73,27 +81,32 @@ impl Walk {
         session: u64,
         request: &Request,
         text: &'a [u8],
-    ) -> Result<&'a [u8], WalkStop> {
-        let answer = match self.core.step(session, request) {
+    ) -> Result<&'a [u8], WalkStop>
+        requires walk { IsWalk self.old }
+        ensures walk { OnOk result (IsWalk self.new) }
+        ensures taken { IfOk result (λ rest. IsTaken self.old.core self.new.core text.now rest.now) }
+        ensures why { IfErr result (WhyNotThis self.old.core session request.now text.now) }
+        ensures next { OnErr result (self.new.next ≡ self.old.next) }
+    {
+        self.core.is_lawful();
+        let Answer { logged, reply } = match self.core.step(session, request) {
             Ok(answer) => answer,
             Err(StepFault::Memory) => return Err(WalkStop::Memory),
-            Err(_) => return Err(WalkStop::Wrong(LineCause::Session)),
+            Err(StepFault::NotOpen) => return Err(WalkStop::Wrong(LineCause::Session)),
+            Err(StepFault::NoRoom) => return Err(WalkStop::Wrong(LineCause::Session)),
         };
+        drop(logged);
         self.line.clear();
-        match self
+        let Ok(()) = self
             .line
-            .append_line(self.shape, self.next, session, request, &answer.reply)
-        {
-            Ok(()) => self.compare(text),
-            Err(_) => Err(WalkStop::Memory),
-        }
-    }
-
-    // The text begins with the line that was printed, which has its end too.
-    fn compare<'a>(&mut self, text: &'a [u8]) -> Result<&'a [u8], WalkStop> {
+            .append_line(self.shape, self.next, session, request, &reply)
+        else {
+            return Err(WalkStop::Memory);
+        };
         let Some(next) = self.next.checked_add(1) else {
             return Err(WalkStop::Memory);
         };
+        replies_have_one_text();
         match take_line(text, self.line.as_bytes()) {
             Ok(rest) => {
                 self.next = next;
@@ -111,10 +124,7 @@ impl Walk {
         ensures why { IfErr result (WhyStopped self.old.core text.now self.new.next) }
     {
         let mut rest = text;
-        for _ in 0..text.len() {
-            if rest.is_empty() {
-                break;
-            }
+        while !rest.is_empty() {
             rest = self.take_first(rest)?;
         }
         Ok(())

@@ -111,7 +111,7 @@ poll-is requests.Leave is = absurd (true≢false (sym is))
 poll-is requests.Bad is = absurd (true≢false (sym is))
 poll-is requests.End is = absurd (true≢false (sym is))
 
-reply-open : (r : Rules) (h : List Entry) (s : ℕ) (q : Request) → is_end q ≡ false → reply_to r h s q ≡ reply_to_request r h s q
+pub reply-open : (r : Rules) (h : List Entry) (s : ℕ) (q : Request) → is_end q ≡ false → reply_to r h s q ≡ reply_to_request r h s q
 reply-open r h s requests.Poll more = refl
 reply-open r h s (requests.Join client life interest) more = refl
 reply-open r h s (requests.Submit seq a) more = refl

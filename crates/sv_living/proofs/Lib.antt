@@ -2,6 +2,7 @@
 pub mod Deciding
 pub mod Heeding
 pub mod Pasts
+pub mod Quiet
 pub mod Seats
 pub mod Standing
 pub mod Told

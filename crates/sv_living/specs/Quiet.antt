@@ -1,5 +1,6 @@
 -- What a living world would answer, and which of its sessions is first.
-use Rattle.std.specs.Prelude.{◌≡◌, ℕ, Bool, true, false, ◌&&◌, List, [], ◌∷◌, Option, Some, None}
+use Rattle.std.specs.Prelude.{◌≡◌, ℕ, ◌≤◌, Bool, true, false, ◌&&◌, List, [], ◌∷◌, Option, Some, None}
+use Rattle.sv_world.specs.Limits.{most_bound}
 use Rattle.sv_wire.specs.declared.message.Request.{Request}
 use Rattle.sv_wire.specs.declared.message.Reply.{Reply}
 use Rattle.sv_journal.specs.declared.entry.Entry.{Entry}
@@ -19,7 +20,8 @@ IsFirstOpen h (Some s) = (rest : List ℕ) × (open_sessions h ≡ s ∷ rest)
 abbrev pub is_quiet : Rules → Stewardship → List Entry → ℕ → Request → Bool
 is_quiet r w h s request = is_open h s && shows_nothing (reply_for (living w) r h s request)
 
--- What a session's request would be answered, where that shows nothing.
+-- What a session's request would be answered, where that shows nothing. The bound on chains is to be within its limit: under a greater one a session may
+-- be shown nothing of objects at a position below the last one, and no answer is told then.
 abbrev pub IsQuiet : Rules → Stewardship → List Entry → ℕ → Request → Option Reply → Type 0
-IsQuiet r w h s request None = is_quiet r w h s request ≡ false
+IsQuiet r w h s request None = r.bound ≤ most_bound → is_quiet r w h s request ≡ false
 IsQuiet r w h s request (Some reply) = (is_quiet r w h s request ≡ true) × (reply ≡ full_reply (accepted h) (reply_for (living w) r h s request))

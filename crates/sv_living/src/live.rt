@@ -3,7 +3,7 @@ ghost use Rattle.std.specs.Prelude.{◌≡◌, ◌<◌, ◌≤◌, List, true, [
 ghost use Rattle.sv_world.specs.Limits.{most_open, most_positions};
 ghost use Rattle.sv_world.specs.Worlds.{IsGoodWorld};
 ghost use Rattle.sv_journal.specs.declared.entry.Entry.{Entry};
-ghost use Rattle.sv_living.specs.Keeping.{rules_at, stewardship_of, stewardship_at, KeepsLiving};
+ghost use Rattle.sv_living.specs.Keeping.{Course, rules_at, stewardship_of, stewardship_at, KeepsLiving};
 ghost use Rattle.sv_living.specs.Quiet.{IsFirstOpen, IsQuiet};
 ghost use Rattle.sv_living.specs.Sessions.{is_open, next_session, open_sessions, most_session, may_begin};
 
@@ -12,7 +12,7 @@ use crate::table::OpenSessions;
 use std::alloc::{AllocError, Global};
 use sv_sequencer::{Core, Opened};
 use sv_wire::{Reply, Request};
-use sv_world::MOST_OPEN;
+use sv_world::{MOST_OPEN, missing_influences_only_shrink};
 
 /// A core with the table of its open sessions. It has no history: its contracts speak of the one that it keeps.
 #[derive(Drop)]
@@ -65,15 +65,19 @@ impl Live {
         self.table.first()
     }
 
-    /// What an Observe of an open session would be answered, where that shows nothing.
+    /// What an Observe of an open session would be answered, where that shows nothing. `g` is the history of all entries.
     pub fn quiet_answer(&self, session: u64, request: &Request) -> Option<Reply>
-        ensures { (h : List Entry) → KeepsLiving self.now h → IsQuiet (rules_at self.now) (stewardship_at self.now) h session request.now result }
+        ghost g: { Course }
+        requires keeps { KeepsLiving self.now g.h }
+        requires stewards { g.w ≡ stewardship_at self.now }
+        ensures { IsQuiet (rules_at self.now) g.w g.h session request.now result }
     {
+        missing_influences_only_shrink();
         let seat = self.table.seat_of(session)?;
-        if let Request::End = request {
-            return None;
+        match request {
+            Request::End => None,
+            _ => self.core.quiet_answer(seat, request),
         }
-        self.core.quiet_answer(seat, request)
     }
 
     /// Whether one more session may begin.

@@ -135,6 +135,15 @@ impl LivingCore {
     pub fn quiet_answer(&self, session: u64, request: &Request) -> Option<Reply>
         ensures { IsQuiet self.now.rules self.now.stewardship self.now.history session request.now result }
     {
+        self.answer_quietly(session, request)
+    }
+
+    /// What would be answered. `h` is the history so far.
+    fn answer_quietly(&self, session: u64, request: &Request) -> Option<Reply>
+        ghost h: { List Entry }
+        requires { h ≡ self.now.history }
+        ensures { IsQuiet self.now.rules self.now.stewardship h session request.now result }
+    {
         self.live.quiet_answer(session, request)
     }
 

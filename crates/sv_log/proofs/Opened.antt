@@ -134,3 +134,12 @@ module _ {F : Type 0} (disk : F → Disk) (alloc : Global) (world : List ℕ) (p
 
   pub opened_all : (first : ℕ) → log_text disk (made first) ≡ r.text.items → log_synced disk (made first) ≡ r.text.items
   opened_all first is = ap (λ (t : List ℕ). text_of c r.closed.items ++ t) all ∙ is
+
+  world_last : (o : Option ℕ) → IsReadyLast world p r name o → c world_name ≡ Some world
+  world_last None ready = first_world p c world ready.1.fresh ready.2 (subst (λ (n : List ℕ). SameBut n c p) ready.0 others)
+  world_last (Some last) ready =
+      let same : SameBut (segment_name last) c p = subst (λ (n : List ℕ). SameBut n c p) ready.0 others in
+      world_moved p c r.state r.closed.items last ready.1.log same ∙ ready.1.own
+
+  pub opened_world : IsReady world p r name → c world_name ≡ Some world
+  opened_world ready = world_last r.last ready

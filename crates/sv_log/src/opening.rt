@@ -9,7 +9,7 @@ ghost use Rattle.sv_log.specs.Causes.{FaultCause};
 ghost use Rattle.sv_log.specs.Rests.{IsAtRest};
 ghost use Rattle.sv_log.specs.Names.{segment_name, world_name};
 ghost use Rattle.sv_log.specs.Chains.{StateFile, no_state, IsFresh, Holds, SameLog};
-ghost use Rattle.sv_log.specs.OpenLogs.{IsOpenLog, newest, log_text, log_synced};
+ghost use Rattle.sv_log.specs.OpenLogs.{IsOpenLog, shown, newest, log_text, log_synced};
 ghost use Rattle.sv_log.specs.Readings.{read_state, Reads, HasWorld, IsReady, LastBecomes};
 
 use super::folder::Folder;
@@ -42,6 +42,7 @@ impl<F: Folder> Log<F> {
         ensures synced { IfOk result (λ log. F.is_honest log.segment.folder → log_synced F.disk log ≡ reading.text.items) }
         ensures state { IfOk result (λ log. log.state ≡ reading.state) }
         ensures newest { IfOk result (λ log. F.is_honest log.segment.folder → newest F.disk log ≡ read_state reading) }
+        ensures world { IfOk result (λ log. F.is_honest log.segment.folder → shown F.disk log world_name ≡ Some world.now) }
         ensures any_moment { IfOk result (λ log. F.is_honest log.segment.folder
             → LeavesOnly (F.disk folder) (F.disk log.segment.folder) (Holds world.now (read_state reading) reading.text.items)) }
         ensures any_moment_err { IfErr result (λ e. F.is_honest e.1

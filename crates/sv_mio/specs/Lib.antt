@@ -1,1 +1,3 @@
 -- The definitions of this crate.
+pub mod Answers
+pub mod Ports

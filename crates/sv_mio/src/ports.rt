@@ -1,18 +1,26 @@
 //! Connections over TCP.
+ghost use Rattle.std.specs.Prelude.{◌≡◌, length, IfOk};
+ghost use Rattle.sv_ports.specs.Told.{nothing_told, Accepts, ReadsSome, WritesSome};
+ghost use Rattle.sv_mio.specs.Answers.{ReadAnswer, WroteAnswer};
+ghost use Rattle.sv_mio.specs.Ports.{told_of};
+
 use mio::net::{TcpListener, TcpStream};
 use mio::unix::SourceFd;
 use mio::{Events, Interest, Poll, Token};
 use std::alloc::Global;
-use std::io::{self, ErrorKind, Read};
+use std::io::{self, ErrorKind, Read, Write};
 use std::net::{Net, SocketAddr};
 use std::time::Duration;
 use sv_bytes::{read_again, write_again};
 use sv_keeper::Settled;
-use sv_ports::{Accepted, Numbered, PortRead, PortWrote, Ports, Ready, Waited};
+use sv_ports::{Accepted, Numbered, Pieces, PortRead, PortWrote, Ports, Ready, Waited};
 
 const DOOR: Token = Token(usize::MAX);
 
 const INPUT: Token = Token(usize::MAX - 1);
+
+/// All connections' numbers are below it.
+const MOST_NUMBERS: u64 = u64::MAX - 1;
 
 /// The descriptor of the standard input.
 const STANDARD_INPUT: i32 = 0;
@@ -31,6 +39,10 @@ pub struct MioPorts<I: Read + Drop> {
     input: Option<I>,
     /// The input is a file, which is always ready.
     input_is_file: bool,
+    written: Pieces,
+    heard: Pieces,
+    input_heard: Pieces,
+    input_ended: bool,
 }
 
 fn registered(poll: &Poll) -> bool {
@@ -47,7 +59,9 @@ impl<I: Read + Drop> MioPorts<I> {
         alloc: Global,
         address: SocketAddr,
         input: Option<I>,
-    ) -> io::Result<MioPorts<I>> {
+    ) -> io::Result<MioPorts<I>>
+        ensures { IfOk result (λ ports. told_of ports ≡ nothing_told) }
+    {
         let poll = Poll::new(rt)?;
         let events = Events::with_capacity(alloc, EVENTS)?;
         let mut door = TcpListener::bind(rt, address)?;
@@ -62,6 +76,10 @@ impl<I: Read + Drop> MioPorts<I> {
             next: 0,
             input,
             input_is_file,
+            written: Pieces::new(),
+            heard: Pieces::new(),
+            input_heard: Pieces::new(),
+            input_ended: false,
         })
     }
 
@@ -86,21 +104,37 @@ impl<I: Read + Drop> MioPorts<I> {
     }
 
     // Takes a connection in that was accepted.
-    fn admit(&mut self, mut stream: TcpStream) -> io::Result<u64> {
+    fn admit(&mut self, mut stream: TcpStream) -> Accepted
+        ensures { Accepts (told_of self.old) result (told_of self.new) }
+    {
         let number = self.next;
-        stream.set_nodelay(true)?;
-        self.poll.registry().register(
-            &mut stream,
-            Token(number as usize),
-            Interest::READABLE | Interest::WRITABLE,
-        )?;
-        self.streams.push(number, stream)?;
-        self.next = number.saturating_add(1);
-        Ok(number)
+        if number >= MOST_NUMBERS || watch(&self.poll, &mut stream, number).is_err() {
+            return Accepted::Failed;
+        }
+        match self.streams.push(number, stream) {
+            Ok(()) => {
+                self.next = number + 1;
+                Accepted::One(number)
+            }
+            Err(_) => Accepted::Failed,
+        }
     }
 }
 
-fn read_of(answer: io::Result<usize>) -> PortRead {
+// Has the system tell when a stream is ready.
+fn watch(poll: &Poll, stream: &mut TcpStream, number: u64) -> io::Result<()> {
+    stream.set_nodelay(true)?;
+    poll.registry().register(
+        stream,
+        Token(number as usize),
+        Interest::READABLE | Interest::WRITABLE,
+    )
+}
+
+// What the system answered to a read that had room.
+fn read_of(answer: io::Result<usize>) -> PortRead
+    ensures { ReadAnswer answer result }
+{
     match answer {
         Ok(0) => PortRead::Ended,
         Ok(count) => PortRead::Got(count),
@@ -109,7 +143,10 @@ fn read_of(answer: io::Result<usize>) -> PortRead {
     }
 }
 
-fn wrote_of(answer: io::Result<usize>) -> PortWrote {
+// What the system answered to a write.
+fn wrote_of(answer: io::Result<usize>) -> PortWrote
+    ensures { WroteAnswer answer result }
+{
     match answer {
         Ok(0) => PortWrote::Failed,
         Ok(count) => PortWrote::Took(count),
@@ -118,7 +155,32 @@ fn wrote_of(answer: io::Result<usize>) -> PortWrote {
     }
 }
 
+fn read_from<R: Read>(reader: &mut R, into: &mut [u8]) -> PortRead
+    ensures { ReadsSome (length into.new) result }
+{
+    if into.is_empty() {
+        return PortRead::NotYet;
+    }
+    read_of(read_again(reader, into))
+}
+
+fn write_to<W: Write>(writer: &mut W, piece: &[u8]) -> PortWrote
+    ensures { WritesSome (length piece.now) result }
+{
+    wrote_of(write_again(writer, piece))
+}
+
+// Tells again when the input has more.
+fn watch_input(poll: &Poll) {
+    let fd = STANDARD_INPUT;
+    let _ = poll
+        .registry()
+        .reregister(&mut SourceFd(&fd), INPUT, Interest::READABLE);
+}
+
 impl<I: Read + Drop> Ports for MioPorts<I> {
+    ghost told = { told_of };
+
     fn wait(&mut self, limit: u64, ready: &mut Ready) -> Waited {
         let limit = if self.input_is_file { 0 } else { limit };
         match self
@@ -132,10 +194,7 @@ impl<I: Read + Drop> Ports for MioPorts<I> {
 
     fn accept(&mut self) -> Accepted {
         match self.door.accept() {
-            Ok((stream, _)) => match self.admit(stream) {
-                Ok(number) => Accepted::One(number),
-                Err(_) => Accepted::Failed,
-            },
+            Ok((stream, _)) => self.admit(stream),
             Err(error) if error.kind() == ErrorKind::WouldBlock => Accepted::NotYet,
             Err(_) => Accepted::Failed,
         }
@@ -145,8 +204,11 @@ impl<I: Read + Drop> Ports for MioPorts<I> {
         let Some(mut stream) = self.streams.take(number) else {
             return PortRead::Failed;
         };
-        let answer = read_of(read_again(&mut stream, into));
+        let answer = read_from(&mut stream, into);
         self.streams.put(number, stream);
+        if let PortRead::Got(count) = answer {
+            self.heard.note(number, &into[..count]);
+        }
         answer
     }
 
@@ -154,8 +216,11 @@ impl<I: Read + Drop> Ports for MioPorts<I> {
         let Some(mut stream) = self.streams.take(number) else {
             return PortWrote::Failed;
         };
-        let answer = wrote_of(write_again(&mut stream, piece));
+        let answer = write_to(&mut stream, piece);
         self.streams.put(number, stream);
+        if let PortWrote::Took(count) = answer {
+            self.written.note(number, &piece[..count]);
+        }
         answer
     }
 
@@ -163,17 +228,18 @@ impl<I: Read + Drop> Ports for MioPorts<I> {
         self.streams.remove(number);
     }
 
+    #[tactic(auto, using(sv_ports::proofs::Bytes::own_more))]
     fn read_input(&mut self, into: &mut [u8]) -> PortRead {
         let Some(input) = &mut self.input else {
             return PortRead::NotYet;
         };
-        let answer = read_of(read_again(input, into));
-        let fd = STANDARD_INPUT;
-        // An input with more is told again.
-        let _ = self
-            .poll
-            .registry()
-            .reregister(&mut SourceFd(&fd), INPUT, Interest::READABLE);
+        let answer = read_from(input, into);
+        match answer {
+            PortRead::Got(count) => self.input_heard.note(0, &into[..count]),
+            PortRead::Ended => self.input_ended = true,
+            PortRead::NotYet | PortRead::Failed => {}
+        }
+        watch_input(&self.poll);
         answer
     }
 }

@@ -1,10 +1,12 @@
 -- What a server's WebSocket answers by itself is control frames.
 use Rattle.std.proofs.Common.{◌≡◌, ℕ, Bool, true, false, cond, List, [], ◌∷◌, ◌++◌, Option, None, Some, Result, Ok, Err, refl, sym, ap, ◌∙◌, append_assoc}
-use Rattle.std.specs.Prelude.{length}
+use Rattle.std.specs.Prelude.{length, not, nat_lt, OnOk, OnErr}
 use Rattle.std.specs.List.{flat_map}
 use Rattle.std.proofs.lemmas.List.{append-nil}
 use Rattle.std.proofs.lemmas.Grind.{flat_map-append}
 use Rattle.websocket.specs.declared.error.Error.{Error}
+use Rattle.websocket.specs.declared.error.Error.TheVariants.{Protocol}
+use Rattle.websocket.specs.declared.error.ProtocolError.TheVariants.{FragmentedControlFrame, ControlFrameTooBig}
 use Rattle.websocket.specs.declared.protocol.config.Role.{Role}
 use Rattle.websocket.specs.declared.protocol.config.Role.TheVariants.{Server}
 use Rattle.websocket.specs.declared.protocol.state.WebSocketState.{WebSocketState}
@@ -20,8 +22,8 @@ use Rattle.websocket.specs.declared.protocol.frame.coding.Control.TheVariants.{C
 use Rattle.websocket.specs.declared.protocol.frame.codec.FrameStatus.{FrameStatus}
 use Rattle.websocket.specs.declared.protocol.frame.codec.FrameStatus.TheVariants.{Partial, Complete}
 use Rattle.websocket.specs.Frame.{Checked, check_size, after_check, encode_frame}
-use Rattle.websocket.specs.Content.{Content}
-use Rattle.websocket.specs.Connection.{Connection, Effect, Outgoing, Sends, IsMaskOf, is_server, whole_header, decode_close, close_effect, on_close, on_short_control, on_control, complete_message, check_so_far, deliver, on_message_bytes, on_data_after, on_data, check_header, on_opcode, on_frame, read_step, close_to, close_step, closing_state, check_close}
+use Rattle.websocket.specs.Content.{Content, close_payload}
+use Rattle.websocket.specs.Connection.{Connection, Effect, Outgoing, Sends, IsMaskOf, whole_header, close_effect, on_close, on_short_control, on_control, complete_message, check_so_far, deliver, on_message_bytes, on_data_after, on_data, check_header, on_opcode, on_frame, read_step, close_to, close_step, closing_state, check_close}
 use Rattle.websocket.specs.View.{Leaves, ReadLeaves}
 use Rattle.websocket.proofs.StreamLemmas.{after_check_passed, TookFrame_from_read}
 use Rattle.sv_peer.specs.Sockets.{control_frame, GainsControls}
@@ -94,7 +96,11 @@ passed false e r effect is = is
 
 control_answered : (conn : Connection) (control : Control) (is_final : Bool) (payload : List ℕ) (effect : Effect) → on_control conn control is_final payload ≡ Ok effect → IsAnswered conn effect
 unfolding on_control
-control_answered conn control is_final payload effect is = short_answered conn control payload effect (passed _ _ _ effect (passed _ _ _ effect is))
+control_answered conn control is_final payload effect is =
+    let short = on_short_control conn control payload in
+    short_answered conn control payload effect
+    (passed (nat_lt 125 (length payload)) (Protocol ControlFrameTooBig) short effect
+    (passed (not is_final) (Protocol FragmentedControlFrame) (cond (nat_lt 125 (length payload)) (Err (Protocol ControlFrameTooBig)) short) effect is))
 
 deliver_answered : (conn : Connection) (r : Result Content Error) (effect : Effect) → deliver conn r ≡ Ok effect → IsAnswered conn effect
 deliver_answered conn (Err e) effect is = absurd (cc is)
@@ -153,9 +159,15 @@ checked_by conn after (Err e) effect old new server is leaves = absurd leaves
 checked_by conn after (Ok done) effect old new server is leaves = left_by conn after effect old new server is leaves
 
 close_by : (conn after : Connection) (frame : Option (CloseCode × List ℕ)) (state : Option WebSocketState) (old new : List ℕ) → conn.role ≡ Server → Leaves (close_to conn frame state) after old new → Controls after old new
-close_by conn after frame None old new server leaves = left_by conn after _ old new server (record { role = refl; reply = tt }) leaves
+close_by conn after frame None old new server leaves =
+    left_by conn after (record { message = None; reply = None; next = conn }) old new server (record { role = refl; reply = tt }) leaves
 close_by conn after frame (Some state) old new server leaves =
-    checked_by conn after (check_close frame) _ old new server (record { role = refl; reply = (Close, refl) }) leaves
+    let effect : Effect = record { message = None; reply = Some (record { opcode = Op.Control Close; payload = close_payload frame }); next = record conn { state = state } } in
+    checked_by conn after (check_close frame) effect old new server (record { role = refl; reply = (Close, refl) }) leaves
 
 pub close_controls : (conn after : Connection) (frame : Option (CloseCode × List ℕ)) (old new : List ℕ) → conn.role ≡ Server → Leaves (close_step conn frame) after old new → Controls after old new
 close_controls conn after frame old new server leaves = close_by conn after frame (closing_state conn.state) old new server leaves
+
+pub close_gains : (conn after : Connection) (frame : Option (CloseCode × List ℕ)) (r : Result (Unit {0}) Error) (old new : List ℕ) → conn.role ≡ Server → OnOk r (Leaves (close_step conn frame) after old new) → OnErr r (new ≡ old) → GainsControls old new
+close_gains conn after frame (Ok done) old new server leaves same = (close_controls conn after frame old new server leaves).gains
+close_gains conn after frame (Err e) old new server leaves same = gains_none old new same

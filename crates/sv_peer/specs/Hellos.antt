@@ -1,5 +1,5 @@
 -- The message by which a client shows its key, and what a payload is heard as.
-use Rattle.std.specs.Prelude.{◌≡◌, ℕ, ◌==◌, ◌&&◌, nat_le, Bool, List, [], ◌∷◌, length, Option, None, Some, Result, Ok, Err, if◌then◌else◌}
+use Rattle.std.specs.Prelude.{◌≡◌, ℕ, ◌==◌, ◌&&◌, nat_le, Bool, true, List, [], ◌∷◌, length, Option, None, Some, Result, Ok, Err, if◌then◌else◌}
 use Rattle.sha2.specs.Sha256.{sha256}
 use Rattle.sv_wire.specs.declared.fault.Malformed.{Malformed}
 use Rattle.sv_wire.specs.declared.message.Request.{Request}
@@ -45,3 +45,17 @@ request_or_bad payload = read_or_bad (request_at payload)
 abbrev pub heard_in : List ℕ → Heard
 heard_in [] = request_or_bad []
 heard_in (kind ∷ rest) = if kind == hello_kind then hello_or_bad (key_behind rest) else request_or_bad (kind ∷ rest)
+
+-- the message of a key is heard as the key's digest
+abbrev pub KeysAreHeard : Type 0
+KeysAreHeard = (key : List ℕ) → is_key key ≡ true → heard_in (hello_bytes key) ≡ heard.Hello (sha256 key)
+
+-- a payload that is heard as a digest is the message of a key
+pub record ShowsKey (payload digest : List ℕ) : Type 0 where
+  pub key : List ℕ
+  pub fits : is_key key ≡ true
+  pub whole : payload ≡ hello_bytes key
+  pub digested : digest ≡ sha256 key
+
+abbrev pub HellosAreKeys : Type 0
+HellosAreKeys = (payload digest : List ℕ) → heard_in payload ≡ heard.Hello digest → ShowsKey payload digest

@@ -1,11 +1,12 @@
 -- What a connection keeps.
-use Rattle.std.specs.Prelude.{ℕ, List, []}
+use Rattle.std.specs.Prelude.{◌≡◌, ℕ, List, [], ◌++◌}
 use Rattle.sv_peer.specs.declared.manner.Manner.{Manner}
 use Rattle.sv_peer.specs.declared.manner.Manner.TheVariants as manner
 use Rattle.sv_peer.specs.declared.peer.Voice.{Voice}
 use Rattle.sv_peer.specs.declared.peer.Voice.TheVariants as voice
 use Rattle.sv_peer.specs.declared.peer.Peer.TheInside.{Inside}
 use Rattle.sv_peer.specs.View.{PeerView, IsInStep}
+use Rattle.sv_peer.specs.Webs.{handed_by}
 
 abbrev pub manner_of : Voice → Manner
 manner_of voice.Unknown = manner.Unknown
@@ -32,5 +33,18 @@ view_of peer = record {
   shown = peer.shown;
 }
 
-abbrev pub IsPeer : Inside → Type 0
-IsPeer peer = IsInStep (view_of peer)
+-- what an HTTP connection sent is what its server handed out
+abbrev pub IsHandedOut : Voice → List ℕ → Type 0
+IsHandedOut voice.Unknown bytes = Unit {0}
+IsHandedOut (voice.Plain reader) bytes = Unit {0}
+IsHandedOut (voice.Web web) bytes = bytes ≡ handed_by web.value
+IsHandedOut (voice.Socket socket) bytes = Unit {0}
+IsHandedOut voice.Closed bytes = Unit {0}
+
+pub record IsPeer (peer : Inside) : Type 0 where
+  pub says : IsInStep (view_of peer)
+  pub handed : IsHandedOut peer.voice (peer.sent ++ peer.output.items)
+
+-- nothing was handed out yet
+abbrev pub HandsNothing : Voice → Type 0
+HandsNothing begun = IsHandedOut begun []

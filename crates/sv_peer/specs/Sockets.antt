@@ -12,6 +12,7 @@ use Rattle.websocket.specs.Codes.{connection_code}
 use Rattle.websocket.specs.Connection.{Connection, whole_header}
 use Rattle.websocket.specs.Frame.{encode_frame}
 use Rattle.sv_wire.specs.declared.message.Reply.{Reply}
+use Rattle.sv_peer.specs.Https.{IsHttp}
 use Rattle.sv_wire.specs.Spelling.{reply_bytes}
 
 -- where the protocol stands, and what came and was not taken
@@ -42,11 +43,6 @@ pub record GainsControls (old new : List ℕ) : Type 0 where
   pub controls : List (Control × List ℕ)
   pub gained : new ≡ old ++ flat_map control_frame controls
 
--- more was put behind
-pub record Grows (old new : List ℕ) : Type 0 where
-  pub more : List ℕ
-  pub grown : new ≡ old ++ more
-
 -- what goes over a WebSocket: the message of a reply, or a control frame
 pub data Part : Type 0 where
   Message : Reply → Part
@@ -64,6 +60,7 @@ replies_in (Answer control ∷ parts) = replies_in parts
 -- the bytes are those of HTTP before the upgrade, and then the messages of just these replies, in order, with control frames among them
 pub record IsSocketStream (told : List Reply) (bytes : List ℕ) : Type 0 where
   pub http : List ℕ
+  pub served : ∥ IsHttp http ∥₁
   pub parts : List Part
   pub whole : bytes ≡ http ++ flat_map part_bytes parts
   pub replies : replies_in parts ≡ told

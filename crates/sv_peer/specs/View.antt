@@ -1,5 +1,5 @@
 -- A connection as contracts see it.
-use Rattle.std.specs.Prelude.{◌≡◌, ℕ, ◌-◌, ◌⊎◌, nat_le, ◌&&◌, ◌||◌, Bool, true, false, List, [], ◌∷◌, ◌++◌, length, take, drop, map, is_some, Option, None, Some, if◌then◌else◌}
+use Rattle.std.specs.Prelude.{◌≡◌, ℕ, ◌-◌, ◌⊎◌, nat_le, ◌&&◌, ◌||◌, Bool, List, [], ◌∷◌, ◌++◌, length, take, drop, map, is_some, Option, None, Some, if◌then◌else◌}
 use Rattle.sv_frame.specs.Frames.{greatest_frame, frame, frames_of, first_frame, too_long}
 use Rattle.sv_wire.specs.declared.message.Request.TheVariants.{Bad}
 use Rattle.sv_wire.specs.declared.message.Reply.{Reply}
@@ -9,6 +9,7 @@ use Rattle.sv_peer.specs.declared.heard.Heard.TheVariants as heard
 use Rattle.sv_peer.specs.declared.manner.Manner.{Manner}
 use Rattle.sv_peer.specs.declared.manner.Manner.TheVariants as manner
 use Rattle.sv_peer.specs.Hellos.{heard_in}
+use Rattle.sv_peer.specs.Https.{IsHttp}
 use Rattle.sv_peer.specs.Sockets.{message_frame, IsSocketStream}
 
 -- The replies that were told; the bytes that were handed over, and those that wait; how it is spoken; what came as frames and was not taken;
@@ -25,13 +26,13 @@ abbrev pub new_peer : PeerView
 new_peer = record { told = []; sent = []; output = []; manner = manner.Unknown; heard = []; shown = None }
 
 -- what all the bytes of a connection are: of frames, those of the replies that were told, in order; of a WebSocket, a message for each; and
--- otherwise no reply was told
+-- otherwise they are those of HTTP, and no reply was told
 abbrev pub Says : Manner → List Reply → List ℕ → Type 0
 Says manner.Unknown told bytes = (told ≡ []) × (bytes ≡ [])
 Says manner.Frames told bytes = bytes ≡ frames_of (map reply_bytes told)
-Says manner.Http told bytes = told ≡ []
+Says manner.Http told bytes = (told ≡ []) × ∥ IsHttp bytes ∥₁
 Says manner.Socket told bytes = IsSocketStream told bytes
-Says manner.Closed told bytes = told ≡ []
+Says manner.Closed told bytes = (told ≡ []) × ∥ IsHttp bytes ∥₁
 
 -- what was sent and what waits is what the replies are told by
 abbrev pub IsInStep : PeerView → Type 0

@@ -12,6 +12,6 @@ pub enum Heard {
     NotYet,
     /// Nothing more will come.
     Closed,
-    /// There was no memory for it. It stays.
+    /// There was no memory for it. The connection can only be closed.
     Memory,
 }

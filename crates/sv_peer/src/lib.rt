@@ -4,6 +4,7 @@
 mod desk;
 mod heard;
 mod hello;
+pub mod laws;
 mod manner;
 mod past;
 mod peer;

@@ -3,7 +3,7 @@ ghost use Rattle.std.specs.Prelude.{◌≡◌, ◌⊎◌, ◌+◌, ◌-◌, ◌+
 ghost use Rattle.sv_wire.specs.Laws.{IsReply};
 ghost use Rattle.sv_frame.specs.Frames.{greatest_frame, FitsFrame};
 ghost use Rattle.sv_peer.specs.View.{new_peer, is_letter, begun, IsInStep, Keeps, Tells, Upgrades, Answers, TakesIn, Hears, Nexts, TakesFrame, Puts, after_sent};
-ghost use Rattle.sv_peer.specs.Invariant.{manner_of, heard_by};
+ghost use Rattle.sv_peer.specs.Invariant.{manner_of, heard_by, HandsNothing};
 
 use crate::desk::Desk;
 use crate::heard::Heard;
@@ -93,6 +93,7 @@ fn is_letter(byte: u8) -> bool
 fn begin(alloc: Global, first: u8, keys: RandomState) -> Result<Voice, AllocError>
     ensures manner { IfOk result (λ voice. manner_of voice ≡ begun first) }
     ensures heard { IfOk result (λ voice. heard_by voice ≡ []) }
+    ensures handed { IfOk result HandsNothing }
 {
     if is_letter(first) {
         Ok(Voice::Web(Box::new(alloc, Web::new(alloc, keys))?))

@@ -1,5 +1,6 @@
 //! HTTP over buffers, up to an upgrade.
-ghost use Rattle.sv_peer.specs.Sockets.{Grows};
+ghost use Rattle.std.specs.Prelude.{◌≡◌, []};
+ghost use Rattle.sv_peer.specs.Webs.{handed_by, HandsOut};
 
 use crate::desk::Desk;
 use crate::socket::Socket;
@@ -39,7 +40,9 @@ pub enum Course {
 
 impl Web {
     /// A connection of which nothing came.
-    pub fn new(alloc: Global, keys: RandomState) -> Web {
+    pub fn new(alloc: Global, keys: RandomState) -> Web
+        ensures { handed_by result ≡ [] }
+    {
         let mut config = Config::default();
         config.max_body_len = MOST_BODY;
         Web {
@@ -55,7 +58,9 @@ impl Web {
     }
 
     // Takes in what came.
-    fn take_in(&mut self) -> Result<(), AllocError> {
+    fn take_in(&mut self) -> Result<(), AllocError>
+        ensures { handed_by self.new ≡ handed_by self.old }
+    {
         if !self.connection.wants_read() || self.rest.is_empty() {
             return Ok(());
         }
@@ -71,7 +76,7 @@ impl Web {
 
     // Hands out what the connection puts out next. Answers how many bytes that are.
     fn hand_out(&mut self, output: &mut Vec<u8>) -> Result<usize, AllocError>
-        ensures { Grows output.old.items output.new.items }
+        ensures { HandsOut self.old self.new output.old.items output.new.items }
     {
         let piece = self.connection.output();
         let count = piece.len();
@@ -82,7 +87,7 @@ impl Web {
 
     // One step. False where nothing came of it.
     fn step<D: Desk>(&mut self, desk: &mut D, output: &mut Vec<u8>) -> Result<bool, AllocError>
-        ensures { Grows output.old.items output.new.items }
+        ensures { HandsOut self.old self.new output.old.items output.new.items }
     {
         self.take_in()?;
         self.connection.advance(desk);
@@ -92,7 +97,7 @@ impl Web {
 
     // Answers what came, as long as not too much waits to be sent.
     fn go_on<D: Desk>(&mut self, desk: &mut D, output: &mut Vec<u8>) -> Result<(), AllocError>
-        ensures { Grows output.old.items output.new.items }
+        ensures { HandsOut self.old self.new output.old.items output.new.items }
     {
         self.is_paused = true;
         'steps: for _ in 0..MOST_STEPS {
@@ -114,7 +119,7 @@ impl Web {
         piece: &[u8],
         output: &mut Vec<u8>,
     ) -> Result<Course, AllocError>
-        ensures { Grows output.old.items output.new.items }
+        ensures { HandsOut self.old self.new output.old.items output.new.items }
     {
         self.rest.extend_from_slice(piece)?;
         self.go_on(desk, output)?;

@@ -1,2 +1,4 @@
 -- The definitions of this crate.
-pub mod Moves
+pub mod Memory
+pub mod Numbered
+pub mod Told

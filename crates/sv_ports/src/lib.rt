@@ -4,9 +4,12 @@
 mod clock;
 mod memory;
 mod numbered;
+mod pieces;
 mod ports;
+mod wires;
 
 pub use clock::{Clock, MemClock};
 pub use memory::{MemPorts, Step};
-pub use numbered::Numbered;
+pub use numbered::{Numbered, Place, PushFault};
+pub use pieces::Pieces;
 pub use ports::{Accepted, PortRead, PortWrote, Ports, Ready, Waited};

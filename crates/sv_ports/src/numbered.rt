@@ -1,10 +1,25 @@
 //! Things under numbers that ascend.
-use std::alloc::{AllocError, Global};
+ghost use Rattle.std.specs.Prelude.{◌≡◌, ◌≢◌, ◌++◌, ◌∷◌, [], ◌==◌, false, true, length, map, slice_get, option_map, option_copied, MatchOption, OnOk, OnErr};
+ghost use Rattle.sv_ports.specs.declared.numbered.Place.{Place};
+ghost use Rattle.sv_ports.specs.declared.numbered.PushFault.TheVariants as faults;
+ghost use Rattle.sv_ports.specs.Numbered.{IsByNumber, IsAbove, IsPlaceOf, has_number, item_of, with_item, without};
 
+use std::alloc::{AllocError, Global};
+use std::marker::Model;
+
+/// A place of a number. Its thing lies there, or was taken out.
 #[derive(Drop)]
-struct Place<T: Drop> {
+pub struct Place<T: Drop> {
     number: u64,
     item: Option<T>,
+}
+
+/// Why a thing was not put under a new number.
+#[derive(Clone, Copy, Debug, Drop, PartialEq, Eq)]
+pub enum PushFault {
+    /// The number is not above all.
+    NotAbove,
+    Memory,
 }
 
 /// Things under numbers, in the order of their numbers. One of them may be taken out and put back.
@@ -13,7 +28,100 @@ pub struct Numbered<T: Drop> {
     places: Vec<Place<T>>,
 }
 
-fn place_of<T: Drop>(places: &[Place<T>], number: u64) -> Option<usize> {
+impl<T: Drop> Model for Numbered<T> {
+    ghost use Rattle.std.specs.Prelude.{List};
+    ghost use Rattle.sv_ports.specs.declared.numbered.Place.{Place};
+    ghost use Rattle.sv_ports.specs.Numbered.{IsByNumber};
+
+    ghost Value = { List (Place T) };
+
+    ghost view = { λ a. a.places.items };
+
+    ghost invariant = { λ a. IsByNumber a.places.items };
+}
+
+impl<T: Drop> Numbered<T> {
+    pub fn new(alloc: Global) -> Numbered<T>
+        ensures { result ≡ [] }
+    {
+        Numbered {
+            places: Vec::new(alloc),
+        }
+    }
+
+    pub fn len(&self) -> usize
+        ensures { result ≡ length self.now }
+    {
+        self.places.len()
+    }
+
+    pub fn is_empty(&self) -> bool
+        ensures { result ≡ (length self.now == 0) }
+    {
+        self.places.is_empty()
+    }
+
+    /// The number at a place, from 0 up.
+    pub fn number_at(&self, place: usize) -> Option<u64>
+        ensures { result ≡ option_map (λ p. p.number) (slice_get self.now place) }
+    {
+        let place = self.places.get(place)?;
+        Some(place.number)
+    }
+
+    /// Puts a thing under a number that is above all. After an `Err` everything is as it was.
+    pub fn push(&mut self, number: u64, item: T) -> Result<(), PushFault>
+        ensures ok { OnOk result (self.new ≡ self.old ++ record { number = number; item = Some item } ∷ []) }
+        ensures above { OnOk result (IsAbove number self.old) }
+        ensures err { OnErr result (self.new ≡ self.old) }
+        ensures fits { IsAbove number self.old → result ≢ Err faults.NotAbove }
+    {
+        if !is_above(&self.places, number) {
+            return Err(PushFault::NotAbove);
+        }
+        match append(&mut self.places, number, item) {
+            Ok(()) => Ok(()),
+            Err(_) => Err(PushFault::Memory),
+        }
+    }
+
+    /// Takes the thing of a number out. Its place is kept for it.
+    pub fn take(&mut self, number: u64) -> Option<T>
+        ensures item { result ≡ item_of number self.old }
+        ensures left { self.new ≡ with_item number None self.old }
+    {
+        exchange(&mut self.places, number, None)
+    }
+
+    /// Puts a thing into the place of a number. Where the number has none, the thing is dropped.
+    pub fn put(&mut self, number: u64, item: T)
+        ensures { self.new ≡ with_item number (Some item) self.old }
+    {
+        let _ = exchange(&mut self.places, number, Some(item));
+    }
+
+    pub fn get(&self, number: u64) -> Option<&T>
+        ensures { option_copied result ≡ item_of number self.now }
+    {
+        let place = place_of(&self.places, number)?;
+        self.places[place].item.as_ref()
+    }
+
+    /// Takes a number with what it has out for good.
+    pub fn remove(&mut self, number: u64)
+        ensures { self.new ≡ without number self.old }
+    {
+        if let Some(place) = place_of(&self.places, number) {
+            drop(self.places.remove(place));
+        }
+    }
+}
+
+// The place of a number among numbers that ascend.
+fn place_of<T: Drop>(places: &[Place<T>], number: u64) -> Option<usize>
+    requires { IsByNumber places.now }
+    ensures { MatchOption result (has_number number places.now ≡ false) (IsPlaceOf number places.now) }
+{
     let place = places.partition_point(|place| place.number < number);
     if place == places.len() {
         return None;
@@ -24,61 +132,34 @@ fn place_of<T: Drop>(places: &[Place<T>], number: u64) -> Option<usize> {
     None
 }
 
-impl<T: Drop> Numbered<T> {
-    pub fn new(alloc: Global) -> Numbered<T> {
-        Numbered {
-            places: Vec::new(alloc),
-        }
+fn is_above<T: Drop>(places: &[Place<T>], number: u64) -> bool
+    requires { IsByNumber places.now }
+    ensures yes { result ≡ true → IsAbove number places.now }
+    ensures no { IsAbove number places.now → result ≡ true }
+{
+    match places.last() {
+        Some(last) => last.number < number,
+        None => true,
     }
+}
 
-    pub fn len(&self) -> usize {
-        self.places.len()
-    }
+fn append<T: Drop>(places: &mut Vec<Place<T>>, number: u64, item: T) -> Result<(), AllocError>
+    ensures ok { OnOk result (places.new.items ≡ places.old.items ++ record { number = number; item = Some item } ∷ []) }
+    ensures err { OnErr result (places.new.items ≡ places.old.items) }
+{
+    places.push(Place {
+        number,
+        item: Some(item),
+    })?;
+    Ok(())
+}
 
-    pub fn is_empty(&self) -> bool {
-        self.places.is_empty()
-    }
-
-    /// The number at a place, from 0 up.
-    pub fn number_at(&self, place: usize) -> Option<u64> {
-        let place = self.places.get(place)?;
-        Some(place.number)
-    }
-
-    /// Puts a thing under a number that is above all. Without memory everything is as it was.
-    pub fn push(&mut self, number: u64, item: T) -> Result<(), AllocError> {
-        self.places.push(Place {
-            number,
-            item: Some(item),
-        })?;
-        Ok(())
-    }
-
-    /// Takes the thing of a number out. Its place is kept for it.
-    pub fn take(&mut self, number: u64) -> Option<T> {
-        let place = place_of(&self.places, number)?;
-        self.places[place].item.take()
-    }
-
-    /// Puts a thing back that was taken out.
-    pub fn put(&mut self, number: u64, item: T) {
-        if let Some(place) = place_of(&self.places, number) {
-            self.places[place].item = Some(item);
-        }
-    }
-
-    pub fn get(&self, number: u64) -> Option<&T> {
-        let place = place_of(&self.places, number)?;
-        match &self.places[place].item {
-            Some(item) => Some(item),
-            None => None,
-        }
-    }
-
-    /// Takes a number with what it has out for good.
-    pub fn remove(&mut self, number: u64) {
-        if let Some(place) = place_of(&self.places, number) {
-            self.places.remove(place);
-        }
-    }
+// Puts this, or nothing, into the place of a number, and gives what was there.
+fn exchange<T: Drop>(places: &mut [Place<T>], number: u64, item: Option<T>) -> Option<T>
+    requires { IsByNumber places.old }
+    ensures item { result ≡ item_of number places.old }
+    ensures left { places.new ≡ with_item number item places.old }
+{
+    let place = place_of(places, number)?;
+    std::mem::replace(&mut places[place].item, item)
 }

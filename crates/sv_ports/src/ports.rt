@@ -1,6 +1,6 @@
 //! Connections that come and go.
-ghost use Rattle.std.specs.Prelude.{◌≤◌, ◌<◌, length};
-ghost use Rattle.sv_ports.specs.Moves.{ReadsAtMost, WritesAtMost};
+ghost use Rattle.std.specs.Prelude.{◌≡◌};
+ghost use Rattle.sv_ports.specs.Told.{Told, Accepts, Reads, Writes, ReadsInput};
 
 use sv_keeper::Settled;
 
@@ -77,26 +77,32 @@ pub enum PortWrote {
 
 /// Connections that come through one door, under numbers, and an input. A number is never used twice.
 ///
-/// Who is told that a connection is ready has to go on until `NotYet`: else it is not told again.
+/// Who is told that a connection is ready has to go on until `NotYet`: else it is not told again. Contracts see the bytes that the calls moved, and
+/// no more: what became of them at the other end is not told.
 pub trait Ports {
+    ghost told: { Self → Told };
+
     /// Waits until something is ready, for so many milliseconds at most. It adds to what is ready already.
-    fn wait(&mut self, limit: u64, ready: &mut Ready) -> Waited;
+    fn wait(&mut self, limit: u64, ready: &mut Ready) -> Waited
+        ensures { told self.new ≡ told self.old };
 
     /// Accepts a connection.
-    fn accept(&mut self) -> Accepted;
+    fn accept(&mut self) -> Accepted
+        ensures { Accepts (told self.old) result (told self.new) };
 
-    /// Reads what has come, as much as fits.
+    /// Reads what has come, as much as fits. Where there is no room, it is `NotYet`.
     fn read(&mut self, number: u64, into: &mut [u8]) -> PortRead
-        ensures { ReadsAtMost (length into.new) result };
+        ensures { Reads (told self.old) number into.new result (told self.new) };
 
     /// Writes the front of a piece, as much as is taken at once. Nothing is written before all lines are settled.
     fn write(&mut self, number: u64, piece: &[u8], settled: &Settled<'_>) -> PortWrote
-        ensures { WritesAtMost (length piece.now) result };
+        ensures { Writes (told self.old) number piece.now result (told self.new) };
 
     /// Closes a connection.
-    fn close(&mut self, number: u64);
+    fn close(&mut self, number: u64)
+        ensures { told self.new ≡ told self.old };
 
-    /// Reads what has come of the input.
+    /// Reads what has come of the input. Where there is no room, it is `NotYet`.
     fn read_input(&mut self, into: &mut [u8]) -> PortRead
-        ensures { ReadsAtMost (length into.new) result };
+        ensures { ReadsInput (told self.old) into.new result (told self.new) };
 }

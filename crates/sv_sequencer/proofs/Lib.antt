@@ -18,6 +18,7 @@ pub mod HistorySteps
 pub mod Knowing
 pub mod Seating
 pub mod Sent
+pub mod Showing
 pub mod Shared
 pub mod SoundSteps
 pub mod Replies

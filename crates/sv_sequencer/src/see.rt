@@ -88,7 +88,7 @@ fn knows_them<L: Ledger>(queue: &Queue, slot: u16, objects: &[ObjectId], blank: 
     requires name { blank.name ≡ L.name }
     requires parts { blank.parts ≡ L.parts }
     requires some { 0 < blank.parts }
-    requires objects { All (λ (o : ObjectId). o.0 < queue.now.shape.objects) objects.now }
+    requires objects { may_be_observed queue.now.shape.objects (numbers_of objects.now) ≡ true }
     requires room { last_position queue.now < 2 ^ 32 - 1 }
     ensures { result ≡ list_all (knows queue.now slot) (numbers_of objects.now) }
 {

@@ -1,15 +1,13 @@
 -- What requests are answered.
-use Rattle.std.specs.Prelude.{◌≡◌, ◌≢◌, ℕ, ◌⊎◌, Bool, false, List, ◌∷◌, map, codes, string_bytes, is_some, Option, None, Some, option_map, if◌then◌else◌}
-use Rattle.std.specs.List.{starts_with, find}
-use Rattle.sha2.specs.Sha256.{sha256}
+use Rattle.std.specs.Prelude.{◌≡◌, ℕ, ◌⊎◌, List, Option, None, Some, IfSome}
 use Rattle.http.specs.declared.request.Parts.{Parts}
-use Rattle.http_uri.specs.Uri.{uri_query}
 use Rattle.http_server.specs.declared.response.Response.{Response}
 use Rattle.sv_site.specs.declared.figures.Figures.{Figures}
 use Rattle.sv_site.specs.declared.route.Route.{Route}
 use Rattle.sv_site.specs.declared.route.Route.TheVariants as route
 use Rattle.sv_site.specs.Paths.{file_of}
 use Rattle.sv_site.specs.Figures.{status_text}
+use Rattle.sv_site.specs.Keys.{IsShownBy}
 use Rattle.sv_site.specs.Routes.{Routes}
 
 -- the file that a path names, where there is a folder
@@ -34,8 +32,27 @@ StatusBy folder (route.Upgrade accept) status = Gives 101 status
 StatusBy folder route.Standing status = Gives 200 status
 StatusBy folder (route.File path) status = FileStatus (named_in folder path.now) status ⊎ (status ≡ 500)
 
+-- what the standing of the server is told by
+abbrev pub BodyBy : Figures → Route → ℕ → List ℕ → Type 0
+BodyBy figures route.Standing status body = status ≡ 200 → body ≡ status_text figures
+BodyBy figures _ status body = Unit {0}
+
+-- an upgrade shows a key or none, and nothing else changes what was shown
+abbrev pub KeyBy : Parts → Route → Option (List ℕ) → Option (List ℕ) → Type 0
+KeyBy head (route.Upgrade accept) before after = IfSome after (IsShownBy head)
+KeyBy head _ before after = after ≡ before
+
+-- What a site has to answer by: which origins are named, the folder, the figures, and the key that was shown last.
+pub record Standing : Type 0 where
+  pub named : List (List ℕ)
+  pub folder : Option (List ℕ)
+  pub figures : Figures
+  pub shown : Option (List ℕ)
+
 -- a request of this head is answered by what it asks for
-pub record AnswersHead (named : List (List ℕ)) (folder : Option (List ℕ)) (head : Parts) (response : Response) : Type 0 where
+pub record AnswersHead (site : Standing) (head : Parts) (response : Response) (after : Option (List ℕ)) : Type 0 where
   pub asked : Route
-  pub asks : Routes named head asked
-  pub status : StatusBy folder asked response.status
+  pub asks : Routes site.named head asked
+  pub status : StatusBy site.folder asked response.status
+  pub body : BodyBy site.figures asked response.status response.body.items
+  pub key : KeyBy head asked site.shown after

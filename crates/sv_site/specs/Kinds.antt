@@ -1,5 +1,6 @@
 -- The type of a file, by its ending.
-use Rattle.std.specs.Prelude.{◌≡◌, ◌≢◌, ℕ, List, ◌∷◌, ◌++◌, All, codes, if◌then◌else◌}
+use Rattle.std.specs.Prelude.{◌≡◌, ◌≢◌, ℕ, List, ◌∷◌, ◌++◌, codes, if◌then◌else◌}
+use Rattle.std.specs.List.{AllByRecursion}
 use Rattle.std.specs.Str.{bytes_eq}
 use Rattle.sv_site.specs.declared.kinds.KindOfFile.{KindOfFile}
 use Rattle.sv_site.specs.declared.kinds.KindOfFile.TheVariants as kind
@@ -19,7 +20,7 @@ kind_by ending = if bytes_eq ending (codes "html") then kind.Html
     else kind.Other)))))))))
 
 abbrev pub HasNoDot : List ℕ → Type 0
-HasNoDot text = All (λ b. b ≢ dot) text
+HasNoDot text = AllByRecursion (λ b. b ≢ dot) text
 
 -- it is told by what a name has behind its last dot
 pub record IsKindOf (name : List ℕ) (kind_is : KindOfFile) : Type 0 where

@@ -1,15 +1,10 @@
 -- Texts that are cut at a byte.
-use Rattle.std.specs.Prelude.{ℕ, ◌==◌, List, [], ◌∷◌, Option, None, Some, if◌then◌else◌}
-
--- a byte more in front of the first part
-abbrev pub before_parts : ℕ → List (List ℕ) → List (List ℕ)
-before_parts b [] = (b ∷ []) ∷ []
-before_parts b (part ∷ parts) = (b ∷ part) ∷ parts
+use Rattle.std.specs.Prelude.{ℕ, ◌==◌, List, [], Option, None, Some}
+use Rattle.std.specs.List.{slice_split}
 
 -- the parts of a text between such bytes, of which there is one more than of the bytes
 abbrev pub parts_of : ℕ → List ℕ → List (List ℕ)
-parts_of byte [] = [] ∷ []
-parts_of byte (b ∷ bs) = if b == byte then [] ∷ parts_of byte bs else before_parts b (parts_of byte bs)
+parts_of byte text = slice_split (λ b. b == byte) text
 
 -- those behind the first one
 abbrev pub parts_behind : ℕ → Option (List ℕ) → List (List ℕ)

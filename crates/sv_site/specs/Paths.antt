@@ -1,5 +1,5 @@
 -- Which file a path names.
-use Rattle.std.specs.Prelude.{ℕ, ◌==◌, ◌&&◌, ◌||◌, not, Bool, false, List, [], ◌∷◌, ◌++◌, codes, Option, None, Some, if◌then◌else◌}
+use Rattle.std.specs.Prelude.{ℕ, ◌==◌, ◌&&◌, ◌||◌, not, Bool, false, List, [], ◌∷◌, ◌++◌, length, slice_index, codes, Option, None, Some, if◌then◌else◌}
 use Rattle.std.specs.List.{list_all}
 use Rattle.std.specs.Str.{bytes_eq}
 use Rattle.std.specs.Char.{is_ascii_alphanumeric}
@@ -17,8 +17,7 @@ is_plain_byte b = is_ascii_alphanumeric b || (b == 45) || (b == 95) || (b == dot
 
 -- A part of a path that names something in its folder: it is not empty, does not begin with a dot, and has such bytes alone.
 abbrev pub is_plain : List ℕ → Bool
-is_plain [] = false
-is_plain (b ∷ bs) = not (b == dot) && list_all is_plain_byte (b ∷ bs)
+is_plain part = not (length part == 0) && not (slice_index part 0 == dot) && list_all is_plain_byte part
 
 -- a path begins with a slash, and each part behind it names something in its folder
 abbrev pub is_path : List ℕ → Bool

@@ -3,6 +3,7 @@
 
 mod counts;
 mod figures;
+mod keys;
 mod kinds;
 mod origins;
 mod parts;

@@ -1,5 +1,6 @@
 //! From which pages an upgrade may come.
 ghost use Rattle.std.specs.Prelude.{◌≡◌, map, string_bytes, option_copied};
+ghost use Rattle.std.specs.Str.{bytes_eq};
 ghost use Rattle.sv_site.specs.Origins.{place_of, is_named, is_same_place, is_welcome};
 
 /// What an origin has behind its scheme: a host, and a port where it has one.
@@ -12,11 +13,17 @@ fn place_of(origin: &[u8]) -> Option<&[u8]>
     origin.strip_prefix(b"https://")
 }
 
+fn is_text(name: &String, text: &[u8]) -> bool
+    ensures { result ≡ bytes_eq (string_bytes name.now) text.now }
+{
+    name.as_bytes() == text
+}
+
 fn is_named(origin: &[u8], named: &[String]) -> bool
     ensures { result ≡ is_named origin.now (map string_bytes named.now) }
 {
     for name in named {
-        if name.as_bytes() == origin {
+        if is_text(name, origin) {
             return true;
         }
     }

@@ -13,15 +13,17 @@ fn is_plain_byte(byte: u8) -> bool
     byte.is_ascii_alphanumeric() || byte == b'-' || byte == b'_' || byte == b'.'
 }
 
-/// Whether a part of a path names something in its folder: it is not empty, has plain bytes alone, and does not begin with a dot.
+fn has_plain_bytes(part: &[u8]) -> bool
+    ensures { result ≡ list_all is_plain_byte part.now }
+{
+    part.iter().all(|byte| is_plain_byte(*byte))
+}
+
+/// Whether a part of a path names something in its folder: it is not empty, does not begin with a dot, and has plain bytes alone.
 fn is_plain(part: &[u8]) -> bool
     ensures { result ≡ is_plain part.now }
 {
-    match part {
-        [] => false,
-        [b'.', ..] => false,
-        _ => part.iter().all(|byte| is_plain_byte(*byte)),
-    }
+    !part.is_empty() && part[0] != b'.' && has_plain_bytes(part)
 }
 
 /// Whether each part of what stands below a folder is so.

@@ -1,11 +1,11 @@
 //! What HTTP requests get: files of a folder, the standing of the server, and the way to a WebSocket.
-ghost use Rattle.std.specs.Prelude.{◌≡◌, ◌++◌, ◌⊎◌, IfOk, OnOk, OnErr, option_map, option_copied, string_bytes};
+ghost use Rattle.std.specs.Prelude.{◌≡◌, [], ◌++◌, ◌⊎◌, IfOk, OnOk, OnErr, option_map, option_copied, string_bytes};
 ghost use Rattle.sv_site.specs.Figures.{status_text};
-ghost use Rattle.sv_site.specs.Answers.{named_in, FileStatus, Gives};
+ghost use Rattle.sv_site.specs.Answers.{named_in, FileStatus};
 
 use crate::figures::{Figures, append_figures};
+use crate::keys::key_of;
 use crate::kinds::{KindOfFile, kind_of};
-use crate::parts::cut_at;
 use crate::paths::path_in;
 use crate::route::{Route, route_of};
 use bytes::Bytes;
@@ -13,7 +13,7 @@ use http::{HeaderValue, Request, StatusCode, header};
 use http_server::{Response, Service};
 use std::alloc::{AllocError, Global};
 use sv_bytes::{FileFault, Files, read_all};
-use sv_peer::{Desk, digest_of};
+use sv_peer::Desk;
 
 /// How many bytes a file of the site may have.
 const MOST_BYTES: usize = 1 << 26;
@@ -50,7 +50,8 @@ fn type_of(kind: KindOfFile) -> HeaderValue {
 }
 
 fn put(response: &mut Response, kind: KindOfFile, body: Bytes) -> Result<(), AllocError>
-    ensures { response.new.status ≡ response.old.status }
+    ensures status { response.new.status ≡ response.old.status }
+    ensures body { OnOk result (response.new.body.items ≡ response.old.body.items ++ body) }
 {
     response.add_header(header::CONTENT_TYPE, type_of(kind))?;
     response.body.push(body)
@@ -58,7 +59,9 @@ fn put(response: &mut Response, kind: KindOfFile, body: Bytes) -> Result<(), All
 
 // The standing of the server.
 fn put_standing(alloc: Global, figures: &Figures, response: &mut Response) -> Result<(), AllocError>
-    ensures { response.new.status ≡ response.old.status }
+    requires { response.old.body.items ≡ [] }
+    ensures status { response.new.status ≡ response.old.status }
+    ensures body { OnOk result (response.new.body.items ≡ status_text figures.now) }
 {
     let mut text = String::new(alloc);
     append_figures(figures, &mut text)?;
@@ -143,31 +146,14 @@ fn mend(filled: Result<(), AllocError>, response: &mut Response)
     }
 }
 
-/// What a query has under the name `key`.
-fn key_part(query: &[u8]) -> Option<&[u8]> {
-    let mut left = Some(query);
-    while let Some(text) = left {
-        let (part, rest) = cut_at(text, b'&');
-        if let Some(digits) = part.strip_prefix(b"key=") {
-            return Some(digits);
-        }
-        left = rest;
-    }
-    None
-}
-
-/// The digest of the key that a query has in hexadecimal.
-fn key_in(alloc: Global, query: &str) -> Option<[u8; 32]> {
-    let key = hex::decode(alloc, key_part(query.as_bytes())?).ok()?;
-    digest_of(&key)
-}
-
 impl<L: Files> Service for Site<'_, L> {
     ghost use Rattle.std.specs.Prelude.{map, string_bytes, option_copied};
     ghost use Rattle.http.specs.Request.{head_of};
     ghost use Rattle.sv_site.specs.Answers.{AnswersHead};
 
-    ghost answers = { λ site request response after. AnswersHead (map string_bytes site.origins.now) (option_copied site.folder) (head_of request) response };
+    ghost answers = { λ site request response after. AnswersHead
+        (record { named = map string_bytes site.origins.now; folder = option_copied site.folder; figures = site.figures; shown = site.key })
+        (head_of request) response after.key };
 
     fn call(
         &mut self,
@@ -180,10 +166,7 @@ impl<L: Files> Service for Site<'_, L> {
             Route::Stranger => response.status = StatusCode::FORBIDDEN,
             Route::BadKey => response.status = StatusCode::BAD_REQUEST,
             Route::Upgrade(accept) => {
-                self.key = match request.uri().query() {
-                    Some(query) => key_in(self.alloc, query),
-                    None => None,
-                };
+                self.key = key_of(self.alloc, request);
                 mend(put_upgrade(self.alloc, &accept, response), response);
             }
             Route::Standing => {

@@ -4,7 +4,7 @@ use Rattle.sv_log.specs.Pictures.{Picture, seen}
 use Rattle.sv_log.specs.Chains.{Holds}
 use Rattle.sv_log.specs.Readings.{read_state, LastBecomes}
 use Rattle.sv_log.proofs.Moments.{then_only, weaker_only}
-use Rattle.sv_log.proofs.Opened.{last_holds, opened_log, opened_newest, opened_all}
+use Rattle.sv_log.proofs.Opened.{last_holds, opened_log, opened_newest, opened_world, opened_all}
 use Rattle.sv_log.proofs.log.Log.open.Goals as goal
 
 pub returns-in-Err-open_last-clause-any_moment_err : goal.returns-in-Err-open_last-clause-any_moment_err
@@ -65,3 +65,10 @@ returns-clause-synced g c = λ h.
     (opened_log g.F.Folder.disk c.args.alloc c.args.world.now p c.args.reading c.in-Ok-open_last.segment (string_bytes c.in-Ok.name) (ap string_bytes c.in-Ok-open_last.ensures.name)
     (c.in-Ok-open_last.ensures.open h) (c.in-Ok-open_last.ensures.text h) (c.in-Ok-open_last.ensures.synced h) (c.in-Ok-open_last.ensures.others h)
     c.unwrap_or.result c.unwrap_or.ensures (c.in-Ok.ensures.ready m)).1
+
+pub returns-clause-world : goal.returns-clause-world
+returns-clause-world g c = λ h.
+    let m = c.in-Ok-open_last.ensures.honest h in
+    let p = seen (g.F.Folder.disk c.prepare.new.folder) in
+    opened_world g.F.Folder.disk c.args.alloc c.args.world.now p c.args.reading c.in-Ok-open_last.segment (string_bytes c.in-Ok.name) (ap string_bytes c.in-Ok-open_last.ensures.name)
+    (c.in-Ok-open_last.ensures.open h) (c.in-Ok-open_last.ensures.text h) (c.in-Ok-open_last.ensures.synced h) (c.in-Ok-open_last.ensures.others h) (c.in-Ok.ensures.ready m)

@@ -1,6 +1,6 @@
 -- What stays true while steps are made.
-use Rattle.sv_peer.specs.Sockets.{Grows}
+use Rattle.sv_peer.specs.Webs.{HandsOut}
 use Rattle.sv_peer.proofs.web.Web.go_on.Given as goal
 
 abbrev pub invariant-steps : goal.invariant-steps
-invariant-steps g l = Grows l.fn.output.items l.output.items
+invariant-steps g l = HandsOut l.fn.self l.self l.fn.output.items l.output.items

@@ -1,0 +1,4 @@
+-- The lemmas of this crate, file by file.
+pub mod Cuts
+pub mod Dots
+pub mod Texts
