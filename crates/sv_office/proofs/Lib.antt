@@ -3,7 +3,9 @@ pub mod Orders
 pub mod Adding
 pub mod Asked
 pub mod Asking
+pub mod Ending
 pub mod Entered
 pub mod Followed
 pub mod Messages
 pub mod Served
+pub mod Stewarding
