@@ -53,3 +53,14 @@ pub reported_done : (t : ℕ) (v w x : WorldView) (request done : Request) → r
 reported_done t v w x request done poll world (results, is) later =
     subst (λ (y : WorldView). IsReported t v.history y.history) (sym later)
     (subst (λ (y : WorldView). IsReported t v.history (after y t done).history) (sym world) (IsReported.reported results refl poll refl is))
+
+pub session_entered : (v w : WorldView) (s : ℕ) (request : Request) → GoesOn (IsEntry s request) v w → GoesOn (λ (e : Entry). e.session ≡ s) v w
+session_entered v w s request on = goes_as (λ e is. is.0) on
+
+pub of_then : (v w x : WorldView) (mine : Option ℕ) (s : ℕ) (request : Request) → mine ≡ Some s → GoesOn (IsEntry s request) v w
+    → GoesOn (λ (e : Entry). e.session ≡ s) w x → GoesOn (IsOf mine) v x
+of_then v w x mine s request has first next = goes_then (of_entered v w mine s request has first) (of_session w x mine s has next)
+
+-- The steward's entries, in one call after the other.
+pub of_more : {v w x : WorldView} {mine later : Option ℕ} → later ≡ mine → GoesOn (IsOf mine) v w → GoesOn (IsOf later) w x → GoesOn (IsOf mine) v x
+of_more same first next = goes_then first (goes_as (λ e is. sym same ∙ is) next)

@@ -14,6 +14,7 @@ const MOST_REPORTS: u32 = 64;
 
 impl<F: Folder> Office<F> {
     // Has the steward report what its polls are answered, at most so often.
+    #[tactic(auto, using(crate::proofs::Adding::goes_nowhere, crate::proofs::Entered::sound_stays))]
     fn report_once(&mut self) -> Result<bool, Halt>
         ensures steward { session_of self.new.steward ≡ session_of self.old.steward }
         ensures reported { OnOk result (WasReported (session_of self.old.steward) self.old.keeper.world.history self.new.keeper.world.history) }
@@ -77,6 +78,7 @@ impl<F: Folder> Office<F> {
     }
 
     /// Has the steward report what was without a result for too long.
+    #[tactic(auto, using(crate::proofs::Adding::goes_nowhere, crate::proofs::Stewarding::of_more))]
     pub fn report_old(&mut self) -> Result<(), Halt>
         ensures steward { session_of self.new.steward ≡ session_of self.old.steward }
         ensures added { GoesOn (IsOf (session_of self.old.steward)) self.old.keeper.world self.new.keeper.world }
@@ -95,6 +97,7 @@ impl<F: Folder> Office<F> {
     }
 
     /// Has the steward report until there is nothing without a result.
+    #[tactic(auto, using(crate::proofs::Adding::goes_nowhere, crate::proofs::Stewarding::of_more))]
     pub fn report_all(&mut self) -> Result<(), Halt>
         ensures steward { session_of self.new.steward ≡ session_of self.old.steward }
         ensures added { GoesOn (IsOf (session_of self.old.steward)) self.old.keeper.world self.new.keeper.world }
@@ -109,6 +112,7 @@ impl<F: Folder> Office<F> {
     }
 
     // The steward joins, where there is one.
+    #[tactic(auto, using(crate::proofs::Adding::goes_nowhere))]
     fn join(&mut self) -> Result<(), Halt>
         ensures added { GoesOn (λ (e : Entry). IsOwn self.old.keeper.world.history (session_of self.old.steward) e.session) self.old.keeper.world self.new.keeper.world }
         ensures keys { self.new.keys ≡ self.old.keys }

@@ -290,9 +290,9 @@ impl<F: Folder> Office<F> {
         };
         guest.close();
         guest.session = None;
-        match enter(&mut self.keeper, session, &Request::End) {
-            Ok(_) => Ok(()),
-            Err(_) => Err(Halt::Log),
-        }
+        let Ok(_reply) = enter(&mut self.keeper, session, &Request::End) else {
+            return Err(Halt::Log);
+        };
+        Ok(())
     }
 }

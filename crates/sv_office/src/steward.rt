@@ -75,6 +75,7 @@ impl Steward {
     }
 
     // Asks to join with its next life, in its session or in the next one.
+    #[tactic(auto, using(crate::proofs::Adding::goes_nowhere, crate::proofs::Stewarding::begun_stays, crate::proofs::Stewarding::begun_entered, crate::proofs::Stewarding::keeps_asking, crate::proofs::Stewarding::own_entered))]
     fn begin<F: Folder>(&mut self, keeper: &mut Keeper<F>) -> Result<Reply, Halt>
         ensures begun { HasBegun keeper.old.world self.old.session → HasBegun keeper.new.world self.new.session }
         ensures session { KeepsOwn keeper.old.world.history self.old.session self.new.session }
@@ -109,17 +110,30 @@ impl Steward {
         Ok(())
     }
 
+    // Begins, and where a greater life was told, begins with the next one.
+    #[tactic(auto, using(crate::proofs::Adding::keeps_then, crate::proofs::Stewarding::own_then))]
+    fn begin_newest<F: Folder>(&mut self, keeper: &mut Keeper<F>) -> Result<Reply, Halt>
+        ensures begun { HasBegun keeper.old.world self.old.session → HasBegun keeper.new.world self.new.session }
+        ensures session { KeepsOwn keeper.old.world.history self.old.session self.new.session }
+        ensures added { GoesOn (λ (e : Entry). IsOwn keeper.old.world.history self.old.session e.session) keeper.old.world keeper.new.world }
+    {
+        let reply = self.begin(keeper)?;
+        match told_life(&reply) {
+            Some(life) => {
+                self.renew(life)?;
+                self.begin(keeper)
+            }
+            None => Ok(reply),
+        }
+    }
+
     /// Joins. A refusal tells the greatest life that there was, and it joins with the next one.
     pub fn join<F: Folder>(&mut self, keeper: &mut Keeper<F>) -> Result<(), Halt>
         ensures begun { HasBegun keeper.old.world self.old.session → HasBegun keeper.new.world self.new.session }
         ensures session { KeepsOwn keeper.old.world.history self.old.session self.new.session }
         ensures added { GoesOn (λ (e : Entry). IsOwn keeper.old.world.history self.old.session e.session) keeper.old.world keeper.new.world }
     {
-        let mut reply = self.begin(keeper)?;
-        if let Some(life) = told_life(&reply) {
-            self.renew(life)?;
-            reply = self.begin(keeper)?;
-        }
+        let reply = self.begin_newest(keeper)?;
         let _ = self.take(&reply)?;
         Ok(())
     }
@@ -139,6 +153,7 @@ impl Steward {
     }
 
     /// Polls, and reports what it is sent. The answer is how many results it reported, 0 where it was answered Idle. Without a session it is an error.
+    #[tactic(auto, using(crate::proofs::Adding::goes_nowhere, crate::proofs::Stewarding::of_entered, crate::proofs::Stewarding::of_then, crate::proofs::Stewarding::reported_poll, crate::proofs::Stewarding::reported_done))]
     pub fn report<F: Folder>(&mut self, keeper: &mut Keeper<F>) -> Result<u64, Halt>
         ensures session { self.new.session ≡ self.old.session }
         ensures reported { OnOk result ((t : ℕ) × (self.old.session ≡ Some t) × IsReported t keeper.old.world.history keeper.new.world.history) }
