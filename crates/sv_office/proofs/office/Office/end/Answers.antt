@@ -1,7 +1,7 @@
 -- The session has its End.
 use Rattle.std.proofs.Common.{refl}
 use Rattle.sv_office.proofs.Adding.{goes_nowhere}
-use Rattle.sv_office.proofs.Ending.{end_on, ended_once}
+use Rattle.sv_office.proofs.Ending.{end_on}
 use Rattle.sv_office.proofs.Entered.{sound_stays}
 use Rattle.sv_office.proofs.Served.{served_ended}
 use Rattle.sv_office.proofs.office.Office.end.Goals as goal
