@@ -7,3 +7,6 @@ pub mod Entered
 pub mod Followed
 pub mod Messages
 pub mod Served
+mod Answering
+mod Leaving
+mod Turns
