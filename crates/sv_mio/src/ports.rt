@@ -4,6 +4,7 @@ ghost use Rattle.sv_ports.specs.Told.{nothing_told, Accepts, ReadsSome, WritesSo
 ghost use Rattle.sv_mio.specs.Answers.{ReadAnswer, WroteAnswer};
 ghost use Rattle.sv_mio.specs.Ports.{told_of};
 
+use mio::event::Event;
 use mio::net::{TcpListener, TcpStream};
 use mio::unix::SourceFd;
 use mio::{Events, Interest, Poll, Token};
@@ -28,14 +29,24 @@ const STANDARD_INPUT: i32 = 0;
 /// How many events one wait tells.
 const EVENTS: usize = 256;
 
+/// A connection's stream.
+#[derive(Drop)]
+struct Line {
+    stream: TcpStream,
+    /// A read that does not fill its room may leave something behind.
+    stops_short: bool,
+}
+
 /// Connections over TCP, under the numbers 0, 1, 2, ..
 #[derive(Drop)]
 pub struct MioPorts<I: Read + Drop> {
     poll: Poll,
     events: Events,
     door: TcpListener,
-    streams: Numbered<TcpStream>,
+    lines: Numbered<Line>,
     next: u64,
+    /// The connection of which the last read took all that had come. A wait tells when it has more.
+    emptied: Option<u64>,
     input: Option<I>,
     /// The input is a file, which is always ready.
     input_is_file: bool,
@@ -72,8 +83,9 @@ impl<I: Read + Drop> MioPorts<I> {
             poll,
             events,
             door,
-            streams: Numbered::new(alloc),
+            lines: Numbered::new(alloc),
             next: 0,
+            emptied: None,
             input,
             input_is_file,
             written: Pieces::new(),
@@ -111,7 +123,11 @@ impl<I: Read + Drop> MioPorts<I> {
         if number >= MOST_NUMBERS || watch(&self.poll, &mut stream, number).is_err() {
             return Accepted::Failed;
         }
-        match self.streams.push(number, stream) {
+        let line = Line {
+            stream,
+            stops_short: false,
+        };
+        match self.lines.push(number, line) {
             Ok(()) => {
                 self.next = number + 1;
                 Accepted::One(number)
@@ -127,8 +143,26 @@ fn watch(poll: &Poll, stream: &mut TcpStream, number: u64) -> io::Result<()> {
     poll.registry().register(
         stream,
         Token(number as usize),
-        Interest::READABLE | Interest::WRITABLE,
+        Interest::READABLE | Interest::WRITABLE | Interest::PRIORITY,
     )
+}
+
+// A read takes all bytes that have come, or as many as fit. Behind them it may leave an end or an error, and it stops at an urgent byte.
+fn may_stop(event: &Event) -> bool {
+    event.is_read_closed() || event.is_error() || event.is_priority()
+}
+
+// Notes the connections of which a read may stop short from now on. The system tells it once, and the reads may be many turns later.
+fn note_stops(events: &Events, lines: &mut Numbered<Line>) {
+    for event in events {
+        if may_stop(event) {
+            let number = event.token().0 as u64;
+            if let Some(mut line) = lines.take(number) {
+                line.stops_short = true;
+                lines.put(number, line);
+            }
+        }
+    }
 }
 
 // What the system answered to a read that had room.
@@ -182,12 +216,16 @@ impl<I: Read + Drop> Ports for MioPorts<I> {
     ghost told = { told_of };
 
     fn wait(&mut self, limit: u64, ready: &mut Ready) -> Waited {
+        self.emptied = None;
         let limit = if self.input_is_file { 0 } else { limit };
         match self
             .poll
             .poll(&mut self.events, Some(Duration::from_millis(limit)))
         {
-            Ok(()) => self.tell(ready),
+            Ok(()) => {
+                note_stops(&self.events, &mut self.lines);
+                self.tell(ready)
+            }
             Err(_) => Waited::Failed,
         }
     }
@@ -201,23 +239,27 @@ impl<I: Read + Drop> Ports for MioPorts<I> {
     }
 
     fn read(&mut self, number: u64, into: &mut [u8]) -> PortRead {
-        let Some(mut stream) = self.streams.take(number) else {
+        let Some(line) = self.lines.get(number) else {
             return PortRead::Failed;
         };
-        let answer = read_from(&mut stream, into);
-        self.streams.put(number, stream);
+        if self.emptied == Some(number) {
+            return PortRead::NotYet;
+        }
+        let answer = read_from(&mut &line.stream, into);
         if let PortRead::Got(count) = answer {
+            if count < into.len() && !line.stops_short {
+                self.emptied = Some(number);
+            }
             self.heard.note(number, &into[..count]);
         }
         answer
     }
 
     fn write(&mut self, number: u64, piece: &[u8], _settled: &Settled<'_>) -> PortWrote {
-        let Some(mut stream) = self.streams.take(number) else {
+        let Some(line) = self.lines.get(number) else {
             return PortWrote::Failed;
         };
-        let answer = write_to(&mut stream, piece);
-        self.streams.put(number, stream);
+        let answer = write_to(&mut &line.stream, piece);
         if let PortWrote::Took(count) = answer {
             self.written.note(number, &piece[..count]);
         }
@@ -225,7 +267,7 @@ impl<I: Read + Drop> Ports for MioPorts<I> {
     }
 
     fn close(&mut self, number: u64) {
-        self.streams.remove(number);
+        self.lines.remove(number);
     }
 
     #[tactic(auto, using(sv_ports::proofs::Bytes::own_more))]

@@ -7,6 +7,6 @@ use Rattle.sv_ports.proofs.numbered.Numbered.take.Goals as goal
 
 pub invariant_of-self : goal.invariant_of-self
 invariant_of-self g c =
-    let old = c.self.inside.places in let long = c.exchange.auto.places in let lent = c.deref_mut.ensures in
-    subst IsByNumber (sym (with_items_is old c.exchange.new.places (omega arith) ∙ c.exchange.ensures.left ∙ ap (with_item _ None) lent.value))
+    let old = c.self.inside.places in let long = c.take_out.auto.places in let lent = c.deref_mut.ensures in
+    subst IsByNumber (sym (with_items_is old c.take_out.new.places (omega arith) ∙ c.take_out.ensures.left ∙ ap (with_item _ None) lent.value))
     (with-ascending _ None old.items c.self.invariant)

@@ -3,7 +3,7 @@ use Rattle.std.proofs.Common.{ltb, arith, rules, None}
 use Rattle.std.proofs.lemmas.List.Sorted.{IsPartitionPoint-from_clause, IsPartitionedBy-ltb}
 use Rattle.sv_ports.specs.declared.numbered.Place.{Place}
 use Rattle.sv_ports.proofs.Tables.{in-order, point-none}
-use Rattle.sv_ports.proofs.numbered.place_of.Goals as goal
+use Rattle.sv_ports.proofs.numbered.find_place.Goals as goal
 
 pub returns-then-place-places : goal.returns-then-place-places
 returns-then-place-places t c =
