@@ -5,7 +5,8 @@
  *     node clients/js/test/living.js places PORT PORT PORT..
  *                                                       programs of one number, one after the other; some with keys; and
  *                                                       one at each further port that takes up the place of another one
- *     node clients/js/test/living.js many PORT FIRST    eight players at once, who move numbers from object to object
+ *     node clients/js/test/living.js many PORT FIRST [CUTS]     eight players at once, who move numbers from object to object; with
+ *                                                       CUTS all over WebSockets, which they cut themselves with this chance
  *
  * With a switch of node, --experimental-websocket, some of the players use WebSockets.
  *
@@ -99,13 +100,14 @@ async function places(port) {
 }
 
 /** Moves numbers from object to object, watches all, and observes all now and then. */
-async function move(player, random) {
+async function move(player, random, cuts) {
     const { client } = player, all = Array.from({ length: 8 }, (_, object) => object), outcomes = [];
     player.watch(all);
     for (let made = 0; made < 8; made += 1) {
         const from = Math.floor(random() * 8), to = (from + 1 + Math.floor(random() * 7)) % 8, size = 1 + Math.floor(random() * 9);
         const [source, target] = [obj(from).attr(0), obj(to).attr(0)];
         outcomes.push(client.act(action([source.set(source.minus(size)), target.set(target.plus(size))])));
+        if (random() < cuts) client.link?.close();
         if (client.pending > 4) await outcomes.at(-1);
         if (made % 4 === 3) player.cuts.push(numbersOf((await client.observe(all)).values));
         await pause(random() * 10);
@@ -113,12 +115,12 @@ async function move(player, random) {
     player.outcomes = (await Promise.all(outcomes)).map(each => each.kind);
 }
 
-async function many(port, first) {
-    const linkOf = place => place % 2 ? overWebSocket(port) : {};
+async function many(port, first, cuts) {
+    const linkOf = place => cuts || place % 2 ? overWebSocket(port) : {};
     const players = Array.from({ length: 8 }, (_, place) =>
         ({ ...playerOf(port, first + place, { objects: 8, ...linkOf(place) }), cuts: [] }));
     await Promise.all(players.map(({ client }) => client.join()));
-    await Promise.all(players.map(player => move(player, Math.random)));
+    await Promise.all(players.map(player => move(player, Math.random, cuts)));
     console.log("ready");
     await once(createInterface({ input: process.stdin }), "line");
     const last = await Promise.all(players.map(async ({ client }) => numbersOf((await client.observe([0, 1, 2, 3, 4, 5, 6, 7])).values)));
@@ -132,5 +134,5 @@ async function many(port, first) {
 const [what, ...ports] = process.argv.slice(2);
 const found = await { broken: () => Promise.all(ports.map(port => broken(Number(port)))), places: async () => [await places(Number(ports[0])), await keys(Number(ports[1])),
         await Promise.all(ports.slice(2).map(port => taking(Number(port))))],
-    many: () => many(Number(ports[0]), Number(ports[1])) }[what]();
+    many: () => many(Number(ports[0]), Number(ports[1]), Number(ports[2] ?? 0)) }[what]();
 console.log(JSON.stringify(found));

@@ -8,13 +8,14 @@ use Rattle.sv_main.specs.declared.commands.Command.TheVariants as commands
 abbrev pub is_check : List ℕ → Bool
 is_check word = bytes_eq word (codes "check") || bytes_eq word (codes "why")
 
--- `looks`, `witness`, `serve`, `join`, and `check` with `why`, have calls of their own, and all other first words are for `run`.
+-- `looks`, `witness`, `serve`, `host`, `join`, and `check` with `why`, have calls of their own, and all other first words are for `run`.
 abbrev pub call_of : List ℕ → Command
 call_of word = if bytes_eq word (codes "looks") then commands.Looks
     else (if bytes_eq word (codes "witness") then commands.Witness
     else (if bytes_eq word (codes "serve") then commands.Serve
+    else (if bytes_eq word (codes "host") then commands.Host
     else (if bytes_eq word (codes "join") then commands.Join
-    else (if is_check word then commands.Check else commands.Run))))
+    else (if is_check word then commands.Check else commands.Run)))))
 
 -- The call that words are for, by the first of them. No words are for `run`.
 abbrev pub command_of : List (List ℕ) → Command

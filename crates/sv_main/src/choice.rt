@@ -11,6 +11,7 @@ fn call_of(word: &str) -> Command
         "looks" => Command::Looks,
         "witness" => Command::Witness,
         "serve" => Command::Serve,
+        "host" => Command::Host,
         "join" => Command::Join,
         "check" | "why" => Command::Check,
         _ => Command::Run,

@@ -15,6 +15,9 @@ pub enum Command {
     /// It serves a scenario's sessions to other programs.
     Serve,
 
+    /// It serves a living world until it is told to stop.
+    Host,
+
     /// It plays one client over another program's server.
     Join,
 

@@ -33,6 +33,8 @@ actions need, and keeps the one world that comes out.
                                  dimboetu load 4
   dimboetu serve FILE PORT       waits for the players of a world at a port of this machine, and serves them
                                  dimboetu serve examples/conflict.json 4000
+  dimboetu host WORLD DIR        serves a world without end, and keeps its log in the folder DIR
+                                 dimboetu host world.json world --at 127.0.0.1:4000
   dimboetu join FILE K PORT      plays client K of a scenario at such a server
                                  dimboetu join examples/conflict.json 0 4000
   dimboetu check SCENARIO REPORT
@@ -48,6 +50,7 @@ A run ends with a status, and each but 0 with one line on standard error:
   2 the words are no command     6 a connection failed              10 join, witness: no client K; why: no such object or position
   3 the file is no scenario      7 a thread could not be started    11 join: the server sent a wrong reply
   4 a file can't be read         8 out of memory                    12 join: the server closed too early
+ 13 host: the log is refused           14 host: another has the folder or the address
 
 Read on: README.md (what this is good for), docs/TUTORIAL.md (a first game), docs/ACTIONS.md (the language of
 actions), docs/ERRORS.md (what can go wrong, and what to do), docs/WITNESS.md (a world with a liar in it).

@@ -4,16 +4,19 @@
 
 mod choice;
 mod commands;
+mod hall;
 mod help;
 mod notices;
 
 use crate::choice::command;
 use crate::commands::Command;
+use crate::hall::{OsDoors, OsFolders};
 use crate::notices::{notice, print_text, text_of};
 use std::alloc::Global;
+use std::hash::RandomState;
 use std::net::{Net as Sockets, TcpListener, TcpStream};
 use std::process::ExitCode;
-use std::rt::Clock;
+use std::rt::{Clock, Stdin};
 use std::sync::Wait;
 use std::thread::Threads;
 use std::{env, io};
@@ -22,8 +25,11 @@ use sv_audit::run_check;
 use sv_bytes::{Files, OsFiles, OsSink, Sink};
 use sv_command::{Ending, status_of, tell};
 use sv_door::TcpDoor;
+use sv_host::{Doors, Folders, Place, run_host};
 use sv_join::run_join;
 use sv_link::{OpenGate, TcpNet, ThreadCrew};
+use sv_mio::OsClock;
+use sv_ports::Clock as Times;
 use sv_serve::run_serve;
 use sv_snapshot::run_looks;
 use sv_witness::run_witness;
@@ -79,6 +85,72 @@ where
     )
 }
 
+/// What a living world's server takes of the system.
+#[derive(Drop)]
+struct Hosting<'a> {
+    runtime: &'a HostRuntime,
+    input: Stdin,
+    /// None where the system has no random bytes.
+    random: Option<RandomState>,
+}
+
+/// The status of `host`, over these doors and folders.
+fn host_with<R: Wait, D: Doors, S: Folders, C: Times, F: Files, E: Sink>(
+    rt: &R,
+    call: &Call<'_>,
+    random: RandomState,
+    doors: &mut D,
+    folders: &mut S,
+    clock: &mut C,
+    files: &mut F,
+    err: &mut E,
+) -> u8 {
+    let mut place = Place {
+        rt,
+        alloc: call.alloc,
+        random,
+        doors,
+        folders,
+        clock,
+        files,
+        err,
+    };
+    run_host(&mut place, call.words)
+}
+
+/// The status of `host`, to whoever connects.
+fn host_here<R: Wait + Sockets + Clock, F: Files, E: Sink>(
+    rt: &R,
+    call: &Call<'_>,
+    hosting: &Hosting<'_>,
+    files: &mut F,
+    err: &mut E,
+) -> u8 {
+    let Some(random) = hosting.random else {
+        tell(&Ending::Memory, b"", None, err);
+        return status_of(&Ending::Memory);
+    };
+    let mut doors = OsDoors {
+        rt,
+        alloc: call.alloc,
+        input: hosting.input,
+    };
+    let mut folders = OsFolders {
+        rt: hosting.runtime,
+    };
+    let mut clock = OsClock::new(rt);
+    host_with(
+        rt,
+        call,
+        random,
+        &mut doors,
+        &mut folders,
+        &mut clock,
+        files,
+        err,
+    )
+}
+
 /// The status of `join`, at a server on this machine.
 fn join_here<R, F: Files, K: Sink, E: Sink>(
     rt: &R,
@@ -98,6 +170,7 @@ where
 fn answer<R, F: Files, K: Sink, E: Sink>(
     rt: &R,
     call: &Call<'_>,
+    hosting: &Hosting<'_>,
     files: &mut F,
     out: &mut K,
     err: &mut E,
@@ -110,6 +183,7 @@ where
         Command::Looks => run_looks(call.alloc, call.words, files, out, err),
         Command::Witness => run_witness(call.alloc, call.words, files, out, err),
         Command::Serve => serve_here(rt, call, files, out, err),
+        Command::Host => host_here(rt, call, hosting, files, err),
         Command::Join => join_here(rt, call, files, out, err),
         Command::Check => run_check(call.alloc, call.words, files, out, err),
     }
@@ -135,5 +209,10 @@ fn main(rt: HostRuntime) -> ExitCode {
         alloc: rt.alloc(),
         words: &words,
     };
-    ExitCode::from(answer(&rt, &call, &mut files, &mut out, &mut err))
+    let hosting = Hosting {
+        runtime: &rt,
+        input: rt.stdin(),
+        random: RandomState::new(&rt).ok(),
+    };
+    ExitCode::from(answer(&rt, &call, &hosting, &mut files, &mut out, &mut err))
 }

@@ -12,6 +12,8 @@ EXAMPLES = os.path.join(HERE, "..", "..", "..", "examples")
 WRITTEN = os.path.join(HERE, "..", "src", "examples.rt")
 # How a constant of each ending is called behind the file's name.
 ENDINGS = {".json": "", ".out": "_REPORT", ".err": "_LINE"}
+# Worlds that are no scenarios: they have no clients.
+WORLDS = ("room.json",)
 # Where `rt fmt` breaks a line.
 WIDTH = 100
 
@@ -29,7 +31,7 @@ def constant(name):
 
 
 def module():
-    named = [it for it in sorted(os.listdir(EXAMPLES)) if os.path.splitext(it)[1] in ENDINGS]
+    named = [it for it in sorted(os.listdir(EXAMPLES)) if os.path.splitext(it)[1] in ENDINGS and it not in WORLDS]
     head = "//! The files of the folder examples/, written by tools/examples.py: scenarios, the reports of their replays, and the lines of those refused.\n\n"
     return head + "\n".join(map(constant, named))
 

@@ -70,12 +70,13 @@ class Holding:
     n), before its nth request is stepped; (`half`, n), in the middle of its nth reply; (`reset`, n), in the place of that;
     (`after`, n), behind it. Each counts for the first connection that comes to it, of those that `may_cut` takes. `refusals`
     are pairs: which requests of which connection, by a function, and the reply in the place of the one that is due. `keys`:
-    the client number of each key. Without `holds` it answers each Observe at once."""
+    the client number of each key. Without `holds` it answers each Observe at once. `before`: one that was stopped, whose world
+    goes on at the same port."""
 
-    def __init__(self, plan, cuts=(), keys=None, holds=True, may_cut=lambda connection: True):
-        self.server, self.keys, self.holds, self.may_cut = EndlessServer(plan), keys, holds, may_cut
+    def __init__(self, plan, cuts=(), keys=None, holds=True, may_cut=lambda connection: True, before=None):
+        self.server, self.keys, self.holds, self.may_cut = before.server if before else EndlessServer(plan), keys, holds, may_cut
         self.cuts, self.cut, self.refusals, self.observed, self.came = deque(cuts), [], [], [], 0
-        self.listener = socket.create_server(("127.0.0.1", 0), backlog=128)
+        self.listener = socket.create_server(("127.0.0.1", before.port if before else 0), backlog=128)
         self.port, self.connections, self.is_on = self.listener.getsockname()[1], [], True
         self.selector = selectors.DefaultSelector()
         self.bell, bell = socket.socketpair()

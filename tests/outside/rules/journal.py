@@ -7,6 +7,7 @@ the action language.
 """
 
 from bisect import bisect_left, insort
+from math import inf
 from typing import NamedTuple
 
 from rules.actions import evaluate, fault_of_action
@@ -68,6 +69,8 @@ class Session:
 
 class History:
     """A beginning of a journal, as the lists and sets that the definitions speak of."""
+
+    most_requests, most_clients, farthest_life = REQUESTS, CLIENTS, inf
 
     def __init__(self, attributes, opening, bound, reach):
         self.attributes = attributes
@@ -200,7 +203,7 @@ class History:
         session.requests += 1
         if session.is_over:
             return refused(ENDED)
-        if session.requests > REQUESTS:
+        if session.requests > self.most_requests:
             session.is_over = True
             return refused(SPENT)
         if request.kind == "bad":
@@ -219,6 +222,10 @@ class History:
             return self.answer_done(session, request)
         if request.kind == "observe":
             return self.answer_observe(session, request.objects)
+        return self.answer_poll(session)
+
+    def answer_poll(self, session):
+        """The lowest orphan, if there is one."""
         for position in self.orphans():
             return self.send(session, self.relay(session, 0, position))
         return Reply("idle")
@@ -228,10 +235,11 @@ class History:
         interest = request.interest
         if session.is_live:
             return refused(ALREADY_JOINED)
-        if request.client >= CLIENTS:
+        if request.client >= self.most_clients:
             return refused(BAD_CLIENT)
-        if request.life <= self.lives.get(request.client, 0):
-            return refused(STALE, self.lives.get(request.client, 0))
+        last = self.lives.get(request.client, 0)
+        if not last < request.life <= last + self.farthest_life:
+            return refused(STALE, last)
         if len(interest) > MOST_INTEREST or any(one >= self.objects for one in interest):
             return refused(BAD_INTEREST)
         if any(first >= second for first, second in zip(interest, interest[1:])):
@@ -252,6 +260,8 @@ class History:
             kept = outcomes[request.number - 1]
             if kept[0] == "dropped":
                 return Reply("dropped", number=request.number, chain=kept[1], far=kept[2])
+            if kept[0] == "denied":
+                return Reply("denied", number=request.number, target=kept[1])
             if kept[1] <= self.commit:
                 return Reply("settled", number=request.number, position=kept[1])
             return self.send(session, self.relay(session, request.number, kept[1]))
@@ -260,6 +270,10 @@ class History:
         cause = fault_of_action(request.action, self.objects, self.attributes)
         if cause is not None:
             return refused(BAD_ACTION, cause)
+        target = self.denied(session.client, request.action)
+        if target is not None:
+            outcomes.append(("denied", target))
+            return Reply("denied", number=request.number, target=target)
         influence = self.influence(request.action)
         chain = len(influence)
         far = max((distance(request.action.origin, self.action(one).origin) for one in influence),
@@ -273,6 +287,14 @@ class History:
             insort(self.writers.setdefault(target, []), position)
         outcomes.append(("accepted", position))
         return self.send(session, self.relay(session, request.number, position))
+
+    def denied(self, client, action):
+        """The lowest object that the client may not write, of those that the action writes. A scenario has none."""
+        return None
+
+    def counts(self, session):
+        """Whether results that the session reports count."""
+        return True
 
     def answer_observe(self, session, objects):
         """The objects at the greatest position, from the commit on, at which the session lacks no
@@ -293,7 +315,7 @@ class History:
         if self.is_bad_done(session, request.results):
             return refused(BAD_DONE)
         for position, values in request.results:
-            if position > self.commit:
+            if position > self.commit and self.counts(session):
                 self.results.setdefault(position, values)
         while self.commit + 1 in self.results:
             self.commit += 1

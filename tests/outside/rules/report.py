@@ -311,8 +311,8 @@ class Lines:
         return found
 
 
-def entry_of(lines, expected):
-    """The entry that the line at hand prints, which has this number."""
+def entry_of(lines, expected, most=SMALL):
+    """The entry that the line at hand prints, which has this number; `most` is the greatest session."""
     number = lines.number
     found = lines.match(rf"({NATURAL}) s({NATURAL}) (.*)")
     if found[1] != str(expected):
@@ -323,7 +323,7 @@ def entry_of(lines, expected):
     request, reply = request_of(parts[0], number), reply_of(parts[1], number)
     if request_text(request) != parts[0] or reply_text(reply) != parts[1]:
         raise Fault(number, "not in the canonical text")
-    return Entry(number, number_of(found[2], SMALL, number), request, reply, parts[1])
+    return Entry(number, number_of(found[2], most, number), request, reply, parts[1])
 
 
 EVENTS = (

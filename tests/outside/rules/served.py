@@ -9,7 +9,7 @@ import re
 from rules.actions import Action
 from rules.journal import SerialWorld, check_journal, check_outcomes, check_serial_values
 from rules.players import Player
-from rules.report import NATURAL, Entry, Fault, Lines, Request, entry_of, reply_of, request_text
+from rules.report import NATURAL, SMALL, Entry, Fault, Lines, Request, entry_of, reply_of, request_text
 
 # A refused action is printed as `bad`. In its place stands one that is refused for the same cause in every world.
 SET = ("set", 0, 0, ("number", 1))
@@ -17,11 +17,11 @@ REFUSED = {4: Action((4096,), (), (0, 0), ()), 7: Action((0,), (), (0, 0), (SET,
            8: Action((0,), (0,), (0, 0), (("set", 0, 4, ("number", 1)),))}
 
 
-def served_entry(lines, number):
-    """The entry that the line at hand prints; its action may be one that was refused."""
+def served_entry(lines, number, most=SMALL):
+    """The entry that the line at hand prints; its action may be one that was refused. `most` is the greatest session."""
     found = re.fullmatch(rf"{number} s({NATURAL}) submit ({NATURAL}) bad -> (.*)", lines.peek())
     if found is None:
-        return entry_of(lines, number)
+        return entry_of(lines, number, most)
     lines.take()
     reply = reply_of(found[3], number + 1)
     action = REFUSED.get(reply.detail if reply.code == 6 else 4, REFUSED[4])

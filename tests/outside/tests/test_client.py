@@ -1106,7 +1106,7 @@ def test_watch(count):
     client.run(0.22)
     count.expect(1 <= client.asked - asked <= 6, f"watch: {client.asked - asked} times in four pauses")
     client.asked = 1019
-    while client.life == 1:
+    while client.life == 1 or client.status == "joining":
         client.run(0.1)
     watcher.stop()
     count.same(client.status, "joined", "watch: another session where one is spent")

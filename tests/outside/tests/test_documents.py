@@ -3,7 +3,7 @@
 
     python3 tests/outside/tests/test_documents.py [--program PROGRAM] [DOCUMENT ..]
 
-Takes the fenced blocks out of README.md and of docs/ACTIONS.md, CHECK.md, EMBEDDING.md, ERRORS.md, JAVASCRIPT.md,
+Takes the fenced blocks out of README.md and of docs/ACTIONS.md, CHECK.md, EMBEDDING.md, ERRORS.md, HOSTING.md, JAVASCRIPT.md,
 PATTERNS.md, PICTURE.md, TUTORIAL.md, WIRE.md and WITNESS.md, or out of the documents that are named, and checks each
 by the word behind its opening fence:
 
@@ -39,7 +39,7 @@ by the word behind its opening fence:
                     adds 1 to the object was `sent` to all of these
     file PATH       lines that stand together in that file of the repository
     python          lines of Python, which must be read
-    text, sh        not checked
+    text, sh, ini, js       not checked
 
 Where no document is named, it looks at more:
 
@@ -78,7 +78,7 @@ from rules.witness import Witness, text_of as witness_text, witnessed
 from tests.counting import ROOT, Count
 
 DOCUMENTS = ("README.md", "docs/ACTIONS.md", "docs/CHECK.md", "docs/EMBEDDING.md", "docs/ERRORS.md",
-             "docs/JAVASCRIPT.md", "docs/PATTERNS.md", "docs/PICTURE.md", "docs/TUTORIAL.md", "docs/WIRE.md",
+             "docs/HOSTING.md", "docs/JAVASCRIPT.md", "docs/PATTERNS.md", "docs/PICTURE.md", "docs/TUTORIAL.md", "docs/WIRE.md",
              "docs/WITNESS.md")
 # Crates that read the lines of reports, and write none on standard error.
 READERS = ("sv_lines", "sv_entries", "sv_check")
@@ -320,8 +320,10 @@ def forms_of_help():
 
 def is_command(words, forms):
     """Whether words are those of a command that `--help` has."""
-    if words in (["build"], ["--help"], ["--version"]) or words[:-1] == ["explain"]:
+    if words in (["build"], ["demo"], ["demo", "[PORT]"], ["--help"], ["--version"]) or words[:-1] == ["explain"]:
         return True
+    if words[:1] == ["host"]:       # with options behind
+        words = words[:3]
     return any(len(words) == len(form) and all(each.isupper() or each == word
                                                for word, each in zip(words, form)) for form in forms)
 
@@ -484,7 +486,7 @@ class Checker(Count):
     def check_block(self, words, lines, name):
         """One block."""
         word, more = words[0], words[1:]
-        if word in ("text", "sh"):
+        if word in ("text", "sh", "ini", "js"):
             return
         if word == "python":
             self.expect(compile("\n".join(lines), name, "exec") is not None, name)
@@ -603,7 +605,7 @@ class Checker(Count):
         """What `--help` has."""
         forms = forms_of_help()
         for form in re.findall(r"^\| `([a-z]+[^`]*)` \|", text_of("README.md"), re.M):
-            if form.split()[0] in ("play", "replay", "load", "serve", "join", "looks", "witness", "check", "why"):
+            if form.split()[0] in ("play", "replay", "load", "serve", "host", "join", "looks", "witness", "check", "why"):
                 self.expect(form.split() in forms, f"--help has no {form}")
         for page in re.findall(r"[A-Za-z/]+\.md", help_text()):
             self.expect(os.path.exists(os.path.join(ROOT, page)), f"--help names {page}")

@@ -1,0 +1,7 @@
+-- It is put back as it was heard.
+use Rattle.sv_host.proofs.Written.{on_ok}
+use Rattle.sv_host.proofs.host.Host.hear.Goals as goal
+
+pub returns-clause-written : goal.returns-clause-written
+returns-clause-written g c =
+    on_ok c.put_back.result (λ are. c.put_back.ensures.written _ (c.list.ensures.written _ c.args.number (c.in_ok-hear_guest.ensures.written (c.in-Some.ensures.written _ are))))

@@ -1,0 +1,7 @@
+-- The definitions of the server of a living world.
+pub mod Words
+pub mod Lines
+pub mod Inputs
+pub mod Rooms
+pub mod Statuses
+pub mod Causes

@@ -1,0 +1,72 @@
+//! The turn of one connection of the room.
+ghost use Rattle.std.specs.Prelude.{OnOk};
+ghost use Rattle.sv_office.specs.Offices.{session_of};
+ghost use Rattle.sv_host.specs.Rooms.{AreServed, AreWritten};
+
+use crate::host::Host;
+use sv_bytes::{Files, Sink};
+use sv_log::Folder;
+use sv_office::{Halt, Outside};
+use sv_ports::Ports;
+
+impl<F: Folder> Host<F> {
+    fn had_turn(&self, number: u64) -> bool {
+        match self.room.guests.get(number) {
+            Some(guest) => guest.had_turn,
+            None => false,
+        }
+    }
+
+    // A connection's turn.
+    fn hear<P: Ports, L: Files, E: Sink>(
+        &mut self,
+        outside: &mut Outside<'_, '_, '_, P, L, E>,
+        number: u64,
+        piece: &mut [u8],
+    ) -> Result<(), Halt>
+        requires served { AreServed self.old.office.keeper.world (session_of self.old.office.steward) self.old.room.guests }
+        ensures served { OnOk result (AreServed self.new.office.keeper.world (session_of self.new.office.steward) self.new.room.guests) }
+        ensures written { OnOk result (AreWritten (P.told outside.old.ports.now) self.old.room.guests → AreWritten (P.told outside.new.ports.now) self.new.room.guests) }
+    {
+        let Some(mut guest) = self.take_out(number) else {
+            return Ok(());
+        };
+        self.hear_guest(outside, number, &mut guest, piece)?;
+        self.list(number, &mut guest)?;
+        self.put_back(number, guest)
+    }
+
+    // A connection's turn, where it had none yet: one that had more may be ready besides.
+    fn hear_once<P: Ports, L: Files, E: Sink>(
+        &mut self,
+        outside: &mut Outside<'_, '_, '_, P, L, E>,
+        number: u64,
+        piece: &mut [u8],
+    ) -> Result<(), Halt>
+        requires served { AreServed self.old.office.keeper.world (session_of self.old.office.steward) self.old.room.guests }
+        ensures served { OnOk result (AreServed self.new.office.keeper.world (session_of self.new.office.steward) self.new.room.guests) }
+        ensures written { OnOk result (AreWritten (P.told outside.old.ports.now) self.old.room.guests → AreWritten (P.told outside.new.ports.now) self.new.room.guests) }
+    {
+        if self.had_turn(number) {
+            return Ok(());
+        }
+        self.hear(outside, number, piece)
+    }
+
+    /// Gives each of these connections its turn.
+    pub fn hear_each<P: Ports, L: Files, E: Sink>(
+        &mut self,
+        outside: &mut Outside<'_, '_, '_, P, L, E>,
+        numbers: &[u64],
+        piece: &mut [u8],
+    ) -> Result<(), Halt>
+        requires served { AreServed self.old.office.keeper.world (session_of self.old.office.steward) self.old.room.guests }
+        ensures served { OnOk result (AreServed self.new.office.keeper.world (session_of self.new.office.steward) self.new.room.guests) }
+        ensures written { OnOk result (AreWritten (P.told outside.old.ports.now) self.old.room.guests → AreWritten (P.told outside.new.ports.now) self.new.room.guests) }
+    {
+        for number in numbers {
+            self.hear_once(outside, *number, piece)?;
+        }
+        Ok(())
+    }
+}

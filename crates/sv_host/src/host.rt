@@ -1,0 +1,125 @@
+//! What the loop keeps.
+ghost use Rattle.std.specs.Prelude.{◌≡◌, IfSome, IfNone, OnOk, MatchOption};
+ghost use Rattle.sv_ports.specs.Told.{Told};
+ghost use Rattle.sv_office.specs.Offices.{session_of};
+ghost use Rattle.sv_host.specs.Rooms.{AreServed, AreWritten, IsOut, IsWritten, KeepsOut, KeepsWritten};
+
+use crate::room::Room;
+use std::alloc::Global;
+use sv_bytes::{Files, Sink};
+use sv_log::Folder;
+use sv_office::{Guest, Halt, Office, Outside};
+use sv_ports::Ports;
+
+/// The server of a living world, between two turns of its loop.
+#[derive(Drop)]
+pub struct Host<F: Folder> {
+    pub alloc: Global,
+    pub office: Office<F>,
+    pub room: Room,
+}
+
+impl<F: Folder> Host<F> {
+    /// Takes a connection out, where it is there.
+    pub fn take_out(&mut self, number: u64) -> Option<Guest>
+        requires served { AreServed self.old.office.keeper.world (session_of self.old.office.steward) self.old.room.guests }
+        ensures some { IfSome result (λ guest. IsOut self.new.office.keeper.world (session_of self.new.office.steward) self.new.room.guests guest) }
+        ensures none { IfNone result (AreServed self.new.office.keeper.world (session_of self.new.office.steward) self.new.room.guests) }
+        ensures office { self.new.office ≡ self.old.office }
+        ensures written { (told : Told) → AreWritten told self.old.room.guests → MatchOption result (AreWritten told self.new.room.guests) (IsWritten told self.new.room.guests number) }
+    {
+        self.room.guests.take(number)
+    }
+
+    /// Puts a connection back that was taken out. Something may be sent to it.
+    pub fn put_back(&mut self, number: u64, guest: Guest) -> Result<(), Halt>
+        requires taken { IsOut self.old.office.keeper.world (session_of self.old.office.steward) self.old.room.guests guest }
+        ensures served { AreServed self.new.office.keeper.world (session_of self.new.office.steward) self.new.room.guests }
+        ensures office { self.new.office ≡ self.old.office }
+        ensures written { (told : Told) → IsWritten told self.old.room.guests number guest → AreWritten told self.new.room.guests }
+    {
+        self.room.put_back(number, guest)
+    }
+
+    /// Puts a connection with a held Observe into the list of them.
+    pub fn list(&mut self, number: u64, guest: &mut Guest) -> Result<(), Halt>
+        requires taken { IsOut self.old.office.keeper.world (session_of self.old.office.steward) self.old.room.guests guest.old }
+        ensures taken { IsOut self.new.office.keeper.world (session_of self.new.office.steward) self.new.room.guests guest.new }
+        ensures office { self.new.office ≡ self.old.office }
+        ensures written { KeepsOut self.old.room.guests guest.old self.new.room.guests guest.new }
+    {
+        self.room.list(number, guest)
+    }
+
+    /// Notes that a connection is in the list no more.
+    pub fn unlist(&mut self, guest: &mut Guest)
+        requires taken { IsOut self.old.office.keeper.world (session_of self.old.office.steward) self.old.room.guests guest.old }
+        ensures taken { IsOut self.new.office.keeper.world (session_of self.new.office.steward) self.new.room.guests guest.new }
+        ensures written { KeepsOut self.old.room.guests guest.old self.new.room.guests guest.new }
+    {
+        guest.is_listed = false;
+    }
+
+    /// Closes a connection at once.
+    pub fn drop_guest(&mut self, guest: &mut Guest)
+        requires taken { IsOut self.old.office.keeper.world (session_of self.old.office.steward) self.old.room.guests guest.old }
+        ensures taken { IsOut self.new.office.keeper.world (session_of self.new.office.steward) self.new.room.guests guest.new }
+        ensures written { KeepsOut self.old.room.guests guest.old self.new.room.guests guest.new }
+    {
+        guest.leave();
+    }
+
+    /// Takes what a connection asks, in its turn. `piece` is for what is read at once.
+    pub fn hear_guest<P: Ports, L: Files, E: Sink>(
+        &mut self,
+        outside: &mut Outside<'_, '_, '_, P, L, E>,
+        number: u64,
+        guest: &mut Guest,
+        piece: &mut [u8],
+    ) -> Result<(), Halt>
+        requires taken { IsOut self.old.office.keeper.world (session_of self.old.office.steward) self.old.room.guests guest.old }
+        ensures taken { OnOk result (IsOut self.new.office.keeper.world (session_of self.new.office.steward) self.new.room.guests guest.new) }
+        ensures written { OnOk result (IsWritten (P.told outside.old.ports.now) self.old.room.guests number guest.old
+            → IsWritten (P.told outside.new.ports.now) self.new.room.guests number guest.new) }
+    {
+        self.office.hear(outside, number, guest, piece)?;
+        self.office.keeper.is_lawful();
+        Ok(())
+    }
+
+    /// Answers the held Observe of a connection, where it is served and has one.
+    pub fn release_guest(&mut self, guest: &mut Guest) -> Result<(), Halt>
+        requires taken { IsOut self.old.office.keeper.world (session_of self.old.office.steward) self.old.room.guests guest.old }
+        ensures taken { OnOk result (IsOut self.new.office.keeper.world (session_of self.new.office.steward) self.new.room.guests guest.new) }
+        ensures written { OnOk result (KeepsOut self.old.room.guests guest.old self.new.room.guests guest.new) }
+    {
+        if !guest.is_open() {
+            return Ok(());
+        }
+        self.office.release(guest)?;
+        self.office.keeper.is_lawful();
+        Ok(())
+    }
+
+    /// Enters the End of a connection's session, where it has one.
+    pub fn end_guest(&mut self, guest: &mut Guest) -> Result<(), Halt>
+        requires taken { IsOut self.old.office.keeper.world (session_of self.old.office.steward) self.old.room.guests guest.old }
+        ensures taken { OnOk result (IsOut self.new.office.keeper.world (session_of self.new.office.steward) self.new.room.guests guest.new) }
+        ensures written { OnOk result (KeepsOut self.old.room.guests guest.old self.new.room.guests guest.new) }
+    {
+        self.office.end(guest)?;
+        self.office.keeper.is_lawful();
+        Ok(())
+    }
+
+    /// Has the steward report what was without a result for too long.
+    pub fn report(&mut self) -> Result<(), Halt>
+        requires served { AreServed self.old.office.keeper.world (session_of self.old.office.steward) self.old.room.guests }
+        ensures served { OnOk result (AreServed self.new.office.keeper.world (session_of self.new.office.steward) self.new.room.guests) }
+        ensures written { OnOk result (KeepsWritten self.old.room.guests self.new.room.guests) }
+    {
+        self.office.report_old()?;
+        self.office.keeper.is_lawful();
+        Ok(())
+    }
+}

@@ -1,0 +1,76 @@
+//! Connections that come and go.
+ghost use Rattle.std.specs.Prelude.{OnOk};
+ghost use Rattle.sv_office.specs.Offices.{session_of};
+ghost use Rattle.sv_host.specs.Rooms.{AreServed, AreWritten, IsNew};
+
+use crate::host::Host;
+use sv_log::Folder;
+use sv_office::{Guest, Halt};
+use sv_ports::{Accepted, Ports};
+
+/// How many connections there are at most.
+const MOST_GUESTS: usize = 1024;
+
+/// How many connections are accepted in one turn.
+const MOST_ACCEPTS: u32 = 64;
+
+impl<F: Folder> Host<F> {
+    // Takes a connection in, or closes it where there are too many.
+    fn admit<P: Ports>(&mut self, ports: &mut P, number: u64)
+        requires served { AreServed self.old.office.keeper.world (session_of self.old.office.steward) self.old.room.guests }
+        ensures served { AreServed self.new.office.keeper.world (session_of self.new.office.steward) self.new.room.guests }
+        ensures written { IsNew (P.told ports.old) self.old.room.guests number → AreWritten (P.told ports.new) self.new.room.guests }
+    {
+        if self.room.guests.len() >= MOST_GUESTS {
+            let office = &mut self.office;
+            office.counts.refuse();
+            ports.close(number);
+            return;
+        }
+        let guest = Guest::new(self.alloc, self.office.time);
+        if self.room.guests.push(number, guest).is_err() {
+            ports.close(number);
+        }
+    }
+
+    /// Accepts connections, as long as some wait.
+    pub fn accept<P: Ports>(&mut self, ports: &mut P)
+        requires served { AreServed self.old.office.keeper.world (session_of self.old.office.steward) self.old.room.guests }
+        ensures served { AreServed self.new.office.keeper.world (session_of self.new.office.steward) self.new.room.guests }
+        ensures written { AreWritten (P.told ports.old) self.old.room.guests → AreWritten (P.told ports.new) self.new.room.guests }
+    {
+        if !self.room.ready.door {
+            return;
+        }
+        self.room.door_fails = false;
+        for _ in 0..MOST_ACCEPTS {
+            match ports.accept() {
+                Accepted::One(number) => self.admit(ports, number),
+                Accepted::NotYet => {
+                    self.room.ready.door = false;
+                    return;
+                }
+                // It is tried again later.
+                Accepted::Failed => {
+                    self.room.door_fails = true;
+                    return;
+                }
+            }
+        }
+    }
+
+    /// Closes a connection, whose session has its End.
+    pub fn depart<P: Ports>(&mut self, ports: &mut P, number: u64) -> Result<(), Halt>
+        requires served { AreServed self.old.office.keeper.world (session_of self.old.office.steward) self.old.room.guests }
+        ensures served { OnOk result (AreServed self.new.office.keeper.world (session_of self.new.office.steward) self.new.room.guests) }
+        ensures written { OnOk result (AreWritten (P.told ports.old) self.old.room.guests → AreWritten (P.told ports.new) self.new.room.guests) }
+    {
+        let Some(mut guest) = self.take_out(number) else {
+            return Ok(());
+        };
+        self.end_guest(&mut guest)?;
+        self.room.guests.remove(number);
+        ports.close(number);
+        Ok(())
+    }
+}

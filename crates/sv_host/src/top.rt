@@ -1,0 +1,276 @@
+//! The top call of the server.
+ghost use Rattle.std.specs.Prelude.{◌≡◌, ◌⊎◌, ℕ, List, [], Option, None, false, IfOk, IfErr, OnOk, length, map, string_bytes};
+ghost use Rattle.sv_bytes.specs.Faults.{Rose};
+ghost use Rattle.sv_bytes.specs.Writing.{GrewOrRose};
+ghost use Rattle.sv_journal.specs.History.{commit_of};
+ghost use Rattle.sv_journal.specs.Laws.{AreWithinLimits};
+ghost use Rattle.sv_living.specs.World.{heeded_in};
+ghost use Rattle.sv_worldfile.specs.Limits.{IsGoodWorldFile};
+ghost use Rattle.sv_office.specs.Offices.{session_of};
+ghost use Rattle.sv_host.specs.Causes.{EndsFor, HasStopped, IsAtEnd, IsPrepared, WasServed, WhyBehind, WhyEnds, WhyStopped};
+ghost use Rattle.sv_host.specs.Lines.{standing_line};
+ghost use Rattle.sv_host.specs.Rooms.{AreServed};
+ghost use Rattle.sv_host.specs.Statuses.{EndsBy, IsEarly, IsStatus, IsToldLast};
+ghost use Rattle.sv_host.specs.Words.{AsksNothing, asked_by};
+ghost use Rattle.sv_host.specs.declared.ending.HostEnd.TheVariants as endings;
+
+use crate::ending::{HostEnd, Stopped, status_of, tell};
+use crate::hall::{DoorFault, Doors, Folders};
+use crate::host::Host;
+use crate::opening::{
+    Prepared, Staff, folder_of, host_of, is_authority, keeper_of, keys_of, manners_of, owned,
+    prepared_of, staff_of,
+};
+use crate::options::{OptionFault, Options, options_of};
+use crate::telling::tell_standing;
+use std::alloc::{AllocError, Global};
+use std::hash::RandomState;
+use std::sync::Wait;
+use sv_bytes::{Files, Sink};
+use sv_keeper::Keeper;
+use sv_log::Folder;
+use sv_office::{Halt, Outside};
+use sv_ports::{Clock, Ports};
+
+/// How many bytes are read of a connection at once.
+const PIECE: usize = 4096;
+
+// Tells how a kept world stands.
+fn tell_keeper<F: Folder, E: Sink>(word: &str, name: &str, keeper: &Keeper<F>, err: &mut E)
+    ensures { keeper.now.is_broken ≡ false → GrewOrRose (E.taken err.old) (E.taken err.new) (E.faults err.old) (E.faults err.new)
+        (standing_line word.now name.now (length keeper.now.world.history) (commit_of (heeded_in keeper.now.world))) }
+{
+    tell_standing(word, name, keeper.entries(), keeper.commit(), err);
+}
+
+fn halted<F: Folder>(alloc: Global, host: &Host<F>, halt: Halt) -> Result<HostEnd, AllocError>
+    ensures { (at : List ℕ) → IfOk result (WhyStopped at) }
+{
+    match halt {
+        Halt::Log => Ok(HostEnd::Disk(owned(alloc, host.office.keeper.file())?)),
+        Halt::Ports => Ok(HostEnd::Link),
+        Halt::Memory | Halt::Steward => Ok(HostEnd::Memory),
+    }
+}
+
+fn door_of<D: Doors>(alloc: Global, options: &Options<'_>, doors: &mut D) -> Result<D::P, HostEnd>
+    ensures why { IfErr result (WhyStopped options.now.at.now) }
+{
+    match doors.open(options.at, options.stops) {
+        Ok(ports) => Ok(ports),
+        Err(DoorFault::Busy) => Err(HostEnd::Busy(owned(alloc, options.at)?)),
+        Err(DoorFault::Failed) => Err(HostEnd::Link),
+    }
+}
+
+/// What the server works with. Each is borrowed for itself.
+#[derive(Drop)]
+pub struct Place<'r, 'd, 's, 'c, 'l, 'e, R, D, S, C, L, E> {
+    pub rt: &'r R,
+    pub alloc: Global,
+    pub random: RandomState,
+    pub doors: &'d mut D,
+    pub folders: &'s mut S,
+    pub clock: &'c mut C,
+    pub files: &'l mut L,
+    pub err: &'e mut E,
+}
+
+// The steward joins, before anybody is there.
+#[tactic(auto, using(crate::proofs::Top2::none_served))]
+fn begin<F: Folder>(host: &mut Host<F>) -> Result<(), Halt>
+    requires nobody { host.old.room.guests ≡ [] }
+    ensures served { OnOk result (AreServed host.new.office.keeper.world (session_of host.new.office.steward) host.new.room.guests) }
+{
+    host.office.begin()
+}
+
+// Serves who comes through a door, until it is told to stop.
+fn serve_over<R: Wait, P: Ports, C: Clock, L: Files, E: Sink, F: Folder>(
+    rt: &R,
+    ports: &mut P,
+    files: &mut L,
+    err: &mut E,
+    piece: &mut [u8],
+    clock: &mut C,
+    host: &mut Host<F>,
+) -> Result<(), Halt>
+    requires served { AreServed host.old.office.keeper.world (session_of host.old.office.steward) host.old.room.guests }
+    ensures done { OnOk result (IsAtEnd F.disk F.is_honest host.new.office.keeper) }
+{
+    let mut outside = Outside { ports, files, err };
+    host.serve(rt, &mut outside, piece, clock)?;
+    host.office.keeper.is_lawful();
+    Ok(())
+}
+
+// The door, and a line that tells where it is.
+fn open_door<R, D: Doors, S, C, L, E: Sink, F: Folder>(
+    place: &mut Place<'_, '_, '_, '_, '_, '_, R, D, S, C, L, E>,
+    options: &Options<'_>,
+    host: &Host<F>,
+) -> Result<D::P, HostEnd>
+    ensures why { IfErr result (WhyStopped options.now.at.now) }
+{
+    let ports = door_of(place.alloc, options, place.doors)?;
+    let mut address = String::new(place.alloc);
+    if !place.doors.address(&ports, &mut address) {
+        address = owned(place.alloc, options.at)?;
+    }
+    let name = address.as_str();
+    tell_keeper("listening", name, &host.office.keeper, place.err);
+    Ok(ports)
+}
+
+// The steward joins, and then it is served, until it is told to stop.
+fn serve_at<R: Wait, D: Doors, S, C: Clock, L: Files, E: Sink, F: Folder>(
+    place: &mut Place<'_, '_, '_, '_, '_, '_, R, D, S, C, L, E>,
+    options: &Options<'_>,
+    host: &mut Host<F>,
+) -> Result<(), HostEnd>
+    requires nobody { host.old.room.guests ≡ [] }
+    ensures done { OnOk result (IsAtEnd F.disk F.is_honest host.new.office.keeper) }
+    ensures why { IfErr result (WhyStopped options.now.at.now) }
+{
+    if let Err(halt) = begin(host) {
+        return Err(halted(place.alloc, host, halt)?);
+    }
+    let mut ports = open_door(place, options, host)?;
+    let mut piece = vec![in place.alloc; 0u8; PIECE]?;
+    let served = serve_over(
+        place.rt,
+        &mut ports,
+        place.files,
+        place.err,
+        piece.as_mut_slice(),
+        place.clock,
+        host,
+    );
+    match served {
+        Ok(()) => Ok(()),
+        Err(halt) => Err(halted(place.alloc, host, halt)?),
+    }
+}
+
+// Serves a world, and answers how it stands then.
+fn serve_host<R: Wait, D: Doors, S, C: Clock, L: Files, E: Sink, F: Folder>(
+    place: &mut Place<'_, '_, '_, '_, '_, '_, R, D, S, C, L, E>,
+    options: &Options<'_>,
+    host: &mut Host<F>,
+) -> Result<Stopped, HostEnd>
+    requires nobody { host.old.room.guests ≡ [] }
+    ensures done { IfOk result (HasStopped F.disk F.is_honest host.old.office.keeper options.now.folder.now) }
+    ensures why { IfErr result (WhyStopped options.now.at.now) }
+{
+    let folder = owned(place.alloc, options.folder)?;
+    serve_at(place, options, host)?;
+    let keeper = &host.office.keeper;
+    Ok(Stopped {
+        folder,
+        entries: keeper.entries(),
+        commit: keeper.commit(),
+    })
+}
+
+// Serves a kept world.
+fn serve_kept<R: Wait, D: Doors, S, C: Clock, L: Files, E: Sink, F: Folder + Drop>(
+    place: &mut Place<'_, '_, '_, '_, '_, '_, R, D, S, C, L, E>,
+    options: &Options<'_>,
+    keeper: Keeper<F>,
+    staff: Staff,
+    authority: bool,
+) -> Result<Stopped, HostEnd>
+    requires limits { AreWithinLimits keeper.world.rules }
+    requires none { session_of staff.steward ≡ None }
+    ensures done { IfOk result (HasStopped F.disk F.is_honest keeper options.now.folder.now) }
+    ensures why { IfErr result (WhyStopped options.now.at.now) }
+{
+    tell_keeper("start", options.folder, &keeper, place.err);
+    let manners = manners_of(options, authority);
+    let mut host = host_of(place.alloc, keeper, staff, place.random, manners);
+    serve_host(place, options, &mut host)
+}
+
+// Opens the folder, and serves its world.
+#[tactic(auto, using(crate::proofs::Top2::log_behind, crate::proofs::Top2::stopped_behind, crate::proofs::Rules::limits_in))]
+fn serve_prepared<R: Wait, D: Doors, S: Folders, C: Clock, L: Files, E: Sink>(
+    place: &mut Place<'_, '_, '_, '_, '_, '_, R, D, S, C, L, E>,
+    options: &Options<'_>,
+    prepared: Prepared,
+    staff: Staff,
+) -> Result<Stopped, HostEnd>
+    requires good { IsGoodWorldFile prepared.file }
+    requires none { session_of staff.steward ≡ None }
+    ensures done { (contents : List ℕ → Option (List ℕ)) → IsPrepared (contents options.now.world.now) (asked_by options.now) prepared.file prepared.bytes.items
+        → IfOk result (WasServed S.F.disk S.F.is_honest (S.opens place.old.folders.now) contents (asked_by options.now)) }
+    ensures why { (contents : List ℕ → Option (List ℕ)) → IsPrepared (contents options.now.world.now) (asked_by options.now) prepared.file prepared.bytes.items
+        → IfErr result (WhyBehind S.F.disk S.F.is_honest (S.opens place.old.folders.now) contents (asked_by options.now)) }
+{
+    let alloc = place.alloc;
+    let authority = is_authority(prepared.file.results);
+    let folder = folder_of(alloc, options, place.folders)?;
+    match keeper_of(alloc, options, folder, prepared) {
+        Ok(keeper) => serve_kept(place, options, keeper, staff, authority),
+        Err(ending) => Err(ending),
+    }
+}
+
+// Reads the files, and serves what they ask for.
+#[tactic(auto, using(crate::proofs::Top2::keys_before, crate::proofs::Top2::late))]
+fn run<R: Wait, D: Doors, S: Folders, C: Clock, L: Files, E: Sink>(
+    place: &mut Place<'_, '_, '_, '_, '_, '_, R, D, S, C, L, E>,
+    options: &Options<'_>,
+) -> Result<Stopped, HostEnd>
+    ensures done { IfOk result (WasServed S.F.disk S.F.is_honest (S.opens place.old.folders.now) (L.contents place.old.files.now) (asked_by options.now)) }
+    ensures why { IfErr result (WhyEnds S.F.disk S.F.is_honest (S.opens place.old.folders.now) (L.contents place.old.files.now)
+        (Rose (L.faults place.old.files.now) (L.faults place.new.files.now)) (asked_by options.now)) }
+    ensures apart { IfErr result (λ e. IsEarly e → (place.new.folders.now ≡ place.old.folders.now) × (place.new.doors.now ≡ place.old.doors.now)) }
+    ensures quiet { IfErr result (λ e. IsEarly e → place.new.err.now ≡ place.old.err.now) }
+{
+    let prepared = prepared_of(place.alloc, options, place.files)?;
+    let keys = keys_of(place.alloc, options, place.files, place.err)?;
+    let shape = prepared.file.world.shape;
+    let staff = staff_of(place.alloc, options, shape, keys)?;
+    serve_prepared(place, options, prepared, staff)
+}
+
+fn ending_of<R: Wait, D: Doors, S: Folders, C: Clock, L: Files, E: Sink>(
+    place: &mut Place<'_, '_, '_, '_, '_, '_, R, D, S, C, L, E>,
+    words: &[String],
+) -> HostEnd
+    ensures words { AsksNothing (map string_bytes words.now) → (result ≡ endings.Words) ⊎ (result ≡ endings.Memory) }
+    ensures why { EndsFor S.F.disk S.F.is_honest (S.opens place.old.folders.now) (L.contents place.old.files.now)
+        (map string_bytes words.now) (Rose (L.faults place.old.files.now) (L.faults place.new.files.now)) result }
+    ensures apart { IsEarly result → (place.new.folders.now ≡ place.old.folders.now) × (place.new.doors.now ≡ place.old.doors.now) }
+    ensures quiet { IsEarly result → place.new.err.now ≡ place.old.err.now }
+{
+    let options = match options_of(place.alloc, words) {
+        Ok(options) => options,
+        Err(OptionFault::Words) => return HostEnd::Words,
+        Err(OptionFault::Memory) => return HostEnd::Memory,
+    };
+    match run(place, &options) {
+        Ok(stopped) => HostEnd::Done(stopped),
+        Err(ending) => ending,
+    }
+}
+
+/// Serves a living world, and answers the status with which the program ends.
+///
+/// The words leave out the program's own name. They are `host WORLD DIR` and options. The status is 0 where it was told to stop: then each
+/// session has its End, and its log is settled.
+pub fn run_host<R: Wait, D: Doors, S: Folders, C: Clock, L: Files, E: Sink>(
+    place: &mut Place<'_, '_, '_, '_, '_, '_, R, D, S, C, L, E>,
+    words: &[String],
+) -> u8
+    ensures range { IsStatus result }
+    ensures words { AsksNothing (map string_bytes words.now) → (result ≡ 2) ⊎ (result ≡ 8) }
+    ensures apart { (result ≡ 2) ⊎ ((result ≡ 3) ⊎ (result ≡ 4)) → (place.new.folders.now ≡ place.old.folders.now) × (place.new.doors.now ≡ place.old.doors.now) }
+    ensures ends { EndsBy (λ ending. IsToldLast E.taken E.faults place.old.err.now place.new.err.now ending
+        × EndsFor S.F.disk S.F.is_honest (S.opens place.old.folders.now) (L.contents place.old.files.now)
+        (map string_bytes words.now) (Rose (L.faults place.old.files.now) (L.faults place.new.files.now)) ending) result }
+{
+    let ending = ending_of(place, words);
+    tell(&ending, place.err);
+    status_of(&ending)
+}

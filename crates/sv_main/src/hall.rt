@@ -1,0 +1,66 @@
+//! Folders and doors of the system, for the server of a living world.
+use std::alloc::Global;
+use std::io::ErrorKind;
+use std::net::{Net, SocketAddr};
+use std::rt::Stdin;
+use sv_disk::{DiskFolder, OpenFault, SyncMode};
+use sv_host::{DoorFault, Doors, FolderFault, Folders};
+use sv_mio::MioPorts;
+
+/// The folders of the system. Its contracts don't tell what stands in one.
+#[derive(Drop)]
+pub struct OsFolders<'r> {
+    pub rt: &'r HostRuntime,
+}
+
+impl<'r> Folders for OsFolders<'r> {
+    type F = DiskFolder<'r>;
+
+    ghost opens = { λ _ _ _. Unit {0} };
+
+    fn open(&mut self, name: &str, syncs: bool) -> Result<DiskFolder<'r>, FolderFault> {
+        let mode = if syncs {
+            SyncMode::Waits
+        } else {
+            SyncMode::Never
+        };
+        match DiskFolder::open(self.rt, name, mode) {
+            Ok(folder) => Ok(folder),
+            Err(OpenFault::Busy) => Err(FolderFault::Busy),
+            Err(OpenFault::Failed) => Err(FolderFault::Failed),
+            Err(OpenFault::Memory) => Err(FolderFault::Memory),
+        }
+    }
+}
+
+/// Doors over TCP.
+#[derive(Drop)]
+pub struct OsDoors<'r, R: Net> {
+    pub rt: &'r R,
+    pub alloc: Global,
+    /// The standard input.
+    pub input: Stdin,
+}
+
+impl<'r, R: Net> Doors for OsDoors<'r, R> {
+    type P = MioPorts<Stdin>;
+
+    fn open(&mut self, address: &str, input: bool) -> Result<MioPorts<Stdin>, DoorFault> {
+        let Ok(address) = address.parse::<SocketAddr>() else {
+            return Err(DoorFault::Failed);
+        };
+        let input = if input { Some(self.input) } else { None };
+        match MioPorts::open(self.rt, self.alloc, address, input) {
+            Ok(ports) => Ok(ports),
+            Err(error) if error.kind() == ErrorKind::AddrInUse => Err(DoorFault::Busy),
+            Err(_) => Err(DoorFault::Failed),
+        }
+    }
+
+    fn address(&self, ports: &MioPorts<Stdin>, out: &mut String) -> bool {
+        match ports.address() {
+            Ok(address) => write!(out, "{address}").is_ok(),
+            Err(_) => false,
+        }
+    }
+}

@@ -1,0 +1,56 @@
+-- Entries that are added, one call after the other.
+use Rattle.std.proofs.Common.{◌≡◌, ◌≢◌, ◌⊎◌, inl, inr, ℕ, Bool, true, false, ◌||◌, nat_eq, List, [], ◌∷◌, Option, Some, None, refl, sym, ap, ◌∙◌, subst}
+use Rattle.sv_journal.specs.declared.entry.Entry.{Entry}
+use Rattle.sv_journal.specs.Sessions.{is_end, is_ended}
+use Rattle.sv_sequencer.specs.Rows.{has_entry}
+use Rattle.sv_living.specs.World.{WorldView}
+use Rattle.sv_office.specs.Entering.{AreAdded, GoesOn, IsOwn, KeepsOwn}
+
+any_more : (b : Bool) → (b || true) ≡ true
+any_more true = refl
+any_more false = refl
+
+pub added_as : {may must : Entry → Type 0} {h g : List Entry} → ((e : Entry) → may e → must e) → AreAdded may h g → AreAdded must h g
+added_as all AreAdded.none = AreAdded.none
+added_as all (AreAdded.one {e = e} before m) = AreAdded.one (added_as all before) (all e m)
+
+pub added_then : {may : Entry → Type 0} {h g k : List Entry} → AreAdded may h g → AreAdded may g k → AreAdded may h k
+added_then first AreAdded.none = first
+added_then first (AreAdded.one before m) = AreAdded.one (added_then first before) m
+
+pub goes_as : {may must : Entry → Type 0} {v w : WorldView} → ((e : Entry) → may e → must e) → GoesOn may v w → GoesOn must v w
+goes_as all on = record { rules = on.rules; stewardship = on.stewardship; added = added_as all on.added }
+
+pub goes_then : {may : Entry → Type 0} {u v w : WorldView} → GoesOn may u v → GoesOn may v w → GoesOn may u w
+goes_then first next = record {
+  rules = next.rules ∙ first.rules;
+  stewardship = next.stewardship ∙ first.stewardship;
+  added = added_then first.added next.added;
+}
+
+pub goes_nowhere : {may : Entry → Type 0} {v w : WorldView} → w ≡ v → GoesOn may v w
+goes_nowhere {may} {v} {w} same = subst (λ (x : WorldView). GoesOn may v x) (sym same) (record { rules = refl; stewardship = refl; added = AreAdded.none })
+
+-- Entries stay.
+pub entry_stays : {may : Entry → Type 0} {h g : List Entry} → AreAdded may h g → (s : ℕ) → has_entry h s ≡ true → has_entry g s ≡ true
+entry_stays AreAdded.none s has = has
+entry_stays (AreAdded.one {e = e} before m) s has = ap (λ (b : Bool). nat_eq e.session s || b) (entry_stays before s has) ∙ any_more (nat_eq e.session s)
+
+unused_go : (b c : Bool) → (c ≡ true → b ≡ true) → b ≡ false → c ≡ false
+unused_go b true f none = let e : true ≡ false = sym (f refl) ∙ none in cc
+unused_go b false f none = refl
+
+-- What has no entry afterwards had none before.
+pub unused_before : {may : Entry → Type 0} {h g : List Entry} → AreAdded may h g → (s : ℕ) → has_entry g s ≡ false → has_entry h s ≡ false
+unused_before {h = h} {g = g} added s none = unused_go (has_entry g s) (has_entry h s) (entry_stays added s) none
+
+-- What is one's own later was one's own before.
+pub own_before : {may : Entry → Type 0} {h g : List Entry} {mine mid : Option ℕ} → AreAdded may h g → KeepsOwn h mine mid → (s : ℕ) → IsOwn g mid s → IsOwn h mine s
+own_before added keeps s (inl has) = keeps s has
+own_before added keeps s (inr none) = inr (unused_before added s none)
+
+pub keeps_then : {may : Entry → Type 0} {h g : List Entry} {mine mid after : Option ℕ} → AreAdded may h g → KeepsOwn h mine mid → KeepsOwn g mid after → KeepsOwn h mine after
+keeps_then added first next s is = own_before added first s (next s is)
+
+pub keeps_same : (h : List Entry) {mine after : Option ℕ} → after ≡ mine → KeepsOwn h mine after
+keeps_same h same s is = inl (sym same ∙ is)

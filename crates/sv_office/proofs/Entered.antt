@@ -1,0 +1,64 @@
+-- What entering a request adds.
+use Rattle.std.proofs.Common.{◌≡◌, ◌≢◌, ◌⊎◌, inl, inr, ℕ, List, Option, Some, refl, sym, ap, ◌∙◌, subst}
+use Rattle.std.specs.Prelude.{Result, Ok, Err, IfOk, IfErr}
+use Rattle.sv_wire.specs.declared.message.Request.{Request}
+use Rattle.sv_wire.specs.declared.message.Reply.{Reply}
+use Rattle.sv_journal.specs.declared.entry.Entry.{Entry}
+use Rattle.sv_journal.specs.Laws.{AreWithinLimits}
+use Rattle.sv_living.specs.World.{WorldView, after}
+use Rattle.sv_keeper.specs.Views.{KeeperView}
+use Rattle.sv_keeper.specs.Keeping.{Stepped, WasNotStepped}
+use Rattle.sv_keeper.specs.declared.fault.KeepFault.{KeepFault}
+use Rattle.sv_keeper.specs.declared.fault.KeepFault.TheVariants as faults
+use Rattle.sv_office.specs.Entering.{AreAdded, GoesOn, IsEntry, WasEntered, AsksIn, IsOwn}
+use Rattle.sv_office.specs.Offices.{IsSound, session_of}
+use Rattle.sv_office.specs.declared.steward.Steward.{Steward}
+use Rattle.sv_office.proofs.Adding.{goes_nowhere, entry_stays}
+
+pub added_one : (v w : WorldView) (s : ℕ) (request : Request) → w ≡ after v s request → GoesOn (IsEntry s request) v w
+added_one v w s request is = subst (λ (x : WorldView). GoesOn (IsEntry s request) v x) (sym is)
+    (record { rules = refl; stewardship = refl; added = AreAdded.one AreAdded.none (refl, refl) })
+
+module _ {F : Type 0} (old new : KeeperView F) (s : ℕ) (request : Request) where
+  same_world : new ≡ old → GoesOn (IsEntry s request) old.world new.world
+  same_world same = goes_nowhere (ap (λ (k : KeeperView F). k.world) same)
+
+  pub added_err : (fault : KeepFault) → WasNotStepped old new s request fault → GoesOn (IsEntry s request) old.world new.world
+  added_err faults.NotOpen why = same_world why.0
+  added_err faults.NoRoom why = same_world why.0
+  added_err faults.Memory why = same_world why.0
+  added_err faults.Broken (inl why) = same_world why.1
+  added_err faults.Broken (inr (inl why)) = same_world why.1
+  added_err faults.Broken (inr (inr why)) = added_one old.world new.world s request why.world
+
+  pub same_err : (fault : KeepFault) → WasNotStepped old new s request fault → fault ≢ faults.Broken → new.world ≡ old.world
+  same_err faults.NotOpen why other = ap (λ (k : KeeperView F). k.world) why.0
+  same_err faults.NoRoom why other = ap (λ (k : KeeperView F). k.world) why.0
+  same_err faults.Memory why other = ap (λ (k : KeeperView F). k.world) why.0
+  same_err faults.Broken why other = absurd (other refl)
+
+  pub step_ok : (result : Result Reply KeepFault) → IfOk result (Stepped old new s request) → IfOk result (WasEntered old.world new.world s request)
+  step_ok (Ok reply) is = record { asks = is.asks; world = is.world; whole = is.whole }
+  step_ok (Err fault) is = tt
+
+  pub step_same : (result : Result Reply KeepFault) → IfErr result (WasNotStepped old new s request)
+      → IfErr result (λ fault. fault ≢ faults.Broken → new.world ≡ old.world)
+  step_same (Ok reply) is = tt
+  step_same (Err fault) is = same_err fault is
+
+  pub step_added : (result : Result Reply KeepFault) → IfOk result (Stepped old new s request) → IfErr result (WasNotStepped old new s request)
+      → GoesOn (IsEntry s request) old.world new.world
+  step_added (Ok reply) ok err = added_one old.world new.world s request ok.world
+  step_added (Err fault) ok err = added_err fault err
+
+-- What an office keeps stays, while its world goes on.
+pub sound_stays : {may : Entry → Type 0} {v w : WorldView} {old new : Option Steward} → GoesOn may v w → session_of new ≡ session_of old → IsSound v old → IsSound w new
+sound_stays on same s = record {
+  limits = subst AreWithinLimits (sym on.rules) s.limits;
+  begun = λ t is. entry_stays on.added t (s.begun t (sym same ∙ is));
+}
+
+-- Who asks asks in a session of its own.
+pub asks_own : (h : List Entry) (mine : Option ℕ) (s : ℕ) (request : Request) → AsksIn h mine s → (e : Entry) → IsEntry s request e → IsOwn h mine e.session
+asks_own h mine s request (inl has) e is = subst (λ (t : ℕ). IsOwn h mine t) (sym is.0) (inl has)
+asks_own h mine s request (inr none) e is = subst (λ (t : ℕ). IsOwn h mine t) (sym is.0) (inr none.1)

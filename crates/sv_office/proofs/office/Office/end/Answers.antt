@@ -1,0 +1,23 @@
+-- The session has its End.
+use Rattle.std.proofs.Common.{refl}
+use Rattle.sv_office.proofs.Adding.{goes_nowhere}
+use Rattle.sv_office.proofs.Ending.{end_on}
+use Rattle.sv_office.proofs.Entered.{sound_stays}
+use Rattle.sv_office.proofs.Served.{served_ended}
+use Rattle.sv_office.proofs.office.Office.end.Goals as goal
+
+pub returns-in_default-clause-added : goal.returns-in_default-clause-added
+returns-in_default-clause-added g c = goes_nowhere refl
+
+pub invariant_of-self : goal.invariant_of-self
+invariant_of-self g c = record { sound = sound_stays c.enter.ensures.added refl c.args.self.now.sound }
+
+pub returns-in_default-enter-clause-added : goal.returns-in_default-enter-clause-added
+returns-in_default-enter-clause-added g c = end_on _ _ _ _ c.in-Some.is c.enter.ensures.added
+
+pub returns-clause-served : goal.returns-clause-served
+returns-clause-served g c =
+    served_ended _ _ _ c.args.guest.now _ c.in-Some.is c.close.ensures.told c.close.ensures.standing refl c.in-Ok.ensures.ok.world c.requires.served
+
+pub returns-clause-added : goal.returns-clause-added
+returns-clause-added g c = end_on _ _ _ _ c.in-Some.is c.in-Ok.ensures.added

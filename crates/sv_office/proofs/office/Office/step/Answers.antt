@@ -1,0 +1,50 @@
+-- A request is stepped, once, and its reply is owed.
+use Rattle.std.proofs.Common.{Some, refl, ap}
+use Rattle.sv_office.specs.Offices.{session_of}
+use Rattle.sv_office.specs.declared.guest.Guest.{Guest}
+use Rattle.sv_office.proofs.Answering.{asking_kept_or, entered_came, followed_came}
+use Rattle.sv_office.proofs.Entered.{sound_stays}
+use Rattle.sv_office.proofs.Served.{message_entered, owed_entered}
+use Rattle.sv_office.proofs.Stepping1.{apart_asking, entered_ended_came, stays_as, stepped_ok}
+use Rattle.sv_office.proofs.office.Office.step.Goals as goal
+
+pub invariant_of-self : goal.invariant_of-self
+invariant_of-self g c = record { sound = sound_stays c.enter.ensures.added refl c.args.self.now.sound }
+
+pub take_reply-requires-clause-message : goal.take_reply-requires-clause-message
+take_reply-requires-clause-message g c = message_entered _ _ _ _ _ (c.answers_are_messages.ensures.stepped _ _) c.in-Ok.ensures.ok
+
+pub take_reply-requires-clause-owed : goal.take_reply-requires-clause-owed
+take_reply-requires-clause-owed g c =
+    owed_entered _ _ c.args.guest.now _ _ _ _ c.answers_are_messages.ensures.order c.requires.open c.requires.served c.asking_session-session.ensures c.requires.asks c.in-Ok.ensures.ok refl refl
+
+pub take_reply-requires-clause-apart : goal.take_reply-requires-clause-apart
+take_reply-requires-clause-apart g c = apart_asking c.args.self.now.keeper.world _ _ _ c.args.self.now.sound.begun c.requires.apart c.asking_session-session.ensures
+
+pub returns-in-Ok-clause-answered : goal.returns-in-Ok-clause-answered
+returns-in-Ok-clause-answered g c =
+    stepped_ok c.take_reply.result (session_of c.args.self.now.steward) (Some c.asking_session-session.result) c.args.guest.now.session
+    c.args.self.now.manners.authority c.standing_of-before.result.last c.args.self.now.keeper.world c.enter.new.keeper.world c.take_reply.new.self.keeper.world
+    c.asking_session-session.result c.args.request.now c.in-Ok.ensures.ok.world c.standing_of-before.ensures refl c.take_reply.ensures.followed
+
+pub returns-in-Ok-clause-added : goal.returns-in-Ok-clause-added
+returns-in-Ok-clause-added g c = followed_came _ _ _ _ _ c.asking_session-session.ensures refl c.enter.ensures.added c.take_reply.ensures.added
+
+pub returns-in-Ok-clause-session : goal.returns-in-Ok-clause-session
+returns-in-Ok-clause-session g c = asking_kept_or _ _ c.asking_session-session.ensures refl c.take_reply.ensures.session
+
+pub returns-in-Ok-clause-guest : goal.returns-in-Ok-clause-guest
+returns-in-Ok-clause-guest g c = stays_as refl refl refl c.take_reply.ensures.guest
+
+pub invariant_of-self-in-Err-Broken : goal.invariant_of-self-in-Err-Broken
+invariant_of-self-in-Err-Broken g c = record { sound = sound_stays c.enter.ensures.added refl c.args.self.now.sound }
+
+pub returns-in-Err-Broken-clause-added : goal.returns-in-Err-Broken-clause-added
+returns-in-Err-Broken-clause-added g c = entered_came _ _ _ _ c.asking_session-session.ensures c.enter.ensures.added
+
+pub returns-in-Err-NoRoom-clause-added : goal.returns-in-Err-NoRoom-clause-added
+returns-in-Err-NoRoom-clause-added g c = entered_came _ _ _ _ c.asking_session-session.ensures c.enter.ensures.added
+
+pub returns-in-Err-clause-added : goal.returns-in-Err-clause-added
+returns-in-Err-clause-added g c =
+    entered_ended_came _ _ _ _ c.asking_session-session.ensures c.enter.ensures.added (ap (λ (x : Guest). x.session) c.leave-in-Err.ensures) c.end.ensures.added

@@ -1,0 +1,34 @@
+-- One read after the other.
+use Rattle.std.proofs.Common.{refl, ◌∙◌}
+use Rattle.sv_office.proofs.Hearing2.{heard_nothing, heard_then, lent_then, turn_apart, turn_nowhere, turn_then}
+use Rattle.sv_office.proofs.office.Office.take_all.Goals as goal
+
+pub loop-init : goal.loop-init
+loop-init g c = record {
+  open_still = c.requires.open;
+  served = c.requires.served;
+  turn = turn_nowhere _ _ _ _ refl refl refl refl;
+  told = heard_nothing _ _ _ refl;
+  sent = refl;
+  lent = record { ports = refl; files = refl; err = refl };
+}
+
+pub take_and_read-requires-clause-apart : goal.take_and_read-requires-clause-apart
+take_and_read-requires-clause-apart g c =
+    turn_apart c.args.self.now c.loop.self c.args.guest.now.session c.loop.guest.session c.loop.invariant.turn c.requires.apart
+
+pub returns-in_err-take_and_read-clause-turn : goal.returns-in_err-take_and_read-clause-turn
+returns-in_err-take_and_read-clause-turn g c = turn_then _ _ _ _ _ _ c.loop.invariant.turn c.take_and_read.ensures.turn
+
+pub returns-in-Over-clause-turn : goal.returns-in-Over-clause-turn
+returns-in-Over-clause-turn g c = turn_then _ _ _ _ _ _ c.loop.invariant.turn c.take_and_read.ensures.turn
+
+pub loop-preserved : goal.loop-preserved
+loop-preserved g c = record {
+  open_still = c.in_ok-take_and_read.ensures.open c.in-On.is;
+  served = c.in_ok-take_and_read.ensures.served;
+  turn = turn_then _ _ _ _ _ _ c.loop.invariant.turn c.take_and_read.ensures.turn;
+  told = heard_then _ _ _ _ c.loop.invariant.told c.take_and_read.ensures.told;
+  sent = c.take_and_read.ensures.sent ∙ c.loop.invariant.sent;
+  lent = lent_then _ _ _ c.loop.invariant.lent c.take_and_read.ensures.lent;
+}

@@ -1,0 +1,31 @@
+-- The reply is told, the steward may report, and the session may end.
+use Rattle.std.proofs.Common.{inl, refl, ◌∙◌}
+use Rattle.sv_office.proofs.Served.{served_closed}
+use Rattle.sv_office.proofs.Stepping1.{followed_end, follows_ended, follows_reported, served_reported}
+use Rattle.sv_office.proofs.office.Office.take_reply.Goals as goal
+
+pub end-requires : goal.end-requires
+end-requires g c = record {
+  served =
+      served_closed _ _ _ c.close.ensures
+      (served_reported _ _ c.args.guest.now _ _ c.is_lawful.ensures.order c.in_ok-report_at_once.ensures.added c.requires.apart c.tell.ensures.session
+      (c.tell.ensures.served _ c.requires.owed));
+}
+
+pub returns-in_err-report_at_once-clause-added : goal.returns-in_err-report_at_once-clause-added
+returns-in_err-report_at_once-clause-added g c = follows_reported _ _ c.in_err-report_at_once.ensures.added
+
+pub returns-clause-served : goal.returns-clause-served
+returns-clause-served g c =
+    served_reported _ _ c.args.guest.now _ _ c.is_lawful.ensures.order c.in_ok-report_at_once.ensures.added c.requires.apart c.tell.ensures.session
+    (c.tell.ensures.served _ c.requires.owed)
+
+pub returns-clause-followed : goal.returns-clause-followed
+returns-clause-followed g c = followed_end c.in_ok-report_at_once.ensures.followed (inl refl)
+
+pub returns-clause-added : goal.returns-clause-added
+returns-clause-added g c = follows_reported _ _ c.in_ok-report_at_once.ensures.added
+
+pub returns-then-stops-clause-added : goal.returns-then-stops-clause-added
+returns-then-stops-clause-added g c =
+    follows_ended _ _ (c.close.ensures.session ∙ c.tell.ensures.session) c.in_ok-report_at_once.ensures.added c.end.ensures.added

@@ -1,0 +1,14 @@
+-- The connection is open and served, and its turn went on.
+use Rattle.std.proofs.Common.{◌≡◌}
+use Rattle.sv_office.specs.Telling.{IsServed}
+use Rattle.sv_office.specs.Turns.{TakesTurn}
+use Rattle.sv_office.specs.declared.guest.Standing.TheVariants as standing
+use Rattle.sv_office.proofs.office.Office.take_requests.Given as goal
+
+abbrev pub invariant-loop : goal.invariant-loop
+invariant-loop g l = record {
+  open_still : l.guest.standing ≡ standing.Open;
+  served : IsServed l.self.keeper.world l.guest;
+  turn : TakesTurn l.fn.self l.self l.fn.guest.session l.guest.session;
+  sent : l.guest.peer.sent ≡ l.fn.guest.peer.sent;
+}

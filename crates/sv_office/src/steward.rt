@@ -1,0 +1,188 @@
+//! The steward: an honest client within the server.
+ghost use Rattle.std.specs.Prelude.{◌≡◌, ℕ, List, None, Some, IfOk, IfSome, OnOk};
+ghost use Rattle.sv_journal.specs.declared.entry.Entry.{Entry};
+ghost use Rattle.sv_living.specs.World.{after};
+ghost use Rattle.sv_wire.specs.declared.message.Done1.{Done1};
+ghost use Rattle.sv_wire.specs.declared.message.Request.TheVariants as requests;
+ghost use Rattle.sv_office.specs.Entering.{IsOwn, KeepsOwn, GoesOn, IsOf, IsReported};
+ghost use Rattle.sv_office.specs.Offices.{HasBegun};
+
+use crate::entering::{asking_session, enter};
+use crate::halt::Halt;
+use crate::stepping::STEWARD_NUMBER;
+use std::alloc::{AllocError, Global};
+use sv_client::{LeanClient, PollFault, TakeFault};
+use sv_keeper::Keeper;
+use sv_log::Folder;
+use sv_wire::{Refusal, Reply, Request};
+use sv_world::{ClientId, List, Shape};
+
+/// How many sessions the steward begins at most.
+const MOST_SESSIONS: u32 = 4_000_000_000;
+
+/// A client that is asked by calls and not over a connection.
+#[derive(Drop)]
+pub struct Steward {
+    alloc: Global,
+    client: Box<LeanClient>,
+    session: Option<u64>,
+}
+
+fn fault_of_take(fault: TakeFault) -> Halt {
+    match fault {
+        TakeFault::Memory => Halt::Memory,
+        _ => Halt::Steward,
+    }
+}
+
+/// How many results a request reports.
+fn results_in(request: &Request) -> u64 {
+    match request {
+        Request::Done { results } => results.len() as u64,
+        _ => 0,
+    }
+}
+
+/// The life that a refused Join is told, where another one was greater.
+fn told_life(reply: &Reply) -> Option<u32> {
+    match reply {
+        Reply::Refused { code, detail } if *code == Refusal::OldLife.code() => Some(*detail),
+        _ => None,
+    }
+}
+
+impl Steward {
+    pub fn new(alloc: Global, shape: Shape) -> Result<Steward, AllocError>
+        ensures { IfOk result (λ steward. steward.session ≡ None) }
+    {
+        let client = LeanClient::new(alloc, ClientId(STEWARD_NUMBER), shape, List::new(alloc))?;
+        Ok(Steward {
+            alloc,
+            client: Box::new(alloc, client)?,
+            session: None,
+        })
+    }
+
+    // Takes a reply. What it asks then is a Done.
+    fn take(&mut self, reply: &Reply) -> Result<Option<Request>, Halt>
+        ensures session { self.new.session ≡ self.old.session }
+        ensures done { IfOk result (λ done. IfSome done (λ request. (results : List Done1) × (request ≡ requests.Done results))) }
+    {
+        match self.client.take(reply) {
+            Ok(done) => Ok(done),
+            Err(fault) => Err(fault_of_take(fault)),
+        }
+    }
+
+    // Asks to join with its next life, in its session or in the next one.
+    #[tactic(auto, using(crate::proofs::Adding::goes_nowhere, crate::proofs::Stewarding::begun_stays, crate::proofs::Stewarding::begun_entered, crate::proofs::Stewarding::keeps_asking, crate::proofs::Stewarding::own_entered))]
+    fn begin<F: Folder>(&mut self, keeper: &mut Keeper<F>) -> Result<Reply, Halt>
+        ensures begun { HasBegun keeper.old.world self.old.session → HasBegun keeper.new.world self.new.session }
+        ensures session { KeepsOwn keeper.old.world.history self.old.session self.new.session }
+        ensures added { GoesOn (λ (e : Entry). IsOwn keeper.old.world.history self.old.session e.session) keeper.old.world keeper.new.world }
+    {
+        if self.client.sessions() >= MOST_SESSIONS {
+            return Err(Halt::Steward);
+        }
+        let requests = self.client.join()?;
+        let Some(request) = requests.first() else {
+            return Err(Halt::Steward);
+        };
+        let session = asking_session(keeper, self.session);
+        let reply = enter(keeper, session, request)?;
+        self.session = Some(session);
+        Ok(reply)
+    }
+
+    // It is as one that began so many sessions in runs that are over.
+    fn renew(&mut self, sessions: u32) -> Result<(), AllocError>
+        ensures session { self.new.session ≡ self.old.session }
+    {
+        let shape = self.client.shape();
+        let client = LeanClient::after(
+            self.alloc,
+            ClientId(STEWARD_NUMBER),
+            shape,
+            List::new(self.alloc),
+            sessions,
+        )?;
+        self.client = Box::new(self.alloc, client)?;
+        Ok(())
+    }
+
+    // Begins, and where a greater life was told, begins with the next one.
+    #[tactic(auto, using(crate::proofs::Adding::keeps_then, crate::proofs::Stewarding::own_then))]
+    fn begin_newest<F: Folder>(&mut self, keeper: &mut Keeper<F>) -> Result<Reply, Halt>
+        ensures begun { HasBegun keeper.old.world self.old.session → HasBegun keeper.new.world self.new.session }
+        ensures session { KeepsOwn keeper.old.world.history self.old.session self.new.session }
+        ensures added { GoesOn (λ (e : Entry). IsOwn keeper.old.world.history self.old.session e.session) keeper.old.world keeper.new.world }
+    {
+        let reply = self.begin(keeper)?;
+        match told_life(&reply) {
+            Some(life) => {
+                self.renew(life)?;
+                self.begin(keeper)
+            }
+            None => Ok(reply),
+        }
+    }
+
+    /// Joins. A refusal tells the greatest life that there was, and it joins with the next one.
+    pub fn join<F: Folder>(&mut self, keeper: &mut Keeper<F>) -> Result<(), Halt>
+        ensures begun { HasBegun keeper.old.world self.old.session → HasBegun keeper.new.world self.new.session }
+        ensures session { KeepsOwn keeper.old.world.history self.old.session self.new.session }
+        ensures added { GoesOn (λ (e : Entry). IsOwn keeper.old.world.history self.old.session e.session) keeper.old.world keeper.new.world }
+    {
+        let reply = self.begin_newest(keeper)?;
+        let _ = self.take(&reply)?;
+        Ok(())
+    }
+
+    fn poll(&mut self) -> Result<Request, Halt>
+        ensures session { self.new.session ≡ self.old.session }
+        ensures poll { IfOk result (λ request. request ≡ requests.Poll) }
+    {
+        if !self.client.in_session() {
+            return Err(Halt::Steward);
+        }
+        match self.client.poll() {
+            Ok(request) => Ok(request),
+            Err(PollFault::Memory) => Err(Halt::Memory),
+            Err(_) => Err(Halt::Steward),
+        }
+    }
+
+    /// Polls, and reports what it is sent. The answer is how many results it reported, 0 where it was answered Idle. Without a session it is an error.
+    #[tactic(auto, using(crate::proofs::Adding::goes_nowhere, crate::proofs::Stewarding::of_entered, crate::proofs::Stewarding::of_then, crate::proofs::Stewarding::reported_poll, crate::proofs::Stewarding::reported_done))]
+    pub fn report<F: Folder>(&mut self, keeper: &mut Keeper<F>) -> Result<u64, Halt>
+        ensures session { self.new.session ≡ self.old.session }
+        ensures reported { OnOk result ((t : ℕ) × (self.old.session ≡ Some t) × IsReported t keeper.old.world.history keeper.new.world.history) }
+        ensures added { GoesOn (IsOf self.old.session) keeper.old.world keeper.new.world }
+    {
+        let Some(session) = self.session else {
+            return Err(Halt::Steward);
+        };
+        let request = self.poll()?;
+        let reply = enter(keeper, session, &request)?;
+        match self.take(&reply)? {
+            Some(done) => self.note(keeper, session, &done),
+            None => Ok(0),
+        }
+    }
+
+    // Reports what it was sent.
+    fn note<F: Folder>(
+        &mut self,
+        keeper: &mut Keeper<F>,
+        session: u64,
+        done: &Request,
+    ) -> Result<u64, Halt>
+        ensures session { self.new.session ≡ self.old.session }
+        ensures reported { OnOk result (keeper.new.world ≡ after keeper.old.world session done.now) }
+        ensures added { GoesOn (λ (e : Entry). e.session ≡ session) keeper.old.world keeper.new.world }
+    {
+        let noted = enter(keeper, session, done)?;
+        let _ = self.take(&noted)?;
+        Ok(results_in(done))
+    }
+}
