@@ -13,7 +13,7 @@ impl<F: Folder> Host<F> {
     /// A connection's turn.
     pub fn hear<P: Ports, L: Files, E: Sink>(
         &mut self,
-        outside: &mut Outside<'_, '_, '_, P, L, E>,
+        outside: &mut Outside<'_, P, L, E>,
         number: u64,
         piece: &mut [u8],
     ) -> Result<(), Halt>
@@ -31,7 +31,7 @@ impl<F: Folder> Host<F> {
     /// Gives each of these connections its turn.
     pub fn hear_each<P: Ports, L: Files, E: Sink>(
         &mut self,
-        outside: &mut Outside<'_, '_, '_, P, L, E>,
+        outside: &mut Outside<'_, P, L, E>,
         numbers: &[u64],
         piece: &mut [u8],
     ) -> Result<(), Halt>

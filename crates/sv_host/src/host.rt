@@ -66,7 +66,7 @@ impl<F: Folder> Host<F> {
     /// Takes what a connection asks, where it had no turn. `piece` is for what is read at once.
     pub fn hear_guest<P: Ports, L: Files, E: Sink>(
         &mut self,
-        outside: &mut Outside<'_, '_, '_, P, L, E>,
+        outside: &mut Outside<'_, P, L, E>,
         number: u64,
         guest: &mut Guest,
         piece: &mut [u8],

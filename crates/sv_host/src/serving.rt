@@ -59,7 +59,7 @@ impl<F: Folder> Host<F> {
     pub fn serve<R: Wait, P: Ports, C: Clock, L: Files, E: Sink>(
         &mut self,
         rt: &R,
-        outside: &mut Outside<'_, '_, '_, P, L, E>,
+        outside: &mut Outside<'_, P, L, E>,
         piece: &mut [u8],
         clock: &mut C,
     ) -> Result<(), Halt>

@@ -55,7 +55,7 @@ impl<F: Folder> Host<F> {
     // Gives each connection that is ready, or had more, its turn.
     fn hear_all<P: Ports, L: Files, E: Sink>(
         &mut self,
-        outside: &mut Outside<'_, '_, '_, P, L, E>,
+        outside: &mut Outside<'_, P, L, E>,
         piece: &mut [u8],
     ) -> Result<(), Halt>
         requires served { AreServed self.old.office.keeper.world (session_of self.old.office.steward) self.old.room.guests }
@@ -75,7 +75,7 @@ impl<F: Folder> Host<F> {
     // What is ready is stepped, all lines are settled at once, and then the replies go out.
     fn serve_all<P: Ports, L: Files, E: Sink>(
         &mut self,
-        outside: &mut Outside<'_, '_, '_, P, L, E>,
+        outside: &mut Outside<'_, P, L, E>,
         piece: &mut [u8],
     ) -> Result<(), Halt>
         requires served { AreServed self.old.office.keeper.world (session_of self.old.office.steward) self.old.room.guests }
@@ -92,7 +92,7 @@ impl<F: Folder> Host<F> {
     /// One turn.
     pub fn turn<P: Ports, C: Clock, L: Files, E: Sink>(
         &mut self,
-        outside: &mut Outside<'_, '_, '_, P, L, E>,
+        outside: &mut Outside<'_, P, L, E>,
         piece: &mut [u8],
         clock: &mut C,
     ) -> Result<Turned, Halt>
