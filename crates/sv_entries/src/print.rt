@@ -11,7 +11,7 @@ ghost use Rattle.sv_entries.specs.Lines.{sent_item, sent_text, living_line};
 use itoa::Buffer;
 use std::alloc::AllocError;
 use sv_journal::{append_head, append_objects, append_values};
-use sv_text::append_action;
+use sv_text::put_action;
 use sv_wire::{Done1, Item, ObjectValue, Reply, Request};
 use sv_world::{Action, ClientId, ObjectId, Shape, check_action};
 
@@ -50,7 +50,7 @@ fn put_shown(shape: Shape, action: &Action, out: &mut String) -> Result<(), Allo
     ensures { OnOk result (string_bytes out.new ≡ string_bytes out.old ++ action_text shape action.now) }
 {
     match check_action(shape, action) {
-        Ok(()) => append_action(action, out),
+        Ok(()) => put_action(out, action),
         Err(_) => out.push_str("bad"),
     }
 }
