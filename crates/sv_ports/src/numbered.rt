@@ -90,14 +90,14 @@ impl<T: Drop> Numbered<T> {
         ensures item { result ≡ item_of number self.old }
         ensures left { self.new ≡ with_item number None self.old }
     {
-        exchange(&mut self.places, number, None)
+        take_out(&mut self.places, number)
     }
 
     /// Puts a thing into the place of a number. Where the number has none, the thing is dropped.
     pub fn put(&mut self, number: u64, item: T)
         ensures { self.new ≡ with_item number (Some item) self.old }
     {
-        let _ = exchange(&mut self.places, number, Some(item));
+        put_in(&mut self.places, number, item);
     }
 
     pub fn get(&self, number: u64) -> Option<&T>
@@ -117,11 +117,23 @@ impl<T: Drop> Numbered<T> {
     }
 }
 
+// The place that a number has where the numbers up to it have no gap.
+fn guess<T: Drop>(places: &[Place<T>], number: u64) -> usize {
+    match places.first() {
+        Some(first) => number.saturating_sub(first.number) as usize,
+        None => 0,
+    }
+}
+
 // The place of a number among numbers that ascend.
 fn place_of<T: Drop>(places: &[Place<T>], number: u64) -> Option<usize>
     requires { IsByNumber places.now }
     ensures { MatchOption result (has_number number places.now ≡ false) (IsPlaceOf number places.now) }
 {
+    let place = guess(places, number);
+    if place < places.len() && places[place].number == number {
+        return Some(place);
+    }
     let place = places.partition_point(|place| place.number < number);
     if place == places.len() {
         return None;
@@ -154,12 +166,22 @@ fn append<T: Drop>(places: &mut Vec<Place<T>>, number: u64, item: T) -> Result<(
     Ok(())
 }
 
-// Puts this, or nothing, into the place of a number, and gives what was there.
-fn exchange<T: Drop>(places: &mut [Place<T>], number: u64, item: Option<T>) -> Option<T>
+// Takes out what is in the place of a number.
+fn take_out<T: Drop>(places: &mut [Place<T>], number: u64) -> Option<T>
     requires { IsByNumber places.old }
     ensures item { result ≡ item_of number places.old }
-    ensures left { places.new ≡ with_item number item places.old }
+    ensures left { places.new ≡ with_item number None places.old }
 {
     let place = place_of(places, number)?;
-    std::mem::replace(&mut places[place].item, item)
+    places[place].item.take()
+}
+
+// Puts this into the place of a number, where it has one.
+fn put_in<T: Drop>(places: &mut [Place<T>], number: u64, item: T)
+    requires { IsByNumber places.old }
+    ensures { places.new ≡ with_item number (Some item) places.old }
+{
+    if let Some(place) = place_of(places, number) {
+        places[place].item = Some(item);
+    }
 }
