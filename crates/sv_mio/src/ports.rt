@@ -36,6 +36,10 @@ pub struct MioPorts<I: Read + Drop> {
     door: TcpListener,
     streams: Numbered<TcpStream>,
     next: u64,
+    /// The connection of which the last read took all that had come. A wait tells when it has more.
+    emptied: Option<u64>,
+    /// The last wait told that some connection has an end, which only a read of nothing shows.
+    has_ends: bool,
     input: Option<I>,
     /// The input is a file, which is always ready.
     input_is_file: bool,
@@ -74,6 +78,8 @@ impl<I: Read + Drop> MioPorts<I> {
             door,
             streams: Numbered::new(alloc),
             next: 0,
+            emptied: None,
+            has_ends: false,
             input,
             input_is_file,
             written: Pieces::new(),
@@ -131,6 +137,16 @@ fn watch(poll: &Poll, stream: &mut TcpStream, number: u64) -> io::Result<()> {
     )
 }
 
+// Whether a connection has an end: then a read may leave it behind the bytes that it takes.
+fn have_ends(events: &Events) -> bool {
+    for event in events {
+        if event.is_read_closed() || event.is_error() {
+            return true;
+        }
+    }
+    false
+}
+
 // What the system answered to a read that had room.
 fn read_of(answer: io::Result<usize>) -> PortRead
     ensures { ReadAnswer answer result }
@@ -182,12 +198,16 @@ impl<I: Read + Drop> Ports for MioPorts<I> {
     ghost told = { told_of };
 
     fn wait(&mut self, limit: u64, ready: &mut Ready) -> Waited {
+        self.emptied = None;
         let limit = if self.input_is_file { 0 } else { limit };
         match self
             .poll
             .poll(&mut self.events, Some(Duration::from_millis(limit)))
         {
-            Ok(()) => self.tell(ready),
+            Ok(()) => {
+                self.has_ends = have_ends(&self.events);
+                self.tell(ready)
+            }
             Err(_) => Waited::Failed,
         }
     }
@@ -201,23 +221,27 @@ impl<I: Read + Drop> Ports for MioPorts<I> {
     }
 
     fn read(&mut self, number: u64, into: &mut [u8]) -> PortRead {
-        let Some(mut stream) = self.streams.take(number) else {
+        if self.emptied == Some(number) {
+            return PortRead::NotYet;
+        }
+        let Some(mut stream) = self.streams.get(number) else {
             return PortRead::Failed;
         };
         let answer = read_from(&mut stream, into);
-        self.streams.put(number, stream);
         if let PortRead::Got(count) = answer {
+            if count < into.len() && !self.has_ends {
+                self.emptied = Some(number);
+            }
             self.heard.note(number, &into[..count]);
         }
         answer
     }
 
     fn write(&mut self, number: u64, piece: &[u8], _settled: &Settled<'_>) -> PortWrote {
-        let Some(mut stream) = self.streams.take(number) else {
+        let Some(mut stream) = self.streams.get(number) else {
             return PortWrote::Failed;
         };
         let answer = write_to(&mut stream, piece);
-        self.streams.put(number, stream);
         if let PortWrote::Took(count) = answer {
             self.written.note(number, &piece[..count]);
         }
