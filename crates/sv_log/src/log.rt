@@ -91,10 +91,8 @@ pub fn line_count(text: &[u8]) -> u64
     ensures { result ≡ lines text.now }
 {
     let mut count = 0;
-    for byte in text {
-        if *byte == 10 {
-            count += 1;
-        }
+    for place in 0..text.len() {
+        count += u64::from(text[place] == 10);
     }
     count
 }
