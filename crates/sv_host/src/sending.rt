@@ -175,8 +175,11 @@ impl<F: Folder> Host<F> {
         ensures served { OnOk result (AreServed self.new.office.keeper.world (session_of self.new.office.steward) self.new.room.guests) }
     {
         self.settle()?;
-        let touched = std::mem::replace(&mut self.room.touched, Vec::new(self.alloc));
+        let mut touched = std::mem::replace(&mut self.room.touched, Vec::new(self.alloc));
         let gone = self.send_settled(ports, &touched)?;
+        // Its room is used again.
+        touched.clear();
+        self.room.touched = touched;
         self.depart_each(ports, &gone)
     }
 }
