@@ -6,6 +6,7 @@ mod rooms;
 mod slots;
 mod sources;
 mod steps;
+mod touched;
 mod waiting;
 mod writers;
 mod written;

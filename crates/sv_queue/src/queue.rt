@@ -13,6 +13,7 @@ use crate::rooms::{forget_given, forget_marks, make_given_room, make_marks_room}
 use crate::slots::Slots;
 use crate::sources::Sources;
 use crate::steps::Steps;
+use crate::touched::Touched;
 use crate::waiting::Waiting;
 use crate::writers::Writers;
 use crate::written::{give_written, no_rows, put_values};
@@ -43,6 +44,8 @@ pub struct Queue {
     sources: VecDeque<Sources>,
     writers: Writers,
     given: Vec<Slots>,
+    /// Of which objects each slot may know something.
+    touched: Touched,
 }
 
 impl Model for Queue {
@@ -80,6 +83,7 @@ impl Queue {
         let objects = shape.objects as usize;
         let writers = Writers::new(alloc, objects)?;
         let given = no_rows(alloc, objects)?;
+        let touched = Touched::new(alloc, shape.objects, FIRST_ROOM)?;
         Ok(Queue {
             alloc,
             shape,
@@ -90,6 +94,7 @@ impl Queue {
             sources: VecDeque::new(alloc),
             writers,
             given,
+            touched,
         })
     }
 
@@ -310,6 +315,9 @@ impl Queue {
         let place = (pos - self.commit - 1) as usize;
         let entry = &mut self.entries[place];
         entry.marks.add(slot);
+        for object in entry.action.reads.as_slice() {
+            self.touched.add(slot, *object);
+        }
     }
 
     /// Keeps the result of an uncommitted position until it is installed.
@@ -333,6 +341,7 @@ impl Queue {
     {
         let row = &mut self.given[object.0 as usize];
         row.add(slot);
+        self.touched.add(slot, object);
     }
 
     /// Makes room for so many slots.
@@ -348,6 +357,7 @@ impl Queue {
         let room = slots.max(2 * self.room).min(MOST_OPEN);
         make_marks_room(&mut self.entries, room)?;
         make_given_room(&mut self.given, room)?;
+        self.touched.make_room(room)?;
         self.room = room;
         Ok(())
     }
@@ -357,7 +367,7 @@ impl Queue {
         ensures { self.new ≡ without_slot self.old slot }
     {
         forget_marks(&mut self.entries, slot);
-        forget_given(&mut self.given, slot);
+        forget_given(&mut self.given, &mut self.touched, slot);
     }
 
     /// Commits the actions before the first that has no result, in order, and answers how many.

@@ -6,6 +6,7 @@ ghost use Rattle.sv_queue.specs.Rooms.{HaveGrown};
 ghost use Rattle.sv_queue.specs.Marks.{all_queued, marks_of, waiting_but};
 
 use crate::slots::Slots;
+use crate::touched::Touched;
 use crate::waiting::Waiting;
 use std::alloc::AllocError;
 use std::collections::VecDeque;
@@ -47,12 +48,21 @@ pub fn forget_marks(entries: &mut VecDeque<Waiting>, slot: u16)
     }
 }
 
-/// The same of the rows of objects.
-pub fn forget_given(rows: &mut Vec<Slots>, slot: u16)
-    ensures { rows.new.items ≡ map (set_but slot) rows.old.items }
-{
-    for place in 0..rows.len() {
-        let row = &mut rows[place];
+/// The same of the rows of objects, where the slot may be in.
+pub fn forget_given(rows: &mut Vec<Slots>, touched: &mut Touched, slot: u16) {
+    for word in 0..touched.words() {
+        forget_word(rows, touched.take_word(slot, word), word * 64, slot);
+    }
+}
+
+fn forget_word(rows: &mut Vec<Slots>, word: u64, first: usize, slot: u16) {
+    let mut left = word;
+    for _ in 0..64 {
+        if left == 0 {
+            return;
+        }
+        let row = &mut rows[first + left.trailing_zeros() as usize];
         row.remove(slot);
+        left &= left - 1;
     }
 }
