@@ -79,6 +79,7 @@ pub fn note(rows: &mut Vec<SessionRow>, slot: u16, request: &Request, reply: &Lo
     }
 }
 
+#[inline(never)]
 fn note_in_all(rows: &mut Vec<SessionRow>, slot: u16, request: &Request, reply: &Logged)
     requires { length rows.old.items < 65536 }
     ensures count { length rows.new.items ≡ length rows.old.items }
