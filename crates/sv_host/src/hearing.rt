@@ -23,8 +23,8 @@ impl<F: Folder> Host<F> {
         let Some(mut guest) = self.take_out(number) else {
             return Ok(());
         };
-        self.hear_guest(outside, number, &mut guest, piece)?;
-        self.list(number, &mut guest)?;
+        self.hear_guest(outside, number, guest.get_mut(), piece)?;
+        self.list(number, guest.get_mut())?;
         self.put_back(number, guest)
     }
 

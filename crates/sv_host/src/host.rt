@@ -8,6 +8,7 @@ use std::alloc::Global;
 use sv_bytes::{Files, Sink};
 use sv_log::Folder;
 use sv_office::{Guest, Halt, Office, Outside};
+use sv_world::Boxed;
 use sv_ports::Ports;
 
 /// The server of a living world, between two turns of its loop.
@@ -20,7 +21,7 @@ pub struct Host<F: Folder> {
 
 impl<F: Folder> Host<F> {
     /// Takes a connection out, where it is there.
-    pub fn take_out(&mut self, number: u64) -> Option<Guest>
+    pub fn take_out(&mut self, number: u64) -> Option<Boxed<Guest>>
         requires served { AreServed self.old.office.keeper.world (session_of self.old.office.steward) self.old.room.guests }
         ensures some { IfSome result (λ guest. IsOut self.new.office.keeper.world (session_of self.new.office.steward) self.new.room.guests guest) }
         ensures none { IfNone result (AreServed self.new.office.keeper.world (session_of self.new.office.steward) self.new.room.guests) }
@@ -30,7 +31,7 @@ impl<F: Folder> Host<F> {
     }
 
     /// Puts a connection back that was taken out. Something may be sent to it.
-    pub fn put_back(&mut self, number: u64, guest: Guest) -> Result<(), Halt>
+    pub fn put_back(&mut self, number: u64, guest: Boxed<Guest>) -> Result<(), Halt>
         requires taken { IsOut self.old.office.keeper.world (session_of self.old.office.steward) self.old.room.guests guest }
         ensures served { AreServed self.new.office.keeper.world (session_of self.new.office.steward) self.new.room.guests }
         ensures office { self.new.office ≡ self.old.office }

@@ -7,6 +7,7 @@ use crate::host::Host;
 use sv_log::Folder;
 use sv_office::{Guest, Halt};
 use sv_ports::{Accepted, Ports};
+use sv_world::Boxed;
 
 /// How many connections there are at most.
 const MOST_GUESTS: usize = 1024;
@@ -28,6 +29,10 @@ impl<F: Folder> Host<F> {
             return;
         }
         let guest = Guest::new(self.alloc, self.office.time);
+        let Ok(guest) = Boxed::new(self.alloc, guest) else {
+            ports.close(number);
+            return;
+        };
         if self.room.guests.push(number, guest).is_err() {
             ports.close(number);
         }
@@ -68,7 +73,7 @@ impl<F: Folder> Host<F> {
         let Some(mut guest) = self.take_out(number) else {
             return Ok(());
         };
-        self.end_guest(&mut guest)?;
+        self.end_guest(guest.get_mut())?;
         self.room.guests.remove(number);
         ports.close(number);
         Ok(())

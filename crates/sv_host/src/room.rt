@@ -7,11 +7,12 @@ use crate::input::InputLines;
 use std::alloc::Global;
 use sv_office::{Guest, Halt};
 use sv_ports::{Numbered, Ready};
+use sv_world::Boxed;
 
 /// The connections, and which of them are to be looked at.
 #[derive(Drop)]
 pub struct Room {
-    pub guests: Numbered<Guest>,
+    pub guests: Numbered<Boxed<Guest>>,
     pub input: InputLines,
     pub ready: Ready,
     /// Connections that had more than was taken of them in their turn.
@@ -51,7 +52,7 @@ impl Room {
     }
 
     /// Puts a connection back that was taken out. Something may be sent to it.
-    pub fn put_back(&mut self, number: u64, guest: Guest) -> Result<(), Halt>
+    pub fn put_back(&mut self, number: u64, guest: Boxed<Guest>) -> Result<(), Halt>
         ensures guests { self.new.guests ≡ with_item number (Some guest) self.old.guests }
         ensures input { self.new.input ≡ self.old.input }
     {

@@ -12,6 +12,7 @@ use sv_log::Folder;
 use sv_office::{FULL, Guest, Halt, Standing};
 use sv_ports::{Numbered, PortWrote, Ports};
 use sv_site::Counts;
+use sv_world::Boxed;
 
 /// How many writes are made to one connection in a turn.
 const MOST_WRITES: u32 = 64;
@@ -85,7 +86,7 @@ fn send_out<P: Ports>(
 /// Sends to a connection, and ends its turn.
 fn send_to<P: Ports>(
     ports: &mut P,
-    guests: &mut Numbered<Guest>,
+    guests: &mut Numbered<Boxed<Guest>>,
     number: u64,
     counts: &mut Counts,
     settled: &Settled<'_>,
@@ -95,7 +96,7 @@ fn send_to<P: Ports>(
     let Some(mut guest) = guests.take(number) else {
         return Then::Waits;
     };
-    let then = send_out(ports, number, &mut guest, counts, settled);
+    let then = send_out(ports, number, guest.get_mut(), counts, settled);
     guests.put(number, guest);
     then
 }

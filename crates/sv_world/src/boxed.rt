@@ -25,6 +25,10 @@ impl<T> Boxed<T> {
         &self.inner
     }
 
+    pub fn get_mut(&mut self) -> &mut T {
+        &mut self.inner
+    }
+
     pub fn into_inner(self) -> T
         ensures { result ≡ self }
     {
