@@ -144,7 +144,7 @@ impl<'r> Calls<'r> {
     // The file of this name, which stays open until another one is used.
     fn file(&mut self, name: &str) -> io::Result<&File> {
         let is_open = match &self.current {
-            Some(current) => is_same(current.name.as_bytes(), name.as_bytes()),
+            Some(current) => current.name.as_str() == name,
             None => false,
         };
         if !is_open {
@@ -168,19 +168,6 @@ impl<'r> Calls<'r> {
         self.current = Some(Current { name, file });
         Ok(())
     }
-}
-
-// Compares short names.
-fn is_same(one: &[u8], other: &[u8]) -> bool {
-    if one.len() != other.len() {
-        return false;
-    }
-    for place in 0..one.len() {
-        if one[place] != other[place] {
-            return false;
-        }
-    }
-    true
 }
 
 pub(crate) fn path_of(alloc: Global, folder: &str, name: &str) -> Result<String, AllocError> {
