@@ -12,6 +12,9 @@ use std::alloc::{AllocError, Global};
 use std::marker::Model;
 use sv_link::{End, EndRead};
 
+/// How much room is made at first.
+const LEAST_ROOM: usize = 1024;
+
 /// What a reader finds at the front of what it was fed.
 #[derive(Clone, Copy, Debug, PartialEq, Eq)]
 pub enum Next<'a> {
@@ -58,6 +61,25 @@ impl FrameReader {
             start: 0,
             end: 0,
         })
+    }
+
+    /// A reader that was fed nothing, which takes room as it is made.
+    pub fn small(alloc: Global) -> FrameReader {
+        FrameReader {
+            room: Vec::new(alloc),
+            start: 0,
+            end: 0,
+        }
+    }
+
+    /// Makes room for a next piece of so many bytes.
+    pub fn make_room(&mut self, piece: usize) -> Result<(), AllocError> {
+        let wanted = (self.end - self.start).saturating_add(piece).min(GREATEST_FRAME);
+        if self.room.len() < wanted {
+            let more = (2 * wanted).max(LEAST_ROOM).min(GREATEST_FRAME);
+            self.room.resize(more, 0)?;
+        }
+        Ok(())
     }
 
     /// How many bytes the next piece may have. At least one, after `next` answered `NotYet`.
@@ -151,7 +173,7 @@ fn make_space(room: &mut Vec<u8>, start: usize, end: usize, size: usize) -> usiz
     ensures whole { vec_len room.new ≡ greatest_frame }
 {
     // An empty rest costs nothing to move, and what is used again is still in the cache.
-    if start == end || size > GREATEST_FRAME - end {
+    if start == end || size > room.len() - end {
         room.copy_within(start..end, 0);
         return 0;
     }

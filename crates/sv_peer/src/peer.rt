@@ -99,7 +99,7 @@ fn begin(alloc: Global, first: u8, keys: RandomState) -> Result<Voice, AllocErro
     if is_letter(first) {
         Ok(Voice::Web(Box::new(alloc, Web::new(alloc, keys))?))
     } else {
-        Ok(Voice::Plain(FrameReader::new(alloc)?))
+        Ok(Voice::Plain(FrameReader::small(alloc)))
     }
 }
 
@@ -236,6 +236,7 @@ impl Peer {
         match &mut self.voice {
             Voice::Unknown | Voice::Closed => Ok(()),
             Voice::Plain(reader) => {
+                reader.make_room(piece.len())?;
                 feed(reader, piece);
                 Ok(())
             }
