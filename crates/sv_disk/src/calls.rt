@@ -148,19 +148,25 @@ impl<'r> Calls<'r> {
             None => false,
         };
         if !is_open {
-            self.current = None;
-            let path = self.path(name)?;
-            let file = OpenOptions::new()
-                .read(true)
-                .write(true)
-                .open(self.rt, &path)?;
-            let name = String::from_str(self.rt.alloc(), name)?;
-            self.current = Some(Current { name, file });
+            self.open(name)?;
         }
         match &self.current {
             Some(current) => Ok(&current.file),
             None => Err(io::Error::from(ErrorKind::NotFound)),
         }
+    }
+
+    #[inline(never)]
+    fn open(&mut self, name: &str) -> io::Result<()> {
+        self.current = None;
+        let path = self.path(name)?;
+        let file = OpenOptions::new()
+            .read(true)
+            .write(true)
+            .open(self.rt, &path)?;
+        let name = String::from_str(self.rt.alloc(), name)?;
+        self.current = Some(Current { name, file });
+        Ok(())
     }
 }
 

@@ -1,6 +1,6 @@
 //! Reading frames from a stream that comes in pieces.
 ghost use Rattle.std.specs.Prelude.{◌≡◌, ◌≢◌, [], ◌++◌, ◌+◌, ◌-◌, ◌<◌, ◌≤◌, false, None, IfOk, length, take, drop};
-ghost use Rattle.std.specs.Vec.{vec_len};
+ghost use Rattle.std.specs.Vec.{vec_len, vec_capacity};
 ghost use Rattle.std.specs.Borrow.{sem};
 ghost use Rattle.sv_link.specs.Ends.{EndReadCause};
 ghost use Rattle.sv_frame.specs.Frames.{greatest_frame, first_frame};
@@ -27,7 +27,7 @@ pub enum Next<'a> {
 
 /// What has come of a stream and was not yet given as frames. Contracts see the list of these bytes.
 ///
-/// The room for them is taken once, by `new`.
+/// The room for them is taken once, by `new`. It is written to as far as it is used, so that a reader of short frames costs one page of memory.
 #[derive(Drop)]
 pub struct FrameReader {
     room: Vec<u8>,
@@ -37,14 +37,14 @@ pub struct FrameReader {
 
 impl Model for FrameReader {
     ghost use Rattle.std.specs.Prelude.{◌≡◌, ◌-◌, ◌≤◌, List, ℕ, take, drop};
-    ghost use Rattle.std.specs.Vec.{vec_len};
+    ghost use Rattle.std.specs.Vec.{vec_len, vec_capacity};
     ghost use Rattle.sv_frame.specs.Frames.{greatest_frame};
 
     ghost Value = { List ℕ };
 
     ghost view = { λ r. take (r.end - r.start) (drop r.start r.room.items) };
 
-    ghost invariant = { λ r. (vec_len r.room ≡ greatest_frame) × (r.start ≤ r.end) × (r.end ≤ greatest_frame) };
+    ghost invariant = { λ r. (greatest_frame ≤ vec_capacity r.room) × (vec_len r.room ≤ greatest_frame) × (r.start ≤ r.end) × (r.end ≤ vec_len r.room) };
 }
 
 impl FrameReader {
@@ -52,9 +52,8 @@ impl FrameReader {
     pub fn new(alloc: Global) -> Result<FrameReader, AllocError>
         ensures { IfOk result (λ reader. reader ≡ []) }
     {
-        let room = vec![in alloc; 0; GREATEST_FRAME]?;
         Ok(FrameReader {
-            room,
+            room: Vec::with_capacity(alloc, GREATEST_FRAME)?,
             start: 0,
             end: 0,
         })
@@ -89,6 +88,7 @@ impl FrameReader {
         ensures calm { E.calm end.old → (result ≢ EndRead.Failed) × E.calm end.new }
     {
         let size = self.end - self.start;
+        fill(&mut self.room, GREATEST_FRAME);
         self.start = make_space(&mut self.room, self.start, self.end, 1);
         self.end = self.start + size;
         let answer = end.read(&mut self.room.as_mut_slice()[self.end..]);
@@ -141,21 +141,40 @@ impl FrameReader {
     }
 }
 
+/// Fills the room up to so many bytes, where it has fewer.
+fn fill(room: &mut Vec<u8>, least: usize)
+    requires room { (greatest_frame ≤ vec_capacity room.old) × (vec_len room.old ≤ greatest_frame) }
+    requires least { least ≤ greatest_frame }
+    ensures kept { take (vec_len room.old) room.new.items ≡ room.old.items }
+    ensures filled { (least ≤ vec_len room.new) × (vec_len room.old ≤ vec_len room.new) }
+    ensures room { (greatest_frame ≤ vec_capacity room.new) × (vec_len room.new ≤ greatest_frame) }
+{
+    if room.len() < least {
+        match room.resize(least, 0) {
+            Ok(()) => {}
+            Err(_) => unreachable!(),
+        }
+    }
+}
+
 /// Where the rest begins once there is space for so many bytes behind it. It is moved to the front of the room where there was too little.
 fn make_space(room: &mut Vec<u8>, start: usize, end: usize, size: usize) -> usize
-    requires whole { vec_len room.old ≡ greatest_frame }
-    requires part { (start ≤ end) × (end ≤ greatest_frame) }
+    requires room { (greatest_frame ≤ vec_capacity room.old) × (vec_len room.old ≤ greatest_frame) }
+    requires part { (start ≤ end) × (end ≤ vec_len room.old) }
     requires fits { end - start + size ≤ greatest_frame }
     ensures rest { take (end - start) (drop result room.new.items) ≡ take (end - start) (drop start room.old.items) }
-    ensures space { result + (end - start) + size ≤ greatest_frame }
-    ensures whole { vec_len room.new ≡ greatest_frame }
+    ensures space { result + (end - start) + size ≤ vec_len room.new }
+    ensures grown { vec_len room.old ≤ vec_len room.new }
+    ensures room { (greatest_frame ≤ vec_capacity room.new) × (vec_len room.new ≤ greatest_frame) }
 {
     // An empty rest costs nothing to move, and what is used again is still in the cache.
-    if start == end || size > GREATEST_FRAME - end {
+    let stays = start < end && size <= GREATEST_FRAME - end;
+    let place = if stays { start } else { 0 };
+    if !stays {
         room.copy_within(start..end, 0);
-        return 0;
     }
-    start
+    fill(room, place + (end - start) + size);
+    place
 }
 
 /// What a rest begins with.

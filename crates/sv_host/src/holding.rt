@@ -17,6 +17,7 @@ impl<F: Folder> Host<F> {
     }
 
     // Takes a connection off the list, and answers its held Observe, where it has one.
+    #[inline(never)]
     fn take_off(&mut self, number: u64) -> Result<(), Halt>
         requires served { AreServed self.old.office.keeper.world (session_of self.old.office.steward) self.old.room.guests }
         ensures served { OnOk result (AreServed self.new.office.keeper.world (session_of self.new.office.steward) self.new.room.guests) }
@@ -31,6 +32,7 @@ impl<F: Folder> Host<F> {
     }
 
     // Looks at a connection of the list, and keeps it there where it waits on.
+    #[inline(never)]
     fn look_at(&mut self, number: u64) -> Result<(), Halt>
         requires served { AreServed self.old.office.keeper.world (session_of self.old.office.steward) self.old.room.guests }
         ensures served { OnOk result (AreServed self.new.office.keeper.world (session_of self.new.office.steward) self.new.room.guests) }

@@ -16,6 +16,7 @@ const MOST_ACCEPTS: u32 = 64;
 
 impl<F: Folder> Host<F> {
     // Takes a connection in, or closes it where there are too many.
+    #[inline(never)]
     fn admit<P: Ports>(&mut self, ports: &mut P, number: u64)
         requires served { AreServed self.old.office.keeper.world (session_of self.old.office.steward) self.old.room.guests }
         ensures served { AreServed self.new.office.keeper.world (session_of self.new.office.steward) self.new.room.guests }
@@ -34,6 +35,7 @@ impl<F: Folder> Host<F> {
     }
 
     /// Accepts connections, as long as some wait.
+    #[inline(never)]
     pub fn accept<P: Ports>(&mut self, ports: &mut P)
         requires served { AreServed self.old.office.keeper.world (session_of self.old.office.steward) self.old.room.guests }
         ensures served { AreServed self.new.office.keeper.world (session_of self.new.office.steward) self.new.room.guests }
@@ -60,6 +62,7 @@ impl<F: Folder> Host<F> {
     }
 
     /// Closes a connection, whose session has its End.
+    #[inline(never)]
     pub fn depart<P: Ports>(&mut self, ports: &mut P, number: u64) -> Result<(), Halt>
         requires served { AreServed self.old.office.keeper.world (session_of self.old.office.steward) self.old.room.guests }
         ensures served { OnOk result (AreServed self.new.office.keeper.world (session_of self.new.office.steward) self.new.room.guests) }

@@ -26,6 +26,7 @@ impl<F: Folder> Host<F> {
     }
 
     // Ends a connection that is idle.
+    #[inline(never)]
     fn dismiss(&mut self, number: u64) -> Result<(), Halt>
         requires served { AreServed self.old.office.keeper.world (session_of self.old.office.steward) self.old.room.guests }
         ensures served { OnOk result (AreServed self.new.office.keeper.world (session_of self.new.office.steward) self.new.room.guests) }
@@ -40,6 +41,7 @@ impl<F: Folder> Host<F> {
     }
 
     // Looks at all connections.
+    #[inline(never)]
     fn look_at_all(&mut self) -> Result<(), Halt>
         requires served { AreServed self.old.office.keeper.world (session_of self.old.office.steward) self.old.room.guests }
         ensures served { OnOk result (AreServed self.new.office.keeper.world (session_of self.new.office.steward) self.new.room.guests) }

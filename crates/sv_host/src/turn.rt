@@ -37,6 +37,7 @@ impl<F: Folder> Host<F> {
     }
 
     // Whether the input tells to stop.
+    #[inline(never)]
     fn is_told_to_stop<P: Ports>(&mut self, ports: &mut P) -> Result<bool, Halt>
         requires served { AreServed self.old.office.keeper.world (session_of self.old.office.steward) self.old.room.guests }
         ensures served { AreServed self.new.office.keeper.world (session_of self.new.office.steward) self.new.room.guests }

@@ -36,6 +36,7 @@ fn is_unreported(core: &Core, seat: Seat, pos: u32) -> bool
 }
 
 /// A Poll of the steward is sent the lowest such position.
+#[inline(never)]
 pub(crate) fn due_decision(core: &Core, seat: Seat) -> Decision
     ghost h: { List Entry }
     requires keeps { Keeps core.now h }

@@ -110,6 +110,7 @@ fn bye() -> Answer
 }
 
 /// The End of a session, whose slot is free then. `g` is the history of all entries. It takes no memory.
+#[inline(never)]
 fn leave(core: &mut Core, seat: Seat)
     ghost g: { Course }
     requires keeps { Keeps core.old (heeded g.w g.h) }
@@ -152,6 +153,7 @@ fn answer_first(
 }
 
 /// Seats the next session, and answers its first request, which is no End. `g` is the history of all entries.
+#[inline(never)]
 fn begin(
     alloc: Global,
     core: &mut Core,
@@ -268,6 +270,7 @@ impl Live {
     }
 
     /// The End of the next session, which makes no other request.
+    #[inline(never)]
     fn end_first(&mut self, session: u64) -> Result<Answer, AllocError>
         ghost g: { Course }
         requires keeps { KeepsLiving self.old g.h }

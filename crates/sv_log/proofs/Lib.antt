@@ -24,3 +24,4 @@ pub mod Refused
 pub mod Listed
 pub mod Recovered
 pub mod Fresh
+pub mod Counted

@@ -83,6 +83,7 @@ impl<F: Folder> Segment<F> {
     }
 
     // Adds zeros for so many bytes and more, and syncs them, and the text with them.
+    #[inline(never)]
     fn make_room(&mut self, least: usize) -> Result<(), FileFault>
         requires sizes { HasSizes self.old }
         requires open { F.is_honest self.old.folder → IsOpen F.disk self.old }

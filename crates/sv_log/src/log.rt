@@ -1,5 +1,5 @@
 //! The log of a folder: its segments and states.
-ghost use Rattle.std.specs.Prelude.{◌≡◌, ◌+◌, ◌++◌, List, ℕ, Some, OnOk};
+ghost use Rattle.std.specs.Prelude.{◌≡◌, ◌+◌, ◌++◌, List, ℕ, Some, OnOk, ◌≤◌, length};
 ghost use Rattle.sv_bytes.specs.Faults.{ReadAllCause};
 ghost use Rattle.sv_log.specs.Crashes.{LeavesOnly};
 ghost use Rattle.sv_log.specs.Texts.{IsText, IsFront};
@@ -91,10 +91,26 @@ pub fn line_count(text: &[u8]) -> u64
     ensures { result ≡ lines text.now }
 {
     let mut count = 0;
+    let mut start = 0;
+    while start < text.len() {
+        let end = text.len().min(start + SHORT);
+        count += u64::from(short_count(&text[start..end]));
+        start = end;
+    }
+    count
+}
+
+/// A count of so many bytes fits into a byte.
+const SHORT: usize = 255;
+
+// Counts in a byte, so that many bytes go at once.
+fn short_count(text: &[u8]) -> u8
+    requires { length text.now ≤ 255 }
+    ensures { result ≡ lines text.now }
+{
+    let mut count = 0;
     for byte in text {
-        if *byte == 10 {
-            count += 1;
-        }
+        count += u8::from(*byte == 10);
     }
     count
 }

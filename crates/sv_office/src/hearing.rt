@@ -75,6 +75,7 @@ fn read_piece<P: Ports>(ports: &mut P, number: u64, guest: &mut Guest, piece: &m
 }
 
 /// Reads what comes of a connection that is closing, and throws it away.
+#[inline(never)]
 fn drain<P: Ports>(ports: &mut P, number: u64, guest: &mut Guest, piece: &mut [u8])
     ensures told { OnlyHeard number (P.told ports.old) (P.told ports.new) }
     ensures served { (v : WorldView) → IsServed v guest.old → IsServed v guest.new }
@@ -383,6 +384,7 @@ impl<F: Folder> Office<F> {
     }
 
     // Takes a Hello: the first message where keys are wanted, passed over where they are not, and no request behind the first one.
+    #[inline(never)]
     fn greet<L: Files, E: Sink>(
         &mut self,
         files: &mut L,

@@ -15,6 +15,7 @@ const MOST_REPORTS: u32 = 64;
 impl<F: Folder> Office<F> {
     // Has the steward report what its polls are answered, at most so often.
     #[tactic(auto, using(crate::proofs::Adding::goes_nowhere, crate::proofs::Entered::sound_stays))]
+    #[inline(never)]
     fn report_once(&mut self) -> Result<bool, Halt>
         ensures steward { session_of self.new.steward ≡ session_of self.old.steward }
         ensures reported { OnOk result (WasReported (session_of self.old.steward) self.old.keeper.world.history self.new.keeper.world.history) }

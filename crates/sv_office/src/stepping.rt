@@ -318,6 +318,7 @@ impl<F: Folder> Office<F> {
     }
 
     /// Enters the End of a connection's session, where it has one. Then it has none, and is served no more.
+    #[inline(never)]
     pub fn end(&mut self, guest: &mut Guest) -> Result<(), Halt>
         requires served { IsServed self.old.keeper.world guest.old }
         ensures served { OnOk result (IsServed self.new.keeper.world guest.new) }

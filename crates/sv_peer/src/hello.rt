@@ -38,6 +38,7 @@ fn shown_behind(rest: &[u8]) -> Option<[u8; 32]>
     digest_of(key)
 }
 
+#[inline(never)]
 fn hello_of(rest: &[u8]) -> Heard
     ensures { result ≡ hello_or_bad (key_behind rest.now) }
 {

@@ -90,6 +90,7 @@ fn is_letter(byte: u8) -> bool
 }
 
 // The first byte tells how a connection is spoken: HTTP, where it is a letter, and else frames.
+#[inline(never)]
 fn begin(alloc: Global, first: u8, keys: RandomState) -> Result<Voice, AllocError>
     ensures manner { IfOk result (λ voice. manner_of voice ≡ begun first) }
     ensures heard { IfOk result (λ voice. heard_by voice ≡ []) }
@@ -189,6 +190,7 @@ impl Peer {
     }
 
     // The first byte tells how the connection is spoken: HTTP, where it is a letter, and else frames.
+    #[inline(never)]
     fn begin(&mut self, first: u8, keys: RandomState) -> Result<(), AllocError>
         requires { self.old.manner ≡ Manner.Unknown }
         ensures ok { OnOk result (self.new ≡ record self.old { manner = begun first }) }
@@ -199,6 +201,7 @@ impl Peer {
     }
 
     // It speaks HTTP no more.
+    #[inline(never)]
     fn upgrade<D: Desk>(&mut self, desk: &mut D) -> Result<(), AllocError>
         requires { self.old.manner ≡ Manner.Http }
         ensures { Upgrades self.old self.new }
@@ -208,6 +211,7 @@ impl Peer {
         Ok(())
     }
 
+    #[inline(never)]
     fn hear_web<D: Desk>(&mut self, piece: &[u8], desk: &mut D) -> Result<(), AllocError>
         requires { self.old.manner ≡ Manner.Http }
         ensures { Answers self.old self.new }

@@ -86,6 +86,7 @@ impl Socket {
         ROOM.saturating_sub(self.input.len())
     }
 
+    #[inline(never)]
     pub fn hear(&mut self, piece: &[u8]) -> Result<(), AllocError>
         ensures { self.new ≡ (if is_ok result then record self.old { input = self.old.input ++ piece.now } else self.old) }
     {
@@ -114,6 +115,7 @@ impl Socket {
     }
 
     /// Takes the next message off. What its protocol answers is put behind the output.
+    #[inline(never)]
     pub fn next(&mut self, output: &mut Vec<u8>) -> Heard
         ensures { GainsControls output.old.items output.new.items }
     {
@@ -132,6 +134,7 @@ impl Socket {
     }
 
     /// Puts the end behind the output, with a code where there is one.
+    #[inline(never)]
     pub fn close(&mut self, code: Option<CloseCode>, output: &mut Vec<u8>)
         ensures { GainsControls output.old.items output.new.items }
     {
@@ -143,6 +146,7 @@ impl Socket {
     }
 
     /// Puts a payload behind the output as one message.
+    #[inline(never)]
     pub fn say(&mut self, payload: &[u8], output: &mut Vec<u8>) -> Result<(), AllocError>
         ensures same { self.new ≡ self.old }
         ensures ok { OnOk result (output.new.items ≡ output.old.items ++ message_frame payload.now) }

@@ -87,6 +87,7 @@ impl Slots {
         ensures ok { OnOk result (slots ≤ self.new.room) }
     {
         let wanted = slots.div_ceil(WORD) as usize;
+        self.words.reserve(wanted.saturating_sub(self.words.len()))?;
         while self.words.len() < wanted {
             self.words.push(0)?;
         }

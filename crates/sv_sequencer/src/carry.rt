@@ -82,6 +82,7 @@ impl Core {
     }
 
     /// Answers what changes nothing but its own session.
+    #[inline(never)]
     fn answer_plainly(&mut self, seat: Seat, request: &Request, decision: Decision) -> Answer
         ghost h: { List Entry }
         requires keeps { Keeps self.old h }

@@ -67,6 +67,7 @@ impl Core {
         }
     }
 
+    #[inline(never)]
     fn decide_join(
         &self,
         seat: Seat,
@@ -166,6 +167,7 @@ impl Core {
     }
 
     /// A repeated action that was accepted at a position.
+    #[inline(never)]
     fn decide_accepted(&self, seat: Seat, id: ActionId, pos: u32, action: &Action) -> Decision
         ghost h: { List Entry }
         requires keeps { Keeps self.now h }
@@ -288,6 +290,7 @@ impl Core {
         }
     }
 
+    #[inline(never)]
     fn decide_observe(&self, seat: Seat, objects: &List<ObjectId>, wait: u16) -> Decision
         ghost h: { List Entry }
         requires keeps { Keeps self.now h }

@@ -160,6 +160,7 @@ fn send(queue: &mut Queue, slot: u16, seq: u32, relayed: Relayed) -> Answer
 
 impl Core {
     /// Begins a session.
+    #[inline(never)]
     pub(crate) fn welcome(
         &mut self,
         seat: Seat,
@@ -189,6 +190,7 @@ impl Core {
     }
 
     /// Drops a new action, which so much influences.
+    #[inline(never)]
     pub(crate) fn drop_new(
         &mut self,
         seat: Seat,
@@ -217,6 +219,7 @@ impl Core {
     }
 
     /// Denies a new action, since its client may not write an object.
+    #[inline(never)]
     pub(crate) fn deny_new(
         &mut self,
         seat: Seat,
@@ -243,6 +246,7 @@ impl Core {
     }
 
     /// Sends an accepted action with what the session lacks of it.
+    #[inline(never)]
     pub(crate) fn relay(
         &mut self,
         seat: Seat,

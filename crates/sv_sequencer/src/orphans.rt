@@ -17,6 +17,7 @@ use sv_queue::{Queue, Slots, Steps};
 ///
 /// It looks once at each position, against the set of the sessions that are not over. Where there is no memory for the set, it looks at each
 /// session for each position.
+#[inline(never)]
 pub fn first_orphan(alloc: Global, queue: &Queue, sessions: &[SessionRow]) -> Option<u32>
     requires { length sessions.now ≤ most_open }
     ensures { MatchOption result (orphans_in queue.now sessions.now ≡ []) (λ p. (rest : List ℕ) × (orphans_in queue.now sessions.now ≡ p ∷ rest)) }

@@ -40,6 +40,7 @@ impl Core {
     }
 
     /// Seats a new session at a free slot. `h` is a history that the core keeps, which has no entry of the session.
+    #[inline(never)]
     pub fn open(&mut self, session: u64) -> Result<Seat, AllocError>
         ghost h: { List Entry }
         requires keeps { Keeps self.old h }
@@ -93,6 +94,7 @@ impl Core {
     }
 
     /// Frees the slot of a session that had its End or made no request. What was sent to it is forgotten.
+    #[inline(never)]
     pub fn close(&mut self, seat: Seat)
         ghost h: { List Entry }
         requires keeps { Keeps self.old h }

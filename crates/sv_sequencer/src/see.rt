@@ -128,6 +128,7 @@ impl Core {
     }
 
     /// Shows a session what objects are, at the greatest cut.
+    #[inline(never)]
     pub(crate) fn see(&mut self, seat: Seat, request: &Request) -> Result<Answer, AllocError>
         ghost h: { List Entry }
         requires keeps { Keeps self.old h }

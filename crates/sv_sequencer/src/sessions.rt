@@ -79,13 +79,18 @@ pub fn note(rows: &mut Vec<SessionRow>, slot: u16, request: &Request, reply: &Lo
     }
 }
 
+#[inline(never)]
 fn note_in_all(rows: &mut Vec<SessionRow>, slot: u16, request: &Request, reply: &Logged)
     requires { length rows.old.items < 65536 }
     ensures count { length rows.new.items ≡ length rows.old.items }
     ensures rows { (i : ℕ) → i < length rows.old.items → row_at rows.new.items i ≡ session_after (nat_eq slot i) (entry_of slot request.now reply.now) (row_at rows.old.items i) }
 {
+    let joined = joining(request);
     for place in 0..rows.len() {
-        rows[place] = session_after(slot as usize == place, request, reply, &rows[place]);
+        let own = slot as usize == place;
+        if own || rows[place].client == joined {
+            rows[place] = session_after(own, request, reply, &rows[place]);
+        }
     }
 }
 

@@ -1,7 +1,7 @@
 //! From an action to its canonical text.
 
 ghost use Rattle.std.specs.Prelude.{◌≡◌, ◌++◌, ◌<◌, ◌≤◌, [], ◌&&◌, true, cond, length, drop, string_bytes, Ok, OnOk, OnErr, IfOk};
-ghost use Rattle.std.specs.Fmt.{signed_decimal};
+ghost use Rattle.std.specs.Fmt.{decimal, signed_decimal};
 ghost use Rattle.sv_world.specs.Heads.{expr_over, expr_arity};
 ghost use Rattle.sv_world.specs.Parts.{first, second, third, parts, block, is_expr, is_cond, is_stmt, is_block};
 ghost use Rattle.sv_world.specs.Ranges.{is_zero};
@@ -10,8 +10,8 @@ ghost use Rattle.sv_text.specs.Reading.{reading};
 ghost use Rattle.sv_text.specs.Printable.{IsWithinGrammar};
 ghost use Rattle.sv_text.specs.Canonical.{object_in, ref_text, between, pair_text, op_text, comparison_text, joint_text, set_part, not_part, if_part, run_text, block_part, other_part, part_text, else_part, body_text, object_text, spaced_objects, written, origin_text, canonical};
 
+use itoa::Buffer;
 use std::alloc::{AllocError, Global};
-use std::fmt::Write;
 use sv_world::{
     Action, Body, Comparison, CondHead, Connective, ExprHead, NodeCursor, ObjectId, Operator,
     Point, StmtHead, read_objects,
@@ -26,11 +26,20 @@ fn object_in(reads: &[ObjectId], slot: u8) -> u16
     if slot < reads.len() { reads[slot].0 } else { 0 }
 }
 
+fn put_count(out: &mut String, number: u32) -> Result<(), AllocError>
+    ensures { OnOk result (string_bytes out.new ≡ string_bytes out.old ++ decimal number) }
+{
+    let mut digits = Buffer::new();
+    out.push_str(digits.format(number))
+}
+
 fn put_ref(out: &mut String, reads: &[ObjectId], slot: u8, attr: u8) -> Result<(), AllocError>
     ensures { OnOk result (string_bytes out.new ≡ string_bytes out.old ++ ref_text reads.now slot attr) }
 {
-    let object = object_in(reads, slot);
-    write!(out, "@{object}.{attr}")
+    out.push_str("@")?;
+    put_count(out, u32::from(object_in(reads, slot)))?;
+    out.push_str(".")?;
+    put_count(out, u32::from(attr))
 }
 
 fn op_text(operator: Operator) -> &'static str
@@ -69,7 +78,8 @@ fn joint_text(joint: Connective) -> &'static str
 fn put_number(out: &mut String, number: i64) -> Result<(), AllocError>
     ensures { OnOk result (string_bytes out.new ≡ string_bytes out.old ++ signed_decimal number) }
 {
-    write!(out, "{number}")
+    let mut digits = Buffer::new();
+    out.push_str(digits.format(number))
 }
 
 // Each of these prints what the next nodes spell, and goes behind them.
@@ -348,8 +358,8 @@ fn put_objects(out: &mut String, objects: &[ObjectId]) -> Result<(), AllocError>
     ensures { OnOk result (string_bytes out.new ≡ string_bytes out.old ++ spaced_objects objects.now) }
 {
     for object in objects {
-        let number = object.0;
-        write!(out, " {number}")?;
+        out.push_str(" ")?;
+        put_count(out, u32::from(object.0))?;
     }
     Ok(())
 }
@@ -361,8 +371,8 @@ fn put_if_written(out: &mut String, object: ObjectId, is_written: bool) -> Resul
     if !is_written {
         return Ok(());
     }
-    let number = object.0;
-    write!(out, " {number}")
+    out.push_str(" ")?;
+    put_count(out, u32::from(object.0))
 }
 
 /// The objects at the slots of the mask's bits.
@@ -396,9 +406,10 @@ fn put_origin(out: &mut String, origin: Point) -> Result<(), AllocError>
     if is_origin(origin) {
         return Ok(());
     }
-    let x = origin.x;
-    let y = origin.y;
-    write!(out, " at {x} {y}")
+    out.push_str(" at ")?;
+    put_number(out, i64::from(origin.x))?;
+    out.push_str(" ")?;
+    put_number(out, i64::from(origin.y))
 }
 
 /// Appends the canonical text of an action, with no memory but the line's own. Where that is wanting a part of the text may stand.
