@@ -1,7 +1,7 @@
 -- The part of a reader's room that holds its rest.
 use Rattle.std.proofs.Common.{◌≡◌, ℕ, ◌+◌, ◌-◌, ◌≤◌, List, ◌++◌, length, take, drop, sym, ap, ◌∙◌, append_assoc, arith, length-append, length-drop, length-take-le, append-nil}
 use Rattle.std.specs.List.{copy_within}
-use Rattle.std.proofs.lemmas.List.{drop-append-le, take_at, take-append-drop, drop-drop, drop-take, take-take}
+use Rattle.std.proofs.lemmas.List.{drop-append-le, take-append-le, take_at, take-append-drop, drop-drop, drop-take, take-take}
 use Rattle.std.proofs.lemmas.Slice.{between_is}
 
 -- the bytes from start to end
@@ -81,3 +81,11 @@ part-after room start n total k at t a =
     ap (λ (m : ℕ). drop (4 + n) (take m (drop start room))) t
     ∙ (drop-take (4 + n) k (drop start room) ∙ ap (take k) (drop-drop (4 + n) start room)) in
     cc
+
+-- a room that is filled up behind its bytes has the same part
+pub part-filled : (room filled : List ℕ) (at size n : ℕ) → take n filled ≡ room → n ≡ length room → at + size ≤ n → take size (drop at filled) ≡ take size (drop at room)
+part-filled room filled at size n same long within =
+    let more = drop n filled in
+    let split : filled ≡ room ++ more = sym (take-append-drop n filled) ∙ ap (λ (l : List ℕ). l ++ more) same in
+    let dropped : drop at filled ≡ drop at room ++ more = ap (drop at) split ∙ drop-append-le at room more (omega (arith, long)) in
+    ap (take size) dropped ∙ take-append-le size (drop at room) more (omega (arith, long, length-drop at room))

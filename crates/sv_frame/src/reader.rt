@@ -75,6 +75,7 @@ impl FrameReader {
         self.start = make_space(&mut self.room, self.start, self.end, piece.len());
         self.end = self.start + size;
         let after = self.end + piece.len();
+        fill(&mut self.room, after);
         self.room.as_mut_slice()[self.end..after].copy_from_slice(piece);
         self.end = after;
     }
@@ -157,24 +158,21 @@ fn fill(room: &mut Vec<u8>, least: usize)
     }
 }
 
-/// Where the rest begins once there is space for so many bytes behind it. It is moved to the front of the room where there was too little.
+/// Where the rest begins once there may be so many bytes behind it. It is moved to the front of the room where there was too little.
 fn make_space(room: &mut Vec<u8>, start: usize, end: usize, size: usize) -> usize
-    requires room { (greatest_frame ≤ vec_capacity room.old) × (vec_len room.old ≤ greatest_frame) }
-    requires part { (start ≤ end) × (end ≤ vec_len room.old) }
+    requires part { (start ≤ end) × (end ≤ vec_len room.old) × (vec_len room.old ≤ greatest_frame) }
     requires fits { end - start + size ≤ greatest_frame }
     ensures rest { take (end - start) (drop result room.new.items) ≡ take (end - start) (drop start room.old.items) }
-    ensures space { result + (end - start) + size ≤ vec_len room.new }
-    ensures grown { vec_len room.old ≤ vec_len room.new }
-    ensures room { (greatest_frame ≤ vec_capacity room.new) × (vec_len room.new ≤ greatest_frame) }
+    ensures space { result + (end - start) + size ≤ greatest_frame }
+    ensures behind { result + (end - start) ≤ vec_len room.new }
+    ensures room { (vec_len room.new ≡ vec_len room.old) × (vec_capacity room.new ≡ vec_capacity room.old) }
 {
     // An empty rest costs nothing to move, and what is used again is still in the cache.
-    let stays = start < end && size <= GREATEST_FRAME - end;
-    let place = if stays { start } else { 0 };
-    if !stays {
+    if start == end || size > GREATEST_FRAME - end {
         room.copy_within(start..end, 0);
+        return 0;
     }
-    fill(room, place + (end - start) + size);
-    place
+    start
 }
 
 /// What a rest begins with.

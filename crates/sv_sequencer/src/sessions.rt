@@ -1,5 +1,5 @@
 //! What a core keeps of each session, and what an entry makes of it.
-ghost use Rattle.std.specs.Prelude.{◌≡◌, ℕ, ◌-◌, ◌<◌, ◌&&◌, nat_eq, false, None, map, option_map, length, IfOk, if◌then◌else◌};
+ghost use Rattle.std.specs.Prelude.{◌≡◌, ℕ, ◌-◌, ◌<◌, ◌&&◌, nat_eq, false, None, map, option_map, length, IfOk, IfSome, IfNone, if◌then◌else◌};
 ghost use Rattle.sv_world.specs.Control.{below};
 ghost use Rattle.sv_journal.specs.History.{either, is_welcome, joining};
 ghost use Rattle.sv_journal.specs.Sessions.{is_last, welcomes};
@@ -85,13 +85,23 @@ fn note_in_all(rows: &mut Vec<SessionRow>, slot: u16, request: &Request, reply: 
     ensures count { length rows.new.items ≡ length rows.old.items }
     ensures rows { (i : ℕ) → i < length rows.old.items → row_at rows.new.items i ≡ session_after (nat_eq slot i) (entry_of slot request.now reply.now) (row_at rows.old.items i) }
 {
-    let joined = joining(request);
     for place in 0..rows.len() {
-        let own = slot as usize == place;
-        if own || rows[place].client == joined {
-            rows[place] = session_after(own, request, reply, &rows[place]);
+        if let Some(row) = noted(slot as usize == place, request, reply, &rows[place]) {
+            rows[place] = row;
         }
     }
+}
+
+// The row after a request, where it may be another one: it is the asker's, or has the client that the request joins.
+#[tactic(auto, using(crate::proofs::Rows::row_of_another))]
+fn noted(own: bool, request: &Request, reply: &Logged, row: &SessionRow) -> Option<SessionRow>
+    ensures some { IfSome result (λ new. (asker : ℕ) → new ≡ session_after own (entry_of asker request.now reply.now) row.now) }
+    ensures none { IfNone result ((asker : ℕ) → session_after own (entry_of asker request.now reply.now) row.now ≡ row.now) }
+{
+    if !own && row.client != joining(request) {
+        return None;
+    }
+    Some(session_after(own, request, reply, row))
 }
 
 #[tactic(auto, using(crate::proofs::Rows::other_row_stays))]

@@ -1,8 +1,8 @@
 -- What is proved by hand of `FrameReader::read_from`.
 use Rattle.std.proofs.Common.{◌≡◌, List, ℕ, ◌+◌, ◌-◌, ◌++◌, take, drop, length, ap, ◌∙◌, arith, length-take-le}
-use Rattle.std.specs.Vec.{with_items}
+use Rattle.std.specs.Vec.{vec_len, with_items}
 use Rattle.std.proofs.lemmas.List.{with_items_is}
-use Rattle.sv_frame.proofs.Room.{part, Written, rest-written, rest-kept, length-fed, tail-size}
+use Rattle.sv_frame.proofs.Room.{part, part-filled, Written, rest-written, rest-kept, length-fed, tail-size}
 use Rattle.sv_frame.proofs.Reading.{nothing_came}
 use Rattle.sv_frame.proofs.reader.FrameReader.read_from.Goals as goal
 
@@ -16,11 +16,13 @@ returns-in-Got-clause-came g c =
     let k = length room - end in
     let into = c.read-answer.new.into in
     let count = c.in-Got.count in
-    let long : length room ≡ 65540 = c.as_mut_slice.ensures.len ∙ made.ensures.whole in
+    let fill = c.fill in
+    let filled_room = part-filled c.self.inside.room.items fill.new.room.items c.self.inside.start size (vec_len c.self.inside.room) fill.ensures.kept c.self.inside.room.ok.0 (omega arith) in
+    let long : length room ≡ 65540 = omega (arith, c.as_mut_slice.ensures.len, made.ensures.room, fill.ensures.filled, fill.ensures.room) in
     let told = c.in-Got.ensures.told in
     let written : Written room start size into k c.args.self.now =
     record {
-      rest_is = ap (λ (l : List ℕ). take size (drop start l)) c.as_mut_slice.ensures.value ∙ (made.ensures.rest ∙ c.self.view_is);
+      rest_is = ap (λ (l : List ℕ). take size (drop start l)) c.as_mut_slice.ensures.value ∙ (made.ensures.rest ∙ (filled_room ∙ c.self.view_is));
       place = omega (arith, long, made.ensures.space);
       size_is = c.read-answer.auto.into ∙ tail-size room end;
     } in
@@ -44,10 +46,12 @@ returns-in_default-clause-came g c =
     let end = start + size in
     let k = length room - end in
     let into = c.read-answer.new.into in
-    let long : length room ≡ 65540 = c.as_mut_slice.ensures.len ∙ made.ensures.whole in
+    let fill = c.fill in
+    let filled_room = part-filled c.self.inside.room.items fill.new.room.items c.self.inside.start size (vec_len c.self.inside.room) fill.ensures.kept c.self.inside.room.ok.0 (omega arith) in
+    let long : length room ≡ 65540 = omega (arith, c.as_mut_slice.ensures.len, made.ensures.room, fill.ensures.filled, fill.ensures.room) in
     let written : Written room start size into k c.args.self.now =
     record {
-      rest_is = ap (λ (l : List ℕ). take size (drop start l)) c.as_mut_slice.ensures.value ∙ (made.ensures.rest ∙ c.self.view_is);
+      rest_is = ap (λ (l : List ℕ). take size (drop start l)) c.as_mut_slice.ensures.value ∙ (made.ensures.rest ∙ (filled_room ∙ c.self.view_is));
       place = omega (arith, long, made.ensures.space);
       size_is = c.read-answer.auto.into ∙ tail-size room end;
     } in
