@@ -79,7 +79,7 @@ fn named_in(alloc: Global, folder: Option<&str>, path: &str) -> Result<Option<St
     }
 }
 
-// A file, where it can be read.
+// A file, where it can be read and is not too long.
 fn put_file<L: Files>(
     alloc: Global,
     files: &mut L,
@@ -89,12 +89,12 @@ fn put_file<L: Files>(
     requires { response.old.status ≡ 200 }
     ensures { OnOk result ((response.new.status ≡ 200) ⊎ (response.new.status ≡ 404)) }
 {
-    match read_all(alloc, files, name, MOST_BYTES) {
-        Ok(bytes) => {
+    match read_all(alloc, files, name, MOST_BYTES + 1) {
+        Ok(bytes) if bytes.len() <= MOST_BYTES => {
             let body = Bytes::copy_from_slice(alloc, &bytes)?;
             put(response, kind_of(name), body)
         }
-        Err(FileFault::Failed) => {
+        Ok(_) | Err(FileFault::Failed) => {
             response.status = StatusCode::NOT_FOUND;
             Ok(())
         }
