@@ -50,7 +50,7 @@ loop-place-preserved c =
           let here : row_at new place ≡ after (row_at old place) =
           get_or-set_same rows place x no_session low ∙ (w.in-Some.ensures.some slot ∙ ap after read) in
           subst (λ v. Noted slot (place + 1) e old v.items) (sym w.rows-is)
-            (noted_on slot place e old rows new past (length-set rows place x) here (λ i ne. get_or-set_other rows place i x no_session ne))
+          (noted_on slot place e old rows new past (length-set rows place x) here (λ i ne. get_or-set_other rows place i x no_session ne))
       | in_default w ↦
           let here : row_at rows place ≡ after (row_at old place) =
           past.others place (omega arith) ∙ (sym read ∙ (sym (w.in_default.ensures.none slot) ∙ ap after read)) in
