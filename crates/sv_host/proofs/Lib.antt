@@ -8,3 +8,5 @@ pub mod Ends
 pub mod Top2
 pub mod Loop1
 pub mod Written
+pub mod Through
+pub mod Staff

@@ -7,13 +7,15 @@ use Rattle.sv_log.specs.Pictures.{Disk}
 use Rattle.sv_keeper.specs.Opened.{IsOpened, WhyNotOpened}
 use Rattle.sv_keeper.specs.Views.{KeeperView}
 use Rattle.sv_keeper.specs.declared.fault.OpenFault.{OpenFault}
+use Rattle.sv_ports.specs.Told.{Told}
 use Rattle.sv_ports.specs.declared.numbered.Place.{Place}
 use Rattle.sv_office.specs.declared.guest.Guest.{Guest}
 use Rattle.sv_worldfile.specs.declared.world_file.WorldFile.{WorldFile}
 use Rattle.sv_worldfile.specs.WorldFiles.{world_file_of}
 use Rattle.sv_host.specs.Causes.{file_place, is_authority, line_place, IsFileFront, IsPrepared, IsWrongLine, WhyBefore, WhyFaulty, WhyNoKeys, WhyUnread}
-use Rattle.sv_host.specs.Causes.{start_in, HasStopped, IsEndOf, WasServed, WhyBehind, WhyStopped, WhyUnopened}
+use Rattle.sv_host.specs.Causes.{start_in, HasOpened, HasStopped, IsEndOf, WasServed, WhyBehind, WhyStopped, WhyUnopened, WroteFirst}
 use Rattle.sv_host.specs.Rooms.{AreServed}
+use Rattle.sv_host.specs.Served.{BreaksOff}
 use Rattle.sv_host.specs.Statuses.{IsEarly}
 use Rattle.sv_host.specs.Words.{Asked}
 use Rattle.sv_host.specs.declared.ending.HostEnd.{HostEnd}
@@ -111,7 +113,7 @@ module _ {F : Type 0} (disk : F → Disk) (is_honest : F → Type 0) where
   pub unopened_why : (folder now : F) (file : WorldFile) (bytes name : List ℕ) (fault : OpenFault) (e : HostEnd)
       → (is_honest now → WhyNotOpened (disk folder) (disk now) bytes (start_in file) fault) → IsEndOf name fault e
       → WhyUnopened disk is_honest folder file bytes name e
-  unopened_why folder now file bytes name fault (endings.Log line) why is = record { now = now; fault = fault; why = why; told = is }
+  unopened_why folder now file bytes name fault (endings.Log line) why is = record { now = now; fault = fault; own = is.0; why = why; told = is.1 }
   unopened_why folder now file bytes name fault (endings.Disk which) why is = tt
   unopened_why folder now file bytes name fault endings.Memory why is = tt
   unopened_why folder now file bytes name fault (endings.Done stopped) why is = absurd is
@@ -152,15 +154,23 @@ module _ {F : Type 0} (disk : F → Disk) (is_honest : F → Type 0) where
     stopped_behind name (endings.File which) is why = absurd why
     stopped_behind name (endings.Log line) is why = absurd why
 
-    pub served_as : (file : WorldFile) (bytes : List ℕ) (folder : F) (first : KeeperView F) (stopped : Stopped) → IsPrepared (contents asked.world) asked file bytes
-        → opens asked.folder folder → IsOpened disk is_honest (disk folder) bytes (start_in file) first
-        → HasStopped disk is_honest first asked.folder stopped → WasServed disk is_honest opens contents asked stopped
-    served_as file bytes folder first stopped read opened begun last = record {
+    abbrev log_opened : (file : WorldFile) (bytes : List ℕ) (folder : F) (first : KeeperView F) → IsPrepared (contents asked.world) asked file bytes
+        → opens asked.folder folder → IsOpened disk is_honest (disk folder) bytes (start_in file) first → HasOpened disk is_honest opens contents asked
+    log_opened file bytes folder first read opened begun = record {
       over = record { file = file; bytes = bytes; prepared = read; folder = folder; opened = opened };
       first = first;
       begun = begun;
-      last = last;
     }
+
+    module _ (before after : Told) (file : WorldFile) (bytes : List ℕ) (folder : F) (first : KeeperView F) (read : IsPrepared (contents asked.world) asked file bytes)
+        (opened : opens asked.folder folder) (begun : IsOpened disk is_honest (disk folder) bytes (start_in file) first) where
+      pub served_as : (stopped : Stopped) → HasStopped disk is_honest first before after asked.folder stopped
+          → WasServed disk is_honest opens contents before after asked stopped
+      served_as stopped last = record { log = log_opened file bytes folder first read opened begun; last = last }
+
+      -- What was written until it broke off.
+      pub broke_as : BreaksOff before after first.world → WroteFirst disk is_honest opens contents before after asked
+      broke_as broke = inr (record { log = log_opened file bytes folder first read opened begun; broke = broke })
 
     -- Such an ending is none for the words or for a file.
     pub late : (e : HostEnd) → WhyBehind disk is_honest opens contents asked e → IsEarly e → ⊥

@@ -1,6 +1,6 @@
 -- Why a call of `host` ends as it does, and what it leaves.
 -- `contents` says what a file holds, `rose` that reading failed once more, and `opens` as which folder one of a name is opened.
-use Rattle.std.specs.Prelude.{◌≡◌, ◌⊎◌, ℕ, ◌+◌, ◌==◌, Bool, true, false, List, [], ◌∷◌, ◌++◌, length, take, Option, Some, None, Ok, Err, codes, string_bytes, if◌then◌else◌}
+use Rattle.std.specs.Prelude.{◌≡◌, ◌≢◌, ◌⊎◌, ℕ, ◌+◌, ◌==◌, Bool, true, false, List, [], ◌∷◌, ◌++◌, length, take, Option, Some, None, Ok, Err, codes, string_bytes, if◌then◌else◌}
 use Rattle.std.specs.Fmt.{decimal}
 use Rattle.sv_scenario.specs.declared.fault.ScenarioFault.{ScenarioFault}
 use Rattle.sv_scenario.specs.Lines.{fault_line}
@@ -29,6 +29,10 @@ use Rattle.sv_worldfile.specs.declared.world_file.Results.{Results}
 use Rattle.sv_worldfile.specs.declared.world_file.Results.TheVariants as results
 use Rattle.sv_worldfile.specs.declared.world_file.WorldFile.{WorldFile}
 use Rattle.sv_worldfile.specs.WorldFiles.{most_bytes, world_file_of}
+use Rattle.sv_ports.specs.Told.{Told, nothing_told}
+use Rattle.sv_host.specs.Inputs.{WasToldToStop}
+use Rattle.sv_host.specs.Rooms.{Continues, IsAnEnd}
+use Rattle.sv_host.specs.Served.{BreaksOff, OnlyWrote}
 use Rattle.sv_host.specs.Words.{Asked, Ask, AsksNothing}
 use Rattle.sv_host.specs.declared.ending.HostEnd.{HostEnd}
 use Rattle.sv_host.specs.declared.ending.HostEnd.TheVariants as endings
@@ -161,9 +165,15 @@ fault_place folder (faults.Refused refusal) = file_place (named_or folder (strin
 fault_place folder (faults.Line file line cause) = line_place (string_bytes file) line (line_word cause)
 fault_place folder _ = []
 
+-- What stands in the log is at fault, and not the disk or memory.
+abbrev pub IsOfLog : OpenFault → Type 0
+IsOfLog (faults.Refused refusal) = (refusal.cause ≢ causes.Failed) × (refusal.cause ≢ causes.Memory)
+IsOfLog (faults.Line file line cause) = Unit {0}
+IsOfLog _ = ⊥
+
 -- How it ends where a log is not opened; for private clauses.
 abbrev pub IsEndOf : List ℕ → OpenFault → HostEnd → Type 0
-IsEndOf folder fault (endings.Log place) = string_bytes place ≡ fault_place folder fault
+IsEndOf folder fault (endings.Log place) = IsOfLog fault × (string_bytes place ≡ fault_place folder fault)
 IsEndOf folder fault (endings.Disk name) = Unit {0}
 IsEndOf folder fault endings.Memory = Unit {0}
 IsEndOf folder fault _ = ⊥
@@ -181,6 +191,7 @@ module _ {F : Type 0} (disk : F → Disk) (is_honest : F → Type 0) where
   pub record IsRefusedLog (folder : F) (file : WorldFile) (bytes : List ℕ) (name line : List ℕ) : Type 0 where
     pub now : F
     pub fault : OpenFault
+    pub own : IsOfLog fault
     pub why : is_honest now → WhyNotOpened (disk folder) (disk now) bytes (start_in file) fault
     pub told : line ≡ fault_place name fault
 
@@ -202,10 +213,14 @@ module _ {F : Type 0} (disk : F → Disk) (is_honest : F → Type 0) where
         → LeavesOnly (disk keeper.log.segment.folder) (disk keeper.log.segment.folder)
         (HoldsFirst keeper.world.rules.world.shape world (newest disk keeper.log) keeper.world.history (length keeper.world.history))
 
-  -- The world was served until it was to stop, and this is told of it: the folder's name, how many entries there are, and the commit.
-  pub record HasStopped (first : KeeperView F) (name : List ℕ) (stopped : Stopped) : Type 0 where
+  -- The world was served until the input told to stop: it went on, and what was written is what connections were told before the last Ends. This is told of it:
+  -- the folder's name, how many entries there are, and the commit.
+  pub record HasStopped (first : KeeperView F) (before after : Told) (name : List ℕ) (stopped : Stopped) : Type 0 where
     pub keeper : KeeperView F
+    pub goes : Continues first.world keeper.world
     pub done : IsAtEnd keeper
+    pub sent : OnlyWrote IsAnEnd before after keeper.world
+    pub asked : before ≡ nothing_told → WasToldToStop after
     pub folder : string_bytes stopped.folder ≡ name
     pub entries : stopped.entries ≡ length keeper.world.history
     pub commit : stopped.commit ≡ commit_of (heeded_in keeper.world)
@@ -233,20 +248,34 @@ module _ {F : Type 0} (disk : F → Disk) (is_honest : F → Type 0) where
     WhyBehind asked endings.Memory = Unit {0}
     WhyBehind asked _ = ⊥
 
-    -- The log of the folder was opened, and its world served until it was to stop.
-    pub record WasServed (asked : Asked) (stopped : Stopped) : Type 0 where
-      pub over : HasFolder asked
-      pub first : KeeperView F
-      pub begun : IsOpened disk is_honest (disk over.folder) over.bytes (start_in over.file) first
-      pub last : HasStopped first asked.folder stopped
-
     -- Why it ends without having been told to stop.
     abbrev pub WhyEnds : Type 0 → Asked → HostEnd → Type 0
     WhyEnds rose asked e = WhyBefore contents rose asked e ⊎ WhyBehind asked e
 
-    -- How a call of these words ends, and why.
-    pub data EndsFor (words : List (List ℕ)) (rose : Type 0) : HostEnd → Type 0 where
-      nothing : AsksNothing words → EndsFor words rose endings.Words
-      memory : EndsFor words rose endings.Memory
-      early : {e : HostEnd} (asked : Asked) → Ask words asked → WhyEnds rose asked e → EndsFor words rose e
-      served : {stopped : Stopped} (asked : Asked) → Ask words asked → WasServed asked stopped → EndsFor words rose (endings.Done stopped)
+    -- The log of the folder was opened.
+    pub record HasOpened (asked : Asked) : Type 0 where
+      pub over : HasFolder asked
+      pub first : KeeperView F
+      pub begun : IsOpened disk is_honest (disk over.folder) over.bytes (start_in over.file) first
+
+    module _ (before after : Told) where
+      -- The log of the folder was opened, and its world served until it was to stop.
+      pub record WasServed (asked : Asked) (stopped : Stopped) : Type 0 where
+        pub log : HasOpened asked
+        pub last : HasStopped log.first before after asked.folder stopped
+
+      -- The log of the folder was opened, and its world served until it broke off.
+      pub record WasServedFirst (asked : Asked) : Type 0 where
+        pub log : HasOpened asked
+        pub broke : BreaksOff before after log.first.world
+
+      -- What was written where it was not told to stop: nothing through any door, or what connections of the folder's world were told.
+      abbrev pub WroteFirst : Asked → Type 0
+      WroteFirst asked = (after ≡ before) ⊎ WasServedFirst asked
+
+      -- How a call of these words ends, and why.
+      pub data EndsFor (words : List (List ℕ)) (rose : Type 0) : HostEnd → Type 0 where
+        nothing : AsksNothing words → after ≡ before → EndsFor words rose endings.Words
+        memory : after ≡ before → EndsFor words rose endings.Memory
+        early : {e : HostEnd} (asked : Asked) → Ask words asked → WhyEnds rose asked e → WroteFirst asked → EndsFor words rose e
+        served : {stopped : Stopped} (asked : Asked) → Ask words asked → WasServed asked stopped → EndsFor words rose (endings.Done stopped)

@@ -1,6 +1,7 @@
 //! What opens folders and doors.
-ghost use Rattle.std.specs.Prelude.{List, ℕ, IfOk};
+ghost use Rattle.std.specs.Prelude.{◌≡◌, List, ℕ, IfOk, OnErr};
 ghost use Rattle.sv_log.specs.Rests.{IsAtRest};
+ghost use Rattle.sv_ports.specs.Told.{Told, nothing_told};
 
 use sv_log::Folder;
 use sv_ports::Ports;
@@ -35,12 +36,21 @@ pub enum DoorFault {
     Failed,
 }
 
-/// Opens doors.
+/// Opens doors, and closes them.
 pub trait Doors {
     type P: Ports + Drop;
 
+    // What the connections of all its doors told, where no door is open.
+    ghost told: { Self → Told };
+
     /// Opens a door at an address, and looks at the input where it is wanted.
-    fn open(&mut self, address: &str, input: bool) -> Result<Self::P, DoorFault>;
+    fn open(&mut self, address: &str, input: bool) -> Result<Self::P, DoorFault>
+        ensures ok { told self.old ≡ nothing_told → IfOk result (λ ports. Self.P.told ports ≡ nothing_told) }
+        ensures err { OnErr result (told self.new ≡ told self.old) };
+
+    /// Closes a door.
+    fn close(&mut self, ports: Self::P)
+        ensures { told self.new ≡ Self.P.told ports };
 
     /// The address at which a door is open, as text. It may have another port than was asked for.
     fn address(&self, ports: &Self::P, out: &mut String) -> bool;

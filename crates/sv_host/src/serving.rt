@@ -4,9 +4,12 @@ ghost use Rattle.sv_living.specs.Sessions.{open_sessions};
 ghost use Rattle.sv_keeper.specs.Keeping.{AreSettled};
 ghost use Rattle.sv_office.specs.Entering.{GoesOn};
 ghost use Rattle.sv_office.specs.Offices.{session_of};
-ghost use Rattle.sv_host.specs.Rooms.{AreServed, AreTold, AreWritten, IsAnEnd, KeepsWritten};
+ghost use Rattle.sv_ports.specs.Told.{nothing_told};
+ghost use Rattle.sv_host.specs.Inputs.{WasToldToStop};
+ghost use Rattle.sv_host.specs.Rooms.{AnyEntry, AreServed, AreTold, AreWritten, Continues, IsAnEnd, KeepsWritten, LeftInput, WereWritten};
 
 use crate::host::Host;
+use crate::input::InputLines;
 use crate::turn::Turned;
 use std::sync::Wait;
 use sv_bytes::{Files, Sink};
@@ -67,10 +70,18 @@ impl<F: Folder> Host<F> {
         ensures ended { OnOk result (open_sessions self.new.office.keeper.world.history ≡ []) }
         ensures settled { OnOk result (AreSettled F.disk F.is_honest self.new.office.keeper) }
         ensures told { OnOk result (AreTold self.new.office.keeper.world self.new.room.guests) }
-        ensures written { OnOk result (AreWritten (P.told outside.old.ports.now) self.old.room.guests → AreWritten (P.told outside.new.ports.now) self.new.room.guests) }
+        ensures written { OnOk result (AreWritten self.old.office.keeper.world (P.told outside.old.ports.now) self.old.room.guests → AreWritten self.new.office.keeper.world (P.told outside.new.ports.now) self.new.room.guests) }
+        ensures goes { Continues self.old.office.keeper.world self.new.office.keeper.world }
+        ensures lent { outside.new.ports.ghost_name ≡ outside.old.ports.ghost_name }
+        ensures past { AreWritten self.old.office.keeper.world (P.told outside.old.ports.now) self.old.room.guests
+            → WereWritten AnyEntry (P.told outside.new.ports.now) self.new.office.keeper.world }
+        ensures last { OnOk result (AreWritten self.old.office.keeper.world (P.told outside.old.ports.now) self.old.room.guests
+            → WereWritten IsAnEnd (P.told outside.new.ports.now) self.new.office.keeper.world) }
+        ensures asked { OnOk result (P.told outside.old.ports.now ≡ nothing_told → WasToldToStop (P.told outside.new.ports.now)) }
     {
+        let mut input = InputLines::new();
         for _ in rt.forever() {
-            if self.turn(outside, piece, clock)? == Turned::Stops {
+            if self.turn(outside, piece, clock, &mut input)? == Turned::Stops {
                 return self.stop(outside.ports);
             }
         }
@@ -81,7 +92,8 @@ impl<F: Folder> Host<F> {
     fn touch_all(&mut self) -> Result<bool, Halt>
         requires served { AreServed self.old.office.keeper.world (session_of self.old.office.steward) self.old.room.guests }
         ensures served { AreServed self.new.office.keeper.world (session_of self.new.office.steward) self.new.room.guests }
-        ensures written { KeepsWritten self.old.room.guests self.new.room.guests }
+        ensures written { KeepsWritten self.old.office.keeper.world self.old.room.guests self.new.office.keeper.world self.new.room.guests }
+        ensures world { self.new.office.keeper ≡ self.old.office.keeper }
     {
         let mut waits = false;
         for place in 0..self.room.guests.len() {
@@ -100,7 +112,10 @@ impl<F: Folder> Host<F> {
     fn send_rest<P: Ports>(&mut self, ports: &mut P) -> Result<(), Halt>
         requires served { AreServed self.old.office.keeper.world (session_of self.old.office.steward) self.old.room.guests }
         ensures served { OnOk result (AreServed self.new.office.keeper.world (session_of self.new.office.steward) self.new.room.guests) }
-        ensures written { OnOk result (AreWritten (P.told ports.old) self.old.room.guests → AreWritten (P.told ports.new) self.new.room.guests) }
+        ensures written { OnOk result (AreWritten self.old.office.keeper.world (P.told ports.old) self.old.room.guests → AreWritten self.new.office.keeper.world (P.told ports.new) self.new.room.guests) }
+        ensures goes { Continues self.old.office.keeper.world self.new.office.keeper.world }
+        ensures past { AreWritten self.old.office.keeper.world (P.told ports.old) self.old.room.guests → WereWritten AnyEntry (P.told ports.new) self.new.office.keeper.world }
+        ensures input { OnOk result (LeftInput (P.told ports.old) (P.told ports.new)) }
     {
         for _ in 0..LAST_TURNS {
             let waits = self.touch_all()?;
@@ -120,7 +135,11 @@ impl<F: Folder> Host<F> {
         ensures ended { OnOk result (open_sessions self.new.office.keeper.world.history ≡ []) }
         ensures settled { OnOk result (AreSettled F.disk F.is_honest self.new.office.keeper) }
         ensures told { OnOk result (AreTold self.new.office.keeper.world self.new.room.guests) }
-        ensures written { OnOk result (AreWritten (P.told ports.old) self.old.room.guests → AreWritten (P.told ports.new) self.new.room.guests) }
+        ensures written { OnOk result (AreWritten self.old.office.keeper.world (P.told ports.old) self.old.room.guests → AreWritten self.new.office.keeper.world (P.told ports.new) self.new.room.guests) }
+        ensures goes { Continues self.old.office.keeper.world self.new.office.keeper.world }
+        ensures past { AreWritten self.old.office.keeper.world (P.told ports.old) self.old.room.guests → WereWritten AnyEntry (P.told ports.new) self.new.office.keeper.world }
+        ensures last { OnOk result (AreWritten self.old.office.keeper.world (P.told ports.old) self.old.room.guests → WereWritten IsAnEnd (P.told ports.new) self.new.office.keeper.world) }
+        ensures input { OnOk result (LeftInput (P.told ports.old) (P.told ports.new)) }
     {
         self.send_rest(ports)?;
         let office = &mut self.office;

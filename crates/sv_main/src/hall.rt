@@ -1,4 +1,5 @@
 //! Folders and doors of the system, for the server of a living world.
+use http_server::Log;
 use std::alloc::Global;
 use std::io::ErrorKind;
 use std::net::{Net, SocketAddr};
@@ -40,10 +41,16 @@ pub struct OsDoors<'r, R: Net> {
     pub alloc: Global,
     /// The standard input.
     pub input: Stdin,
+    /// The connections of the door that was closed last, for contracts alone.
+    pub closed: Log<MioPorts<Stdin>, ()>,
 }
 
 impl<'r, R: Net> Doors for OsDoors<'r, R> {
+    ghost use Rattle.sv_main.specs.Closed.{told_by};
+
     type P = MioPorts<Stdin>;
+
+    ghost told = { λ doors. told_by doors.closed.items };
 
     fn open(&mut self, address: &str, input: bool) -> Result<MioPorts<Stdin>, DoorFault> {
         let Ok(address) = address.parse::<SocketAddr>() else {
@@ -55,6 +62,10 @@ impl<'r, R: Net> Doors for OsDoors<'r, R> {
             Err(error) if error.kind() == ErrorKind::AddrInUse => Err(DoorFault::Busy),
             Err(_) => Err(DoorFault::Failed),
         }
+    }
+
+    fn close(&mut self, ports: MioPorts<Stdin>) {
+        self.closed = Log::new().and(&ports, &());
     }
 
     fn address(&self, ports: &MioPorts<Stdin>, out: &mut String) -> bool {

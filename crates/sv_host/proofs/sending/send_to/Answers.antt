@@ -8,14 +8,14 @@ pub returns-in_default-clause-served : goal.returns-in_default-clause-served
 returns-in_default-clause-served g c = sent_none c.args.number c.args.guests.now _ c.take.ensures.left
 
 pub returns-in_default-clause-written : goal.returns-in_default-clause-written
-returns-in_default-clause-written g c = written_none c.args.number c.args.guests.now _ c.take.ensures.left
+returns-in_default-clause-written g c v = written_none c.args.number c.args.guests.now _ (sym c.take.ensures.item ∙ c.in_default.is) c.take.ensures.left
 
 pub returns-clause-served : goal.returns-clause-served
 returns-clause-served g c =
     sent_to c.args.number c.args.guests.now _ _ c.in-Some.guest _ (sym c.in-Some.is ∙ c.take.ensures.item) c.take.ensures.left c.send_out-then.ensures.guest c.put.ensures
 
 pub returns-clause-written : goal.returns-clause-written
-returns-clause-written g c are =
-    written_in c.args.number c.take.new.self _ c.send_out-then.new.guest c.put.ensures
+returns-clause-written g c v are =
+    written_in c.args.number c.take.new.self _ c.send_out-then.new.guest c.put.ensures c.output.ensures.in_step
     (written_to c.args.number c.take.new.self c.in-Some.guest c.send_out-then.new.guest _ _ c.send_out-then.ensures.bytes
     (written_out c.args.number c.args.guests.now _ c.in-Some.guest (sym c.take.ensures.item ∙ c.in-Some.is) c.take.ensures.left are))

@@ -1,0 +1,27 @@
+-- What the input had.
+use Rattle.std.proofs.Common.{inl, ap, ◌∙◌}
+use Rattle.sv_ports.specs.Told.{Told}
+use Rattle.sv_host.proofs.Behind.{read_as, read_on}
+use Rattle.sv_host.proofs.Written.{left_as, written_read}
+use Rattle.sv_host.proofs.host.Host.is_told_to_stop.Goals as goal
+
+pub returns-in-Got-clause-written : goal.returns-in-Got-clause-written
+returns-in-Got-clause-written g c = ?
+
+pub returns-in-Got-clause-stops : goal.returns-in-Got-clause-stops
+returns-in-Got-clause-stops g c = ?
+
+pub returns-in-NotYet-clause-written : goal.returns-in-NotYet-clause-written
+returns-in-NotYet-clause-written g c = ?
+
+pub returns-in-NotYet-clause-stops : goal.returns-in-NotYet-clause-stops
+returns-in-NotYet-clause-stops g c = ?
+
+pub returns-in-Ended-clause-written : goal.returns-in-Ended-clause-written
+returns-in-Ended-clause-written g c = ?
+
+pub returns-in-Ended-clause-stops : goal.returns-in-Ended-clause-stops
+returns-in-Ended-clause-stops g c = ?
+
+pub returns-in-Failed-clause-written : goal.returns-in-Failed-clause-written
+returns-in-Failed-clause-written g c = ?
