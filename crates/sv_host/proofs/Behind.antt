@@ -125,8 +125,8 @@ pub read_on : (old new : Told) (piece : List ℕ) (input next : InputLines) (sto
     → ((line : List ℕ) → IsAtLine input line → stops ≡ false → IsAtLine next (unended line piece))
     → IsReadTo old input → MatchBool stops (WasToldToStop new) (IsReadTo new next)
 read_on old new piece input next true more stop at read = inr (
-  ap (has_stop []) more ∙ stop_more [] old.input piece ∙ or_late (has_stop [] old.input) (has_stop (unended [] old.input) piece) (sym (stop (unended [] old.input) read))
-)
+    ap (has_stop []) more ∙ stop_more [] old.input piece ∙ or_late (has_stop [] old.input) (has_stop (unended [] old.input) piece) (sym (stop (unended [] old.input) read))
+    )
 read_on old new piece input next false more stop at read =
     subst (λ (line : List ℕ). IsAtLine next line) (sym (ap (unended []) more ∙ unended_more [] old.input piece)) (at (unended [] old.input) read refl)
 

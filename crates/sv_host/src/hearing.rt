@@ -12,7 +12,7 @@ use sv_ports::Ports;
 impl<F: Folder> Host<F> {
     fn had_turn(&self, number: u64) -> bool {
         match self.room.guests.get(number) {
-            Some(guest) => guest.had_turn,
+            Some(guest) => guest.get().had_turn,
             None => false,
         }
     }
@@ -35,8 +35,8 @@ impl<F: Folder> Host<F> {
         let Some(mut guest) = self.take_out(number) else {
             return Ok(());
         };
-        self.hear_guest(outside, number, &mut guest, piece)?;
-        self.list(number, &mut guest)?;
+        self.hear_guest(outside, number, guest.get_mut(), piece)?;
+        self.list(number, guest.get_mut())?;
         self.put_back(number, guest)
     }
 

@@ -11,7 +11,7 @@ impl<F: Folder> Host<F> {
     // How the held Observe of a connection stands, where it is there.
     fn standing_of(&self, number: u64) -> Waiting {
         match self.room.guests.get(number) {
-            Some(guest) => self.office.standing_of_held(guest),
+            Some(guest) => self.office.standing_of_held(guest.get()),
             None => Waiting::Nothing,
         }
     }
@@ -28,8 +28,8 @@ impl<F: Folder> Host<F> {
         let Some(mut guest) = self.take_out(number) else {
             return Ok(());
         };
-        self.release_guest(&mut guest)?;
-        self.unlist(&mut guest);
+        self.release_guest(guest.get_mut())?;
+        self.unlist(guest.get_mut());
         self.put_back(number, guest)
     }
 

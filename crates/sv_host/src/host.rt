@@ -4,6 +4,7 @@ ghost use Rattle.sv_ports.specs.Told.{Told};
 ghost use Rattle.sv_office.specs.Offices.{session_of};
 ghost use Rattle.sv_host.specs.Rooms.{AreServed, AreWritten, Continues, IsOut, IsWritten, KeepsOut, KeepsWritten, WroteNothing};
 
+use crate::boxed::BoxedGuest;
 use crate::room::Room;
 use std::alloc::Global;
 use sv_bytes::{Files, Sink};
@@ -21,7 +22,7 @@ pub struct Host<F: Folder> {
 
 impl<F: Folder> Host<F> {
     /// Takes a connection out, where it is there.
-    pub fn take_out(&mut self, number: u64) -> Option<Guest>
+    pub fn take_out(&mut self, number: u64) -> Option<BoxedGuest>
         requires served { AreServed self.old.office.keeper.world (session_of self.old.office.steward) self.old.room.guests }
         ensures some { IfSome result (λ guest. IsOut self.new.office.keeper.world (session_of self.new.office.steward) self.new.room.guests guest) }
         ensures none { IfNone result (AreServed self.new.office.keeper.world (session_of self.new.office.steward) self.new.room.guests) }
@@ -33,26 +34,26 @@ impl<F: Folder> Host<F> {
     }
 
     /// Puts a connection back that was taken out. Something may be sent to it.
-    pub fn put_back(&mut self, number: u64, guest: Guest) -> Result<(), Halt>
+    pub fn put_back(&mut self, number: u64, guest: BoxedGuest) -> Result<(), Halt>
         requires taken { IsOut self.old.office.keeper.world (session_of self.old.office.steward) self.old.room.guests guest }
         ensures served { AreServed self.new.office.keeper.world (session_of self.new.office.steward) self.new.room.guests }
         ensures office { self.new.office ≡ self.old.office }
         ensures written { (told : Told) → IsWritten self.old.office.keeper.world told self.old.room.guests number guest → AreWritten self.new.office.keeper.world told self.new.room.guests }
     {
         // What it handed over and what waits is what its replies are told by.
-        let _ = guest.peer.output();
+        let _ = guest.get().peer.output();
         self.room.put_back(number, guest)
     }
 
     /// Lets a connection go that was taken out, and whose session has its End.
-    pub fn let_go(&mut self, number: u64, guest: Guest)
+    pub fn let_go(&mut self, number: u64, guest: BoxedGuest)
         requires taken { IsOut self.old.office.keeper.world (session_of self.old.office.steward) self.old.room.guests guest }
         requires over { guest.session ≡ None }
         ensures served { AreServed self.new.office.keeper.world (session_of self.new.office.steward) self.new.room.guests }
         ensures office { self.new.office ≡ self.old.office }
         ensures written { (told : Told) → IsWritten self.old.office.keeper.world told self.old.room.guests number guest → AreWritten self.new.office.keeper.world told self.new.room.guests }
     {
-        let _ = guest.peer.output();
+        let _ = guest.get().peer.output();
         self.room.guests.remove(number);
     }
 

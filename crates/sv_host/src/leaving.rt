@@ -3,6 +3,7 @@ ghost use Rattle.std.specs.Prelude.{◌≡◌, OnOk};
 ghost use Rattle.sv_office.specs.Offices.{session_of};
 ghost use Rattle.sv_host.specs.Rooms.{AreServed, AreWritten, Continues, IsNew, LeftInput, WroteNothing};
 
+use crate::boxed::BoxedGuest;
 use crate::host::Host;
 use sv_log::Folder;
 use sv_office::{Guest, Halt};
@@ -31,7 +32,11 @@ impl<F: Folder> Host<F> {
             return;
         }
         let guest = Guest::new(self.alloc, self.office.time);
-        if self.room.guests.push(number, guest).is_err() {
+        let Ok(boxed) = BoxedGuest::new(self.alloc, guest) else {
+            ports.close(number);
+            return;
+        };
+        if self.room.guests.push(number, boxed).is_err() {
             ports.close(number);
         }
     }
@@ -78,7 +83,7 @@ impl<F: Folder> Host<F> {
         let Some(mut guest) = self.take_out(number) else {
             return Ok(());
         };
-        self.end_guest(&mut guest)?;
+        self.end_guest(guest.get_mut())?;
         self.let_go(number, guest);
         ports.close(number);
         Ok(())

@@ -1,6 +1,7 @@
 //! The server of a living world: one loop over all connections, a kept world behind it, and an honest client within it as its steward.
 #![tactic(auto)]
 
+mod boxed;
 mod ending;
 mod hall;
 mod hearing;

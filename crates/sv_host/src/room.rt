@@ -9,7 +9,7 @@ use sv_ports::{Numbered, Ready};
 /// The connections, and which of them are to be looked at.
 #[derive(Drop)]
 pub struct Room {
-    pub guests: Numbered<Guest>,
+    pub guests: Numbered<BoxedGuest>,
     pub ready: Ready,
     /// Connections that had more than was taken of them in their turn.
     pub busy: Vec<u64>,
@@ -46,7 +46,7 @@ impl Room {
     }
 
     /// Puts a connection back that was taken out. Something may be sent to it.
-    pub fn put_back(&mut self, number: u64, guest: Guest) -> Result<(), Halt>
+    pub fn put_back(&mut self, number: u64, guest: BoxedGuest) -> Result<(), Halt>
         ensures guests { self.new.guests ≡ with_item number (Some guest) self.old.guests }
     {
         self.guests.put(number, guest);

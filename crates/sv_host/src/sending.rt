@@ -4,6 +4,7 @@ ghost use Rattle.sv_living.specs.World.{WorldView};
 ghost use Rattle.sv_office.specs.Offices.{session_of};
 ghost use Rattle.sv_host.specs.Rooms.{AnyEntry, AreServed, AreWritten, Continues, KeepsWritten, LeftInput, Sends, WasSent, WereWritten, WroteNothing};
 
+use crate::boxed::BoxedGuest;
 use crate::host::Host;
 use crate::room::Room;
 use std::alloc::Global;
@@ -87,7 +88,7 @@ fn send_out<P: Ports>(
 /// Sends to a connection, and ends its turn.
 fn send_to<P: Ports>(
     ports: &mut P,
-    guests: &mut Numbered<Guest>,
+    guests: &mut Numbered<BoxedGuest>,
     number: u64,
     counts: &mut Counts,
     settled: &Settled<'_>,
@@ -99,8 +100,8 @@ fn send_to<P: Ports>(
     let Some(mut guest) = guests.take(number) else {
         return Then::Waits;
     };
-    let then = send_out(ports, number, &mut guest, counts, settled);
-    let _ = guest.peer.output();
+    let then = send_out(ports, number, guest.get_mut(), counts, settled);
+    let _ = guest.get().peer.output();
     guests.put(number, guest);
     then
 }

@@ -102,7 +102,7 @@ impl<F: Folder> Host<F> {
             };
             self.room.touched.push(number)?;
             if let Some(guest) = self.room.guests.get(number) {
-                waits = waits || !guest.peer.output().is_empty();
+                waits = waits || !guest.get().peer.output().is_empty();
             }
         }
         Ok(waits)

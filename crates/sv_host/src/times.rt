@@ -18,6 +18,7 @@ impl<F: Folder> Host<F> {
     fn is_idle(&self, number: u64) -> bool {
         match self.room.guests.get(number) {
             Some(guest) => {
+                let guest = guest.get();
                 guest.held.is_none()
                     && self.office.time.saturating_sub(guest.heard) >= self.office.manners.idle
             }
@@ -37,8 +38,8 @@ impl<F: Folder> Host<F> {
         let Some(mut guest) = self.take_out(number) else {
             return Ok(());
         };
-        self.drop_guest(&mut guest);
-        self.end_guest(&mut guest)?;
+        self.drop_guest(guest.get_mut());
+        self.end_guest(guest.get_mut())?;
         self.put_back(number, guest)
     }
 

@@ -150,7 +150,14 @@ fn serve_door<R: Wait, D: Doors, S, C: Clock, L: Files, E: Sink, F: Folder>(
     ensures asked { OnOk result (D.P.told ports.old ≡ nothing_told → WasToldToStop (D.P.told ports.new)) }
     ensures sent { OnlyWrote AnyEntry (D.P.told ports.old) (D.P.told ports.new) host.new.office.keeper.world }
 {
-    tell_door(place.alloc, options, place.doors, ports, &host.office.keeper, place.err);
+    tell_door(
+        place.alloc,
+        options,
+        place.doors,
+        ports,
+        &host.office.keeper,
+        place.err,
+    );
     let mut piece = vec![in place.alloc; 0u8; PIECE]?;
     serve_over(
         place.rt,
