@@ -8,5 +8,6 @@ pub mod Ends
 pub mod Top2
 pub mod Loop1
 pub mod Written
+pub mod Boxes
 pub mod Through
 pub mod Staff

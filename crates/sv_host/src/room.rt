@@ -2,6 +2,7 @@
 ghost use Rattle.std.specs.Prelude.{◌≡◌, [], Some};
 ghost use Rattle.sv_ports.specs.Numbered.{with_item};
 
+use crate::boxed::BoxedGuest;
 use std::alloc::Global;
 use sv_office::{Guest, Halt};
 use sv_ports::{Numbered, Ready};

@@ -196,8 +196,11 @@ impl<F: Folder> Host<F> {
         ensures input { OnOk result (LeftInput (P.told ports.old) (P.told ports.new)) }
     {
         self.settle()?;
-        let touched = std::mem::replace(&mut self.room.touched, Vec::new(self.alloc));
+        let mut touched = std::mem::replace(&mut self.room.touched, Vec::new(self.alloc));
         let gone = self.send_settled(ports, &touched)?;
+        // Its room is used again.
+        touched.clear();
+        self.room.touched = touched;
         self.depart_each(ports, &gone)
     }
 }

@@ -1,4 +1,7 @@
 -- It is put back.
+use Rattle.std.proofs.Common.{subst}
+use Rattle.sv_peer.specs.View.{IsInStep}
+use Rattle.sv_office.specs.declared.guest.Guest.{Guest}
 use Rattle.sv_host.proofs.Loop1.{put_as}
 use Rattle.sv_host.proofs.Written.{written_in}
 use Rattle.sv_host.proofs.host.Host.put_back.Goals as goal
@@ -8,4 +11,4 @@ returns-clause-served g c = put_as c.args.number c.args.self.now.room.guests c.a
 
 pub returns-clause-written : goal.returns-clause-written
 returns-clause-written g c told =
-    written_in c.args.number c.args.self.now.room.guests _ c.args.guest c.put_back.ensures.guests c.output.ensures.in_step
+    written_in c.args.number c.args.self.now.room.guests _ c.args.guest c.put_back.ensures.guests (subst (λ (guest : Guest). IsInStep guest.peer) c.get.ensures c.output.ensures.in_step)
