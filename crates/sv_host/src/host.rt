@@ -9,7 +9,7 @@ use crate::room::Room;
 use std::alloc::Global;
 use sv_bytes::{Files, Sink};
 use sv_log::Folder;
-use sv_office::{Guest, Halt, Office, Outside};
+use sv_office::{Guest, Half, Halt, Office, Outside};
 use sv_ports::Ports;
 
 /// The server of a living world, between two turns of its loop.
@@ -33,8 +33,8 @@ impl<F: Folder> Host<F> {
         self.room.guests.take(number)
     }
 
-    /// Puts a connection back that was taken out. Something may be sent to it.
-    pub fn put_back(&mut self, number: u64, guest: BoxedGuest) -> Result<(), Halt>
+    /// Puts a connection back that was taken out.
+    pub fn put_in(&mut self, number: u64, guest: BoxedGuest)
         requires taken { IsOut self.old.office.keeper.world (session_of self.old.office.steward) self.old.room.guests guest }
         ensures served { AreServed self.new.office.keeper.world (session_of self.new.office.steward) self.new.room.guests }
         ensures office { self.new.office ≡ self.old.office }
@@ -42,7 +42,19 @@ impl<F: Folder> Host<F> {
     {
         // What it handed over and what waits is what its replies are told by.
         let _ = guest.get().peer.output();
-        self.room.put_back(number, guest)
+        self.room.guests.put(number, guest);
+    }
+
+    /// Puts a connection back that was taken out. Something may be sent to it.
+    pub fn put_back(&mut self, number: u64, guest: BoxedGuest) -> Result<(), Halt>
+        requires taken { IsOut self.old.office.keeper.world (session_of self.old.office.steward) self.old.room.guests guest }
+        ensures served { AreServed self.new.office.keeper.world (session_of self.new.office.steward) self.new.room.guests }
+        ensures office { self.new.office ≡ self.old.office }
+        ensures written { (told : Told) → IsWritten self.old.office.keeper.world told self.old.room.guests number guest → AreWritten self.new.office.keeper.world told self.new.room.guests }
+    {
+        self.put_in(number, guest);
+        self.room.touched.push(number)?;
+        Ok(())
     }
 
     /// Lets a connection go that was taken out, and whose session has its End.
@@ -95,6 +107,7 @@ impl<F: Folder> Host<F> {
         number: u64,
         guest: &mut Guest,
         piece: &mut [u8],
+        half: Half,
     ) -> Result<(), Halt>
         requires taken { IsOut self.old.office.keeper.world (session_of self.old.office.steward) self.old.room.guests guest.old }
         ensures taken { OnOk result (IsOut self.new.office.keeper.world (session_of self.new.office.steward) self.new.room.guests guest.new) }
@@ -104,7 +117,7 @@ impl<F: Folder> Host<F> {
         ensures still { WroteNothing (P.told outside.old.ports.now) (P.told outside.new.ports.now) }
         ensures lent { outside.new.ports.ghost_name ≡ outside.old.ports.ghost_name }
     {
-        self.office.hear(outside, number, guest, piece)?;
+        self.office.hear(outside, number, guest, piece, half)?;
         self.office.keeper.is_lawful();
         Ok(())
     }

@@ -1,6 +1,5 @@
 //! The connections.
-ghost use Rattle.std.specs.Prelude.{◌≡◌, [], Some};
-ghost use Rattle.sv_ports.specs.Numbered.{with_item};
+ghost use Rattle.std.specs.Prelude.{◌≡◌, []};
 
 use crate::boxed::BoxedGuest;
 use std::alloc::Global;
@@ -44,15 +43,6 @@ impl Room {
             next_look: 0,
             door_fails: false,
         }
-    }
-
-    /// Puts a connection back that was taken out. Something may be sent to it.
-    pub fn put_back(&mut self, number: u64, guest: BoxedGuest) -> Result<(), Halt>
-        ensures guests { self.new.guests ≡ with_item number (Some guest) self.old.guests }
-    {
-        self.guests.put(number, guest);
-        self.touched.push(number)?;
-        Ok(())
     }
 
     /// Puts a connection with a held Observe into the list of them.

@@ -9,7 +9,7 @@ use crate::host::Host;
 use crate::input::InputLines;
 use sv_bytes::{Files, Sink};
 use sv_log::Folder;
-use sv_office::{Halt, Outside};
+use sv_office::{Half, Halt, Outside};
 use sv_ports::{Clock, PortRead, Ports, Waited};
 
 /// How a turn ends.
@@ -82,9 +82,10 @@ impl<F: Folder> Host<F> {
         ensures lent { outside.new.ports.ghost_name ≡ outside.old.ports.ghost_name }
     {
         let mut busy = std::mem::replace(&mut self.room.busy, Vec::new(self.alloc));
-        self.hear_each(outside, &busy, piece)?;
+        self.hear_each(outside, &busy, piece, Half::Answers)?;
         let ready = std::mem::replace(&mut self.room.ready.numbers, Vec::new(self.alloc));
-        self.hear_each(outside, &ready, piece)?;
+        self.hear_each(outside, &ready, piece, Half::Reads)?;
+        self.hear_each(outside, &ready, piece, Half::Answers)?;
         // Their room is used again.
         self.room.ready.numbers = ready;
         busy.clear();
