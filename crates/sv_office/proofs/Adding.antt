@@ -48,7 +48,7 @@ unused_before {h = h} {g = g} added s none = unused_go (has_entry g s) (has_entr
 pub asks_before : {may : Entry → Type 0} {h g : List Entry} {mine mid : Option ℕ} → AreAdded may h g → KeepsOwn h mine mid → (mid ≡ None → mine ≡ None) → (s : ℕ)
     → AsksIn g mid s → AsksIn h mine s
 asks_before added keeps none s (inl has) = keeps s has
-asks_before added keeps none s (inr (no, fresh)) = inr (none no, unused_before added s fresh)
+asks_before added keeps none s (inr (gone, fresh)) = inr (none gone, unused_before added s fresh)
 
 pub keeps_then : {may : Entry → Type 0} {h g : List Entry} {mine mid after : Option ℕ} → AreAdded may h g → KeepsOwn h mine mid → (mid ≡ None → mine ≡ None)
     → KeepsOwn g mid after → KeepsOwn h mine after

@@ -86,8 +86,8 @@ no_refusal (Some (kinds.Observe objects)) code detail = refl
 no_refusal (Some kinds.Leave) code detail = refl
 
 wrong : (b : Bool) (rest : Option Fault) → b ≡ false → (if not b then Some WrongKind else rest) ≡ None → ⊥
-wrong true rest no e = let clash : true ≡ false = no in cc
-wrong false rest no e = cc
+wrong true rest off e = let clash : true ≡ false = off in cc
+wrong false rest off e = cc
 
 refused_fault : (who : Identity) (t : List Event) (code detail : ℕ) (asked : List Request) → fault_after who t asked (replies.Refused code detail) ≡ None → ⊥
 refused_fault who t code detail [] e = let clash : Some Unasked ≡ None = e in cc

@@ -54,8 +54,8 @@ holds_still {before} {now} {old} {new} keys key (inl same) may =
 holds_still {before} {now} {old} {new} keys key (inr none) may = may_hold_none now new.key none
 
 unspoken_before : (a b : Bool) → (a ≡ true → b ≡ true) → b ≡ false → a ≡ false
-unspoken_before true b f no = let e : true ≡ false = sym (f refl) ∙ no in cc
-unspoken_before false b f no = refl
+unspoken_before true b f off = let e : true ≡ false = sym (f refl) ∙ off in cc
+unspoken_before false b f off = refl
 
 module _ {F : Type 0} {k : Ghosts F} where
   pub turn_nowhere : (a b : Office F k) (guest next : Guest) → b.keeper.world ≡ a.keeper.world → next.session ≡ guest.session → session_of b.steward ≡ session_of a.steward
@@ -63,7 +63,7 @@ module _ {F : Type 0} {k : Ghosts F} where
       → TakesTurn a b guest next
   turn_nowhere a b guest next world session steward manners keys key spoken held = record {
     added = goes_nowhere world;
-    unspoken = λ no other shown. goes_nowhere world;
+    unspoken = λ off other shown. goes_nowhere world;
     asked = one_nowhere (ap (λ (x : WorldView). x.history) world) session;
     shown = shows_same keys key spoken;
     held = holds_still keys key held;
@@ -77,7 +77,7 @@ module _ {F : Type 0} {k : Ghosts F} where
       → (MayHold a.keys guest.key guest.held → MayHold b.keys next.key next.held) → TakesTurn a b guest next
   turn_looked a b guest next world session steward manners silent known held = record {
     added = goes_nowhere world;
-    unspoken = λ no other shown. goes_nowhere world;
+    unspoken = λ off other shown. goes_nowhere world;
     asked = one_nowhere (ap (λ (x : WorldView). x.history) world) session;
     shown = record { spoken = λ is. absurd (clash is silent); keys = λ is. absurd (clash is silent); key = λ is. absurd (clash is silent); known = known };
     held = held;
@@ -92,7 +92,7 @@ module _ {F : Type 0} {k : Ghosts F} where
       → b.manners ≡ a.manners → b.keys ≡ a.keys → next.key ≡ guest.key → next.has_spoken ≡ true → MayHold a.keys guest.key next.held → TakesTurn a b guest next
   turn_asked a b guest next request on asked steward manners keys key spoke may = record {
     added = may_with a.keys b.keys guest.key next.key keys key (goes_as (asked_may a.keeper.world.history (session_of a.steward) a.keys guest request) on);
-    unspoken = λ no. absurd (clash spoke no);
+    unspoken = λ off. absurd (clash spoke off);
     asked = asked;
     shown = record { spoken = λ is. spoke; keys = λ is. keys; key = λ is. key; known = inl key };
     held = λ before. subst (λ (o : Option KeysView). MayHold o next.key next.held) (sym keys)
@@ -106,7 +106,7 @@ module _ {F : Type 0} {k : Ghosts F} where
       → mid.standing ≡ standing.Open → TakesTurn b c mid next → TakesTurn a c guest next
   turn_then a b c guest mid next first idle lives then_this = record {
     added = may_then c.keys next.key keeps none first.steward (as_now mid.has_spoken refl) then_this.added;
-    unspoken = λ no keys key. may_then keys key keeps none first.steward (first.unspoken (silent no) keys key) (then_this.unspoken no keys key);
+    unspoken = λ off keys key. may_then keys key keeps none first.steward (first.unspoken (silent off) keys key) (then_this.unspoken off keys key);
     asked = one_then first.asked (λ gone. ((idle lives gone).0, ap (λ (x : WorldView). x.history) (idle lives gone).1)) first.steward then_this.asked;
     shown = shows_then first.shown then_this.shown;
     held = λ may. then_this.held (first.held may);
@@ -121,7 +121,7 @@ module _ {F : Type 0} {k : Ghosts F} where
       none gone = (idle lives gone).0
 
       silent : next.has_spoken ≡ false → mid.has_spoken ≡ false
-      silent no = unspoken_before mid.has_spoken next.has_spoken then_this.shown.spoken no
+      silent off = unspoken_before mid.has_spoken next.has_spoken then_this.shown.spoken off
 
       as_now : (spoke : Bool) → mid.has_spoken ≡ spoke
           → GoesOn (MayEnter a.keeper.world.history (session_of a.steward) guest.session c.keys next.key) a.keeper.world b.keeper.world
@@ -133,7 +133,7 @@ module _ {F : Type 0} {k : Ghosts F} where
       → next.session ≡ None → session_of c.steward ≡ session_of b.steward → c.manners ≡ b.manners → c.keys ≡ b.keys → Stays mid next → TakesTurn a c guest next
   turn_then_ended a b c guest mid next turn on none steward manners keys stays = record {
     added = may_then_ended c.keys next.key keeps (may_with b.keys c.keys mid.key next.key keys stays.key turn.added) on;
-    unspoken = λ no other shown. may_then_ended other shown keeps (turn.unspoken (sym stays.spoken ∙ no) other shown) on;
+    unspoken = λ off other shown. may_then_ended other shown keeps (turn.unspoken (sym stays.spoken ∙ off) other shown) on;
     asked = one_then_ended turn.asked on.added none;
     shown = shows_then turn.shown (shows_same keys stays.key stays.spoken);
     held = λ may. holds_still keys stays.key stays.held (turn.held may);

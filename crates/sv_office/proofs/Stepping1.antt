@@ -147,9 +147,9 @@ held_came_of {v} {w} steward mine it is on =
     subst (λ (o : Option Held). GoesOn (CameOfHeld v.history steward mine o) v w) (sym is) (goes_as (λ e came. came) on)
 
 -- What is held may be entered, where the connection may ask it.
-pub held_enters : {v w : WorldView} {steward mine : Option ℕ} {held : Option Held} (keys : Option KeysView) (key : Option (List ℕ)) → MayHold keys key held
+pub held_enters : {v w : WorldView} (steward mine : Option ℕ) (held : Option Held) (keys : Option KeysView) (key : Option (List ℕ)) → MayHold keys key held
     → GoesOn (CameOfHeld v.history steward mine held) v w → GoesOn (MayEnter v.history steward mine keys key) v w
-held_enters {v} {w} {steward} {mine} {held} keys key may on = goes_as (held_may v.history steward mine keys key held may) on
+held_enters {v} {w} steward mine held keys key may on = goes_as (held_may v.history steward mine keys key held may) on
 
 -- Then nothing is held but the request.
 pub held_none : {held : Option Held} (request : Request) → held ≡ None → IfSome held (λ (h : Held). h.request ≡ request)
@@ -172,16 +172,26 @@ module _ (steward mine now : Option ℕ) (authority : Bool) (held : Option Held)
 
 -- ---- A connection that is served still
 
+-- One that is served still and has no session had none, and nothing was entered.
+abbrev Yet : Standing → Option ℕ → Option ℕ → WorldView → WorldView → Type 0
+Yet x mine now v w = x ≡ standing.Open → now ≡ None → (mine ≡ None) × (w ≡ v)
+
 -- It asked nothing by then, and nothing after.
-pub yet_then : {a b c : Guest} {u v w : WorldView} → HasYetToAsk a b u v → b.standing ≡ standing.Open → HasYetToAsk b c v w → HasYetToAsk a c u w
-yet_then {a} {b} {c} {u} {v} {w} first open_is next lives none =
+pub yet_then : {x y : Standing} {mine mid now : Option ℕ} {u v w : WorldView} → Yet x mine mid u v → x ≡ standing.Open → Yet y mid now v w → Yet y mine now u w
+yet_then first open_is next lives none =
     let later = next lives none in
     let before = first open_is later.0 in
     (before.0, later.1 ∙ before.1)
 
 -- A connection that is served still has the session in which it asked.
-pub yet_asked : {a c : Guest} {s : ℕ} {v w : WorldView} → (c.standing ≡ standing.Open → c.session ≡ Some s) → HasYetToAsk a c v w
+pub yet_asked : {y : Standing} {mine now : Option ℕ} {s : ℕ} {v w : WorldView} → (y ≡ standing.Open → now ≡ Some s) → Yet y mine now v w
 yet_asked still lives none = absurd (never (sym none ∙ still lives))
+
+pub yet_same : {y : Standing} {mine now : Option ℕ} {v w : WorldView} → now ≡ mine → w ≡ v → Yet y mine now v w
+yet_same session world lives none = (sym session ∙ none, world)
+
+pub yet_shut : {y : Standing} {mine now : Option ℕ} {v w : WorldView} → y ≢ standing.Open → Yet y mine now v w
+yet_shut shut lives none = absurd (shut lives)
 
 pub ok_any : {T E P : Type 0} (r : Result T E) → P → OnOk r P
 ok_any (Ok x) p = p
@@ -190,25 +200,18 @@ ok_any (Err e) p = tt
 pub yet_then_ok : {T E : Type 0} (r : Result T E) (a b c : Guest) (u v w : WorldView) → HasYetToAsk a b u v → b.standing ≡ standing.Open
     → OnOk r (HasYetToAsk b c v w) → OnOk r (HasYetToAsk a c u w)
 yet_then_ok r a b c u v w first lives =
-    on_ok_weaker {P = HasYetToAsk b c v w} {Q = HasYetToAsk a c u w} r (λ next. yet_then {a = a} {b = b} {c = c} first lives next)
+    on_ok_weaker {P = HasYetToAsk b c v w} {Q = HasYetToAsk a c u w} r (λ next. yet_then first lives next)
 
 -- It asked in one session before, and on.
-pub one_yet : {a b c : Guest} {u v w : WorldView} {steward stewards : Option ℕ} → AsksInOne steward a.session b.session u.history v.history → HasYetToAsk a b u v
-    → b.standing ≡ standing.Open → stewards ≡ steward → AsksInOne stewards b.session c.session v.history w.history
-    → AsksInOne steward a.session c.session u.history w.history
+pub one_yet : {x : Standing} {mine mid now : Option ℕ} {u v : WorldView} {k : List Entry} {steward stewards : Option ℕ} → AsksInOne steward mine mid u.history v.history
+    → Yet x mine mid u v → x ≡ standing.Open → stewards ≡ steward → AsksInOne stewards mid now v.history k → AsksInOne steward mine now u.history k
 one_yet first idle lives same next = one_then first (λ none. ((idle lives none).0, ap (λ (x : WorldView). x.history) (idle lives none).1)) same next
-
-pub yet_same : {a c : Guest} {v w : WorldView} → c.session ≡ a.session → w ≡ v → HasYetToAsk a c v w
-yet_same session world lives none = (sym session ∙ none, world)
-
-pub yet_shut : {a c : Guest} {v w : WorldView} → c.standing ≢ standing.Open → HasYetToAsk a c v w
-yet_shut shut lives none = absurd (shut lives)
 
 pub gone_shut : {x : Standing} → x ≡ standing.Gone → x ≢ standing.Open
 gone_shut gone lives = let e : standing.Gone ≡ standing.Open = sym gone ∙ lives in cc
 
--- Where one is served still, it had no session.
-pub end_shut : {old new : Standing} {A : Type 0} → old ≢ standing.Open → (new ≡ standing.Open → (old ≡ standing.Open) × A) → new ≢ standing.Open
+-- Where one is served still, it was served before.
+pub end_shut : {old new : Standing} {A B : Type 0} → old ≢ standing.Open → (new ≡ standing.Open → (old ≡ standing.Open) × A × B) → new ≢ standing.Open
 end_shut shut still lives = shut (still lives).0
 
 pub not_open : {b : Bool} {x : Standing} → b ≡ false → (x ≡ standing.Open → b ≡ true) → x ≢ standing.Open

@@ -69,7 +69,7 @@ polled_and_reported v w x mine s request done asks has poll is sent first next =
 
 -- ---- The first request of a Join
 
-first_is : {xs : List Request} {x y : Request} → slice_get (x ∷ xs) 0 ≡ Some y → y ≡ x
+first_is : {x y : Request} → Some x ≡ Some y → y ≡ x
 first_is e = cc
 
 -- It joins under its own number.
@@ -80,5 +80,5 @@ joins_itself who t requests_are request number are first = go (nat_eq (joins t) 
     go : (b : Bool) → b ≡ true
         → slice_get (if b then requests.Join who.client (suc (joins t)) who.interest ∷ map submit_of (pending_of t) else []) 0 ≡ Some request
         → number_in request ≡ Some steward_number
-    go false no at = let e : false ≡ true = no in cc
-    go true yes at = ap number_in (first_is at) ∙ ap (λ (n : ℕ). Some n) number
+    go false is at = let e : false ≡ true = is in cc
+    go true is at = ap number_in (first_is at) ∙ ap (λ (n : ℕ). Some n) number

@@ -1,5 +1,5 @@
 -- A connection's turn, one call after the other.
-use Rattle.std.proofs.Common.{◌≡◌, ◌≢◌, ◌⊎◌, inl, inr, ℕ, suc, ◌≤◌, Bool, true, false, ◌||◌, nat_eq, max, List, [], ◌∷◌, Option, Some, None, refl, sym, ap, ap₂, ◌∙◌, subst, arith, ne_eqb}
+use Rattle.std.proofs.Common.{◌≡◌, ◌≢◌, ◌⊎◌, inl, inr, ℕ, suc, ◌+◌, ◌≤◌, Bool, true, false, ◌||◌, nat_eq, max, List, [], ◌∷◌, Option, Some, None, refl, sym, ap, ap₂, ◌∙◌, subst, arith, ne_eqb}
 use Rattle.sv_wire.specs.declared.message.Request.{Request}
 use Rattle.sv_journal.specs.declared.entry.Entry.{Entry}
 use Rattle.sv_sequencer.specs.Rows.{has_entry}
@@ -17,9 +17,9 @@ never e = cc
 
 -- ---- The session in which one asks
 
-pub asks_one : {h : List Entry} {s t : ℕ} → AsksIn h (Some s) t → s ≡ t
-asks_one (inl is) = one is
-asks_one (inr (none, fresh)) = never (sym none)
+pub asks_one : (h : List Entry) {s t : ℕ} → AsksIn h (Some s) t → s ≡ t
+asks_one h (inl is) = one is
+asks_one h (inr (none, fresh)) = never (sym none)
 
 -- A number above those of all sessions.
 fresh_above : (h : List Entry) → (n : ℕ) × ((s : ℕ) → n ≤ s → has_entry h s ≡ false)
@@ -40,9 +40,9 @@ asks_somewhere h None = go (fresh_above h)
     go : (n : ℕ) × ((s : ℕ) → n ≤ s → has_entry h s ≡ false) → (s : ℕ) × AsksIn h None s
     go (n, none) = (n, inr (refl, none n (omega arith)))
 
-pub has_or_none : {h : List Entry} {mine : Option ℕ} {s : ℕ} → AsksIn h mine s → (mine ≡ Some s) ⊎ (mine ≡ None)
-has_or_none (inl has) = inl has
-has_or_none (inr (none, fresh)) = inr none
+pub has_or_none : (h : List Entry) {mine : Option ℕ} {s : ℕ} → AsksIn h mine s → (mine ≡ Some s) ⊎ (mine ≡ None)
+has_or_none h (inl has) = inl has
+has_or_none h (inr (none, fresh)) = inr none
 
 -- ---- All in one session
 
@@ -56,7 +56,7 @@ module _ {steward mine after : Option ℕ} {h : List Entry} where
       kept s (inr none) = inr (stays ∙ none)
 
       go : (s : ℕ) × AsksIn h mine s → AsksInOne steward mine after h h
-      go (s, asks) = record { session = s; asks = asks; added = AreAdded.none; kept = kept s (has_or_none asks) }
+      go (s, asks) = record { session = s; asks = asks; added = AreAdded.none; kept = kept s (has_or_none h asks) }
 
   -- The End of its session was.
   pub one_ended : {g : List Entry} → AreAdded (IsEndOf mine) h g → after ≡ None → AsksInOne steward mine after h g
@@ -64,7 +64,7 @@ module _ {steward mine after : Option ℕ} {h : List Entry} where
     where
       in_it : (s : ℕ) → AsksIn h mine s → (e : Entry) → IsEndOf mine e → IsReport steward e ⊎ IsOf (Some s) e
       in_it s (inl has) e is = inr (sym has ∙ is.0)
-      in_it s (inr (no, fresh)) e is = never (sym no ∙ is.0)
+      in_it s (inr (gone, fresh)) e is = never (sym gone ∙ is.0)
 
       go : (s : ℕ) × AsksIn h mine s → AsksInOne steward mine after h g
       go (s, asks) = record { session = s; asks = asks; added = added_as (in_it s asks) on; kept = inr none }
@@ -88,7 +88,7 @@ module _ {steward mine after : Option ℕ} {h : List Entry} where
 
   -- A request was entered, or nothing, and then maybe the End of the session that one had.
   pub one_entered : {g : List Entry} (s : ℕ) (request : Request) → AsksIn h mine s → AreAdded (IsEntry s request) h g → after ≡ mine → AsksInOne steward mine after h g
-  one_entered s request asks on stays = one_followed s request asks on AreAdded.none (kept (has_or_none asks))
+  one_entered s request asks on stays = one_followed s request asks on AreAdded.none (kept (has_or_none h asks))
     where
       kept : (mine ≡ Some s) ⊎ (mine ≡ None) → (after ≡ Some s) ⊎ (after ≡ None)
       kept (inl has) = inl (stays ∙ has)
@@ -96,11 +96,11 @@ module _ {steward mine after : Option ℕ} {h : List Entry} where
 
   pub one_entered_ended : {m g : List Entry} {own : Option ℕ} (s : ℕ) (request : Request) → AsksIn h mine s → AreAdded (IsEntry s request) h m → own ≡ mine
       → AreAdded (IsEndOf own) m g → after ≡ None → AsksInOne steward mine after h g
-  one_entered_ended s request asks first same next none = one_followed s request asks first (added_as ends next) (inr none)
+  one_entered_ended {own = own} s request asks first same next none = one_followed s request asks first (added_as ends next) (inr none)
     where
       it : AsksIn h mine s → (e : Entry) → mine ≡ Some e.session → Some s ≡ Some e.session
       it (inl has) e is = sym has ∙ is
-      it (inr (no, fresh)) e is = never (sym no ∙ is)
+      it (inr (gone, fresh)) e is = never (sym gone ∙ is)
 
       ends : (e : Entry) → IsEndOf own e → Follows steward (Some s) e
       ends e is = inr (it asks e (sym same ∙ is.0), is.1)
@@ -127,7 +127,7 @@ one_then {steward} {stewards} {mine} {mid} {after} {h} {g} {k} first idle same n
     kept s is (inr none) = inr none
 
     in_same : mid ≡ Some first.session → next.session ≡ first.session
-    in_same has = sym (asks_one (subst (λ (o : Option ℕ). AsksIn g o next.session) has next.asks))
+    in_same has = sym (asks_one g (subst (λ (o : Option ℕ). AsksIn g o next.session) has next.asks))
 
     go : (mid ≡ Some first.session) ⊎ (mid ≡ None) → AsksInOne steward mine after h k
     go (inl has) = record {
@@ -157,7 +157,7 @@ one_then_ended {steward} {mine} {mid} {after} {h} {g} {k} first next none = reco
   where
     in_it : (mid ≡ Some first.session) ⊎ (mid ≡ None) → (e : Entry) → IsEndOf mid e → IsReport steward e ⊎ IsOf (Some first.session) e
     in_it (inl has) e is = inr (sym has ∙ is.0)
-    in_it (inr no) e is = never (sym no ∙ is.0)
+    in_it (inr gone) e is = never (sym gone ∙ is.0)
 
 -- ---- What may be entered
 

@@ -2,11 +2,9 @@
 ghost use Rattle.std.specs.Prelude.{◌≡◌, ◌≢◌, ℕ, List, false, None, Some, IfOk, IfSome, IfNone, OnOk};
 ghost use Rattle.sv_client.specs.Kinds.{asks_for_done};
 ghost use Rattle.sv_living.specs.World.{after};
-ghost use Rattle.sv_wire.specs.declared.message.Done1.{Done1};
 ghost use Rattle.sv_wire.specs.declared.message.Request.TheVariants as requests;
 ghost use Rattle.sv_office.specs.Admitting.{steward_number};
 ghost use Rattle.sv_office.specs.Entering.{KeepsOwn, GoesOn, IsEntry, IsReport, IsReported, IsStewards};
-ghost use Rattle.sv_office.specs.Offices.{HasBegun};
 ghost use Rattle.sv_office.specs.Stewarding.{IsDone, is_refused};
 
 use crate::entering::{asking_session, enter};
@@ -28,7 +26,7 @@ pub struct Steward {
     alloc: Global,
     client: Box<LeanClient>,
     session: Option<u64>,
-    ghost number: { client.who.client.0 ≡ steward_number },
+    ghost number: { client.value.who.client.0 ≡ steward_number },
 }
 
 fn fault_of_take(fault: TakeFault) -> Halt {
@@ -55,6 +53,8 @@ fn told_life(reply: &Reply) -> Option<u32> {
 }
 
 impl Steward {
+    ghost use Rattle.sv_office.specs.Offices.{HasBegun};
+
     pub fn new(alloc: Global, shape: Shape) -> Result<Steward, AllocError>
         ensures { IfOk result (λ steward. steward.session ≡ None) }
     {

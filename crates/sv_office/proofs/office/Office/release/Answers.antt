@@ -36,7 +36,8 @@ returns-in-None-clause-may g c = λ may. goes_nowhere refl
 
 pub returns-in-Some-clause-may : goal.returns-in-Some-clause-may
 returns-in-Some-clause-may g c = λ may.
-    held_enters c.args.self.now.keys c.args.guest.now.key may (held_came_of _ _ c.in-Some.held (sym c.take.ensures.value ∙ c.in-Some.is) c.answer.ensures.added)
+    held_enters _ _ c.args.guest.now.held c.args.self.now.keys c.args.guest.now.key may
+    (held_came_of _ _ c.in-Some.held (sym c.take.ensures.value ∙ c.in-Some.is) c.answer.ensures.added)
 
 pub returns-in-None-clause-asked : goal.returns-in-None-clause-asked
 returns-in-None-clause-asked g c = one_nowhere refl refl

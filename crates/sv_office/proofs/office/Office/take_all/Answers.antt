@@ -28,7 +28,7 @@ returns-in-Over-clause-turn g c =
 
 pub returns-in-Over-clause-idle : goal.returns-in-Over-clause-idle
 returns-in-Over-clause-idle g c =
-    yet_then {b = c.loop.guest} {v = c.loop.self.keeper.world} c.loop.invariant.idle c.loop.invariant.open_still c.in_ok-take_and_read.ensures.idle
+    yet_then c.loop.invariant.idle c.loop.invariant.open_still c.in_ok-take_and_read.ensures.idle
 
 pub returns-clause-turn : goal.returns-clause-turn
 returns-clause-turn g c =
@@ -40,7 +40,7 @@ loop-preserved g c = record {
   open_still = c.in_ok-take_and_read.ensures.open c.in-On.is;
   served = c.in_ok-take_and_read.ensures.served;
   turn = turn_then c.args.self.now c.loop.self _ c.args.guest.now c.loop.guest _ c.loop.invariant.turn c.loop.invariant.idle c.loop.invariant.open_still c.take_and_read.ensures.turn;
-  idle = yet_then {b = c.loop.guest} {v = c.loop.self.keeper.world} c.loop.invariant.idle c.loop.invariant.open_still c.in_ok-take_and_read.ensures.idle;
+  idle = yet_then c.loop.invariant.idle c.loop.invariant.open_still c.in_ok-take_and_read.ensures.idle;
   told = heard_then _ _ _ _ c.loop.invariant.told c.take_and_read.ensures.told;
   sent = c.take_and_read.ensures.sent ∙ c.loop.invariant.sent;
   lent = lent_then _ _ _ c.loop.invariant.lent c.take_and_read.ensures.lent;

@@ -1,5 +1,4 @@
 -- Requests were taken, and more was heard.
-use Rattle.std.proofs.Common.{refl}
 use Rattle.sv_office.proofs.Hearing2.{turn_apart, turn_then}
 use Rattle.sv_office.proofs.Stepping1.{yet_then_ok}
 use Rattle.sv_office.proofs.office.Office.take_and_read.Goals as goal

@@ -39,4 +39,4 @@ returns-then-stops-clause-followed g c =
 
 pub returns-then-stops-clause-still : goal.returns-then-stops-clause-still
 returns-then-stops-clause-still g c = λ lives.
-    c.end.ensures.session ∙ sym (c.end.ensures.open lives).1.0 ∙ c.close.ensures.session ∙ c.tell.ensures.session
+    c.end.ensures.session ∙ sym (c.end.ensures.open lives).1 ∙ c.close.ensures.session ∙ c.tell.ensures.session

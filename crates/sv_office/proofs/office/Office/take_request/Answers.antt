@@ -121,8 +121,7 @@ returns-clause-may_hold g c = may_hold_none _ _ (none_held c.answer.ensures.gues
 
 pub returns-clause-asked : goal.returns-clause-asked
 returns-clause-asked g c =
-    one_yet {a = c.args.guest.now} {b = c.release.new.guest} {c = c.answer.new.guest} {u = c.args.self.now.keeper.world} {v = c.release.new.self.keeper.world}
-    {w = c.answer.new.self.keeper.world} c.in_ok-release.ensures.asked c.in_ok-release.ensures.idle (c.is_open.ensures.0 c.if-not-is_open.false)
+    one_yet {u = c.args.self.now.keeper.world} {v = c.release.new.self.keeper.world} c.in_ok-release.ensures.asked c.in_ok-release.ensures.idle (c.is_open.ensures.0 c.if-not-is_open.false)
     c.in_ok-release.ensures.steward c.answer.ensures.asked
 
 pub returns-clause-idle : goal.returns-clause-idle

@@ -1,7 +1,7 @@
 -- One request after the other.
 use Rattle.std.proofs.Common.{inl, refl, ◌∙◌}
 use Rattle.sv_office.proofs.Hearing2.{none_other, turn_apart, turn_nowhere, turn_then}
-use Rattle.sv_office.proofs.Stepping1.{yet_same, yet_then, yet_then_ok}
+use Rattle.sv_office.proofs.Stepping1.{yet_same, yet_then}
 use Rattle.sv_office.proofs.office.Office.take_requests.Goals as goal
 
 pub loop-init : goal.loop-init
@@ -26,7 +26,7 @@ returns-in-Some-clause-turn g c =
 
 pub returns-in-Some-clause-idle : goal.returns-in-Some-clause-idle
 returns-in-Some-clause-idle g c =
-    yet_then {b = c.loop.guest} {v = c.loop.self.keeper.world} c.loop.invariant.idle c.loop.invariant.open_still c.in_ok-course.ensures.idle
+    yet_then c.loop.invariant.idle c.loop.invariant.open_still c.in_ok-course.ensures.idle
 
 pub returns-clause-turn : goal.returns-clause-turn
 returns-clause-turn g c =
@@ -38,6 +38,6 @@ loop-preserved g c = record {
   open_still = c.in_ok-course.ensures.open (none_other c.in-None.is);
   served = c.in_ok-course.ensures.served;
   turn = turn_then c.args.self.now c.loop.self _ c.args.guest.now c.loop.guest _ c.loop.invariant.turn c.loop.invariant.idle c.loop.invariant.open_still c.take_next.ensures.turn;
-  idle = yet_then {b = c.loop.guest} {v = c.loop.self.keeper.world} c.loop.invariant.idle c.loop.invariant.open_still c.in_ok-course.ensures.idle;
+  idle = yet_then c.loop.invariant.idle c.loop.invariant.open_still c.in_ok-course.ensures.idle;
   sent = c.take_next.ensures.sent ∙ c.loop.invariant.sent;
 }
