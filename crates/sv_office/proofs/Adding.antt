@@ -4,7 +4,7 @@ use Rattle.sv_journal.specs.declared.entry.Entry.{Entry}
 use Rattle.sv_journal.specs.Sessions.{is_end, is_ended}
 use Rattle.sv_sequencer.specs.Rows.{has_entry}
 use Rattle.sv_living.specs.World.{WorldView}
-use Rattle.sv_office.specs.Entering.{AreAdded, GoesOn, IsOwn, KeepsOwn}
+use Rattle.sv_office.specs.Entering.{AreAdded, GoesOn, AsksIn, KeepsOwn}
 
 any_more : (b : Bool) → (b || true) ≡ true
 any_more true = refl
@@ -44,13 +44,23 @@ unused_go b false f none = refl
 pub unused_before : {may : Entry → Type 0} {h g : List Entry} → AreAdded may h g → (s : ℕ) → has_entry g s ≡ false → has_entry h s ≡ false
 unused_before {h = h} {g = g} added s none = unused_go (has_entry g s) (has_entry h s) (entry_stays added s) none
 
--- What is one's own later was one's own before.
-pub own_before : {may : Entry → Type 0} {h g : List Entry} {mine mid : Option ℕ} → AreAdded may h g → KeepsOwn h mine mid → (s : ℕ) → IsOwn g mid s → IsOwn h mine s
-own_before added keeps s (inl has) = keeps s has
-own_before added keeps s (inr none) = inr (unused_before added s none)
+-- The session in which one asks later is one in which one asked before, if one who has none had none.
+pub asks_before : {may : Entry → Type 0} {h g : List Entry} {mine mid : Option ℕ} → AreAdded may h g → KeepsOwn h mine mid → (mid ≡ None → mine ≡ None) → (s : ℕ)
+    → AsksIn g mid s → AsksIn h mine s
+asks_before added keeps none s (inl has) = keeps s has
+asks_before added keeps none s (inr (gone, fresh)) = inr (none gone, unused_before added s fresh)
 
-pub keeps_then : {may : Entry → Type 0} {h g : List Entry} {mine mid after : Option ℕ} → AreAdded may h g → KeepsOwn h mine mid → KeepsOwn g mid after → KeepsOwn h mine after
-keeps_then added first next s is = own_before added first s (next s is)
+pub keeps_then : {may : Entry → Type 0} {h g : List Entry} {mine mid after : Option ℕ} → AreAdded may h g → KeepsOwn h mine mid → (mid ≡ None → mine ≡ None)
+    → KeepsOwn g mid after → KeepsOwn h mine after
+keeps_then added first none next s is = asks_before added first none s (next s is)
 
 pub keeps_same : (h : List Entry) {mine after : Option ℕ} → after ≡ mine → KeepsOwn h mine after
 keeps_same h same s is = inl (sym same ∙ is)
+
+-- Who has a session still, where he had one, has none only if he had none.
+pub still_none : (mine mid : Option ℕ) → (mine ≢ None → mid ≡ mine) → mid ≡ None → mine ≡ None
+still_none None mid still none = refl
+still_none (Some s) mid still none = sym (still some) ∙ none
+  where
+    some : Some s ≢ None
+    some e = cc

@@ -10,7 +10,7 @@ use Rattle.sv_keeper.specs.Views.{KeeperView}
 use Rattle.sv_keeper.specs.Keeping.{Stepped, WasNotStepped}
 use Rattle.sv_keeper.specs.declared.fault.KeepFault.{KeepFault}
 use Rattle.sv_keeper.specs.declared.fault.KeepFault.TheVariants as faults
-use Rattle.sv_office.specs.Entering.{AreAdded, GoesOn, IsEntry, WasEntered, AsksIn, IsOwn}
+use Rattle.sv_office.specs.Entering.{AreAdded, GoesOn, IsEntry, WasEntered, AsksIn}
 use Rattle.sv_office.specs.Offices.{IsSound, session_of}
 use Rattle.sv_office.specs.declared.steward.Steward.{Steward}
 use Rattle.sv_office.proofs.Adding.{goes_nowhere, entry_stays}
@@ -58,7 +58,6 @@ sound_stays on same s = record {
   begun = λ t is. entry_stays on.added t (s.begun t (sym same ∙ is));
 }
 
--- Who asks asks in a session of its own.
-pub asks_own : (h : List Entry) (mine : Option ℕ) (s : ℕ) (request : Request) → AsksIn h mine s → (e : Entry) → IsEntry s request e → IsOwn h mine e.session
-asks_own h mine s request (inl has) e is = subst (λ (t : ℕ). IsOwn h mine t) (sym is.0) (inl has)
-asks_own h mine s request (inr none) e is = subst (λ (t : ℕ). IsOwn h mine t) (sym is.0) (inr none.1)
+-- What was entered in the session in which one asks.
+pub asks_entered : (h : List Entry) (mine : Option ℕ) (s : ℕ) (request : Request) → AsksIn h mine s → (e : Entry) → IsEntry s request e → AsksIn h mine e.session
+asks_entered h mine s request asks e is = subst (λ (t : ℕ). AsksIn h mine t) (sym is.0) asks

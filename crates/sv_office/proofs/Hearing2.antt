@@ -1,78 +1,165 @@
 -- The turn of a connection, one call after the other.
-use Rattle.std.proofs.Common.{◌≡◌, ◌≢◌, ◌⊎◌, inl, inr, ℕ, Bool, cond, List, [], ◌∷◌, ◌++◌, Option, None, Some, refl, sym, ap, ◌∙◌, take, subst, append_assoc, append-nil, ne_eqb}
+use Rattle.std.proofs.Common.{◌≡◌, ◌≢◌, ◌⊎◌, inl, inr, ℕ, Bool, true, false, cond, List, [], ◌∷◌, ◌++◌, Option, None, Some, refl, sym, ap, ◌∙◌, take, subst, append_assoc, append-nil, ne_eqb}
 use Rattle.sv_wire.specs.declared.message.Request.{Request}
 use Rattle.sv_journal.specs.declared.entry.Entry.{Entry}
+use Rattle.sv_living.specs.World.{WorldView}
 use Rattle.sv_log.specs.declared.folder.Folder.{Ghosts}
 use Rattle.sv_ports.specs.Told.{Told, bytes_of, Reads}
 use Rattle.sv_ports.specs.declared.ports.PortRead.{PortRead}
 use Rattle.sv_ports.specs.declared.ports.PortRead.TheVariants as reads
 use Rattle.sv_ports.proofs.Bytes.{bytes-more, own_more}
-use Rattle.sv_office.specs.Entering.{GoesOn, IsEndOf, KeepsOwn, CameOfAsking}
-use Rattle.sv_office.specs.Guests.{IsHeardOf, OnlyHeard}
+use Rattle.sv_keys.specs.Keeping.{KeysView}
+use Rattle.sv_office.specs.Entering.{GoesOn, AsksInOne, IsEndOf, KeepsOwn, CameOfAsking, MayEnter, MayHold}
+use Rattle.sv_office.specs.Guests.{HasYetToAsk, IsHeardOf, OnlyHeard, Stays}
 use Rattle.sv_office.specs.Offices.{AreApart, session_of}
-use Rattle.sv_office.specs.Turns.{AreLent, TakesTurn}
+use Rattle.sv_office.specs.Turns.{AreLent, IsKnown, ShowsFirst, TakesTurn}
 use Rattle.sv_office.specs.declared.guest.Guest.{Guest}
+use Rattle.sv_office.specs.declared.guest.Held.{Held}
+use Rattle.sv_office.specs.declared.guest.Standing.TheVariants as standing
 use Rattle.sv_office.specs.declared.office.Office.{Office}
 use Rattle.sv_office.specs.declared.outside.Outside.{Outside}
-use Rattle.sv_office.proofs.Adding.{goes_as, goes_nowhere, keeps_same}
-use Rattle.sv_office.proofs.Asking.{IsGoing, going_then, apart_stays, asked_guests, end_guests}
+use Rattle.sv_office.proofs.Adding.{goes_as, goes_nowhere}
+use Rattle.sv_office.proofs.Asking.{apart_stays, asked_may}
+use Rattle.sv_office.proofs.Stepping1.{clash, may_hold_none}
+use Rattle.sv_office.proofs.Turning.{keeps_one, may_then, may_then_ended, may_with, one_nowhere, one_then, one_then_ended}
 
-no_session : (h : List Entry) (mine now : Option ℕ) → now ≡ None → KeepsOwn h mine now
-no_session h mine now none s is = let clash : None ≡ Some s = sym none ∙ is in cc
+-- Once it has spoken it shows no other key.
+pub shows_same : {before now : Option KeysView} {old new : Guest} → now ≡ before → new.key ≡ old.key → new.has_spoken ≡ old.has_spoken → ShowsFirst before now old new
+shows_same keys key spoken = record { spoken = λ is. spoken ∙ is; keys = λ is. keys; key = λ is. key; known = inl key }
+
+known_as : (before now : Option KeysView) (key shown : Option (List ℕ)) → now ≡ before → shown ≡ key → IsKnown before key → IsKnown now shown
+known_as before now key shown same kept known =
+    subst (λ (o : Option KeysView). IsKnown o shown) (sym same) (subst (λ (o : Option (List ℕ)). IsKnown before o) (sym kept) known)
+
+shows_then : {first mid last : Option KeysView} {a b c : Guest} → ShowsFirst first mid a b → ShowsFirst mid last b c → ShowsFirst first last a c
+shows_then {first} {mid} {last} {a} {b} {c} before next = record {
+  spoken = λ is. next.spoken (before.spoken is);
+  keys = λ is. next.keys (before.spoken is) ∙ before.keys is;
+  key = λ is. next.key (before.spoken is) ∙ before.key is;
+  known = known next.known before.known;
+}
+  where
+    known : (c.key ≡ b.key) ⊎ ((c.has_spoken ≡ true) × IsKnown last c.key) → (b.key ≡ a.key) ⊎ ((b.has_spoken ≡ true) × IsKnown mid b.key)
+        → (c.key ≡ a.key) ⊎ ((c.has_spoken ≡ true) × IsKnown last c.key)
+    known (inr shown) earlier = inr shown
+    known (inl same) (inl also) = inl (same ∙ also)
+    known (inl same) (inr (spoke, shown)) = inr (next.spoken spoke, known_as mid last b.key c.key (next.keys spoke) same shown)
+
+-- What it holds it may ask still.
+pub holds_still : {before now : Option KeysView} {old new : Guest} → now ≡ before → new.key ≡ old.key → (new.held ≡ old.held) ⊎ (new.held ≡ None)
+    → MayHold before old.key old.held → MayHold now new.key new.held
+holds_still {before} {now} {old} {new} keys key (inl same) may =
+    subst (λ (o : Option KeysView). MayHold o new.key new.held) (sym keys)
+    (subst (λ (o : Option (List ℕ)). MayHold before o new.held) (sym key) (subst (λ (o : Option Held). MayHold before old.key o) (sym same) may))
+holds_still {before} {now} {old} {new} keys key (inr none) may = may_hold_none now new.key none
+
+unspoken_before : (a b : Bool) → (a ≡ true → b ≡ true) → b ≡ false → a ≡ false
+unspoken_before true b f off = let e : true ≡ false = sym (f refl) ∙ off in cc
+unspoken_before false b f off = refl
 
 module _ {F : Type 0} {k : Ghosts F} where
-  pub turn_nowhere : (a b : Office F k) (mine now : Option ℕ) → b.keeper.world ≡ a.keeper.world → now ≡ mine → session_of b.steward ≡ session_of a.steward
-      → b.manners ≡ a.manners → TakesTurn a b mine now
-  turn_nowhere a b mine now world session steward manners = record {
+  pub turn_nowhere : (a b : Office F k) (guest next : Guest) → b.keeper.world ≡ a.keeper.world → next.session ≡ guest.session → session_of b.steward ≡ session_of a.steward
+      → b.manners ≡ a.manners → b.keys ≡ a.keys → next.key ≡ guest.key → next.has_spoken ≡ guest.has_spoken → (next.held ≡ guest.held) ⊎ (next.held ≡ None)
+      → TakesTurn a b guest next
+  turn_nowhere a b guest next world session steward manners keys key spoken held = record {
     added = goes_nowhere world;
-    session = keeps_same a.keeper.world.history session;
+    unspoken = λ off other shown. goes_nowhere world;
+    asked = one_nowhere (ap (λ (x : WorldView). x.history) world) session;
+    shown = shows_same keys key spoken;
+    held = holds_still keys key held;
     steward = steward;
     manners = manners;
   }
 
-  going : {a b : Office F k} {mine now : Option ℕ} → TakesTurn a b mine now
-      → IsGoing a.keeper.world (session_of a.steward) mine b.keeper.world now (session_of b.steward)
-  going turn = record { on = turn.added; keeps = turn.session; same = turn.steward }
-
-  pub turn_then : (a b c : Office F k) (mine mid now : Option ℕ) → TakesTurn a b mine mid → TakesTurn b c mid now → TakesTurn a c mine now
-  turn_then a b c mine mid now first next =
-      let whole = going_then (going first) next.added next.session next.steward in
-      record { added = whole.on; session = whole.keeps; steward = whole.same; manners = next.manners ∙ first.manners }
+  -- The keys were looked at.
+  pub turn_looked : (a b : Office F k) (guest next : Guest) → b.keeper.world ≡ a.keeper.world → next.session ≡ guest.session → session_of b.steward ≡ session_of a.steward
+      → b.manners ≡ a.manners → guest.has_spoken ≡ false → (next.key ≡ guest.key) ⊎ ((next.has_spoken ≡ true) × IsKnown b.keys next.key)
+      → (MayHold a.keys guest.key guest.held → MayHold b.keys next.key next.held) → TakesTurn a b guest next
+  turn_looked a b guest next world session steward manners silent known held = record {
+    added = goes_nowhere world;
+    unspoken = λ off other shown. goes_nowhere world;
+    asked = one_nowhere (ap (λ (x : WorldView). x.history) world) session;
+    shown = record { spoken = λ is. absurd (clash is silent); keys = λ is. absurd (clash is silent); key = λ is. absurd (clash is silent); known = known };
+    held = held;
+    steward = steward;
+    manners = manners;
+  }
 
   -- It was asked something.
-  pub turn_asked : (a b : Office F k) (guest : Guest) (request : Request) (now : Option ℕ)
+  pub turn_asked : (a b : Office F k) (guest next : Guest) (request : Request)
       → GoesOn (CameOfAsking a.keeper.world.history (session_of a.steward) a.keys guest request) a.keeper.world b.keeper.world
-      → KeepsOwn a.keeper.world.history guest.session now → session_of b.steward ≡ session_of a.steward → b.manners ≡ a.manners → TakesTurn a b guest.session now
-  turn_asked a b guest request now on keeps steward manners = record {
-    added = goes_as (asked_guests a.keeper.world.history (session_of a.steward) a.keys guest request) on;
-    session = keeps;
+      → AsksInOne (session_of a.steward) guest.session next.session a.keeper.world.history b.keeper.world.history → session_of b.steward ≡ session_of a.steward
+      → b.manners ≡ a.manners → b.keys ≡ a.keys → next.key ≡ guest.key → next.has_spoken ≡ true → MayHold a.keys guest.key next.held → TakesTurn a b guest next
+  turn_asked a b guest next request on asked steward manners keys key spoke may = record {
+    added = may_with a.keys b.keys guest.key next.key keys key (goes_as (asked_may a.keeper.world.history (session_of a.steward) a.keys guest request) on);
+    unspoken = λ off. absurd (clash spoke off);
+    asked = asked;
+    shown = record { spoken = λ is. spoke; keys = λ is. keys; key = λ is. key; known = inl key };
+    held = λ before. subst (λ (o : Option KeysView). MayHold o next.key next.held) (sym keys)
+        (subst (λ (o : Option (List ℕ)). MayHold a.keys o next.held) (sym key) may);
     steward = steward;
     manners = manners;
   }
 
-  -- Its session has its End.
-  pub turn_ended : (a b : Office F k) (mine now : Option ℕ) → GoesOn (IsEndOf mine) a.keeper.world b.keeper.world → now ≡ None
-      → session_of b.steward ≡ session_of a.steward → b.manners ≡ a.manners → TakesTurn a b mine now
-  turn_ended a b mine now on none steward manners = record {
-    added = goes_as (end_guests a.keeper.world.history (session_of a.steward) mine) on;
-    session = no_session a.keeper.world.history mine now none;
-    steward = steward;
-    manners = manners;
+  -- It was answered again, while it was served.
+  pub turn_then : (a b c : Office F k) (guest mid next : Guest) → TakesTurn a b guest mid → HasYetToAsk guest mid a.keeper.world b.keeper.world
+      → mid.standing ≡ standing.Open → TakesTurn b c mid next → TakesTurn a c guest next
+  turn_then a b c guest mid next first idle lives then_this = record {
+    added = may_then c.keys next.key keeps none first.steward (as_now mid.has_spoken refl) then_this.added;
+    unspoken = λ off keys key. may_then keys key keeps none first.steward (first.unspoken (silent off) keys key) (then_this.unspoken off keys key);
+    asked = one_then first.asked (λ gone. ((idle lives gone).0, ap (λ (x : WorldView). x.history) (idle lives gone).1)) first.steward then_this.asked;
+    shown = shows_then first.shown then_this.shown;
+    held = λ may. then_this.held (first.held may);
+    steward = then_this.steward ∙ first.steward;
+    manners = then_this.manners ∙ first.manners;
   }
+    where
+      keeps : KeepsOwn a.keeper.world.history guest.session mid.session
+      keeps = keeps_one first.asked
 
-  pub turn_then_ended : (a b c : Office F k) (mine mid now : Option ℕ) → TakesTurn a b mine mid → GoesOn (IsEndOf mid) b.keeper.world c.keeper.world → now ≡ None
-      → session_of c.steward ≡ session_of b.steward → c.manners ≡ b.manners → TakesTurn a c mine now
-  turn_then_ended a b c mine mid now turn on none steward manners = turn_then a b c mine mid now turn (turn_ended b c mid now on none steward manners)
+      none : mid.session ≡ None → guest.session ≡ None
+      none gone = (idle lives gone).0
+
+      silent : next.has_spoken ≡ false → mid.has_spoken ≡ false
+      silent off = unspoken_before mid.has_spoken next.has_spoken then_this.shown.spoken off
+
+      as_now : (spoke : Bool) → mid.has_spoken ≡ spoke
+          → GoesOn (MayEnter a.keeper.world.history (session_of a.steward) guest.session c.keys next.key) a.keeper.world b.keeper.world
+      as_now true is = may_with b.keys c.keys mid.key next.key (then_this.shown.keys is) (then_this.shown.key is) first.added
+      as_now false is = first.unspoken is c.keys next.key
+
+  -- Then the session that it has by then has its End.
+  pub turn_then_ended : (a b c : Office F k) (guest mid next : Guest) → TakesTurn a b guest mid → GoesOn (IsEndOf mid.session) b.keeper.world c.keeper.world
+      → next.session ≡ None → session_of c.steward ≡ session_of b.steward → c.manners ≡ b.manners → c.keys ≡ b.keys → Stays mid next → TakesTurn a c guest next
+  turn_then_ended a b c guest mid next turn on none steward manners keys stays = record {
+    added = may_then_ended c.keys next.key keeps (may_with b.keys c.keys mid.key next.key keys stays.key turn.added) on;
+    unspoken = λ off other shown. may_then_ended other shown keeps (turn.unspoken (sym stays.spoken ∙ off) other shown) on;
+    asked = one_then_ended turn.asked on.added none;
+    shown = shows_then turn.shown (shows_same keys stays.key stays.spoken);
+    held = λ may. holds_still keys stays.key stays.held (turn.held may);
+    steward = steward ∙ turn.steward;
+    manners = manners ∙ turn.manners;
+  }
+    where
+      keeps : KeepsOwn a.keeper.world.history guest.session mid.session
+      keeps = keeps_one turn.asked
 
   -- It has the session still that has its End now.
-  pub turn_ended_as : (a b : Office F k) (mine mid now : Option ℕ) → mid ≡ mine → GoesOn (IsEndOf mid) a.keeper.world b.keeper.world → now ≡ None
-      → session_of b.steward ≡ session_of a.steward → b.manners ≡ a.manners → TakesTurn a b mine now
-  turn_ended_as a b mine mid now same on none steward manners =
-      turn_then_ended a a b mine mid now (turn_nowhere a a mine mid refl same refl refl) on none steward manners
+  pub turn_ended_as : (a b : Office F k) (guest mid next : Guest) → IsHeardOf guest mid → GoesOn (IsEndOf mid.session) a.keeper.world b.keeper.world → next.session ≡ None
+      → session_of b.steward ≡ session_of a.steward → b.manners ≡ a.manners → b.keys ≡ a.keys → Stays mid next → TakesTurn a b guest next
+  turn_ended_as a b guest mid next heard on none steward manners keys stays =
+      turn_then_ended a a b guest mid next (turn_nowhere a a guest mid refl heard.session refl refl refl heard.key heard.spoken heard.held) on none steward manners keys stays
+
+  -- More was heard of it, and then it was answered.
+  pub turn_heard : (a b : Office F k) (guest mid next : Guest) → IsHeardOf guest mid → mid.standing ≡ standing.Open → TakesTurn a b mid next → TakesTurn a b guest next
+  turn_heard a b guest mid next heard lives turn =
+      turn_then a a b guest mid next (turn_nowhere a a guest mid refl heard.session refl refl refl heard.key heard.spoken heard.held)
+      (λ open_is none. (sym heard.session ∙ none, refl)) lives turn
 
   -- The steward's session is none of the connection's still.
-  pub turn_apart : (a b : Office F k) (mine now : Option ℕ) → TakesTurn a b mine now → AreApart mine (session_of a.steward) → AreApart now (session_of b.steward)
-  turn_apart a b mine now turn away s has is = apart_stays a.keeper.world a.sound.begun away turn.session s has (sym turn.steward ∙ is)
+  pub turn_apart : (a b : Office F k) (guest next : Guest) → TakesTurn a b guest next → AreApart guest.session (session_of a.steward)
+      → AreApart next.session (session_of b.steward)
+  turn_apart a b guest next turn away s has is = apart_stays a.keeper.world a.sound.begun away (keeps_one turn.asked) s has (sym turn.steward ∙ is)
 
 nothing_more : (number : ℕ) (told : Told) → OnlyHeard number told told
 nothing_more number told = record { more = []; own = sym (append-nil (bytes_of number told.heard)); others = λ other apart. refl; rest = refl }
@@ -109,6 +196,7 @@ heard_of_then a b c first next = record {
   sent = next.sent ∙ first.sent;
   session = next.session ∙ first.session;
   key = next.key ∙ first.key;
+  spoken = next.spoken ∙ first.spoken;
   held = held_then next.held first.held;
 }
   where

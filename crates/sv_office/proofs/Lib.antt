@@ -9,6 +9,8 @@ pub mod Followed
 pub mod Messages
 pub mod Served
 pub mod Stepping1
+pub mod Turning
+pub mod Polling
 pub mod Stewarding
 pub mod Answering
 pub mod Leaving

@@ -176,7 +176,7 @@ owed_step v s request told reply order ask more whole t = (
   WereTold.entry refl more t (ap (λ (r : Reply). told ++ r ∷ []) whole),
 )
 
-closed_shut : (x : Standing) → closed x ≢ standing.Open
+pub closed_shut : (x : Standing) → closed x ≢ standing.Open
 closed_shut standing.Open e = cc
 closed_shut standing.Closing e = cc
 closed_shut standing.Gone e = cc
@@ -220,12 +220,12 @@ pub others_stay : OthersStay
 others_stay v w guest steward mine order on away other h = served_stays guest order on unlike h
   where
     unlike : (e : Entry) (s : ℕ) → guest.session ≡ Some s → IsGuests v.history steward mine e → e.session ≢ s
-    unlike e s is (inl stewards) same = away s is (stewards ∙ ap (λ (t : ℕ). Some t) same)
+    unlike e s is (inl report) same = away s is (report.0 ∙ ap (λ (t : ℕ). Some t) same)
     unlike e s is (inr (inl own, number)) same = other s is (own ∙ ap (λ (t : ℕ). Some t) same)
-    unlike e s is (inr (inr none, number)) same = apart v.history s e.session (has_begun v guest s is h) none (sym same)
+    unlike e s is (inr (inr none, number)) same = apart v.history s e.session (has_begun v guest s is h) none.1 (sym same)
 
 pub all_stay : AllStay
-all_stay v w guest steward order on away h = served_stays guest order on (λ e s is stewards same. away s is (stewards ∙ ap (λ (t : ℕ). Some t) same)) h
+all_stay v w guest steward order on away h = served_stays guest order on (λ e s is report same. away s is (report.0 ∙ ap (λ (t : ℕ). Some t) same)) h
 
 -- A connection that is open and has a session was told what its session was.
 pub told_now : (v : WorldView) (guest : Guest) (s : ℕ) → guest.standing ≡ standing.Open → guest.session ≡ Some s → IsServed v guest

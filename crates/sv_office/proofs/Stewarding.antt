@@ -1,15 +1,25 @@
 -- What the steward's calls add.
-use Rattle.std.proofs.Common.{◌≡◌, ◌⊎◌, inl, inr, ℕ, Bool, true, ◌||◌, nat_eq, List, ◌∷◌, Option, Some, None, refl, sym, ap, ◌∙◌, subst, eq-eqb}
+use Rattle.std.proofs.Common.{◌≡◌, ◌≢◌, ◌⊎◌, inl, inr, ℕ, Bool, true, false, ◌||◌, nat_eq, List, [], ◌∷◌, Option, Some, None, refl, sym, ap, ◌∙◌, subst, eq-eqb}
+use Rattle.std.specs.Prelude.{if◌then◌else◌, slice_get}
+use Rattle.sv_world.specs.declared.world.ObjectId.{ObjectId}
 use Rattle.sv_wire.specs.declared.message.Done1.{Done1}
 use Rattle.sv_wire.specs.declared.message.Request.{Request}
 use Rattle.sv_wire.specs.declared.message.Request.TheVariants as requests
+use Rattle.sv_wire.specs.declared.message.Reply.{Reply}
 use Rattle.sv_journal.specs.declared.entry.Entry.{Entry}
+use Rattle.sv_journal.specs.declared.entry.Logged.TheVariants as logged
+use Rattle.sv_journal.specs.History.{accepted, full_reply}
+use Rattle.sv_journal.specs.Living.{living}
 use Rattle.sv_sequencer.specs.Rows.{has_entry}
 use Rattle.sv_living.specs.World.{WorldView, after, reply_in}
-use Rattle.sv_office.specs.Entering.{AreAdded, GoesOn, IsEntry, AsksIn, IsOwn, KeepsOwn, IsOf, IsReported}
+use Rattle.sv_client.specs.Kinds.{asks_for_done}
+use Rattle.sv_office.specs.Admitting.{number_in, steward_number}
+use Rattle.sv_office.specs.Entering.{AreAdded, GoesOn, IsEntry, AsksIn, KeepsOwn, IsOf, IsReport, IsReported, IsStewards, WasEntered, is_report}
 use Rattle.sv_office.specs.Offices.{HasBegun}
-use Rattle.sv_office.proofs.Adding.{goes_as, goes_then, entry_stays, own_before, keeps_then}
-use Rattle.sv_office.proofs.Entered.{asks_own}
+use Rattle.sv_office.specs.Stewarding.{IsDone, is_refused}
+use Rattle.sv_office.proofs.Adding.{goes_as, goes_then, entry_stays, asks_before}
+use Rattle.sv_office.proofs.Entered.{asks_entered}
+use Rattle.sv_office.proofs.Polling.{polled_idle}
 
 one : {s t : ℕ} → Some s ≡ Some t → s ≡ t
 one e = cc
@@ -24,43 +34,46 @@ begun_entered v w s request world t is = subst (λ (x : ℕ). has_entry w.histor
     has : has_entry w.history s ≡ true
     has = subst (λ (x : WorldView). has_entry x.history s ≡ true) (sym world) (ap (λ (b : Bool). b || has_entry v.history s) (eq-eqb s s refl))
 
--- The session in which one asks is one's own.
+-- It has the session afterwards in which it asked.
 pub keeps_asking : (h : List Entry) (mine : Option ℕ) (s : ℕ) → AsksIn h mine s → KeepsOwn h mine (Some s)
-keeps_asking h mine s (inl has) t is = inl (has ∙ is)
-keeps_asking h mine s (inr none) t is = subst (λ (x : ℕ). IsOwn h mine x) (one is) (inr none.1)
+keeps_asking h mine s asks t is = subst (λ (x : ℕ). AsksIn h mine x) (one is) asks
 
--- What one entered is one's own.
-pub own_entered : (v w : WorldView) (mine : Option ℕ) (s : ℕ) (request : Request) → AsksIn v.history mine s → GoesOn (IsEntry s request) v w
-    → GoesOn (λ (e : Entry). IsOwn v.history mine e.session) v w
-own_entered v w mine s request asks on = goes_as (asks_own v.history mine s request asks) on
+pub still_asking : (h : List Entry) (mine : Option ℕ) (s : ℕ) → AsksIn h mine s → mine ≢ None → Some s ≡ mine
+still_asking h mine s (inl has) some = sym has
+still_asking h mine s (inr none) some = absurd (some none.0)
 
--- One's own, in one call after the other.
-pub own_then : (v w x : WorldView) (mine mid : Option ℕ) → KeepsOwn v.history mine mid → GoesOn (λ (e : Entry). IsOwn v.history mine e.session) v w
-    → GoesOn (λ (e : Entry). IsOwn w.history mid e.session) w x → GoesOn (λ (e : Entry). IsOwn v.history mine e.session) v x
-own_then v w x mine mid keeps first next = goes_then first (goes_as (λ e. own_before first.added keeps e.session) next)
+-- A Join of the steward, in the session in which it asks.
+pub stewards_entered : (v w : WorldView) (mine : Option ℕ) (s : ℕ) (request : Request) → number_in request ≡ Some steward_number → AsksIn v.history mine s
+    → GoesOn (IsEntry s request) v w → GoesOn (IsStewards v.history mine) v w
+stewards_entered v w mine s request joins asks on =
+    goes_as (λ e is. (asks_entered v.history mine s request asks e is, inr (ap number_in is.1 ∙ joins))) on
 
-pub of_entered : (v w : WorldView) (mine : Option ℕ) (s : ℕ) (request : Request) → mine ≡ Some s → GoesOn (IsEntry s request) v w → GoesOn (IsOf mine) v w
-of_entered v w mine s request has on = goes_as (λ e is. has ∙ ap (λ (t : ℕ). Some t) (sym is.0)) on
+-- In one call after the other.
+pub stewards_then : (v w x : WorldView) (mine mid : Option ℕ) → KeepsOwn v.history mine mid → (mid ≡ None → mine ≡ None) → GoesOn (IsStewards v.history mine) v w
+    → GoesOn (IsStewards w.history mid) w x → GoesOn (IsStewards v.history mine) v x
+stewards_then v w x mine mid keeps none first next = goes_then first (goes_as (λ e is. (asks_before first.added keeps none e.session is.0, is.1)) next)
 
-pub of_session : (v w : WorldView) (mine : Option ℕ) (s : ℕ) → mine ≡ Some s → GoesOn (λ (e : Entry). e.session ≡ s) v w → GoesOn (IsOf mine) v w
-of_session v w mine s has on = goes_as (λ e is. has ∙ ap (λ (t : ℕ). Some t) (sym is)) on
+report_is : (request : Request) → (request ≡ requests.Poll) ⊎ IsDone request → is_report request ≡ true
+report_is request (inl poll) = ap is_report poll
+report_is request (inr (results, done)) = ap is_report done
 
-pub reported_poll : (t : ℕ) (v w : WorldView) (request : Request) → request ≡ requests.Poll → w ≡ after v t request → IsReported t v.history w.history
-reported_poll t v w request poll world = subst (λ (x : WorldView). IsReported t v.history x.history) (sym world) (IsReported.polled refl poll)
+pub report_entered : (v w : WorldView) (mine : Option ℕ) (s : ℕ) (request : Request) → mine ≡ Some s → (request ≡ requests.Poll) ⊎ IsDone request
+    → GoesOn (IsEntry s request) v w → GoesOn (IsReport mine) v w
+report_entered v w mine s request has kind on =
+    goes_as (λ e is. (has ∙ ap (λ (t : ℕ). Some t) (sym is.0), ap is_report is.1 ∙ report_is request kind)) on
+
+pub reported_poll : (t : ℕ) (v w : WorldView) (request : Request) (reply : Reply) → request ≡ requests.Poll → WasEntered v w t request reply
+    → asks_for_done reply ≡ false → is_refused reply ≡ false → IsReported t v.history w.history
+reported_poll t v w request reply poll entered nothing taken =
+    subst (λ (x : WorldView). IsReported t v.history x.history) (sym entered.world) (IsReported.polled refl poll
+    (polled_idle (living v.stewardship) v.rules v.history t (accepted w.history) request reply poll entered.whole nothing taken))
 
 pub reported_done : (t : ℕ) (v w x : WorldView) (request done : Request) → request ≡ requests.Poll → w ≡ after v t request
-    → (results : List Done1) × (done ≡ requests.Done results) → x ≡ after w t done → IsReported t v.history x.history
+    → IsDone done → x ≡ after w t done → IsReported t v.history x.history
 reported_done t v w x request done poll world (results, is) later =
     subst (λ (y : WorldView). IsReported t v.history y.history) (sym later)
     (subst (λ (y : WorldView). IsReported t v.history (after y t done).history) (sym world) (IsReported.reported results refl poll refl is))
 
-pub session_entered : (v w : WorldView) (s : ℕ) (request : Request) → GoesOn (IsEntry s request) v w → GoesOn (λ (e : Entry). e.session ≡ s) v w
-session_entered v w s request on = goes_as (λ e is. is.0) on
-
-pub of_then : (v w x : WorldView) (mine : Option ℕ) (s : ℕ) (request : Request) → mine ≡ Some s → GoesOn (IsEntry s request) v w
-    → GoesOn (λ (e : Entry). e.session ≡ s) w x → GoesOn (IsOf mine) v x
-of_then v w x mine s request has first next = goes_then (of_entered v w mine s request has first) (of_session w x mine s has next)
-
--- The steward's entries, in one call after the other.
-pub of_more : {v w x : WorldView} {mine later : Option ℕ} → later ≡ mine → GoesOn (IsOf mine) v w → GoesOn (IsOf later) w x → GoesOn (IsOf mine) v x
-of_more same first next = goes_then first (goes_as (λ e is. sym same ∙ is) next)
+-- The steward's reports, in one call after the other.
+pub of_more : {v w x : WorldView} {mine later : Option ℕ} → later ≡ mine → GoesOn (IsReport mine) v w → GoesOn (IsReport later) w x → GoesOn (IsReport mine) v x
+of_more same first next = goes_then first (goes_as (λ e is. (sym same ∙ is.0, is.1)) next)

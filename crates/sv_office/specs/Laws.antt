@@ -2,7 +2,7 @@
 use Rattle.std.specs.Prelude.{ℕ, Option}
 use Rattle.sv_living.specs.Sessions.{AreInOrder}
 use Rattle.sv_living.specs.World.{WorldView}
-use Rattle.sv_office.specs.Entering.{GoesOn, IsOf, IsGuests}
+use Rattle.sv_office.specs.Entering.{GoesOn, IsReport, IsGuests}
 use Rattle.sv_office.specs.Offices.{AreApart}
 use Rattle.sv_office.specs.Telling.{IsServed}
 use Rattle.sv_office.specs.declared.guest.Guest.{Guest}
@@ -12,7 +12,7 @@ abbrev pub OthersStay : Type 0
 OthersStay = (v w : WorldView) (guest : Guest) (steward mine : Option ℕ) → AreInOrder w.history → GoesOn (IsGuests v.history steward mine) v w
     → AreApart guest.session steward → AreApart guest.session mine → IsServed v guest → IsServed w guest
 
--- A connection stands as it stood, while entries of the steward are added.
+-- A connection stands as it stood, while reports of the steward are added.
 abbrev pub AllStay : Type 0
-AllStay = (v w : WorldView) (guest : Guest) (steward : Option ℕ) → AreInOrder w.history → GoesOn (IsOf steward) v w → AreApart guest.session steward
+AllStay = (v w : WorldView) (guest : Guest) (steward : Option ℕ) → AreInOrder w.history → GoesOn (IsReport steward) v w → AreApart guest.session steward
     → IsServed v guest → IsServed w guest

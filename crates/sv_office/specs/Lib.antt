@@ -6,5 +6,6 @@ pub mod Guests
 pub mod Telling
 pub mod Holding
 pub mod Offices
+pub mod Stewarding
 pub mod Laws
 pub mod Turns

@@ -6,8 +6,8 @@ use Rattle.sv_office.specs.Entering.{WasAnswered, WasReleased}
 use Rattle.sv_office.specs.declared.guest.Held.{Held}
 
 -- What was held of a connection was answered first, and then its request, each at most once.
-pub record WasTaken (steward : Option ℕ) (authority : Bool) (mine : Option ℕ) (held : Option Held) (v w : WorldView) (request : Request) : Type 0 where
+pub record WasTaken (steward : Option ℕ) (authority : Bool) (mine after : Option ℕ) (held : Option Held) (v w : WorldView) (request : Request) : Type 0 where
   pub middle : WorldView
   pub now : Option ℕ
-  pub released : WasReleased steward authority mine v middle held
-  pub answered : WasAnswered steward authority now middle w request
+  pub released : WasReleased steward authority mine now v middle held
+  pub answered : WasAnswered steward authority now after middle w request

@@ -62,6 +62,9 @@ impl Guest {
         ensures session { result.session ≡ None }
         ensures key { result.key ≡ None }
         ensures standing { result.standing ≡ standing.Open }
+        ensures spoken { result.has_spoken ≡ false }
+        ensures held { result.held ≡ None }
+        ensures client { result.client ≡ None }
     {
         Guest {
             peer: Peer::new(alloc),

@@ -2,11 +2,11 @@
 ghost use Rattle.std.specs.Prelude.{◌≡◌, ◌≢◌, ◌≤◌, ℕ, false, Some, IfOk, OnOk, IsTrue, length};
 ghost use Rattle.sv_journal.specs.Sessions.{is_end};
 ghost use Rattle.sv_living.specs.World.{WorldView};
-ghost use Rattle.sv_office.specs.Entering.{GoesOn, KeepsOwn, IsGuests};
-ghost use Rattle.sv_office.specs.Guests.{IsHeardOf, OnlyHeard};
+ghost use Rattle.sv_office.specs.Entering.{GoesOn, KeepsOwn, AsksInOne, MayEnter, MayHold};
+ghost use Rattle.sv_office.specs.Guests.{HasYetToAsk, IsHeardOf, OnlyHeard};
 ghost use Rattle.sv_office.specs.Offices.{AreApart, session_of};
 ghost use Rattle.sv_office.specs.Telling.{IsServed};
-ghost use Rattle.sv_office.specs.Turns.{AreLent, TakesTurn};
+ghost use Rattle.sv_office.specs.Turns.{AreLent, ShowsFirst, TakesTurn};
 ghost use Rattle.sv_office.specs.declared.guest.Standing.TheVariants as standing;
 ghost use Rattle.sv_office.specs.declared.hearing.Course.TheVariants as courses;
 
@@ -123,8 +123,12 @@ impl<F: Folder> Office<F> {
         requires served { IsServed self.old.keeper.world guest.old }
         requires apart { AreApart guest.old.session (session_of self.old.steward) }
         ensures served { OnOk result (IsServed self.new.keeper.world guest.new) }
-        ensures added { GoesOn (IsGuests self.old.keeper.world.history (session_of self.old.steward) guest.old.session) self.old.keeper.world self.new.keeper.world }
+        ensures added { GoesOn (MayEnter self.old.keeper.world.history (session_of self.old.steward) guest.old.session self.new.keys guest.new.key) self.old.keeper.world self.new.keeper.world }
+        ensures asked { AsksInOne (session_of self.old.steward) guest.old.session guest.new.session self.old.keeper.world.history self.new.keeper.world.history }
         ensures session { KeepsOwn self.old.keeper.world.history guest.old.session guest.new.session }
+        ensures shut { guest.old.standing ≢ standing.Open → self.new.keeper.world ≡ self.old.keeper.world }
+        ensures shown { ShowsFirst self.old.keys self.new.keys guest.old guest.new }
+        ensures held { MayHold self.old.keys guest.old.key guest.old.held → MayHold self.new.keys guest.new.key guest.new.held }
         ensures steward { session_of self.new.steward ≡ session_of self.old.steward }
         ensures manners { self.new.manners ≡ self.old.manners }
         ensures told { OnlyHeard number (P.told outside.old.ports.now) (P.told outside.new.ports.now) }
@@ -169,7 +173,8 @@ impl<F: Folder> Office<F> {
         requires served { IsServed self.old.keeper.world guest.old }
         requires apart { AreApart guest.old.session (session_of self.old.steward) }
         ensures served { OnOk result (IsServed self.new.keeper.world guest.new) }
-        ensures turn { TakesTurn self.old self.new guest.old.session guest.new.session }
+        ensures turn { TakesTurn self.old self.new guest.old guest.new }
+        ensures idle { OnOk result (HasYetToAsk guest.old guest.new self.old.keeper.world self.new.keeper.world) }
         ensures told { OnlyHeard number (P.told outside.old.ports.now) (P.told outside.new.ports.now) }
         ensures lent { AreLent outside.old outside.new }
         ensures sent { guest.new.peer.sent ≡ guest.old.peer.sent }
@@ -199,7 +204,8 @@ impl<F: Folder> Office<F> {
         requires apart { AreApart guest.old.session (session_of self.old.steward) }
         ensures open { IfOk result (λ course. course ≡ courses.On → guest.new.standing ≡ standing.Open) }
         ensures served { OnOk result (IsServed self.new.keeper.world guest.new) }
-        ensures turn { TakesTurn self.old self.new guest.old.session guest.new.session }
+        ensures turn { TakesTurn self.old self.new guest.old guest.new }
+        ensures idle { OnOk result (HasYetToAsk guest.old guest.new self.old.keeper.world self.new.keeper.world) }
         ensures told { OnlyHeard number (P.told outside.old.ports.now) (P.told outside.new.ports.now) }
         ensures lent { AreLent outside.old outside.new }
         ensures sent { guest.new.peer.sent ≡ guest.old.peer.sent }
@@ -224,7 +230,8 @@ impl<F: Folder> Office<F> {
         requires apart { AreApart guest.old.session (session_of self.old.steward) }
         ensures open { IfOk result (λ course. course ≡ courses.On → guest.new.standing ≡ standing.Open) }
         ensures served { OnOk result (IsServed self.new.keeper.world guest.new) }
-        ensures turn { TakesTurn self.old self.new guest.old.session guest.new.session }
+        ensures turn { TakesTurn self.old self.new guest.old guest.new }
+        ensures idle { OnOk result (HasYetToAsk guest.old guest.new self.old.keeper.world self.new.keeper.world) }
         ensures told { OnlyHeard number (P.told ports.old) (P.told ports.new) }
         ensures sent { guest.new.peer.sent ≡ guest.old.peer.sent }
     {
@@ -298,7 +305,8 @@ impl<F: Folder> Office<F> {
         requires apart { AreApart guest.old.session (session_of self.old.steward) }
         ensures open { IfOk result (λ course. course ≡ courses.On → guest.new.standing ≡ standing.Open) }
         ensures served { OnOk result (IsServed self.new.keeper.world guest.new) }
-        ensures turn { TakesTurn self.old self.new guest.old.session guest.new.session }
+        ensures turn { TakesTurn self.old self.new guest.old guest.new }
+        ensures idle { OnOk result (HasYetToAsk guest.old guest.new self.old.keeper.world self.new.keeper.world) }
         ensures sent { guest.new.peer.sent ≡ guest.old.peer.sent }
     {
         for _ in 0..=MOST_REQUESTS {
@@ -330,7 +338,8 @@ impl<F: Folder> Office<F> {
         requires apart { AreApart guest.old.session (session_of self.old.steward) }
         ensures open { IfOk result (λ course. course ≢ Some courses.Over → guest.new.standing ≡ standing.Open) }
         ensures served { OnOk result (IsServed self.new.keeper.world guest.new) }
-        ensures turn { TakesTurn self.old self.new guest.old.session guest.new.session }
+        ensures turn { TakesTurn self.old self.new guest.old guest.new }
+        ensures idle { OnOk result (HasYetToAsk guest.old guest.new self.old.keeper.world self.new.keeper.world) }
         ensures sent { guest.new.peer.sent ≡ guest.old.peer.sent }
     {
         let taken = self.take_one(files, err, guest)?;
@@ -359,7 +368,8 @@ impl<F: Folder> Office<F> {
         requires served { IsServed self.old.keeper.world guest.old }
         requires apart { AreApart guest.old.session (session_of self.old.steward) }
         ensures served { OnOk result (IsServed self.new.keeper.world guest.new) }
-        ensures turn { TakesTurn self.old self.new guest.old.session guest.new.session }
+        ensures turn { TakesTurn self.old self.new guest.old guest.new }
+        ensures idle { OnOk result (HasYetToAsk guest.old guest.new self.old.keeper.world self.new.keeper.world) }
         ensures sent { guest.new.peer.sent ≡ guest.old.peer.sent }
     {
         match guest.peer.next() {
@@ -396,7 +406,8 @@ impl<F: Folder> Office<F> {
         requires served { IsServed self.old.keeper.world guest.old }
         requires apart { AreApart guest.old.session (session_of self.old.steward) }
         ensures served { OnOk result (IsServed self.new.keeper.world guest.new) }
-        ensures turn { TakesTurn self.old self.new guest.old.session guest.new.session }
+        ensures turn { TakesTurn self.old self.new guest.old guest.new }
+        ensures idle { OnOk result (HasYetToAsk guest.old guest.new self.old.keeper.world self.new.keeper.world) }
         ensures sent { guest.new.peer.sent ≡ guest.old.peer.sent }
     {
         if guest.has_spoken {

@@ -1,7 +1,7 @@
 //! Observes that wait for news.
 ghost use Rattle.std.specs.Prelude.{◌≡◌, ◌≤◌, ◌<◌, ℕ, false, None, Some, IfSome, OnOk};
-ghost use Rattle.sv_office.specs.Entering.{GoesOn, KeepsOwn, CameOfHeld, WasReleased};
-ghost use Rattle.sv_office.specs.Guests.{Stays};
+ghost use Rattle.sv_office.specs.Entering.{GoesOn, KeepsOwn, AsksInOne, CameOfHeld, MayEnter, MayHold, WasReleased};
+ghost use Rattle.sv_office.specs.Guests.{HasYetToAsk};
 ghost use Rattle.sv_office.specs.Holding.{IsHeld, IsWaiting};
 ghost use Rattle.sv_office.specs.Offices.{AreApart, session_of};
 ghost use Rattle.sv_office.specs.Telling.{IsServed};
@@ -35,14 +35,19 @@ impl<F: Folder> Office<F> {
         requires served { IsServed self.old.keeper.world guest.old }
         requires apart { AreApart guest.old.session (session_of self.old.steward) }
         ensures served { OnOk result (IsServed self.new.keeper.world guest.new) }
-        ensures once { OnOk result (WasReleased (session_of self.old.steward) self.old.manners.authority guest.old.session self.old.keeper.world self.new.keeper.world guest.old.held) }
+        ensures once { OnOk result (WasReleased (session_of self.old.steward) self.old.manners.authority guest.old.session guest.new.session self.old.keeper.world self.new.keeper.world guest.old.held) }
         ensures held { guest.new.held ≡ None }
         ensures added { GoesOn (CameOfHeld self.old.keeper.world.history (session_of self.old.steward) guest.old.session guest.old.held) self.old.keeper.world self.new.keeper.world }
+        ensures may { MayHold self.old.keys guest.old.key guest.old.held
+            → GoesOn (MayEnter self.old.keeper.world.history (session_of self.old.steward) guest.old.session self.old.keys guest.old.key) self.old.keeper.world self.new.keeper.world }
+        ensures asked { AsksInOne (session_of self.old.steward) guest.old.session guest.new.session self.old.keeper.world.history self.new.keeper.world.history }
+        ensures idle { OnOk result (HasYetToAsk guest.old guest.new self.old.keeper.world self.new.keeper.world) }
         ensures session { KeepsOwn self.old.keeper.world.history guest.old.session guest.new.session }
         ensures steward { session_of self.new.steward ≡ session_of self.old.steward }
         ensures keys { self.new.keys ≡ self.old.keys }
         ensures manners { self.new.manners ≡ self.old.manners }
         ensures key { guest.new.key ≡ guest.old.key }
+        ensures spoken { guest.new.has_spoken ≡ guest.old.has_spoken }
         ensures sent { guest.new.peer.sent ≡ guest.old.peer.sent }
     {
         match guest.held.take() {

@@ -1,8 +1,7 @@
 //! When the steward reports.
 ghost use Rattle.std.specs.Prelude.{◌≡◌, OnOk};
-ghost use Rattle.sv_journal.specs.declared.entry.Entry.{Entry};
 ghost use Rattle.sv_keeper.specs.Keeping.{AreSettled};
-ghost use Rattle.sv_office.specs.Entering.{GoesOn, IsOf, IsOwn, KeepsOwn, WasReported};
+ghost use Rattle.sv_office.specs.Entering.{GoesOn, IsReport, IsStewards, KeepsOwn, WasReported};
 ghost use Rattle.sv_office.specs.Offices.{session_of};
 
 use crate::halt::Halt;
@@ -19,7 +18,7 @@ impl<F: Folder> Office<F> {
     fn report_once(&mut self) -> Result<bool, Halt>
         ensures steward { session_of self.new.steward ≡ session_of self.old.steward }
         ensures reported { OnOk result (WasReported (session_of self.old.steward) self.old.keeper.world.history self.new.keeper.world.history) }
-        ensures added { GoesOn (IsOf (session_of self.old.steward)) self.old.keeper.world self.new.keeper.world }
+        ensures added { GoesOn (IsReport (session_of self.old.steward)) self.old.keeper.world self.new.keeper.world }
         ensures keys { self.new.keys ≡ self.old.keys }
         ensures manners { self.new.manners ≡ self.old.manners }
     {
@@ -35,7 +34,7 @@ impl<F: Folder> Office<F> {
     pub fn report_accepted(&mut self) -> Result<(), Halt>
         ensures steward { session_of self.new.steward ≡ session_of self.old.steward }
         ensures reported { OnOk result (WasReported (session_of self.old.steward) self.old.keeper.world.history self.new.keeper.world.history) }
-        ensures added { GoesOn (IsOf (session_of self.old.steward)) self.old.keeper.world self.new.keeper.world }
+        ensures added { GoesOn (IsReport (session_of self.old.steward)) self.old.keeper.world self.new.keeper.world }
         ensures keys { self.new.keys ≡ self.old.keys }
         ensures manners { self.new.manners ≡ self.old.manners }
     {
@@ -87,7 +86,7 @@ impl<F: Folder> Office<F> {
     #[tactic(auto, using(crate::proofs::Adding::goes_nowhere, crate::proofs::Stewarding::of_more))]
     pub fn report_old(&mut self) -> Result<(), Halt>
         ensures steward { session_of self.new.steward ≡ session_of self.old.steward }
-        ensures added { GoesOn (IsOf (session_of self.old.steward)) self.old.keeper.world self.new.keeper.world }
+        ensures added { GoesOn (IsReport (session_of self.old.steward)) self.old.keeper.world self.new.keeper.world }
         ensures keys { self.new.keys ≡ self.old.keys }
         ensures manners { self.new.manners ≡ self.old.manners }
     {
@@ -107,7 +106,7 @@ impl<F: Folder> Office<F> {
     #[tactic(auto, using(crate::proofs::Adding::goes_nowhere, crate::proofs::Stewarding::of_more))]
     pub fn report_all(&mut self) -> Result<(), Halt>
         ensures steward { session_of self.new.steward ≡ session_of self.old.steward }
-        ensures added { GoesOn (IsOf (session_of self.old.steward)) self.old.keeper.world self.new.keeper.world }
+        ensures added { GoesOn (IsReport (session_of self.old.steward)) self.old.keeper.world self.new.keeper.world }
         ensures keys { self.new.keys ≡ self.old.keys }
         ensures manners { self.new.manners ≡ self.old.manners }
     {
@@ -123,7 +122,7 @@ impl<F: Folder> Office<F> {
     #[tactic(auto, using(crate::proofs::Adding::goes_nowhere))]
     fn join(&mut self) -> Result<(), Halt>
         ensures session { KeepsOwn self.old.keeper.world.history (session_of self.old.steward) (session_of self.new.steward) }
-        ensures added { GoesOn (λ (e : Entry). IsOwn self.old.keeper.world.history (session_of self.old.steward) e.session) self.old.keeper.world self.new.keeper.world }
+        ensures added { GoesOn (IsStewards self.old.keeper.world.history (session_of self.old.steward)) self.old.keeper.world self.new.keeper.world }
         ensures keys { self.new.keys ≡ self.old.keys }
         ensures manners { self.new.manners ≡ self.old.manners }
     {
@@ -135,7 +134,7 @@ impl<F: Folder> Office<F> {
 
     /// The steward joins and reports, before anybody is served.
     pub fn begin(&mut self) -> Result<(), Halt>
-        ensures added { GoesOn (λ (e : Entry). IsOwn self.old.keeper.world.history (session_of self.old.steward) e.session) self.old.keeper.world self.new.keeper.world }
+        ensures added { GoesOn (IsStewards self.old.keeper.world.history (session_of self.old.steward)) self.old.keeper.world self.new.keeper.world }
         ensures settled { OnOk result (AreSettled F.disk F.is_honest self.new.keeper) }
         ensures keys { self.new.keys ≡ self.old.keys }
         ensures manners { self.new.manners ≡ self.old.manners }

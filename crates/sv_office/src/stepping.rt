@@ -12,8 +12,8 @@ ghost use Rattle.sv_living.specs.World.{WorldView, after, reply_in};
 ghost use Rattle.sv_wire.specs.declared.message.Reply.{Reply};
 ghost use Rattle.sv_wire.specs.declared.message.Request.{Request};
 ghost use Rattle.sv_office.specs.Admitting.{is_admitted, is_stewards_number, number_in, shows_key};
-ghost use Rattle.sv_office.specs.Entering.{GoesOn, KeepsOwn, IsEndOf, IsEnded, Follows, CameOf, CameOfAsking, WasFollowed, WasAnswered, IsOf};
-ghost use Rattle.sv_office.specs.Guests.{Stays};
+ghost use Rattle.sv_office.specs.Entering.{GoesOn, KeepsOwn, AsksInOne, IsEndOf, IsEnded, Follows, CameOf, CameOfAsking, MayHold, WasFollowed, WasAnswered, IsReport};
+ghost use Rattle.sv_office.specs.Guests.{HasYetToAsk, Stays};
 ghost use Rattle.sv_office.specs.Offices.{AreApart, session_of};
 ghost use Rattle.sv_office.specs.Taking.{WasTaken};
 ghost use Rattle.sv_office.specs.Telling.{IsServed, IsOwed, WouldShowNothing, ShowsSomething};
@@ -144,6 +144,8 @@ impl<F: Folder> Office<F> {
         requires apart { AreApart guest.old.session (session_of self.old.steward) }
         ensures served { OnOk result (IsServed self.new.keeper.world guest.new) }
         ensures added { GoesOn (CameOfAsking self.old.keeper.world.history (session_of self.old.steward) self.old.keys guest.old request) self.old.keeper.world self.new.keeper.world }
+        ensures asked { AsksInOne (session_of self.old.steward) guest.old.session guest.new.session self.old.keeper.world.history self.new.keeper.world.history }
+        ensures idle { OnOk result (HasYetToAsk guest.old guest.new self.old.keeper.world self.new.keeper.world) }
         ensures session { KeepsOwn self.old.keeper.world.history guest.old.session guest.new.session }
         ensures steward { session_of self.new.steward ≡ session_of self.old.steward }
         ensures keys { self.new.keys ≡ self.old.keys }
@@ -151,9 +153,11 @@ impl<F: Folder> Office<F> {
         ensures key { guest.new.key ≡ guest.old.key }
         ensures sent { guest.new.peer.sent ≡ guest.old.peer.sent }
         ensures taken { is_admitted self.old.keys guest.old.key request ≡ true → OnOk result (WasTaken (session_of self.old.steward) self.old.manners.authority
-            guest.old.session guest.old.held self.old.keeper.world self.new.keeper.world request) }
-        ensures refused { is_admitted self.old.keys guest.old.key request ≡ false → OnOk result (IsEnded guest.old.session self.old.keeper.world.history self.new.keeper.world.history) }
+            guest.old.session guest.new.session guest.old.held self.old.keeper.world self.new.keeper.world request) }
+        ensures refused { is_admitted self.old.keys guest.old.key request ≡ false → OnOk result (IsEnded guest.old.session guest.new.session self.old.keeper.world.history self.new.keeper.world.history) }
+        ensures spoken { guest.new.has_spoken ≡ true }
         ensures held { IfSome guest.new.held (λ held. held.request ≡ request) }
+        ensures may_hold { MayHold self.old.keys guest.old.key guest.new.held }
     {
         guest.heard = self.time;
         guest.has_spoken = true;
@@ -180,8 +184,10 @@ impl<F: Folder> Office<F> {
         requires served { IsServed self.old.keeper.world guest.old }
         requires apart { AreApart guest.old.session (session_of self.old.steward) }
         ensures served { OnOk result (IsServed self.new.keeper.world guest.new) }
-        ensures answered { OnOk result (WasAnswered (session_of self.old.steward) self.old.manners.authority guest.old.session self.old.keeper.world self.new.keeper.world request.now) }
+        ensures answered { OnOk result (WasAnswered (session_of self.old.steward) self.old.manners.authority guest.old.session guest.new.session self.old.keeper.world self.new.keeper.world request.now) }
         ensures added { GoesOn (CameOf self.old.keeper.world.history (session_of self.old.steward) guest.old.session request.now) self.old.keeper.world self.new.keeper.world }
+        ensures asked { AsksInOne (session_of self.old.steward) guest.old.session guest.new.session self.old.keeper.world.history self.new.keeper.world.history }
+        ensures idle { OnOk result (HasYetToAsk guest.old guest.new self.old.keeper.world self.new.keeper.world) }
         ensures session { KeepsOwn self.old.keeper.world.history guest.old.session guest.new.session }
         ensures steward { session_of self.new.steward ≡ session_of self.old.steward }
         ensures keys { self.new.keys ≡ self.old.keys }
@@ -218,8 +224,10 @@ impl<F: Folder> Office<F> {
         requires served { IsServed self.old.keeper.world guest.old }
         requires apart { AreApart guest.old.session (session_of self.old.steward) }
         ensures served { OnOk result (IsServed self.new.keeper.world guest.new) }
-        ensures answered { OnOk result (WasAnswered (session_of self.old.steward) self.old.manners.authority guest.old.session self.old.keeper.world self.new.keeper.world request.now) }
+        ensures answered { OnOk result (WasAnswered (session_of self.old.steward) self.old.manners.authority guest.old.session guest.new.session self.old.keeper.world self.new.keeper.world request.now) }
         ensures added { GoesOn (CameOf self.old.keeper.world.history (session_of self.old.steward) guest.old.session request.now) self.old.keeper.world self.new.keeper.world }
+        ensures asked { AsksInOne (session_of self.old.steward) guest.old.session guest.new.session self.old.keeper.world.history self.new.keeper.world.history }
+        ensures idle { OnOk result (HasYetToAsk guest.old guest.new self.old.keeper.world self.new.keeper.world) }
         ensures session { KeepsOwn self.old.keeper.world.history guest.old.session guest.new.session }
         ensures steward { session_of self.new.steward ≡ session_of self.old.steward }
         ensures keys { self.new.keys ≡ self.old.keys }
@@ -273,9 +281,9 @@ impl<F: Folder> Office<F> {
 
     // With authority the steward reports what was accepted.
     fn report_at_once(&mut self, before: Before) -> Result<(), Halt>
-        ensures followed { OnOk result (WasFollowed (session_of self.old.steward) self.old.manners.authority before.last None
+        ensures followed { OnOk result (WasFollowed (session_of self.old.steward) self.old.manners.authority before.last None None
             self.old.keeper.world.history self.new.keeper.world.history) }
-        ensures added { GoesOn (IsOf (session_of self.old.steward)) self.old.keeper.world self.new.keeper.world }
+        ensures added { GoesOn (IsReport (session_of self.old.steward)) self.old.keeper.world self.new.keeper.world }
         ensures steward { session_of self.new.steward ≡ session_of self.old.steward }
         ensures keys { self.new.keys ≡ self.old.keys }
         ensures manners { self.new.manners ≡ self.old.manners }
@@ -296,10 +304,11 @@ impl<F: Folder> Office<F> {
         requires owed { IsOwed self.old.keeper.world guest.old reply.now }
         requires apart { AreApart guest.old.session (session_of self.old.steward) }
         ensures served { OnOk result (IsServed self.new.keeper.world guest.new) }
-        ensures followed { OnOk result (WasFollowed (session_of self.old.steward) self.old.manners.authority before.last guest.old.session
+        ensures followed { OnOk result (WasFollowed (session_of self.old.steward) self.old.manners.authority before.last guest.old.session guest.new.session
             self.old.keeper.world.history self.new.keeper.world.history) }
         ensures added { GoesOn (Follows (session_of self.old.steward) guest.old.session) self.old.keeper.world self.new.keeper.world }
         ensures session { guest.new.session ≡ guest.old.session ⊎ guest.new.session ≡ None }
+        ensures still { guest.new.standing ≡ standing.Open → guest.new.session ≡ guest.old.session }
         ensures steward { session_of self.new.steward ≡ session_of self.old.steward }
         ensures keys { self.new.keys ≡ self.old.keys }
         ensures manners { self.new.manners ≡ self.old.manners }
@@ -322,9 +331,11 @@ impl<F: Folder> Office<F> {
     pub fn end(&mut self, guest: &mut Guest) -> Result<(), Halt>
         requires served { IsServed self.old.keeper.world guest.old }
         ensures served { OnOk result (IsServed self.new.keeper.world guest.new) }
-        ensures ended { OnOk result (IsEnded guest.old.session self.old.keeper.world.history self.new.keeper.world.history) }
+        ensures ended { OnOk result (IsEnded guest.old.session guest.new.session self.old.keeper.world.history self.new.keeper.world.history) }
         ensures added { GoesOn (IsEndOf guest.old.session) self.old.keeper.world self.new.keeper.world }
         ensures session { guest.new.session ≡ None }
+        // One that is served still had no session.
+        ensures open { guest.new.standing ≡ standing.Open → (guest.old.standing ≡ standing.Open) × (guest.old.session ≡ None) × (self.new.keeper.world ≡ self.old.keeper.world) }
         ensures standing { guest.old.session ≢ None → guest.new.standing ≢ standing.Open }
         ensures steward { session_of self.new.steward ≡ session_of self.old.steward }
         ensures keys { self.new.keys ≡ self.old.keys }

@@ -1,11 +1,11 @@
 //! The steward: an honest client within the server.
-ghost use Rattle.std.specs.Prelude.{◌≡◌, ℕ, List, None, Some, IfOk, IfSome, OnOk};
-ghost use Rattle.sv_journal.specs.declared.entry.Entry.{Entry};
+ghost use Rattle.std.specs.Prelude.{◌≡◌, ◌≢◌, ℕ, List, false, None, Some, IfOk, IfSome, IfNone, OnOk};
+ghost use Rattle.sv_client.specs.Kinds.{asks_for_done};
 ghost use Rattle.sv_living.specs.World.{after};
-ghost use Rattle.sv_wire.specs.declared.message.Done1.{Done1};
 ghost use Rattle.sv_wire.specs.declared.message.Request.TheVariants as requests;
-ghost use Rattle.sv_office.specs.Entering.{IsOwn, KeepsOwn, GoesOn, IsOf, IsReported};
-ghost use Rattle.sv_office.specs.Offices.{HasBegun};
+ghost use Rattle.sv_office.specs.Admitting.{steward_number};
+ghost use Rattle.sv_office.specs.Entering.{KeepsOwn, GoesOn, IsEntry, IsReport, IsReported, IsStewards};
+ghost use Rattle.sv_office.specs.Stewarding.{IsDone, is_refused};
 
 use crate::entering::{asking_session, enter};
 use crate::halt::Halt;
@@ -26,6 +26,7 @@ pub struct Steward {
     alloc: Global,
     client: Box<LeanClient>,
     session: Option<u64>,
+    ghost number: { client.value.who.client.0 ≡ steward_number },
 }
 
 fn fault_of_take(fault: TakeFault) -> Halt {
@@ -52,6 +53,8 @@ fn told_life(reply: &Reply) -> Option<u32> {
 }
 
 impl Steward {
+    ghost use Rattle.sv_office.specs.Offices.{HasBegun};
+
     pub fn new(alloc: Global, shape: Shape) -> Result<Steward, AllocError>
         ensures { IfOk result (λ steward. steward.session ≡ None) }
     {
@@ -63,10 +66,12 @@ impl Steward {
         })
     }
 
-    // Takes a reply. What it asks then is a Done.
+    // Takes a reply. What it asks then is a Done, where there is something to report.
     fn take(&mut self, reply: &Reply) -> Result<Option<Request>, Halt>
         ensures session { self.new.session ≡ self.old.session }
-        ensures done { IfOk result (λ done. IfSome done (λ request. (results : List Done1) × (request ≡ requests.Done results))) }
+        ensures done { IfOk result (λ done. IfSome done IsDone) }
+        ensures none { IfOk result (λ done. IfNone done (asks_for_done reply.now ≡ false)) }
+        ensures taken { OnOk result (is_refused reply.now ≡ false) }
     {
         match self.client.take(reply) {
             Ok(done) => Ok(done),
@@ -75,11 +80,12 @@ impl Steward {
     }
 
     // Asks to join with its next life, in its session or in the next one.
-    #[tactic(auto, using(crate::proofs::Adding::goes_nowhere, crate::proofs::Stewarding::begun_stays, crate::proofs::Stewarding::begun_entered, crate::proofs::Stewarding::keeps_asking, crate::proofs::Stewarding::own_entered))]
+    #[tactic(auto, using(crate::proofs::Adding::goes_nowhere, crate::proofs::Stewarding::begun_stays, crate::proofs::Stewarding::begun_entered, crate::proofs::Stewarding::keeps_asking))]
     fn begin<F: Folder>(&mut self, keeper: &mut Keeper<F>) -> Result<Reply, Halt>
         ensures begun { HasBegun keeper.old.world self.old.session → HasBegun keeper.new.world self.new.session }
         ensures session { KeepsOwn keeper.old.world.history self.old.session self.new.session }
-        ensures added { GoesOn (λ (e : Entry). IsOwn keeper.old.world.history self.old.session e.session) keeper.old.world keeper.new.world }
+        ensures still { self.old.session ≢ None → self.new.session ≡ self.old.session }
+        ensures added { GoesOn (IsStewards keeper.old.world.history self.old.session) keeper.old.world keeper.new.world }
     {
         if self.client.sessions() >= MOST_SESSIONS {
             return Err(Halt::Steward);
@@ -111,11 +117,11 @@ impl Steward {
     }
 
     // Begins, and where a greater life was told, begins with the next one.
-    #[tactic(auto, using(crate::proofs::Adding::keeps_then, crate::proofs::Stewarding::own_then))]
     fn begin_newest<F: Folder>(&mut self, keeper: &mut Keeper<F>) -> Result<Reply, Halt>
         ensures begun { HasBegun keeper.old.world self.old.session → HasBegun keeper.new.world self.new.session }
         ensures session { KeepsOwn keeper.old.world.history self.old.session self.new.session }
-        ensures added { GoesOn (λ (e : Entry). IsOwn keeper.old.world.history self.old.session e.session) keeper.old.world keeper.new.world }
+        ensures still { self.old.session ≢ None → self.new.session ≡ self.old.session }
+        ensures added { GoesOn (IsStewards keeper.old.world.history self.old.session) keeper.old.world keeper.new.world }
     {
         let reply = self.begin(keeper)?;
         match told_life(&reply) {
@@ -131,7 +137,8 @@ impl Steward {
     pub fn join<F: Folder>(&mut self, keeper: &mut Keeper<F>) -> Result<(), Halt>
         ensures begun { HasBegun keeper.old.world self.old.session → HasBegun keeper.new.world self.new.session }
         ensures session { KeepsOwn keeper.old.world.history self.old.session self.new.session }
-        ensures added { GoesOn (λ (e : Entry). IsOwn keeper.old.world.history self.old.session e.session) keeper.old.world keeper.new.world }
+        ensures still { self.old.session ≢ None → self.new.session ≡ self.old.session }
+        ensures added { GoesOn (IsStewards keeper.old.world.history self.old.session) keeper.old.world keeper.new.world }
     {
         let reply = self.begin_newest(keeper)?;
         let _ = self.take(&reply)?;
@@ -153,11 +160,11 @@ impl Steward {
     }
 
     /// Polls, and reports what it is sent. The answer is how many results it reported, 0 where it was answered Idle. Without a session it is an error.
-    #[tactic(auto, using(crate::proofs::Adding::goes_nowhere, crate::proofs::Stewarding::of_entered, crate::proofs::Stewarding::of_then, crate::proofs::Stewarding::reported_poll, crate::proofs::Stewarding::reported_done))]
+    #[tactic(auto, using(crate::proofs::Adding::goes_nowhere))]
     pub fn report<F: Folder>(&mut self, keeper: &mut Keeper<F>) -> Result<u64, Halt>
         ensures session { self.new.session ≡ self.old.session }
         ensures reported { OnOk result ((t : ℕ) × (self.old.session ≡ Some t) × IsReported t keeper.old.world.history keeper.new.world.history) }
-        ensures added { GoesOn (IsOf self.old.session) keeper.old.world keeper.new.world }
+        ensures added { GoesOn (IsReport self.old.session) keeper.old.world keeper.new.world }
     {
         let Some(session) = self.session else {
             return Err(Halt::Steward);
@@ -179,7 +186,7 @@ impl Steward {
     ) -> Result<u64, Halt>
         ensures session { self.new.session ≡ self.old.session }
         ensures reported { OnOk result (keeper.new.world ≡ after keeper.old.world session done.now) }
-        ensures added { GoesOn (λ (e : Entry). e.session ≡ session) keeper.old.world keeper.new.world }
+        ensures added { GoesOn (IsEntry session done.now) keeper.old.world keeper.new.world }
     {
         let noted = enter(keeper, session, done)?;
         let _ = self.take(&noted)?;

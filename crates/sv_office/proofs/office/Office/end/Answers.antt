@@ -1,9 +1,9 @@
 -- The session has its End.
-use Rattle.std.proofs.Common.{refl}
+use Rattle.std.proofs.Common.{refl, sym, ◌∙◌}
 use Rattle.sv_office.proofs.Adding.{goes_nowhere}
 use Rattle.sv_office.proofs.Ending.{end_on}
 use Rattle.sv_office.proofs.Entered.{sound_stays}
-use Rattle.sv_office.proofs.Served.{served_ended}
+use Rattle.sv_office.proofs.Served.{closed_shut, served_ended}
 use Rattle.sv_office.proofs.office.Office.end.Goals as goal
 
 pub returns-in_default-clause-added : goal.returns-in_default-clause-added
@@ -21,3 +21,9 @@ returns-clause-served g c =
 
 pub returns-clause-added : goal.returns-clause-added
 returns-clause-added g c = end_on _ _ _ _ c.in-Some.is c.in-Ok.ensures.added
+
+pub returns-in_default-enter-clause-open : goal.returns-in_default-enter-clause-open
+returns-in_default-enter-clause-open g c = λ lives. absurd (closed_shut _ (sym c.close.ensures.standing ∙ lives))
+
+pub returns-clause-open : goal.returns-clause-open
+returns-clause-open g c = λ lives. absurd (closed_shut _ (sym c.close.ensures.standing ∙ lives))

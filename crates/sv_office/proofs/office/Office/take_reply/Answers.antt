@@ -1,7 +1,8 @@
 -- The reply is told, the steward may report, and the session may end.
-use Rattle.std.proofs.Common.{inl, refl, ◌∙◌}
+use Rattle.std.proofs.Common.{inl, refl, sym, ◌∙◌}
+use Rattle.sv_office.specs.Offices.{session_of}
 use Rattle.sv_office.proofs.Served.{served_closed}
-use Rattle.sv_office.proofs.Stepping1.{followed_end, follows_ended, follows_reported, served_reported}
+use Rattle.sv_office.proofs.Stepping1.{followed_end, followed_end_ok, follows_ended, follows_reported, served_reported}
 use Rattle.sv_office.proofs.office.Office.take_reply.Goals as goal
 
 pub end-requires : goal.end-requires
@@ -21,7 +22,7 @@ returns-clause-served g c =
     (c.tell.ensures.served _ c.requires.owed)
 
 pub returns-clause-followed : goal.returns-clause-followed
-returns-clause-followed g c = followed_end c.in_ok-report_at_once.ensures.followed (inl refl)
+returns-clause-followed g c = followed_end c.in_ok-report_at_once.ensures.followed (inl (c.tell.ensures.session, refl))
 
 pub returns-clause-added : goal.returns-clause-added
 returns-clause-added g c = follows_reported _ _ c.in_ok-report_at_once.ensures.added
@@ -29,3 +30,13 @@ returns-clause-added g c = follows_reported _ _ c.in_ok-report_at_once.ensures.a
 pub returns-then-stops-clause-added : goal.returns-then-stops-clause-added
 returns-then-stops-clause-added g c =
     follows_ended _ _ (c.close.ensures.session ∙ c.tell.ensures.session) c.in_ok-report_at_once.ensures.added c.end.ensures.added
+
+pub returns-then-stops-clause-followed : goal.returns-then-stops-clause-followed
+returns-then-stops-clause-followed g c =
+    followed_end_ok c.end.result (session_of c.args.self.now.steward) c.args.guest.now.session c.close.new.self.session c.end.new.guest.session
+    c.args.self.now.manners.authority c.args.before.last c.args.self.now.keeper.world.history c.report_at_once.new.self.keeper.world.history
+    c.end.new.self.keeper.world.history (c.close.ensures.session ∙ c.tell.ensures.session) c.in_ok-report_at_once.ensures.followed c.end.ensures.ended
+
+pub returns-then-stops-clause-still : goal.returns-then-stops-clause-still
+returns-then-stops-clause-still g c = λ lives.
+    c.end.ensures.session ∙ sym (c.end.ensures.open lives).1 ∙ c.close.ensures.session ∙ c.tell.ensures.session

@@ -1,24 +1,43 @@
 -- One request after the other.
-use Rattle.std.proofs.Common.{refl, ◌∙◌}
+use Rattle.std.proofs.Common.{inl, refl, ◌∙◌}
 use Rattle.sv_office.proofs.Hearing2.{none_other, turn_apart, turn_nowhere, turn_then}
+use Rattle.sv_office.proofs.Stepping1.{yet_same, yet_then}
 use Rattle.sv_office.proofs.office.Office.take_requests.Goals as goal
 
 pub loop-init : goal.loop-init
-loop-init g c = record { open_still = c.requires.open; served = c.requires.served; turn = turn_nowhere _ _ _ _ refl refl refl refl; sent = refl }
+loop-init g c = record {
+  open_still = c.requires.open;
+  served = c.requires.served;
+  turn = turn_nowhere _ _ _ _ refl refl refl refl refl refl refl (inl refl);
+  idle = yet_same refl refl;
+  sent = refl;
+}
 
 pub take_next-requires-clause-apart : goal.take_next-requires-clause-apart
-take_next-requires-clause-apart g c = turn_apart c.args.self.now c.loop.self c.args.guest.now.session c.loop.guest.session c.loop.invariant.turn c.requires.apart
+take_next-requires-clause-apart g c = turn_apart c.args.self.now c.loop.self c.args.guest.now c.loop.guest c.loop.invariant.turn c.requires.apart
 
 pub returns-in_err-course-clause-turn : goal.returns-in_err-course-clause-turn
-returns-in_err-course-clause-turn g c = turn_then _ _ _ _ _ _ c.loop.invariant.turn c.take_next.ensures.turn
+returns-in_err-course-clause-turn g c =
+    turn_then c.args.self.now c.loop.self _ c.args.guest.now c.loop.guest _ c.loop.invariant.turn c.loop.invariant.idle c.loop.invariant.open_still c.take_next.ensures.turn
 
 pub returns-in-Some-clause-turn : goal.returns-in-Some-clause-turn
-returns-in-Some-clause-turn g c = turn_then _ _ _ _ _ _ c.loop.invariant.turn c.take_next.ensures.turn
+returns-in-Some-clause-turn g c =
+    turn_then c.args.self.now c.loop.self _ c.args.guest.now c.loop.guest _ c.loop.invariant.turn c.loop.invariant.idle c.loop.invariant.open_still c.take_next.ensures.turn
+
+pub returns-in-Some-clause-idle : goal.returns-in-Some-clause-idle
+returns-in-Some-clause-idle g c =
+    yet_then c.loop.invariant.idle c.loop.invariant.open_still c.in_ok-course.ensures.idle
+
+pub returns-clause-turn : goal.returns-clause-turn
+returns-clause-turn g c =
+    turn_then c.args.self.now c.loop.self c.loop.self c.args.guest.now c.loop.guest _ c.loop.invariant.turn c.loop.invariant.idle c.loop.invariant.open_still
+    (turn_nowhere c.loop.self c.loop.self c.loop.guest _ refl refl refl refl refl refl refl (inl refl))
 
 pub loop-preserved : goal.loop-preserved
 loop-preserved g c = record {
   open_still = c.in_ok-course.ensures.open (none_other c.in-None.is);
   served = c.in_ok-course.ensures.served;
-  turn = turn_then _ _ _ _ _ _ c.loop.invariant.turn c.take_next.ensures.turn;
+  turn = turn_then c.args.self.now c.loop.self _ c.args.guest.now c.loop.guest _ c.loop.invariant.turn c.loop.invariant.idle c.loop.invariant.open_still c.take_next.ensures.turn;
+  idle = yet_then c.loop.invariant.idle c.loop.invariant.open_still c.in_ok-course.ensures.idle;
   sent = c.take_next.ensures.sent ∙ c.loop.invariant.sent;
 }

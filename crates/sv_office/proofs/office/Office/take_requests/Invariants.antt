@@ -1,5 +1,6 @@
 -- The connection is open and served, and its turn went on.
 use Rattle.std.proofs.Common.{◌≡◌}
+use Rattle.sv_office.specs.Guests.{HasYetToAsk}
 use Rattle.sv_office.specs.Telling.{IsServed}
 use Rattle.sv_office.specs.Turns.{TakesTurn}
 use Rattle.sv_office.specs.declared.guest.Standing.TheVariants as standing
@@ -9,6 +10,7 @@ abbrev pub invariant-loop : goal.invariant-loop
 invariant-loop g l = record {
   open_still : l.guest.standing ≡ standing.Open;
   served : IsServed l.self.keeper.world l.guest;
-  turn : TakesTurn l.fn.self l.self l.fn.guest.session l.guest.session;
+  turn : TakesTurn l.fn.self l.self l.fn.guest l.guest;
+  idle : HasYetToAsk l.fn.guest l.guest l.fn.self.keeper.world l.self.keeper.world;
   sent : l.guest.peer.sent ≡ l.fn.guest.peer.sent;
 }
