@@ -8,7 +8,8 @@ use Rattle.sv_living.specs.Sessions.{AreInOrder}
 use Rattle.sv_living.specs.World.{WorldView}
 use Rattle.sv_ports.specs.declared.numbered.Place.{Place}
 use Rattle.sv_ports.specs.Numbered.{item_of, with_item, without}
-use Rattle.sv_office.specs.Entering.{CameOfHeld, GoesOn, IsEndOf, IsGuests, IsOf, IsOwn, KeepsOwn}
+use Rattle.sv_keys.specs.Keeping.{KeysView}
+use Rattle.sv_office.specs.Entering.{AsksIn, CameOfHeld, GoesOn, IsEndOf, IsOf, KeepsOwn, MayEnter}
 use Rattle.sv_office.specs.Offices.{AreApart, HasBegun}
 use Rattle.sv_office.specs.Telling.{IsServed, IsServedIn, is_gone}
 use Rattle.sv_office.specs.declared.guest.Guest.{Guest}
@@ -148,9 +149,9 @@ new_in {v} {steward} n ps guest are none nothing = joined n ps (ps ++ record { n
         go (inl before) = inr before
         go (inr (same, is)) = inl (same, sym (one is))
 
--- Entries of the steward, or of the one's own sessions.
+-- Entries of the steward, or of the session in which one asks.
 abbrev pub AreOwn : List Entry → Option ℕ → Option ℕ → (Entry → Type 0) → Type 0
-AreOwn h steward mine may = (e : Entry) → may e → IsOf steward e ⊎ IsOwn h mine e.session
+AreOwn h steward mine may = (e : Entry) → may e → IsOf steward e ⊎ AsksIn h mine e.session
 
 has_begun : (v : WorldView) (guest : Guest) (s : ℕ) → IsServed v guest → guest.session ≡ Some s → has_entry v.history s ≡ true
 has_begun v guest s served is = go (subst (λ (o : Option ℕ). IsServedIn v guest o) is served)
@@ -170,12 +171,12 @@ module _ {may : Entry → Type 0} {v w : WorldView} {steward : Option ℕ} (orde
     distinct = are.distinct;
   }
     where
-      differ : (n : ℕ) (guest : Guest) (s : ℕ) → item_of n ps ≡ Some guest → guest.session ≡ Some s → (e : Entry) → IsOf steward e ⊎ IsOwn v.history mine e.session
+      differ : (n : ℕ) (guest : Guest) (s : ℕ) → item_of n ps ≡ Some guest → guest.session ≡ Some s → (e : Entry) → IsOf steward e ⊎ AsksIn v.history mine e.session
           → e.session ≡ s → ⊥
       differ n guest s at is e (inl stewards) same = are.apart n guest at s is (stewards ∙ ap Some same)
       differ n guest s at is e (inr (inl mine_is)) same = other n s guest at is (mine_is ∙ ap Some same)
       differ n guest s at is e (inr (inr fresh)) same =
-          clashes (has_begun v guest s (are.served n guest at) is) (sym (ap (has_entry v.history) same) ∙ fresh)
+          clashes (has_begun v guest s (are.served n guest at) is) (sym (ap (has_entry v.history) same) ∙ fresh.1)
 
   -- One that was taken out had its turn.
   pub out_goes : (ps : List (Place Guest)) (guest next : Guest) (stewards : Option ℕ) → HasBegun v steward → AreOwn v.history steward guest.session may
@@ -187,9 +188,9 @@ module _ {may : Entry → Type 0} {v w : WorldView} {steward : Option ℕ} (orde
     other = λ n s b at is mine. apart n s b at is (keeps s mine);
   })
     where
-      apart : (n s : ℕ) (b : Guest) → item_of n ps ≡ Some b → b.session ≡ Some s → IsOwn v.history guest.session s → ⊥
+      apart : (n s : ℕ) (b : Guest) → item_of n ps ≡ Some b → b.session ≡ Some s → AsksIn v.history guest.session s → ⊥
       apart n s b at is (inl mine) = out.other n s b at is mine
-      apart n s b at is (inr fresh) = clashes (has_begun v b s (out.others.served n b at) is) fresh
+      apart n s b at is (inr fresh) = clashes (has_begun v b s (out.others.served n b at) is) fresh.1
 
   -- The steward reported.
   pub all_stay : (ps : List (Place Guest)) (stewards : Option ℕ) → ((e : Entry) → may e → IsOf steward e) → stewards ≡ steward → AreServed v steward ps
@@ -215,12 +216,12 @@ out_as {v} {steward} {ps} old new same told stands out = record {
     shut (inl kept) f e = f (sym kept ∙ e)
     shut (inr gone) f e = clashes (ap is_gone gone) (ap is_gone e)
 
-pub guests_own : (h : List Entry) (steward mine : Option ℕ) → AreOwn h steward mine (IsGuests h steward mine)
-guests_own h steward mine e (inl stewards) = inl stewards
-guests_own h steward mine e (inr (own, number)) = inr own
+pub entered_own : (h : List Entry) (steward mine : Option ℕ) (keys : Option KeysView) (key : Option (List ℕ)) → AreOwn h steward mine (MayEnter h steward mine keys key)
+entered_own h steward mine keys key e (inl report) = inl report.0
+entered_own h steward mine keys key e (inr (own, what)) = inr own
 
 pub held_own : (h : List Entry) (steward mine : Option ℕ) (held : Option Held) → AreOwn h steward mine (CameOfHeld h steward mine held)
-held_own h steward mine held e (inl stewards) = inl stewards
+held_own h steward mine held e (inl report) = inl report.0
 held_own h steward mine held e (inr (own, came)) = inr own
 
 pub end_own : (h : List Entry) (steward mine : Option ℕ) → AreOwn h steward mine (IsEndOf mine)

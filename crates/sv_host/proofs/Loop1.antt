@@ -5,12 +5,13 @@ use Rattle.sv_living.specs.Sessions.{AreInOrder}
 use Rattle.sv_living.specs.World.{WorldView}
 use Rattle.sv_ports.specs.declared.numbered.Place.{Place}
 use Rattle.sv_ports.specs.Numbered.{item_of, with_item, without}
-use Rattle.sv_office.specs.Entering.{CameOfHeld, GoesOn, IsEndOf, IsGuests, IsOf, KeepsOwn}
+use Rattle.sv_keys.specs.Keeping.{KeysView}
+use Rattle.sv_office.specs.Entering.{CameOfHeld, GoesOn, IsEndOf, IsReport, KeepsOwn, MayEnter}
 use Rattle.sv_office.specs.Offices.{HasBegun}
 use Rattle.sv_office.specs.Telling.{IsServed}
 use Rattle.sv_office.specs.declared.guest.Guest.{Guest}
 use Rattle.sv_host.specs.Rooms.{AreServed, IsOut, WasSent}
-use Rattle.sv_host.proofs.Guests.{all_stay, emptied_one, end_own, guests_own, held_own, keeps_none, new_in, out_as, out_goes, put_in, taken_out, without_one}
+use Rattle.sv_host.proofs.Guests.{all_stay, emptied_one, end_own, entered_own, held_own, keeps_none, new_in, out_as, out_goes, put_in, taken_out, without_one}
 
 module _ {v : WorldView} {steward : Option ℕ} (n : ℕ) (ps : List (Place Guest)) where
   -- One is taken out, where it is there.
@@ -53,8 +54,10 @@ sent_none n ps qs left v steward are = took_none n ps qs left are
 module _ {v w : WorldView} {steward stewards : Option ℕ} {ps : List (Place Guest)} {guest next : Guest} (begun : HasBegun v steward) (order : AreInOrder w.history)
     (same : stewards ≡ steward) (served : IsServed w next) (out : IsOut v steward ps guest) where
   -- A connection had its turn.
-  pub heard_out : GoesOn (IsGuests v.history steward guest.session) v w → KeepsOwn v.history guest.session next.session → IsOut w stewards ps next
-  heard_out on keeps = out_goes order on ps guest next stewards begun (guests_own v.history steward guest.session) keeps same served out
+  pub heard_out : (keys : Option KeysView) (key : Option (List ℕ)) → GoesOn (MayEnter v.history steward guest.session keys key) v w
+      → KeepsOwn v.history guest.session next.session → IsOut w stewards ps next
+  heard_out keys key on keeps =
+      out_goes order on ps guest next stewards begun (entered_own v.history steward guest.session keys key) keeps same served out
 
   -- What was held of it is answered.
   pub released_out : GoesOn (CameOfHeld v.history steward guest.session guest.held) v w → KeepsOwn v.history guest.session next.session → IsOut w stewards ps next
@@ -68,6 +71,6 @@ module _ {v w : WorldView} {steward stewards : Option ℕ} {ps : List (Place Gue
       (keeps_none v.history guest.session next.session none) same served out
 
 -- The steward reported.
-pub reported_all : {v w : WorldView} {steward stewards : Option ℕ} {ps : List (Place Guest)} → AreInOrder w.history → GoesOn (IsOf steward) v w → stewards ≡ steward
+pub reported_all : {v w : WorldView} {steward stewards : Option ℕ} {ps : List (Place Guest)} → AreInOrder w.history → GoesOn (IsReport steward) v w → stewards ≡ steward
     → AreServed v steward ps → AreServed w stewards ps
-reported_all {stewards = stewards} {ps = ps} order on same are = all_stay order on ps stewards (λ e is. is) same are
+reported_all {stewards = stewards} {ps = ps} order on same are = all_stay order on ps stewards (λ e is. is.0) same are

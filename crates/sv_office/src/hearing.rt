@@ -49,6 +49,14 @@ enum Course {
     Over,
 }
 
+/// The halves of a connection's turn. What came of all connections is read first, and then each is answered: so little code is run at a time, and it
+/// stays near the processor.
+#[derive(Clone, Copy, Debug, Drop, PartialEq, Eq)]
+pub enum Half {
+    Reads,
+    Answers,
+}
+
 /// Reads what comes, and closes a connection of which no more will come. The answer is how many bytes came.
 fn read_piece<P: Ports>(ports: &mut P, number: u64, guest: &mut Guest, piece: &mut [u8]) -> usize
     ensures count { result ≤ length piece.new }
@@ -112,13 +120,14 @@ fn asked(request: Request) -> Request
 }
 
 impl<F: Folder> Office<F> {
-    /// The turn of a connection that is taken out. `room` is for what is read at once.
+    /// A half of the turn of a connection that is taken out. `room` is for what is read at once. The second half reads on where it took all that was read.
     pub fn hear<P: Ports, L: Files, E: Sink>(
         &mut self,
         outside: &mut Outside<'_, '_, '_, P, L, E>,
         number: u64,
         guest: &mut Guest,
         room: &mut [u8],
+        half: Half,
     ) -> Result<(), Halt>
         requires served { IsServed self.old.keeper.world guest.old }
         requires apart { AreApart guest.old.session (session_of self.old.steward) }
@@ -135,6 +144,9 @@ impl<F: Folder> Office<F> {
         ensures lent { AreLent outside.old outside.new }
         ensures sent { guest.new.peer.sent ≡ guest.old.peer.sent }
     {
+        if half == Half::Reads {
+            return self.read_ahead(outside, number, guest, room);
+        }
         guest.had_turn = true;
         if !guest.is_open() {
             drain(outside.ports, number, guest, room);
@@ -144,6 +156,30 @@ impl<F: Folder> Office<F> {
             return Ok(());
         }
         self.take_all(outside, number, guest, room)
+    }
+
+    // Reads what has come, where nothing waits to be taken from before.
+    fn read_ahead<P: Ports, L: Files, E: Sink>(
+        &mut self,
+        outside: &mut Outside<'_, '_, '_, P, L, E>,
+        number: u64,
+        guest: &mut Guest,
+        room: &mut [u8],
+    ) -> Result<(), Halt>
+        requires served { IsServed self.old.keeper.world guest.old }
+        requires apart { AreApart guest.old.session (session_of self.old.steward) }
+        ensures served { OnOk result (IsServed self.new.keeper.world guest.new) }
+        ensures turn { TakesTurn self.old self.new guest.old guest.new }
+        ensures shut { guest.old.standing ≢ standing.Open → self.new.keeper.world ≡ self.old.keeper.world }
+        ensures told { OnlyHeard number (P.told outside.old.ports.now) (P.told outside.new.ports.now) }
+        ensures lent { AreLent outside.old outside.new }
+        ensures sent { guest.new.peer.sent ≡ guest.old.peer.sent }
+    {
+        if guest.has_more || guest.peer.is_paused() || !guest.is_open() {
+            return Ok(());
+        }
+        self.read_guest(outside.ports, outside.files, number, guest, room)?;
+        Ok(())
     }
 
     // Answers the HTTP requests that wait. Whether more may be taken of the connection.

@@ -18,7 +18,7 @@ mod waiting;
 pub use ages::Ages;
 pub use guest::{Guest, Held, Standing};
 pub use halt::Halt;
-pub use hearing::FULL;
+pub use hearing::{FULL, Half};
 pub use laws::{all_stay_served, others_stay_served};
 pub use office::{Manners, Office};
 pub use outside::Outside;

@@ -6,7 +6,7 @@ use Rattle.sv_host.proofs.host.Host.hear_guest.Goals as goal
 pub returns-clause-taken : goal.returns-clause-taken
 returns-clause-taken g c =
     heard_out c.args.self.now.office.sound.begun c.is_lawful.ensures.order c.in_ok-hear.ensures.steward c.in_ok-hear.ensures.served c.requires.taken
-    c.in_ok-hear.ensures.added c.in_ok-hear.ensures.session
+    _ _ c.in_ok-hear.ensures.added c.in_ok-hear.ensures.session
 
 pub returns-in_err-hear-clause-goes : goal.returns-in_err-hear-clause-goes
 returns-in_err-hear-clause-goes g c = continues c.hear.ensures.added
