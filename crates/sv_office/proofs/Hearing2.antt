@@ -1,7 +1,6 @@
 -- The turn of a connection, one call after the other.
 use Rattle.std.proofs.Common.{◌≡◌, ◌≢◌, ◌⊎◌, inl, inr, ℕ, Bool, true, false, cond, List, [], ◌∷◌, ◌++◌, Option, None, Some, refl, sym, ap, ◌∙◌, take, subst, append_assoc, append-nil, ne_eqb}
 use Rattle.sv_wire.specs.declared.message.Request.{Request}
-use Rattle.sv_journal.specs.declared.entry.Entry.{Entry}
 use Rattle.sv_living.specs.World.{WorldView}
 use Rattle.sv_log.specs.declared.folder.Folder.{Ghosts}
 use Rattle.sv_ports.specs.Told.{Told, bytes_of, Reads}
