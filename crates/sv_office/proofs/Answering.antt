@@ -1,5 +1,5 @@
 -- How a connection's request is answered.
-use Rattle.std.proofs.Common.{◌≡◌, ◌≢◌, ◌⊎◌, inl, inr, ℕ, Bool, true, false, length, List, Option, Some, None, refl, sym, ap, ◌∙◌, subst}
+use Rattle.std.proofs.Common.{◌≡◌, ◌⊎◌, inl, inr, ℕ, true, false, List, Option, Some, None, refl, sym, ◌∙◌, subst}
 use Rattle.sv_wire.specs.Grammar.{IsWireReply}
 use Rattle.sv_wire.specs.declared.message.Request.{Request}
 use Rattle.sv_wire.specs.declared.message.Request.TheVariants as requests
@@ -10,7 +10,7 @@ use Rattle.sv_living.specs.Quiet.{IsQuiet}
 use Rattle.sv_living.specs.World.{WorldView}
 use Rattle.sv_keys.specs.Keeping.{KeysView}
 use Rattle.sv_office.specs.Admitting.{is_admitted, is_observe}
-use Rattle.sv_office.specs.Entering.{GoesOn, KeepsOwn, AsksIn, IsEntry, IsEndOf, Follows, CameOf, CameOfHeld, CameOfAsking, WasEntered}
+use Rattle.sv_office.specs.Entering.{GoesOn, KeepsOwn, AsksIn, IsEntry, IsEndOf, Follows, CameOf, CameOfHeld, CameOfAsking}
 use Rattle.sv_office.specs.Telling.{WouldShowNothing}
 use Rattle.sv_office.specs.declared.guest.Guest.{Guest}
 use Rattle.sv_office.proofs.Adding.{goes_as, goes_then}

@@ -1,5 +1,5 @@
 -- What an honest client asks: a Poll is one, and a reply is reported by a Done.
-use Rattle.std.proofs.Common.{◌≡◌, ℕ, Bool, true, false, nat_eq, List, [], ◌∷◌, Option, Some, None, refl, ap, sym, ◌∙◌, subst, eq-eqb}
+use Rattle.std.proofs.Common.{◌≡◌, ℕ, Bool, true, false, nat_eq, List, [], ◌∷◌, Option, Some, None, refl, sym, eq-eqb}
 use Rattle.std.specs.Prelude.{if◌then◌else◌, not, IfSome, IfNone}
 use Rattle.std.specs.Option.{option_to_list}
 use Rattle.sv_wire.specs.declared.message.Request.{Request}

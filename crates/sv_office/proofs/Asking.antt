@@ -1,19 +1,18 @@
 -- What comes of what a connection asks.
-use Rattle.std.proofs.Common.{◌≡◌, ◌≢◌, ◌⊎◌, inl, inr, ℕ, Bool, true, false, ◌&&◌, not, List, Option, Some, None, refl, sym, ap, ◌∙◌, subst}
+use Rattle.std.proofs.Common.{◌≡◌, inl, inr, ℕ, Bool, true, false, ◌&&◌, not, List, Option, Some, None, refl, sym, subst}
 use Rattle.std.proofs.lemmas.Bool.{and_parts}
 use Rattle.sv_wire.specs.declared.message.Request.{Request}
 use Rattle.sv_wire.specs.declared.message.Request.TheVariants as requests
 use Rattle.sv_journal.specs.declared.entry.Entry.{Entry}
 use Rattle.sv_journal.specs.Sessions.{is_end}
-use Rattle.sv_sequencer.specs.Rows.{has_entry}
 use Rattle.sv_living.specs.World.{WorldView}
 use Rattle.sv_keys.specs.Keeping.{KeysView}
 use Rattle.sv_office.specs.Admitting.{is_admitted, is_observe, is_stewards_number, number_in, shows_key}
-use Rattle.sv_office.specs.Entering.{AreAdded, GoesOn, AsksIn, KeepsOwn, IsReport, IsEndOf, IsGuests, Follows, CameOf, IsHeldOf, CameOfAsking, CameOfHeld, MayEnter, MayHold}
+use Rattle.sv_office.specs.Entering.{AreAdded, AsksIn, KeepsOwn, IsEndOf, IsGuests, Follows, CameOf, IsHeldOf, CameOfAsking, CameOfHeld, MayEnter, MayHold}
 use Rattle.sv_office.specs.Offices.{AreApart, HasBegun}
 use Rattle.sv_office.specs.declared.guest.Guest.{Guest}
 use Rattle.sv_office.specs.declared.guest.Held.{Held}
-use Rattle.sv_office.proofs.Adding.{goes_as, asks_before}
+use Rattle.sv_office.proofs.Adding.{asks_before}
 use Rattle.sv_office.proofs.Orders.{apart}
 
 -- The steward's session is none of a connection's.

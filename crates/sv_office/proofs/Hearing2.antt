@@ -1,7 +1,6 @@
 -- The turn of a connection, one call after the other.
 use Rattle.std.proofs.Common.{◌≡◌, ◌≢◌, ◌⊎◌, inl, inr, ℕ, Bool, true, false, cond, List, [], ◌∷◌, ◌++◌, Option, None, Some, refl, sym, ap, ◌∙◌, take, subst, append_assoc, append-nil, ne_eqb}
 use Rattle.sv_wire.specs.declared.message.Request.{Request}
-use Rattle.sv_journal.specs.declared.entry.Entry.{Entry}
 use Rattle.sv_living.specs.World.{WorldView}
 use Rattle.sv_log.specs.declared.folder.Folder.{Ghosts}
 use Rattle.sv_ports.specs.Told.{Told, bytes_of, Reads}
@@ -46,12 +45,12 @@ shows_then {first} {mid} {last} {a} {b} {c} before next = record {
     known (inl same) (inr (spoke, shown)) = inr (next.spoken spoke, known_as mid last b.key c.key (next.keys spoke) same shown)
 
 -- What it holds it may ask still.
-pub holds_still : {before now : Option KeysView} {old new : Guest} → now ≡ before → new.key ≡ old.key → (new.held ≡ old.held) ⊎ (new.held ≡ None)
-    → MayHold before old.key old.held → MayHold now new.key new.held
-holds_still {before} {now} {old} {new} keys key (inl same) may =
-    subst (λ (o : Option KeysView). MayHold o new.key new.held) (sym keys)
-    (subst (λ (o : Option (List ℕ)). MayHold before o new.held) (sym key) (subst (λ (o : Option Held). MayHold before old.key o) (sym same) may))
-holds_still {before} {now} {old} {new} keys key (inr none) may = may_hold_none now new.key none
+pub holds_still : {before now : Option KeysView} {key shown : Option (List ℕ)} {held left : Option Held} → now ≡ before → shown ≡ key
+    → (left ≡ held) ⊎ (left ≡ None) → MayHold before key held → MayHold now shown left
+holds_still {before} {now} {key} {shown} {held} {left} keys same (inl kept) may =
+    subst (λ (o : Option KeysView). MayHold o shown left) (sym keys)
+    (subst (λ (o : Option (List ℕ)). MayHold before o left) (sym same) (subst (λ (o : Option Held). MayHold before key o) (sym kept) may))
+holds_still {now = now} {shown = shown} keys same (inr none) may = may_hold_none now shown none
 
 unspoken_before : (a b : Bool) → (a ≡ true → b ≡ true) → b ≡ false → a ≡ false
 unspoken_before true b f off = let e : true ≡ false = sym (f refl) ∙ off in cc

@@ -1,12 +1,11 @@
 -- A connection that changed, and was told nothing more.
-use Rattle.std.proofs.Common.{◌≡◌, ◌≢◌, inl, inr, ℕ, Bool, true, false, Option, None, refl, sym, ap, ◌∙◌, subst}
+use Rattle.std.proofs.Common.{◌≡◌, ◌≢◌, false, sym, ◌∙◌, subst}
 use Rattle.sv_living.specs.World.{WorldView}
-use Rattle.sv_office.specs.Guests.{Closes, IsHeardOf}
 use Rattle.sv_office.specs.Telling.{IsServed, is_gone}
 use Rattle.sv_office.specs.declared.guest.Guest.{Guest}
 use Rattle.sv_office.specs.declared.guest.Standing.{Standing}
 use Rattle.sv_office.specs.declared.guest.Standing.TheVariants as standing
-use Rattle.sv_office.proofs.Served.{served_as, served_closed}
+use Rattle.sv_office.proofs.Served.{served_as}
 
 -- It stands where it stood.
 pub served_still : (v : WorldView) (old new : Guest) → new.session ≡ old.session → new.peer.told ≡ old.peer.told → new.standing ≡ old.standing

@@ -1,5 +1,5 @@
 -- How a Poll is answered.
-use Rattle.std.proofs.Common.{◌≡◌, ◌⊎◌, inl, inr, ℕ, Bool, true, false, List, [], ◌∷◌, Option, Some, None, refl, sym, ap, ◌∙◌, subst}
+use Rattle.std.proofs.Common.{◌≡◌, ◌⊎◌, inl, inr, ℕ, Bool, true, false, List, [], ◌∷◌, Option, Some, None, refl, sym, ap, ◌∙◌}
 use Rattle.std.specs.Prelude.{if◌then◌else◌}
 use Rattle.sv_wire.specs.declared.message.Request.{Request}
 use Rattle.sv_wire.specs.declared.message.Request.TheVariants as requests
@@ -8,7 +8,7 @@ use Rattle.sv_wire.specs.declared.refusal.Refusal.TheVariants as refusals
 use Rattle.sv_journal.specs.declared.entry.Entry.{Entry}
 use Rattle.sv_journal.specs.declared.entry.Logged.{Logged}
 use Rattle.sv_journal.specs.declared.entry.Logged.TheVariants as logged
-use Rattle.sv_journal.specs.Answer.{Rules, is_spent, orphans, refused_as, reply_to_member, reply_to_poll, reply_to_request}
+use Rattle.sv_journal.specs.Answer.{Rules, is_spent, orphans, refused_as, reply_to_member, reply_to_poll}
 use Rattle.sv_journal.specs.History.{Authored, client_of, full_reply}
 use Rattle.sv_journal.specs.Serving.{Keeping, reply_for, with_last_rows}
 use Rattle.sv_journal.specs.Sessions.{asked_in, is_over}

@@ -1,20 +1,16 @@
 -- What the steward's calls add.
-use Rattle.std.proofs.Common.{◌≡◌, ◌≢◌, ◌⊎◌, inl, inr, ℕ, Bool, true, false, ◌||◌, nat_eq, List, [], ◌∷◌, Option, Some, None, refl, sym, ap, ◌∙◌, subst, eq-eqb}
-use Rattle.std.specs.Prelude.{if◌then◌else◌, slice_get}
-use Rattle.sv_world.specs.declared.world.ObjectId.{ObjectId}
-use Rattle.sv_wire.specs.declared.message.Done1.{Done1}
+use Rattle.std.proofs.Common.{◌≡◌, ◌≢◌, ◌⊎◌, inl, inr, ℕ, Bool, true, false, ◌||◌, List, Option, Some, None, refl, sym, ap, ◌∙◌, subst, eq-eqb}
 use Rattle.sv_wire.specs.declared.message.Request.{Request}
 use Rattle.sv_wire.specs.declared.message.Request.TheVariants as requests
 use Rattle.sv_wire.specs.declared.message.Reply.{Reply}
 use Rattle.sv_journal.specs.declared.entry.Entry.{Entry}
-use Rattle.sv_journal.specs.declared.entry.Logged.TheVariants as logged
-use Rattle.sv_journal.specs.History.{accepted, full_reply}
+use Rattle.sv_journal.specs.History.{accepted}
 use Rattle.sv_journal.specs.Living.{living}
 use Rattle.sv_sequencer.specs.Rows.{has_entry}
-use Rattle.sv_living.specs.World.{WorldView, after, reply_in}
+use Rattle.sv_living.specs.World.{WorldView, after}
 use Rattle.sv_client.specs.Kinds.{asks_for_done}
 use Rattle.sv_office.specs.Admitting.{number_in, steward_number}
-use Rattle.sv_office.specs.Entering.{AreAdded, GoesOn, IsEntry, AsksIn, KeepsOwn, IsOf, IsReport, IsReported, IsStewards, WasEntered, is_report}
+use Rattle.sv_office.specs.Entering.{GoesOn, IsEntry, AsksIn, KeepsOwn, IsReport, IsReported, IsStewards, WasEntered, is_report}
 use Rattle.sv_office.specs.Offices.{HasBegun}
 use Rattle.sv_office.specs.Stewarding.{IsDone, is_refused}
 use Rattle.sv_office.proofs.Adding.{goes_as, goes_then, entry_stays, asks_before}

@@ -1,8 +1,6 @@
 -- What the steward's calls add, one behind the other.
 use Rattle.std.proofs.Common.{◌≡◌, ◌≢◌, inl, inr, ℕ, suc, Bool, true, false, nat_eq, List, [], ◌∷◌, map, Option, Some, None, refl, sym, ap, ◌∙◌, subst, eq-eqb}
 use Rattle.std.specs.Prelude.{Result, Ok, Err, OnOk, IfSome, IfNone, if◌then◌else◌, slice_get}
-use Rattle.std.specs.Option.{option_to_list}
-use Rattle.sv_world.specs.declared.world.ObjectId.{ObjectId}
 use Rattle.sv_wire.specs.declared.message.Request.{Request}
 use Rattle.sv_wire.specs.declared.message.Request.TheVariants as requests
 use Rattle.sv_wire.specs.declared.message.Reply.{Reply}
@@ -15,7 +13,7 @@ use Rattle.sv_client.specs.Traces.{joins, pending_of, submit_of}
 use Rattle.sv_client.specs.declared.trace.Event.{Event}
 use Rattle.sv_client.specs.declared.trace.Event.TheVariants as events
 use Rattle.sv_office.specs.Admitting.{number_in, steward_number}
-use Rattle.sv_office.specs.Entering.{GoesOn, AsksIn, IsEntry, IsReport, IsStewards, KeepsOwn, IsReported, WasEntered}
+use Rattle.sv_office.specs.Entering.{GoesOn, IsEntry, IsReport, IsStewards, KeepsOwn, IsReported, WasEntered}
 use Rattle.sv_office.specs.Stewarding.{IsDone, is_refused}
 use Rattle.sv_office.proofs.Adding.{goes_as, goes_then, keeps_then, still_none}
 use Rattle.sv_office.proofs.Stewarding.{report_entered, reported_done, reported_poll, stewards_then}

@@ -1,12 +1,12 @@
 -- A connection's turn, one call after the other.
-use Rattle.std.proofs.Common.{◌≡◌, ◌≢◌, ◌⊎◌, inl, inr, ℕ, suc, ◌+◌, ◌≤◌, Bool, true, false, ◌||◌, nat_eq, max, List, [], ◌∷◌, Option, Some, None, refl, sym, ap, ap₂, ◌∙◌, subst, arith, ne_eqb}
+use Rattle.std.proofs.Common.{◌≡◌, ◌⊎◌, inl, inr, ℕ, suc, ◌+◌, ◌≤◌, false, nat_eq, List, [], ◌∷◌, Option, Some, None, refl, sym, ap, ◌∙◌, subst, arith, ne_eqb}
 use Rattle.sv_wire.specs.declared.message.Request.{Request}
 use Rattle.sv_journal.specs.declared.entry.Entry.{Entry}
 use Rattle.sv_sequencer.specs.Rows.{has_entry}
 use Rattle.sv_living.specs.World.{WorldView}
 use Rattle.sv_keys.specs.Keeping.{KeysView}
 use Rattle.sv_office.specs.Entering.{AreAdded, GoesOn, AsksIn, AsksInOne, KeepsOwn, IsEntry, IsOf, IsEndOf, IsReport, Follows, MayEnter}
-use Rattle.sv_office.proofs.Adding.{added_as, added_then, goes_as, goes_then, asks_before, unused_before}
+use Rattle.sv_office.proofs.Adding.{added_as, added_then, goes_as, goes_then, asks_before}
 use Rattle.sv_office.proofs.Orders.{neither}
 
 one : {s t : ℕ} → Some s ≡ Some t → s ≡ t

@@ -1,5 +1,5 @@
 -- The turn of a connection.
-use Rattle.std.specs.Prelude.{◌≡◌, ◌≢◌, ◌⊎◌, ℕ, true, false, List, Option, Some, None}
+use Rattle.std.specs.Prelude.{◌≡◌, ◌⊎◌, ℕ, true, false, List, Option, Some}
 use Rattle.sv_log.specs.declared.folder.Folder.{Ghosts}
 use Rattle.sv_keys.specs.Keeping.{KeysView, has_digest}
 use Rattle.sv_office.specs.Entering.{GoesOn, MayEnter, AsksInOne, MayHold}

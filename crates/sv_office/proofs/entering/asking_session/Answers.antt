@@ -1,5 +1,5 @@
 -- Without a session one asks in the next one, which has no entry.
-use Rattle.std.proofs.Common.{◌≡◌, ◌≤◌, inr, arith}
+use Rattle.std.proofs.Common.{inr, arith}
 use Rattle.sv_office.proofs.Orders.{above_next}
 use Rattle.sv_office.proofs.entering.asking_session.Goals as goal
 

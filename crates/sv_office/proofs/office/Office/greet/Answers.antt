@@ -30,7 +30,7 @@ returns-then-look-clause-idle g c = yet_same refl refl
 pub returns-clause-turn : goal.returns-clause-turn
 returns-clause-turn g c =
     turn_looked _ _ c.args.guest.now c.leave.new.self refl (ap (λ (guest : Guest). guest.session) c.leave.ensures) refl refl c.if-guest.false
-    (inl (ap (λ (guest : Guest). guest.key) c.leave.ensures)) (λ may. may_hold_none _ _ (ap (λ (guest : Guest). guest.held) c.leave.ensures))
+    (inl (ap (λ (guest : Guest). guest.key) c.leave.ensures)) (λ may. may_hold_none (Some c.look.new.self) c.leave.new.self.key (ap (λ (guest : Guest). guest.held) c.leave.ensures))
 
 pub returns-clause-idle : goal.returns-clause-idle
 returns-clause-idle g c = yet_shut (gone_shut (ap (λ (guest : Guest). guest.standing) c.leave.ensures))

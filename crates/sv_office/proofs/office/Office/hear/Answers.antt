@@ -1,8 +1,5 @@
 -- It stands where it stood, or requests of it were taken.
 use Rattle.std.proofs.Common.{refl}
-use Rattle.sv_office.specs.declared.guest.Guest.{Guest}
-use Rattle.sv_office.specs.declared.office.Office.{Office}
-use Rattle.sv_office.specs.Guests.{IsHeardOf}
 use Rattle.sv_office.specs.Turns.{TakesTurn}
 use Rattle.sv_office.proofs.Adding.{goes_nowhere, keeps_same}
 use Rattle.sv_office.proofs.Hearing2.{holds_still, shows_same, turn_heard}

@@ -1,11 +1,11 @@
 -- A request is stepped, once, and its reply is owed.
-use Rattle.std.proofs.Common.{Some, inl, refl, ap, ◌∙◌}
+use Rattle.std.proofs.Common.{Some, refl, ap}
 use Rattle.sv_office.specs.Offices.{session_of}
 use Rattle.sv_office.specs.declared.guest.Guest.{Guest}
 use Rattle.sv_office.proofs.Answering.{asking_kept_or, entered_came, followed_came}
 use Rattle.sv_office.proofs.Entered.{sound_stays}
 use Rattle.sv_office.proofs.Served.{message_entered, owed_entered}
-use Rattle.sv_office.proofs.Stepping1.{apart_asking, end_shut, ended_ok, entered_ended_came, gone_shut, ok_any, stays_as, stays_then, stepped_ok, yet_asked, yet_shut}
+use Rattle.sv_office.proofs.Stepping1.{apart_asking, end_shut, entered_ended_came, gone_shut, ok_any, stays_as, stepped_ok, yet_asked, yet_shut}
 use Rattle.sv_office.proofs.Turning.{one_entered, one_entered_ended, one_followed}
 use Rattle.sv_office.proofs.office.Office.step.Goals as goal
 
