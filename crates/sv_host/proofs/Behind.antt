@@ -6,7 +6,7 @@ use Rattle.std.specs.Bool.{one_answer}
 use Rattle.std.proofs.lemmas.Bool.{true≢false, eqb-true, eq-eqb}
 use Rattle.std.proofs.lemmas.Slice.Eq.{bytes_eq-Decides}
 use Rattle.std.specs.Prelude.{MatchBool}
-use Rattle.sv_ports.specs.Told.{Told}
+use Rattle.sv_ports.specs.Told.{Told, nothing_told}
 use Rattle.sv_host.specs.Inputs.{IsAtLine, IsReadTo, WasToldToStop, behind, has_stop, is_nothing, unended}
 use Rattle.sv_host.specs.Rooms.{LeftInput}
 use Rattle.sv_host.specs.declared.input.InputLines.{InputLines}
@@ -129,6 +129,18 @@ read_on old new piece input next true more stop at read = inr (
     )
 read_on old new piece input next false more stop at read =
     subst (λ (line : List ℕ). IsAtLine next line) (sym (ap (unended []) more ∙ unended_more [] old.input piece)) (at (unended [] old.input) read refl)
+
+pub match_true : {A B : Type 0} (b : Bool) → b ≡ true → MatchBool b A B → A
+match_true true is m = m
+match_true false is m = absurd (true≢false (sym is))
+
+pub match_false : {A B : Type 0} (b : Bool) → b ≡ false → MatchBool b A B → B
+match_false true is m = absurd (true≢false is)
+match_false false is m = m
+
+-- Nothing was read yet.
+pub read_nothing : (told : Told) (input : InputLines) → IsAtLine input [] → told ≡ nothing_told → IsReadTo told input
+read_nothing told input at fresh = subst (λ (t : Told). IsReadTo t input) (sym fresh) at
 
 pub read_as : (old new : Told) (input : InputLines) → LeftInput old new → IsReadTo old input → IsReadTo new input
 read_as old new input left read = subst (λ (bytes : List ℕ). IsAtLine input (unended [] bytes)) (sym left.input) read

@@ -261,7 +261,7 @@ written_still ps before now same next are = record {
 
 pub written_read : {v : WorldView} (ps : List (Place Guest)) (before now : Told) (into : List ℕ) (r : PortRead) → ReadsInput before into r now → AreWritten v before ps
     → AreWritten v now ps
-written_read ps before now into (reads.Got n) (some, (few, is)) are = written_still ps before now (ap (λ (t : Told). t.written) is) (ap (λ (t : Told). t.next) is) are
+written_read ps before now into (reads.Got n) (some, few, is) are = written_still ps before now (ap (λ (t : Told). t.written) is) (ap (λ (t : Told). t.next) is) are
 written_read ps before now into reads.NotYet is are = written_still ps before now (ap (λ (t : Told). t.written) is) (ap (λ (t : Told). t.next) is) are
 written_read ps before now into reads.Ended is are = written_still ps before now (ap (λ (t : Told). t.written) is) (ap (λ (t : Told). t.next) is) are
 written_read ps before now into reads.Failed is are = written_still ps before now (ap (λ (t : Told). t.written) is) (ap (λ (t : Told). t.next) is) are

@@ -37,6 +37,11 @@ use Rattle.sv_host.specs.Words.{Asked, Ask, AsksNothing}
 use Rattle.sv_host.specs.declared.ending.HostEnd.{HostEnd}
 use Rattle.sv_host.specs.declared.ending.HostEnd.TheVariants as endings
 use Rattle.sv_host.specs.declared.ending.Stopped.{Stopped}
+use Rattle.sv_host.specs.declared.hall.DoorFault.{DoorFault}
+use Rattle.sv_host.specs.declared.hall.DoorFault.TheVariants as barred
+use Rattle.sv_host.specs.declared.hall.FolderFault.{FolderFault}
+use Rattle.sv_host.specs.declared.hall.FolderFault.TheVariants as closed
+use Rattle.sv_bytes.specs.Faults.{Rose}
 
 -- ---- What is read
 
@@ -171,20 +176,38 @@ IsOfLog (faults.Refused refusal) = (refusal.cause ≢ causes.Failed) × (refusal
 IsOfLog (faults.Line file line cause) = Unit {0}
 IsOfLog _ = ⊥
 
+-- The disk is at fault.
+abbrev pub IsOfDisk : OpenFault → Type 0
+IsOfDisk (faults.Refused refusal) = refusal.cause ≡ causes.Failed
+IsOfDisk faults.Disk = Unit {0}
+IsOfDisk _ = ⊥
+
+-- What is told where the disk failed.
+abbrev pub disk_place : List ℕ → OpenFault → List ℕ
+disk_place folder (faults.Refused refusal) = named_or folder (string_bytes refusal.file)
+disk_place folder _ = folder
+
 -- How it ends where a log is not opened; for private clauses.
 abbrev pub IsEndOf : List ℕ → OpenFault → HostEnd → Type 0
 IsEndOf folder fault (endings.Log place) = IsOfLog fault × (string_bytes place ≡ fault_place folder fault)
-IsEndOf folder fault (endings.Disk name) = Unit {0}
+IsEndOf folder fault (endings.Disk name) = IsOfDisk fault × (string_bytes name ≡ disk_place folder fault)
 IsEndOf folder fault endings.Memory = Unit {0}
 IsEndOf folder fault _ = ⊥
 
--- Why it stops, once the log is opened.
-abbrev pub WhyStopped : List ℕ → HostEnd → Type 0
-WhyStopped at (endings.Disk name) = Unit {0}
-WhyStopped at (endings.Busy name) = string_bytes name ≡ at
-WhyStopped at endings.Link = Unit {0}
-WhyStopped at endings.Memory = Unit {0}
-WhyStopped at _ = ⊥
+-- Why there is no folder; for private clauses.
+abbrev pub WhyNoFolder : (FolderFault → Type 0) → List ℕ → HostEnd → Type 0
+WhyNoFolder refuses folder (endings.Disk name) = (string_bytes name ≡ folder) × refuses closed.Failed
+WhyNoFolder refuses folder (endings.Busy name) = (string_bytes name ≡ folder) × refuses closed.Busy
+WhyNoFolder refuses folder endings.Memory = Unit {0}
+WhyNoFolder refuses folder _ = ⊥
+
+-- Why it stops, once the log is opened; for private clauses.
+abbrev pub WhyStopped : (DoorFault → Type 0) → List ℕ → HostEnd → Type 0
+WhyStopped refuses at (endings.Disk name) = Unit {0}
+WhyStopped refuses at (endings.Busy name) = (string_bytes name ≡ at) × refuses barred.Busy
+WhyStopped refuses at endings.Link = Unit {0}
+WhyStopped refuses at endings.Memory = Unit {0}
+WhyStopped refuses at _ = ⊥
 
 module _ {F : Type 0} (disk : F → Disk) (is_honest : F → Type 0) where
   -- The folder's log is refused, as this line tells. No file of it was changed.
@@ -195,12 +218,20 @@ module _ {F : Type 0} (disk : F → Disk) (is_honest : F → Type 0) where
     pub why : is_honest now → WhyNotOpened (disk folder) (disk now) bytes (start_in file) fault
     pub told : line ≡ fault_place name fault
 
+  -- The disk failed once more where the log was to be opened, as this line tells.
+  pub record IsFailedLog (count : F → ℕ) (folder : F) (name line : List ℕ) : Type 0 where
+    pub now : F
+    pub fault : OpenFault
+    pub own : IsOfDisk fault
+    pub rose : Rose (count folder) (count now)
+    pub told : line ≡ disk_place name fault
+
   -- Why the log of a folder is not opened.
-  abbrev pub WhyUnopened : F → WorldFile → List ℕ → List ℕ → HostEnd → Type 0
-  WhyUnopened folder file bytes name (endings.Log line) = IsRefusedLog folder file bytes name (string_bytes line)
-  WhyUnopened folder file bytes name (endings.Disk which) = Unit {0}
-  WhyUnopened folder file bytes name endings.Memory = Unit {0}
-  WhyUnopened folder file bytes name _ = ⊥
+  abbrev pub WhyUnopened : (F → ℕ) → F → WorldFile → List ℕ → List ℕ → HostEnd → Type 0
+  WhyUnopened count folder file bytes name (endings.Log line) = IsRefusedLog folder file bytes name (string_bytes line)
+  WhyUnopened count folder file bytes name (endings.Disk which) = IsFailedLog count folder name (string_bytes which)
+  WhyUnopened count folder file bytes name endings.Memory = Unit {0}
+  WhyUnopened count folder file bytes name _ = ⊥
 
   -- Each session has its End, the history is legal by the answer table, and all of it is on the disk: what a crash leaves is a log with all its
   -- lines.
@@ -239,18 +270,10 @@ module _ {F : Type 0} (disk : F → Disk) (is_honest : F → Type 0) where
       pub over : HasFolder asked
       pub refused : IsRefusedLog over.folder over.file over.bytes asked.folder line
 
-    -- Why it ends with the folder, the door or the log.
-    abbrev pub WhyBehind : Asked → HostEnd → Type 0
-    WhyBehind asked (endings.Log line) = HasRefusedLog asked (string_bytes line)
-    WhyBehind asked (endings.Disk name) = Unit {0}
-    WhyBehind asked (endings.Busy name) = (string_bytes name ≡ asked.folder) ⊎ (string_bytes name ≡ asked.at)
-    WhyBehind asked endings.Link = Unit {0}
-    WhyBehind asked endings.Memory = Unit {0}
-    WhyBehind asked _ = ⊥
-
-    -- Why it ends without having been told to stop.
-    abbrev pub WhyEnds : Type 0 → Asked → HostEnd → Type 0
-    WhyEnds rose asked e = WhyBefore contents rose asked e ⊎ WhyBehind asked e
+    -- The folder is opened, and the disk failed where its log was to be opened.
+    pub record HasFailedLog (count : F → ℕ) (asked : Asked) (line : List ℕ) : Type 0 where
+      pub over : HasFolder asked
+      pub failed : IsFailedLog count over.folder asked.folder line
 
     -- The log of the folder was opened.
     pub record HasOpened (asked : Asked) : Type 0 where
@@ -273,9 +296,25 @@ module _ {F : Type 0} (disk : F → Disk) (is_honest : F → Type 0) where
       abbrev pub WroteFirst : Asked → Type 0
       WroteFirst asked = (after ≡ before) ⊎ WasServedFirst asked
 
-      -- How a call of these words ends, and why.
-      pub data EndsFor (words : List (List ℕ)) (rose : Type 0) : HostEnd → Type 0 where
-        nothing : AsksNothing words → after ≡ before → EndsFor words rose endings.Words
-        memory : after ≡ before → EndsFor words rose endings.Memory
-        early : {e : HostEnd} (asked : Asked) → Ask words asked → WhyEnds rose asked e → WroteFirst asked → EndsFor words rose e
-        served : {stopped : Stopped} (asked : Asked) → Ask words asked → WasServed asked stopped → EndsFor words rose (endings.Done stopped)
+      module _ (count : F → ℕ) (closed_by : List ℕ → FolderFault → Type 0) (barred_by : List ℕ → DoorFault → Type 0) where
+        -- Why it ends with the folder, the log or the door.
+        abbrev pub WhyBehind : Asked → HostEnd → Type 0
+        WhyBehind asked (endings.Log line) = HasRefusedLog asked (string_bytes line)
+        WhyBehind asked (endings.Disk name) = ((string_bytes name ≡ asked.folder) × closed_by asked.folder closed.Failed)
+            ⊎ (HasFailedLog count asked (string_bytes name) ⊎ WasServedFirst asked)
+        WhyBehind asked (endings.Busy name) = ((string_bytes name ≡ asked.folder) × closed_by asked.folder closed.Busy)
+            ⊎ ((string_bytes name ≡ asked.at) × barred_by asked.at barred.Busy)
+        WhyBehind asked endings.Link = WasServedFirst asked
+        WhyBehind asked endings.Memory = Unit {0}
+        WhyBehind asked _ = ⊥
+
+        -- Why it ends without having been told to stop.
+        abbrev pub WhyEnds : Type 0 → Asked → HostEnd → Type 0
+        WhyEnds rose asked e = WhyBefore contents rose asked e ⊎ WhyBehind asked e
+
+        -- How a call of these words ends, and why.
+        pub data EndsFor (words : List (List ℕ)) (rose : Type 0) : HostEnd → Type 0 where
+          nothing : AsksNothing words → after ≡ before → EndsFor words rose endings.Words
+          memory : after ≡ before → EndsFor words rose endings.Memory
+          early : {e : HostEnd} (asked : Asked) → Ask words asked → WhyEnds rose asked e → WroteFirst asked → EndsFor words rose e
+          served : {stopped : Stopped} (asked : Asked) → Ask words asked → WasServed asked stopped → EndsFor words rose (endings.Done stopped)

@@ -11,7 +11,7 @@ ghost use Rattle.sv_scenario.specs.Lines.{fault_line};
 ghost use Rattle.sv_worldfile.specs.Limits.{IsGoodWorldFile};
 ghost use Rattle.sv_worldfile.specs.WorldFiles.{world_file_of};
 ghost use Rattle.sv_host.specs.Causes.{cause_word, file_place, is_authority, line_place, line_word, named_or, start_in};
-ghost use Rattle.sv_host.specs.Causes.{IsEndOf, IsFileFront, IsPrepared, WhyBefore, WhyFaulty, WhyNoKeys, WhyStopped, WhyUnopened, WhyUnread};
+ghost use Rattle.sv_host.specs.Causes.{IsEndOf, IsFileFront, IsPrepared, WhyBefore, WhyFaulty, WhyNoFolder, WhyNoKeys, WhyUnopened, WhyUnread};
 ghost use Rattle.sv_host.specs.Lines.{open_line};
 ghost use Rattle.sv_host.specs.Staffing.{AreKeysFor, IsStaffFor, manners_for};
 ghost use Rattle.sv_host.specs.Words.{IsLocal, asked_by};
@@ -176,7 +176,7 @@ pub fn folder_of<D: Folders>(
 ) -> Result<D::F, HostEnd>
     ensures opened { IfOk result (D.opens folders.old options.now.folder.now) }
     ensures rest { IfOk result (λ folder. D.F.is_honest folder → IsAtRest (D.F.disk folder)) }
-    ensures why { IfErr result (WhyStopped options.now.folder.now) }
+    ensures why { IfErr result (WhyNoFolder (D.refuses folders.old options.now.folder.now) options.now.folder.now) }
 {
     match folders.open(options.folder, options.syncs) {
         Ok(folder) => Ok(folder),
@@ -214,7 +214,7 @@ pub fn keeper_of<F: Folder + Drop>(
     requires good { IsGoodWorldFile prepared.file }
     requires rest { F.is_honest folder → IsAtRest (F.disk folder) }
     ensures opened { IfOk result (IsOpened F.disk F.is_honest (F.disk folder) prepared.bytes.items (start_in prepared.file)) }
-    ensures why { IfErr result (WhyUnopened F.disk F.is_honest folder prepared.file prepared.bytes.items options.now.folder.now) }
+    ensures why { IfErr result (WhyUnopened F.disk F.is_honest F.faults folder prepared.file prepared.bytes.items options.now.folder.now) }
 {
     let Prepared { file, bytes } = prepared;
     let stewards = Stewards {

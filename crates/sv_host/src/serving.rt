@@ -1,6 +1,6 @@
 //! The loop, and its orderly end.
 ghost use Rattle.std.specs.Prelude.{◌≡◌, [], OnOk};
-ghost use Rattle.sv_living.specs.Sessions.{open_sessions};
+ghost use Rattle.sv_living.specs.Sessions.{open_sessions, AreInOrder};
 ghost use Rattle.sv_keeper.specs.Keeping.{AreSettled};
 ghost use Rattle.sv_office.specs.Entering.{GoesOn};
 ghost use Rattle.sv_office.specs.Offices.{session_of};
@@ -49,8 +49,10 @@ fn end_all<F: Folder>(keeper: &mut Keeper<F>) -> Result<(), Halt>
     ensures ended { OnOk result (open_sessions keeper.new.world.history ≡ []) }
     ensures settled { OnOk result (AreSettled F.disk F.is_honest keeper.new) }
     ensures added { GoesOn IsAnEnd keeper.old.world keeper.new.world }
+    ensures order { OnOk result (AreInOrder keeper.new.world.history) }
 {
     end_each(keeper)?;
+    keeper.is_lawful();
     match keeper.settle() {
         Ok(()) => Ok(()),
         Err(_) => Err(Halt::Log),
@@ -59,6 +61,7 @@ fn end_all<F: Folder>(keeper: &mut Keeper<F>) -> Result<(), Halt>
 
 impl<F: Folder> Host<F> {
     /// Serves until it is told to stop. Then each session has its End, and all is settled.
+    #[tactic(auto, using(crate::proofs::Behind::read_nothing, crate::proofs::Written::continues_then, crate::proofs::Written::continues_same))]
     pub fn serve<R: Wait, P: Ports, C: Clock, L: Files, E: Sink>(
         &mut self,
         rt: &R,
@@ -81,8 +84,9 @@ impl<F: Folder> Host<F> {
     {
         let mut input = InputLines::new();
         for _ in rt.forever() {
-            if self.turn(outside, piece, clock, &mut input)? == Turned::Stops {
-                return self.stop(outside.ports);
+            match self.turn(outside, piece, clock, &mut input)? {
+                Turned::On => {}
+                Turned::Stops => return self.stop(outside.ports),
             }
         }
         unreachable!()

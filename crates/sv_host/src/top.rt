@@ -17,6 +17,7 @@ ghost use Rattle.sv_host.specs.Staffing.{IsOfficeFor, IsStaffFor};
 ghost use Rattle.sv_host.specs.Statuses.{EndsBy, IsEarly, IsStatus, IsToldLast};
 ghost use Rattle.sv_host.specs.Words.{AsksNothing, asked_by};
 ghost use Rattle.sv_host.specs.declared.ending.HostEnd.TheVariants as endings;
+ghost use Rattle.sv_host.specs.declared.hall.DoorFault.{DoorFault};
 
 use crate::ending::{HostEnd, Stopped, status_of, tell};
 use crate::hall::{DoorFault, Doors, Folders};
@@ -48,7 +49,7 @@ fn tell_keeper<F: Folder, E: Sink>(word: &str, name: &str, keeper: &Keeper<F>, e
 }
 
 fn halted<F: Folder>(alloc: Global, host: &Host<F>, halt: Halt) -> Result<HostEnd, AllocError>
-    ensures { (at : List ℕ) → IfOk result (WhyStopped at) }
+    ensures { (refuses : DoorFault → Type 0) → (at : List ℕ) → IfOk result (WhyStopped refuses at) }
 {
     match halt {
         Halt::Log => Ok(HostEnd::Disk(owned(alloc, host.office.keeper.file())?)),
@@ -58,7 +59,7 @@ fn halted<F: Folder>(alloc: Global, host: &Host<F>, halt: Halt) -> Result<HostEn
 }
 
 fn door_of<D: Doors>(alloc: Global, options: &Options<'_>, doors: &mut D) -> Result<D::P, HostEnd>
-    ensures why { IfErr result (WhyStopped options.now.at.now) }
+    ensures why { IfErr result (WhyStopped (D.refuses doors.old options.now.at.now) options.now.at.now) }
     ensures new { D.told doors.old ≡ nothing_told → IfOk result (λ ports. D.P.told ports ≡ nothing_told) }
     ensures same { OnErr result (D.told doors.new ≡ D.told doors.old) }
 {
@@ -136,6 +137,7 @@ fn tell_door<D: Doors, E: Sink, F: Folder>(
 }
 
 // Serves who comes through a door that was opened, until it is told to stop, and tells where it is.
+#[tactic(auto, using(crate::proofs::Through::nothing_wrote, crate::proofs::Written::continues_same))]
 fn serve_door<R: Wait, D: Doors, S, C: Clock, L: Files, E: Sink, F: Folder>(
     place: &mut Place<'_, '_, '_, '_, '_, '_, R, D, S, C, L, E>,
     options: &Options<'_>,
@@ -171,6 +173,7 @@ fn serve_door<R: Wait, D: Doors, S, C: Clock, L: Files, E: Sink, F: Folder>(
 }
 
 // The door is opened, it is served, and the door is closed.
+#[tactic(auto, using(crate::proofs::Through::nothing_wrote, crate::proofs::Through::between_wrote, crate::proofs::Through::between_asked, crate::proofs::Written::continues_same))]
 fn serve_between<R: Wait, D: Doors, S, C: Clock, L: Files, E: Sink, F: Folder>(
     place: &mut Place<'_, '_, '_, '_, '_, '_, R, D, S, C, L, E>,
     options: &Options<'_>,
@@ -179,7 +182,7 @@ fn serve_between<R: Wait, D: Doors, S, C: Clock, L: Files, E: Sink, F: Folder>(
     requires served { AreServed host.old.office.keeper.world (session_of host.old.office.steward) host.old.room.guests }
     requires nobody { host.old.room.guests ≡ [] }
     ensures done { OnOk result (IsAtEnd F.disk F.is_honest host.new.office.keeper) }
-    ensures why { IfErr result (WhyStopped options.now.at.now) }
+    ensures why { IfErr result (WhyStopped (D.refuses place.old.doors.now options.now.at.now) options.now.at.now) }
     ensures goes { Continues host.old.office.keeper.world host.new.office.keeper.world }
     ensures last { OnOk result (OnlyWrote IsAnEnd (D.told place.old.doors.now) (D.told place.new.doors.now) host.new.office.keeper.world) }
     ensures asked { OnOk result (D.told place.old.doors.now ≡ nothing_told → WasToldToStop (D.told place.new.doors.now)) }
@@ -195,6 +198,7 @@ fn serve_between<R: Wait, D: Doors, S, C: Clock, L: Files, E: Sink, F: Folder>(
 }
 
 // The steward joins, and then it is served, until it is told to stop.
+#[tactic(auto, using(crate::proofs::Through::nothing_wrote, crate::proofs::Written::continues_then))]
 fn serve_at<R: Wait, D: Doors, S, C: Clock, L: Files, E: Sink, F: Folder>(
     place: &mut Place<'_, '_, '_, '_, '_, '_, R, D, S, C, L, E>,
     options: &Options<'_>,
@@ -202,7 +206,7 @@ fn serve_at<R: Wait, D: Doors, S, C: Clock, L: Files, E: Sink, F: Folder>(
 ) -> Result<(), HostEnd>
     requires nobody { host.old.room.guests ≡ [] }
     ensures done { OnOk result (IsAtEnd F.disk F.is_honest host.new.office.keeper) }
-    ensures why { IfErr result (WhyStopped options.now.at.now) }
+    ensures why { IfErr result (WhyStopped (D.refuses place.old.doors.now options.now.at.now) options.now.at.now) }
     ensures goes { Continues host.old.office.keeper.world host.new.office.keeper.world }
     ensures last { OnOk result (OnlyWrote IsAnEnd (D.told place.old.doors.now) (D.told place.new.doors.now) host.new.office.keeper.world) }
     ensures asked { OnOk result (D.told place.old.doors.now ≡ nothing_told → WasToldToStop (D.told place.new.doors.now)) }
@@ -215,6 +219,7 @@ fn serve_at<R: Wait, D: Doors, S, C: Clock, L: Files, E: Sink, F: Folder>(
 }
 
 // Serves a world, and answers how it stands then.
+#[tactic(auto, using(crate::proofs::Through::nothing_wrote, crate::proofs::Written::continues_same))]
 fn serve_host<R: Wait, D: Doors, S, C: Clock, L: Files, E: Sink, F: Folder>(
     place: &mut Place<'_, '_, '_, '_, '_, '_, R, D, S, C, L, E>,
     options: &Options<'_>,
@@ -223,7 +228,7 @@ fn serve_host<R: Wait, D: Doors, S, C: Clock, L: Files, E: Sink, F: Folder>(
     requires nobody { host.old.room.guests ≡ [] }
     requires office { IsOfficeFor (asked_by options.now) host.old.office.manners.authority host.old.office }
     ensures done { IfOk result (HasStopped F.disk F.is_honest host.old.office.keeper (D.told place.old.doors.now) (D.told place.new.doors.now) options.now.folder.now) }
-    ensures why { IfErr result (WhyStopped options.now.at.now) }
+    ensures why { IfErr result (WhyStopped (D.refuses place.old.doors.now options.now.at.now) options.now.at.now) }
     ensures goes { Continues host.old.office.keeper.world host.new.office.keeper.world }
     ensures sent { OnlyWrote AnyEntry (D.told place.old.doors.now) (D.told place.new.doors.now) host.new.office.keeper.world }
 {
@@ -248,7 +253,7 @@ fn serve_kept<R: Wait, D: Doors, S, C: Clock, L: Files, E: Sink, F: Folder + Dro
     requires limits { AreWithinLimits keeper.world.rules }
     requires staff { IsStaffFor (asked_by options.now) staff }
     ensures done { IfOk result (HasStopped F.disk F.is_honest keeper (D.told place.old.doors.now) (D.told place.new.doors.now) options.now.folder.now) }
-    ensures why { IfErr result (WhyStopped options.now.at.now) }
+    ensures why { IfErr result (WhyStopped (D.refuses place.old.doors.now options.now.at.now) options.now.at.now) }
     ensures broke { BreaksOff (D.told place.old.doors.now) (D.told place.new.doors.now) keeper.world }
 {
     tell_keeper("start", options.folder, &keeper, place.err);
@@ -258,7 +263,7 @@ fn serve_kept<R: Wait, D: Doors, S, C: Clock, L: Files, E: Sink, F: Folder + Dro
 }
 
 // Opens the folder, and serves its world.
-#[tactic(auto, using(crate::proofs::Top2::log_behind, crate::proofs::Top2::stopped_behind, crate::proofs::Rules::limits_in))]
+#[tactic(auto, using(crate::proofs::Top2::folder_behind, crate::proofs::Rules::limits_in))]
 fn serve_prepared<R: Wait, D: Doors, S: Folders, C: Clock, L: Files, E: Sink>(
     place: &mut Place<'_, '_, '_, '_, '_, '_, R, D, S, C, L, E>,
     options: &Options<'_>,
@@ -271,7 +276,8 @@ fn serve_prepared<R: Wait, D: Doors, S: Folders, C: Clock, L: Files, E: Sink>(
         → IfOk result (WasServed S.F.disk S.F.is_honest (S.opens place.old.folders.now) contents (D.told place.old.doors.now) (D.told place.new.doors.now)
         (asked_by options.now)) }
     ensures why { (contents : List ℕ → Option (List ℕ)) → IsPrepared (contents options.now.world.now) (asked_by options.now) prepared.file prepared.bytes.items
-        → IfErr result (WhyBehind S.F.disk S.F.is_honest (S.opens place.old.folders.now) contents (asked_by options.now)) }
+        → IfErr result (WhyBehind S.F.disk S.F.is_honest (S.opens place.old.folders.now) contents (D.told place.old.doors.now) (D.told place.new.doors.now)
+        S.F.faults (S.refuses place.old.folders.now) (D.refuses place.old.doors.now) (asked_by options.now)) }
     ensures wrote { (contents : List ℕ → Option (List ℕ)) → IsPrepared (contents options.now.world.now) (asked_by options.now) prepared.file prepared.bytes.items
         → OnErr result (WroteFirst S.F.disk S.F.is_honest (S.opens place.old.folders.now) contents (D.told place.old.doors.now) (D.told place.new.doors.now)
         (asked_by options.now)) }
@@ -296,6 +302,8 @@ fn run<R: Wait, D: Doors, S: Folders, C: Clock, L: Files, E: Sink>(
     ensures wrote { OnErr result (WroteFirst S.F.disk S.F.is_honest (S.opens place.old.folders.now) (L.contents place.old.files.now)
         (D.told place.old.doors.now) (D.told place.new.doors.now) (asked_by options.now)) }
     ensures why { IfErr result (WhyEnds S.F.disk S.F.is_honest (S.opens place.old.folders.now) (L.contents place.old.files.now)
+        (D.told place.old.doors.now) (D.told place.new.doors.now)
+        S.F.faults (S.refuses place.old.folders.now) (D.refuses place.old.doors.now)
         (Rose (L.faults place.old.files.now) (L.faults place.new.files.now)) (asked_by options.now)) }
     ensures apart { IfErr result (λ e. IsEarly e → (place.new.folders.now ≡ place.old.folders.now) × (place.new.doors.now ≡ place.old.doors.now)) }
     ensures quiet { IfErr result (λ e. IsEarly e → place.new.err.now ≡ place.old.err.now) }
@@ -313,7 +321,9 @@ fn ending_of<R: Wait, D: Doors, S: Folders, C: Clock, L: Files, E: Sink>(
 ) -> HostEnd
     ensures words { AsksNothing (map string_bytes words.now) → (result ≡ endings.Words) ⊎ (result ≡ endings.Memory) }
     ensures why { EndsFor S.F.disk S.F.is_honest (S.opens place.old.folders.now) (L.contents place.old.files.now)
-        (D.told place.old.doors.now) (D.told place.new.doors.now) (map string_bytes words.now) (Rose (L.faults place.old.files.now) (L.faults place.new.files.now)) result }
+        (D.told place.old.doors.now) (D.told place.new.doors.now)
+        S.F.faults (S.refuses place.old.folders.now) (D.refuses place.old.doors.now)
+        (map string_bytes words.now) (Rose (L.faults place.old.files.now) (L.faults place.new.files.now)) result }
     ensures apart { IsEarly result → (place.new.folders.now ≡ place.old.folders.now) × (place.new.doors.now ≡ place.old.doors.now) }
     ensures quiet { IsEarly result → place.new.err.now ≡ place.old.err.now }
 {
@@ -341,7 +351,9 @@ pub fn run_host<R: Wait, D: Doors, S: Folders, C: Clock, L: Files, E: Sink>(
     ensures apart { (result ≡ 2) ⊎ ((result ≡ 3) ⊎ (result ≡ 4)) → (place.new.folders.now ≡ place.old.folders.now) × (place.new.doors.now ≡ place.old.doors.now) }
     ensures ends { EndsBy (λ ending. IsToldLast E.taken E.faults place.old.err.now place.new.err.now ending
         × EndsFor S.F.disk S.F.is_honest (S.opens place.old.folders.now) (L.contents place.old.files.now)
-        (D.told place.old.doors.now) (D.told place.new.doors.now) (map string_bytes words.now) (Rose (L.faults place.old.files.now) (L.faults place.new.files.now)) ending) result }
+        (D.told place.old.doors.now) (D.told place.new.doors.now)
+        S.F.faults (S.refuses place.old.folders.now) (D.refuses place.old.doors.now)
+        (map string_bytes words.now) (Rose (L.faults place.old.files.now) (L.faults place.new.files.now)) ending) result }
 {
     let ending = ending_of(place, words);
     tell(&ending, place.err);

@@ -19,6 +19,8 @@ impl<'r> Folders for OsFolders<'r> {
 
     ghost opens = { λ _ _ _. Unit {0} };
 
+    ghost refuses = { λ _ _ _. Unit {0} };
+
     fn open(&mut self, name: &str, syncs: bool) -> Result<DiskFolder<'r>, FolderFault> {
         let mode = if syncs {
             SyncMode::Waits
@@ -51,6 +53,8 @@ impl<'r, R: Net> Doors for OsDoors<'r, R> {
     type P = MioPorts<Stdin>;
 
     ghost told = { λ doors. told_by doors.closed.items };
+
+    ghost refuses = { λ _ _ _. Unit {0} };
 
     fn open(&mut self, address: &str, input: bool) -> Result<MioPorts<Stdin>, DoorFault> {
         let Ok(address) = address.parse::<SocketAddr>() else {

@@ -1,4 +1,5 @@
 -- It is waited, and served.
+use Rattle.sv_host.proofs.Behind.{match_false, match_true, read_as}
 use Rattle.sv_host.proofs.Written.{continues_kept, continues_then, then_ok, were_written}
 use Rattle.sv_host.proofs.host.Host.turn.Goals as goal
 
@@ -15,11 +16,11 @@ pub returns-in_err-is_told_to_stop-clause-past : goal.returns-in_err-is_told_to_
 returns-in_err-is_told_to_stop-clause-past g c are =
     were_written _ c.is_told_to_stop.ensures.served (c.is_told_to_stop.ensures.written (c.wait.ensures.written are))
 
-pub returns-then-is_told_to_stop-clause-goes : goal.returns-then-is_told_to_stop-clause-goes
-returns-then-is_told_to_stop-clause-goes g c = continues_then (continues_kept c.wait.ensures.world) (continues_kept c.is_told_to_stop.ensures.world)
+pub returns-then-branch-clause-goes : goal.returns-then-branch-clause-goes
+returns-then-branch-clause-goes g c = continues_then (continues_kept c.wait.ensures.world) (continues_kept c.is_told_to_stop.ensures.world)
 
-pub returns-then-is_told_to_stop-clause-past : goal.returns-then-is_told_to_stop-clause-past
-returns-then-is_told_to_stop-clause-past g c are =
+pub returns-then-branch-clause-past : goal.returns-then-branch-clause-past
+returns-then-branch-clause-past g c are =
     were_written _ c.is_told_to_stop.ensures.served (c.is_told_to_stop.ensures.written (c.wait.ensures.written are))
 
 pub returns-in_err-serve_all-clause-goes : goal.returns-in_err-serve_all-clause-goes
@@ -35,3 +36,11 @@ returns-clause-goes g c =
 
 pub returns-clause-past : goal.returns-clause-past
 returns-clause-past g c are = c.serve_all.ensures.past (c.is_told_to_stop.ensures.written (c.wait.ensures.written are))
+
+pub returns-then-branch-clause-stops : goal.returns-then-branch-clause-stops
+returns-then-branch-clause-stops g c read =
+    match_true _ c.if-branch.true (c.in_ok-is_told_to_stop.ensures.stops (read_as _ _ c.args.input.now c.wait.ensures.still.left read))
+
+pub returns-clause-on : goal.returns-clause-on
+returns-clause-on g c read is =
+    read_as _ _ _ c.in_ok-serve_all.ensures.input (match_false _ c.if-branch.false (c.in_ok-is_told_to_stop.ensures.stops (read_as _ _ c.args.input.now c.wait.ensures.still.left read)))
