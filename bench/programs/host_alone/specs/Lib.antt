@@ -1,0 +1,2 @@
+-- The definitions of the program.
+pub mod Closed
