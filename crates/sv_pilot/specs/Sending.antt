@@ -1,5 +1,5 @@
 -- What a connection's calls change of it, and what they answer.
-use Rattle.std.specs.Prelude.{◌≡◌, ℕ, ◌<◌, ◌⊎◌, true, List, [], ◌++◌, length, Option, None, Some, Result, Ok, Err}
+use Rattle.std.specs.Prelude.{◌≡◌, ℕ, ◌<◌, ◌⊎◌, true, List, [], ◌++◌, length, Option, None, Some, Result, Ok, Err, OnOk}
 use Rattle.sv_bytes.specs.Faults.{Rose}
 use Rattle.sv_frame.specs.Frames.{greatest_frame}
 use Rattle.sv_link.specs.declared.ends.EndRead.{EndRead}
@@ -26,16 +26,27 @@ trouble_of_read reads.Ended = Err troubles.Link
 trouble_of_read reads.Failed = Err troubles.Link
 trouble_of_read reads.Memory = Err troubles.Memory
 
--- bytes were sent, and none received
-pub record HasSent (old new : Line) : Type 0 where
-  pub line : GoesOn old new []
+-- What waited was sent, in order, but for what is unsent at its end; and nothing was received.
+pub record HasSent (old new : Line) (unsent : List ℕ) : Type 0 where
+  pub sent : List ℕ
+  pub line : GoesOn old new sent []
+  pub in_order : sent ++ unsent ≡ old.waits
   pub came : new.came ≡ old.came
 
--- bytes were sent and received, and those that were received stand behind what had come
-pub record HasRead (old new : Line) : Type 0 where
+-- The same, and bytes were received, which stand behind what had come.
+pub record HasRead (old new : Line) (unsent : List ℕ) : Type 0 where
+  pub sent : List ℕ
   pub received : List ℕ
-  pub line : GoesOn old new received
+  pub line : GoesOn old new sent received
+  pub in_order : sent ++ unsent ≡ old.waits
   pub came : new.came ≡ old.came ++ received
+
+-- What is unsent still waits, where the call went well.
+abbrev pub Sends : {X : Type 0} → Line → Line → Result X Trouble → Type 0
+Sends old new result = (unsent : List ℕ) × HasSent old new unsent × OnOk result (unsent ≡ new.waits)
+
+abbrev pub Reads : {X : Type 0} → Line → Line → Result X Trouble → Type 0
+Reads old new result = (unsent : List ℕ) × HasRead old new unsent × OnOk result (unsent ≡ new.waits)
 
 -- Why not all was sent: the end failed, or there was no memory.
 abbrev pub IsSendFault : Line → Line → Trouble → Type 0

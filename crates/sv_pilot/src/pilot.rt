@@ -1,5 +1,5 @@
 //! A client that game code drives.
-ghost use Rattle.std.specs.Prelude.{◌≡◌, ◌⊎◌, ◌<◌, ◌≤◌, true, false, length, Ok, IfOk, IfErr, IfSome, OnOk, OnErr};
+ghost use Rattle.std.specs.Prelude.{◌≡◌, ◌⊎◌, ◌<◌, ◌≤◌, true, false, length, [], ◌∷◌, option_to_list, Ok, IfOk, IfErr, IfSome, OnOk, OnErr};
 ghost use Rattle.sv_world.specs.Worlds.{IsGoodShape};
 ghost use Rattle.sv_text.specs.Grammar.{IsActionText};
 ghost use Rattle.sv_text.specs.Tokens.{tokens_of};
@@ -13,7 +13,7 @@ ghost use Rattle.sv_client.specs.Proper.{IsReadyToMake, MayPoll, MayObserve, May
 ghost use Rattle.sv_pilot.specs.declared.trouble.Trouble.TheVariants as troubles;
 ghost use Rattle.sv_pilot.specs.Troubles.{trouble_of_text};
 ghost use Rattle.sv_pilot.specs.Lines.{line_of, IsCalm};
-ghost use Rattle.sv_pilot.specs.Doings.{HasTaken, Did, Stopped, StopsBy, Watched, StoppedWatch, NoReplyIsDue, MadeAction, StoppedMake, StoppedAction, weight, NoneMayBeMade, number_seen, text_limit};
+ghost use Rattle.sv_pilot.specs.Doings.{Takes, Did, posting, Stopped, StopsBy, Watched, StoppedWatch, NoReplyIsDue, IsSettled, MadeAction, StoppedMake, StoppedAction, weight, NoneMayBeMade, number_seen, text_limit};
 
 use crate::connection::Connection;
 use crate::seen::{Listener, Seen, tell_all, unseen};
@@ -29,8 +29,8 @@ use sv_world::{Action, List, ObjectId, copy_objects};
 
 /// A client over one connection, and a listener that is called for each change of what it sees of its interest.
 ///
-/// Contracts see the client; and of the connection what its end tells, how often the end failed, and the bytes that came and were not taken as
-/// replies.
+/// Contracts see the client; and of the connection what its end tells, how often the end failed, the bytes that came and were not taken as replies,
+/// and those that wait to be sent.
 #[derive(Drop)]
 pub struct Pilot<E: End, L: Listener> {
     alloc: Global,
@@ -114,7 +114,7 @@ impl<E: End, L: Listener> Pilot<E, L> {
     /// have been begun: `Link` comes where the end failed or told that no more will come, `Reply` where the front of what came is no reply or one that
     /// the client does not take, and `Memory`.
     pub fn join(&mut self) -> Result<(), Trouble>
-        ensures joined { OnOk result (Did (events.Join (joins self.old.client.events)) self.old self.new × NoReplyIsDue self.new × IsCalm self.old.line self.new.line) }
+        ensures joined { OnOk result (Did (events.Join (joins self.old.client.events)) self.old self.new [] × IsSettled self.new × IsCalm self.old.line self.new.line) }
         ensures stopped { IfErr result (λ trouble. (trouble ≡ troubles.Game) ⊎ Stopped (events.Join (joins self.old.client.events)) self.old self.new trouble) }
         ensures refused { IfErr result (λ trouble. trouble ≡ troubles.Game → (self.new ≡ self.old) × (most_numbers ≤ joins self.old.client.events)) }
     {
@@ -144,7 +144,7 @@ impl<E: End, L: Listener> Pilot<E, L> {
     /// `Game` comes outside a session, for a text that is longer or that of no action, and for an action that the client may not make; then nothing
     /// was done. Else the action may have been made: `Link`, `Reply` and `Memory` come as at `join`.
     pub fn act(&mut self, text: &str) -> Result<(), Trouble>
-        ensures made { OnOk result ((length text.now < text_limit) × MadeAction text.now self.old self.new × NoReplyIsDue self.new × IsCalm self.old.line self.new.line) }
+        ensures made { OnOk result ((length text.now < text_limit) × MadeAction text.now self.old self.new [] × IsSettled self.new × IsCalm self.old.line self.new.line) }
         ensures stopped { IfErr result (λ trouble. (trouble ≡ troubles.Game) ⊎ StoppedAction text.now self.old self.new trouble) }
         ensures refused { IfErr result (λ trouble. trouble ≡ troubles.Game → (self.new ≡ self.old) × ((text_limit ≤ length text.now) ⊎ (NoneMayBeMade text.now self.old ⊎ (most_numbers ≤ makes self.old.client.events)))) }
     {
@@ -174,7 +174,7 @@ impl<E: End, L: Listener> Pilot<E, L> {
     /// `Game` comes outside a session and for an action that the client may not make, and then nothing was done. Else it may have been made: `Link`,
     /// `Reply` and `Memory` come as at `join`.
     pub fn make(&mut self, action: Action) -> Result<(), Trouble>
-        ensures made { OnOk result (IsReadyToMake self.old.client.who self.old.client.events action × Did (events.Make action) self.old self.new × NoReplyIsDue self.new × IsCalm self.old.line self.new.line) }
+        ensures made { OnOk result (IsReadyToMake self.old.client.who self.old.client.events action × Did (events.Make action) self.old self.new [] × IsSettled self.new × IsCalm self.old.line self.new.line) }
         ensures stopped { IfErr result (λ trouble. (trouble ≡ troubles.Game) ⊎ StoppedMake action self.old self.new trouble) }
         ensures refused { IfErr result (λ trouble. trouble ≡ troubles.Game → (self.new ≡ self.old) × ((IsReadyToMake self.old.client.who self.old.client.events action → ⊥) ⊎ (most_numbers ≤ makes self.old.client.events))) }
     {
@@ -191,7 +191,7 @@ impl<E: End, L: Listener> Pilot<E, L> {
     /// `Game` comes outside a session and where too many replies are due, and then nothing was asked. Else it may have been: `Link`, `Reply` and
     /// `Memory` come as at `join`.
     pub fn poll(&mut self) -> Result<(), Trouble>
-        ensures polled { OnOk result (Did events.Poll self.old self.new × NoReplyIsDue self.new × IsCalm self.old.line self.new.line) }
+        ensures polled { OnOk result (Did events.Poll self.old self.new [] × IsSettled self.new × IsCalm self.old.line self.new.line) }
         ensures stopped { IfErr result (λ trouble. (trouble ≡ troubles.Game) ⊎ Stopped events.Poll self.old self.new trouble) }
         ensures refused { IfErr result (λ trouble. trouble ≡ troubles.Game → (self.new ≡ self.old) × (MayPoll self.old.client.who self.old.client.events → ⊥)) }
     {
@@ -209,7 +209,7 @@ impl<E: End, L: Listener> Pilot<E, L> {
     /// `Game` comes outside a session, for objects that may not be observed, and where too many replies are due; then nothing was asked. Else it may
     /// have been: `Link`, `Reply` and `Memory` come as at `join`.
     pub fn observe(&mut self, objects: List<ObjectId>, wait: u16) -> Result<(), Trouble>
-        ensures observed { OnOk result (Did (events.Observe objects wait) self.old self.new × NoReplyIsDue self.new × IsCalm self.old.line self.new.line) }
+        ensures observed { OnOk result (Did (events.Observe objects wait) self.old self.new [] × IsSettled self.new × IsCalm self.old.line self.new.line) }
         ensures stopped { IfErr result (λ trouble. (trouble ≡ troubles.Game) ⊎ Stopped (events.Observe objects wait) self.old self.new trouble) }
         ensures refused { IfErr result (λ trouble. trouble ≡ troubles.Game → (self.new ≡ self.old) × (MayObserve self.old.client.who self.old.client.events objects → ⊥)) }
     {
@@ -239,7 +239,7 @@ impl<E: End, L: Listener> Pilot<E, L> {
     /// `Game` comes outside a session and while a reply is due, and then nothing was done. Else the session may have been left: `Link`, `Reply` and
     /// `Memory` come as at `join`.
     pub fn leave(&mut self) -> Result<(), Trouble>
-        ensures left { OnOk result (Did events.Leave self.old self.new × NoReplyIsDue self.new × IsCalm self.old.line self.new.line) }
+        ensures left { OnOk result (Did events.Leave self.old self.new [] × IsSettled self.new × IsCalm self.old.line self.new.line) }
         ensures stopped { IfErr result (λ trouble. (trouble ≡ troubles.Game) ⊎ Stopped events.Leave self.old self.new trouble) }
         ensures refused { IfErr result (λ trouble. trouble ≡ troubles.Game → (self.new ≡ self.old) × (MayLeave self.old.client.who self.old.client.events → ⊥)) }
     {
@@ -260,8 +260,8 @@ impl<E: End, L: Listener> Pilot<E, L> {
     /// Tells what a request that was just made is expected to change, sends it, and takes all replies.
     fn ask(&mut self, request: &Request) -> Result<(), Trouble>
         requires { IsWireRequest request.now }
-        ensures taken { HasTaken self.old self.new }
-        ensures settled { OnOk result (NoReplyIsDue self.new × IsCalm self.old.line self.new.line) }
+        ensures taken { Takes (posting self.old (request.now ∷ [])) self.new result }
+        ensures settled { OnOk result (IsSettled self.new × IsCalm self.old.line self.new.line) }
         ensures why { IfErr result (StopsBy self.old self.new) }
     {
         tell_all(
@@ -282,21 +282,21 @@ impl<E: End, L: Listener> Pilot<E, L> {
         self.client.outstanding() == 0
     }
 
-    /// Takes replies until none is due.
+    /// Takes replies until none is due, and sends all that waits.
     fn settle(&mut self) -> Result<(), Trouble>
-        ensures taken { HasTaken self.old self.new }
-        ensures settled { OnOk result (NoReplyIsDue self.new × IsCalm self.old.line self.new.line) }
+        ensures taken { Takes self.old self.new result }
+        ensures settled { OnOk result (IsSettled self.new × IsCalm self.old.line self.new.line) }
         ensures why { IfErr result (StopsBy self.old self.new) }
     {
         while !self.is_settled() {
             self.take_next()?;
         }
-        Ok(())
+        self.connection.flush()
     }
 
     /// Waits for the next reply, and takes it.
     fn take_next(&mut self) -> Result<(), Trouble>
-        ensures taken { HasTaken self.old self.new }
+        ensures taken { Takes self.old self.new result }
         ensures calm { OnOk result (IsCalm self.old.line self.new.line) }
         ensures lighter { OnOk result (weight (outstanding self.new.client.who self.new.client.events) < weight (outstanding self.old.client.who self.old.client.events)) }
         ensures why { IfErr result (StopsBy self.old self.new) }
@@ -309,7 +309,7 @@ impl<E: End, L: Listener> Pilot<E, L> {
     fn take(&mut self, reply: &Reply) -> Result<(), Trouble>
         requires front { FirstReads reply_at self.old.line.came (Ok reply.now) }
         requires message { IsWireReply reply.now }
-        ensures taken { HasTaken self.old self.new }
+        ensures taken { Takes self.old self.new result }
         ensures calm { OnOk result (IsCalm self.old.line self.new.line) }
         ensures lighter { OnOk result (weight (outstanding self.new.client.who self.new.client.events) < weight (outstanding self.old.client.who self.old.client.events)) }
         ensures why { IfErr result (StopsBy self.old self.new) }
@@ -325,7 +325,7 @@ impl<E: End, L: Listener> Pilot<E, L> {
     /// Reports results, where there are any.
     fn answer(&mut self, done: Option<Request>) -> Result<(), Trouble>
         requires { IsGoodShape self.old.client.who.shape → IfSome done IsWireRequest }
-        ensures taken { HasTaken self.old self.new }
+        ensures taken { Takes (posting self.old (option_to_list done)) self.new result }
         ensures client { self.new.client ≡ self.old.client }
         ensures calm { OnOk result (IsCalm self.old.line self.new.line) }
         ensures why { IfErr result (StopsBy self.old self.new) }

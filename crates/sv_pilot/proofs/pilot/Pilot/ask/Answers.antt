@@ -1,8 +1,9 @@
 -- What is proved by hand of `Pilot::ask`.
-use Rattle.std.proofs.Common.{OnOk, IfErr, refl, subst}
+use Rattle.std.proofs.Common.{[], ◌∷◌, Ok, Err, OnOk, IfErr, refl, subst}
+use Rattle.sv_pilot.specs.declared.trouble.Trouble.TheVariants as troubles
 use Rattle.sv_pilot.specs.Lines.{IsCalm}
-use Rattle.sv_pilot.specs.Doings.{PilotView, HasTaken, NoReplyIsDue, StopsBy}
-use Rattle.sv_pilot.proofs.Taking.{same_taken, sent_read, line_taken, taken_more, sending_stops_it}
+use Rattle.sv_pilot.specs.Doings.{PilotView, Takes, posting, IsSettled, StopsBy}
+use Rattle.sv_pilot.proofs.Taking.{none_posted, line_takes, all_taken, then_taken, sending_stops_it}
 use Rattle.sv_pilot.proofs.Moved.{failed_by}
 use Rattle.sv_pilot.proofs.Asked.{settled_later, stopped_later}
 use Rattle.sv_pilot.proofs.pilot.Pilot.ask.Goals as goal
@@ -10,13 +11,18 @@ use Rattle.sv_pilot.proofs.pilot.Pilot.ask.Goals as goal
 pub returns-in_err-tell_all-clause-taken : goal.returns-in_err-tell_all-clause-taken
 returns-in_err-tell_all-clause-taken g c =
     let old : PilotView = record { client = c.self.inside.client; line = c.self.inside.connection } in
-    subst (λ (p : PilotView). HasTaken p old) c.self.view_is (same_taken old)
+    let asked = c.args.request.now ∷ [] in
+    failed_by c.from_residual.result troubles.Memory c.from_residual.ensures.1 (Takes (posting c.args.self.now asked) old)
+    (subst (λ (p : PilotView). Takes {X = Unit} (posting p asked) old (Err troubles.Memory)) c.self.view_is (none_posted old asked troubles.Memory))
 
 pub returns-in_err-send-clause-taken : goal.returns-in_err-send-clause-taken
 returns-in_err-send-clause-taken g c =
     let old : PilotView = record { client = c.self.inside.client; line = c.self.inside.connection } in
     let mid : PilotView = record { client = c.self.inside.client; line = c.send.new.self } in
-    subst (λ (p : PilotView). HasTaken p mid) c.self.view_is (line_taken old mid refl (sent_read old.line mid.line c.send.ensures.sent))
+    let asked = c.args.request.now ∷ [] in
+    let trouble = c.in_err-send.field-0.0 in
+    failed_by c.from_residual-in_err-send.result trouble c.from_residual-in_err-send.ensures.1 (Takes (posting c.args.self.now asked) mid)
+    (subst (λ (p : PilotView). Takes {X = Unit} (posting p asked) mid (Err trouble)) c.self.view_is (line_takes {X = Unit} (posting old asked) mid (Err trouble) refl c.in_err-send.ensures.sent))
 
 pub returns-in_err-send-clause-why : goal.returns-in_err-send-clause-why
 returns-in_err-send-clause-why g c =
@@ -29,14 +35,15 @@ pub returns-clause-taken : goal.returns-clause-taken
 returns-clause-taken g c =
     let old : PilotView = record { client = c.self.inside.client; line = c.self.inside.connection } in
     let mid : PilotView = record { client = c.self.inside.client; line = c.send.new.self } in
-    subst (λ (p : PilotView). HasTaken p c.settle.new.self) c.self.view_is
-    (taken_more old mid c.settle.new.self (line_taken old mid refl (sent_read old.line mid.line c.send.ensures.sent)) c.settle.ensures.taken)
+    let asked = c.args.request.now ∷ [] in
+    let sent = all_taken (posting old asked) mid tt (line_takes {X = Unit} (posting old asked) mid (Ok tt) refl c.in_ok-send.ensures.sent) in
+    subst (λ (p : PilotView). Takes (posting p asked) c.settle.new.self c.settle.result) c.self.view_is (then_taken (posting old asked) mid c.settle.new.self c.settle.result sent c.settle.ensures.taken)
 
 pub returns-clause-settled : goal.returns-clause-settled
 returns-clause-settled g c =
     let old : PilotView = record { client = c.self.inside.client; line = c.self.inside.connection } in
     let mid : PilotView = record { client = c.self.inside.client; line = c.send.new.self } in
-    subst (λ (p : PilotView). OnOk c.settle.result (NoReplyIsDue c.settle.new.self × IsCalm p.line c.settle.new.self.line)) c.self.view_is
+    subst (λ (p : PilotView). OnOk c.settle.result (IsSettled c.settle.new.self × IsCalm p.line c.settle.new.self.line)) c.self.view_is
     (settled_later old mid c.settle.new.self c.settle.result c.in_ok-send.ensures.answer c.settle.ensures.settled)
 
 pub returns-clause-why : goal.returns-clause-why

@@ -1,5 +1,5 @@
 -- What is proved by hand of `Pilot::join`.
-use Rattle.std.proofs.Common.{◌≡◌, ◌≤◌, ◌⊎◌, inr, refl, sym, ap, subst, ◌∙◌, zero-add}
+use Rattle.std.proofs.Common.{◌≡◌, ◌≤◌, ◌⊎◌, inr, [], Ok, Err, refl, sym, ap, subst, ◌∙◌, zero-add}
 use Rattle.std.specs.Prelude.{All, OnOk, IfErr}
 use Rattle.sv_wire.specs.Grammar.{IsWireRequest}
 use Rattle.sv_client.specs.declared.trace.Event.TheVariants as events
@@ -9,10 +9,10 @@ use Rattle.sv_client.specs.Seen.{ClientView}
 use Rattle.sv_pilot.specs.declared.trouble.Trouble.{Trouble}
 use Rattle.sv_pilot.specs.declared.trouble.Trouble.TheVariants as troubles
 use Rattle.sv_pilot.specs.Lines.{IsCalm}
-use Rattle.sv_pilot.specs.Doings.{PilotView, Did, NoReplyIsDue, Stopped}
-use Rattle.sv_pilot.proofs.Taking.{sent_read, did_only, sending_stops_it, asked_fine, asked_stops, may_stop, not_refused}
+use Rattle.sv_pilot.specs.Doings.{PilotView, Did, doing, IsSettled, Stopped}
+use Rattle.sv_pilot.proofs.Taking.{did_sent, then_taken, all_taken, sending_stops_it, asked_fine, asked_stops, may_stop, not_refused}
 use Rattle.sv_pilot.proofs.Moved.{failed_by}
-use Rattle.sv_pilot.proofs.Asked.{nothing_done, not_of_game}
+use Rattle.sv_pilot.proofs.Asked.{nothing_done, not_of_game, settled_later, stopped_later}
 use Rattle.sv_pilot.proofs.pilot.Pilot.join.Goals as goal
 
 pub send_all-requires : goal.send_all-requires
@@ -33,10 +33,12 @@ returns-in_err-send_all-clause-stopped g c =
     let old : PilotView = record { client = c.self.inside.client; line = c.self.inside.connection } in
     let mid : PilotView = record { client = c.join.new.self; line = c.send_all.new.self } in
     let trouble = c.in_err-send_all.field-0.0 in
+    let e = events.Join (joins old.client.events) in
+    let did = did_sent e old mid _ (Err trouble) c.in_ok-requests.ensures.ok (c.as_slice.ensures.value ∙ c.in_ok-requests.ensures.requests) c.in_err-send_all.ensures.sent in
     failed_by c.from_residual-in_err-send_all.result trouble c.from_residual-in_err-send_all.ensures.1
     (λ q. IfErr q (λ (t : Trouble). (t ≡ troubles.Game) ⊎ Stopped (events.Join (joins c.args.self.now.client.events)) c.args.self.now mid t))
     (subst (λ (p : PilotView). (trouble ≡ troubles.Game) ⊎ Stopped (events.Join (joins p.client.events)) p mid trouble) c.self.view_is
-    (inr (inr (did_only (events.Join (joins old.client.events)) old mid c.in_ok-requests.ensures.ok (sent_read old.line mid.line c.send_all.ensures.sent), sending_stops_it old mid trouble c.in_err-send_all.ensures.answer))))
+    (inr (inr (did.0, did.1, sending_stops_it old mid trouble c.in_err-send_all.ensures.answer))))
 
 pub returns-in_err-send_all-clause-refused : goal.returns-in_err-send_all-clause-refused
 returns-in_err-send_all-clause-refused g c =
@@ -52,8 +54,10 @@ returns-clause-joined g c =
     let mid : PilotView = record { client = c.join.new.self; line = c.send_all.new.self } in
     let new = c.settle.new.self in
     let e = events.Join (joins old.client.events) in
-    subst (λ (p : PilotView). OnOk c.settle.result (Did (events.Join (joins p.client.events)) p new × NoReplyIsDue new × IsCalm p.line new.line)) c.self.view_is
-    (asked_fine e old mid new c.settle.result c.in_ok-requests.ensures.ok (sent_read old.line mid.line c.send_all.ensures.sent) c.in_ok-send_all.ensures.answer c.settle.ensures.taken c.settle.ensures.settled)
+    let did = did_sent e old mid _ (Ok tt) c.in_ok-requests.ensures.ok (c.as_slice.ensures.value ∙ c.in_ok-requests.ensures.requests) c.in_ok-send_all.ensures.sent in
+    let taken = then_taken (doing old e) mid new c.settle.result (all_taken (doing old e) mid tt did) c.settle.ensures.taken in
+    subst (λ (p : PilotView). OnOk c.settle.result (Did (events.Join (joins p.client.events)) p new [] × IsSettled new × IsCalm p.line new.line)) c.self.view_is
+    (asked_fine e old (doing old e) new c.settle.result refl taken (settled_later old mid new c.settle.result c.in_ok-send_all.ensures.answer c.settle.ensures.settled))
 
 pub returns-clause-stopped : goal.returns-clause-stopped
 returns-clause-stopped g c =
@@ -61,9 +65,11 @@ returns-clause-stopped g c =
     let mid : PilotView = record { client = c.join.new.self; line = c.send_all.new.self } in
     let new = c.settle.new.self in
     let e = events.Join (joins old.client.events) in
+    let did = did_sent e old mid _ (Ok tt) c.in_ok-requests.ensures.ok (c.as_slice.ensures.value ∙ c.in_ok-requests.ensures.requests) c.in_ok-send_all.ensures.sent in
+    let taken = then_taken (doing old e) mid new c.settle.result (all_taken (doing old e) mid tt did) c.settle.ensures.taken in
     subst (λ (p : PilotView). IfErr c.settle.result (λ (trouble : Trouble). (trouble ≡ troubles.Game) ⊎ Stopped (events.Join (joins p.client.events)) p new trouble)) c.self.view_is
     (may_stop e old new c.settle.result
-    (asked_stops e old mid new c.settle.result c.in_ok-requests.ensures.ok (sent_read old.line mid.line c.send_all.ensures.sent) c.in_ok-send_all.ensures.answer c.settle.ensures.taken c.settle.ensures.why))
+    (asked_stops e old (doing old e) new c.settle.result refl taken (stopped_later old mid new c.settle.result c.in_ok-send_all.ensures.answer c.settle.ensures.why)))
 
 pub returns-clause-refused : goal.returns-clause-refused
 returns-clause-refused g c =

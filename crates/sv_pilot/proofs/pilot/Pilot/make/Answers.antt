@@ -1,5 +1,5 @@
 -- What is proved by hand of `Pilot::make`.
-use Rattle.std.proofs.Common.{◌≡◌, ◌≤◌, ◌⊎◌, refl, ap, subst, ◌∙◌}
+use Rattle.std.proofs.Common.{◌≡◌, [], ◌∷◌, ◌≤◌, ◌⊎◌, refl, ap, subst, ◌∙◌}
 use Rattle.std.specs.Prelude.{OnOk, IfErr}
 use Rattle.sv_client.specs.declared.trace.Event.TheVariants as events
 use Rattle.sv_client.specs.Seen.{ClientView}
@@ -9,11 +9,11 @@ use Rattle.sv_client.specs.Traces.{makes}
 use Rattle.sv_client.specs.Proper.{IsReadyToMake, most_numbers}
 use Rattle.sv_client.specs.Answers.{IsMakeFault}
 use Rattle.sv_pilot.specs.Troubles.{trouble_of_make}
-use Rattle.sv_pilot.specs.Lines.{IsCalm}
-use Rattle.sv_pilot.specs.Doings.{PilotView, Did, NoReplyIsDue, StoppedMake}
-use Rattle.sv_pilot.proofs.Taking.{nothing_read, calm_same, asked_fine, asked_stops, not_refused}
+use Rattle.sv_pilot.specs.Lines.{IsCalm, asking}
+use Rattle.sv_pilot.specs.Doings.{PilotView, Did, IsSettled, StoppedMake}
+use Rattle.sv_pilot.proofs.Taking.{doing_is, asked_fine, asked_stops, not_refused}
 use Rattle.sv_pilot.proofs.Moved.{failed_by}
-use Rattle.sv_pilot.proofs.Asked.{asked_is_message, make_refused, make_nothing, made_fine, made_stops}
+use Rattle.sv_pilot.proofs.Asked.{stopped_same, asked_is_message, make_refused, make_nothing, made_fine, made_stops}
 use Rattle.sv_pilot.proofs.pilot.Pilot.make.Goals as goal
 
 pub ask-requires : goal.ask-requires
@@ -40,22 +40,22 @@ returns-in_err-request-clause-refused g c =
 pub returns-clause-made : goal.returns-clause-made
 returns-clause-made g c =
     let old : PilotView = record { client = c.self.inside.client; line = c.self.inside.connection } in
-    let mid : PilotView = record { client = c.make.new.self; line = c.self.inside.connection } in
+    let start : PilotView = record { client = c.make.new.self; line = asking c.self.inside.connection (c.in_ok-request.request ∷ []) } in
     let new = c.ask.new.self in
     let e = events.Make c.args.action in
-    subst (λ (p : PilotView). OnOk c.ask.result (IsReadyToMake p.client.who p.client.events c.args.action × Did e p new × NoReplyIsDue new × IsCalm p.line new.line)) c.self.view_is
+    subst (λ (p : PilotView). OnOk c.ask.result (IsReadyToMake p.client.who p.client.events c.args.action × Did e p new [] × IsSettled new × IsCalm p.line new.line)) c.self.view_is
     (made_fine old new c.args.action c.ask.result c.in_ok-request.ensures.cause
-    (asked_fine e old mid new c.ask.result c.in_ok-request.ensures.ok (nothing_read old.line) (calm_same old.line old.line refl) c.ask.ensures.taken c.ask.ensures.settled))
+    (asked_fine e old start new c.ask.result (doing_is old c.make.new.self e (c.in_ok-request.request ∷ []) c.in_ok-request.ensures.ok c.in_ok-request.ensures.request) c.ask.ensures.taken c.ask.ensures.settled))
 
 pub returns-clause-stopped : goal.returns-clause-stopped
 returns-clause-stopped g c =
     let old : PilotView = record { client = c.self.inside.client; line = c.self.inside.connection } in
-    let mid : PilotView = record { client = c.make.new.self; line = c.self.inside.connection } in
+    let start : PilotView = record { client = c.make.new.self; line = asking c.self.inside.connection (c.in_ok-request.request ∷ []) } in
     let new = c.ask.new.self in
     let e = events.Make c.args.action in
     subst (λ (p : PilotView). IfErr c.ask.result (λ (trouble : Trouble). (trouble ≡ troubles.Game) ⊎ StoppedMake c.args.action p new trouble)) c.self.view_is
     (made_stops old new c.args.action c.ask.result c.in_ok-request.ensures.cause
-    (asked_stops e old mid new c.ask.result c.in_ok-request.ensures.ok (nothing_read old.line) (calm_same old.line old.line refl) c.ask.ensures.taken c.ask.ensures.why))
+    (asked_stops e old start new c.ask.result (doing_is old c.make.new.self e (c.in_ok-request.request ∷ []) c.in_ok-request.ensures.ok c.in_ok-request.ensures.request) c.ask.ensures.taken (stopped_same old (record { client = c.make.new.self; line = old.line }) new c.ask.result refl c.ask.ensures.why)))
 
 pub returns-clause-refused : goal.returns-clause-refused
 returns-clause-refused g c =

@@ -6,7 +6,7 @@ use Rattle.sv_pilot.proofs.pilot.Pilot.settle.Given as goal
 
 abbrev pub invariant-loop-self : goal.invariant-loop-self
 invariant-loop-self g l = record {
-  taken : HasTaken l.fn.self l.self;
+  taken : HasTaken l.fn.self l.self l.self.line.waits;
   calm : IsCalm l.fn.self.line l.self.line;
 }
 

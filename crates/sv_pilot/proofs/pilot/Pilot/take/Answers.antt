@@ -1,5 +1,5 @@
 -- What is proved by hand of `Pilot::take`.
-use Rattle.std.proofs.Common.{◌≡◌, List, Ok, ◌<◌, sym, ap, subst, ◌∙◌}
+use Rattle.std.proofs.Common.{◌≡◌, List, Ok, Err, option_to_list, ◌<◌, sym, ap, subst, ◌∙◌}
 use Rattle.std.specs.Prelude.{IfErr}
 use Rattle.sv_world.specs.Worlds.{IsGoodShape}
 use Rattle.sv_link.specs.Ends.{Told}
@@ -11,17 +11,17 @@ use Rattle.sv_client.specs.Proper.{AreInTurn}
 use Rattle.sv_client.specs.Answers.{IsTakeFault}
 use Rattle.sv_client.specs.Seen.{ClientView}
 use Rattle.sv_pilot.specs.Troubles.{trouble_of_take}
-use Rattle.sv_pilot.specs.Lines.{IsCalm}
-use Rattle.sv_pilot.specs.Doings.{PilotView, HasTaken, StopsBy, weight}
-use Rattle.sv_pilot.proofs.Taking.{none_taken, taken_more, calm_more, stops_later}
+use Rattle.sv_pilot.specs.Lines.{IsCalm, asking}
+use Rattle.sv_pilot.specs.Doings.{PilotView, HasTaken, Takes, StopsBy, weight}
+use Rattle.sv_pilot.proofs.Taking.{none_taken, taken_more, then_taken, all_taken, whole_taken, calm_more, stops_later}
 use Rattle.sv_pilot.proofs.Moved.{failed_by}
-use Rattle.sv_pilot.proofs.Replied.{some_frame, skip_takes, done_is_message, fewer_are_due, refused_at, always, memory_stops}
+use Rattle.sv_pilot.proofs.Replied.{some_frame, skip_takes, asked_waits, done_is_message, fewer_are_due, refused_at, always, memory_stops}
 use Rattle.sv_pilot.proofs.pilot.Pilot.take.Goals as goal
 
 pub returns-in_err-done-clause-taken : goal.returns-in_err-done-clause-taken
 returns-in_err-done-clause-taken g c =
     let new : PilotView = record { client = c.take.new.self; line = c.self.inside.connection } in
-    none_taken c.args.self.now new (ap (λ (v : ClientView). record { client = v; line = c.self.inside.connection }) c.in_err-done.ensures.err ∙ c.self.view_is)
+    none_taken c.args.self.now new c.from_residual.result (ap (λ (v : ClientView). record { client = v; line = c.self.inside.connection }) c.in_err-done.ensures.err ∙ c.self.view_is)
 
 pub returns-in_err-done-clause-why : goal.returns-in_err-done-clause-why
 returns-in_err-done-clause-why g c =
@@ -45,10 +45,13 @@ answer-requires g c = λ shape.
 pub returns-in_err-answer-clause-taken : goal.returns-in_err-answer-clause-taken
 returns-in_err-answer-clause-taken g c =
     let old : PilotView = record { client = c.self.inside.client; line = c.self.inside.connection } in
-    let mid : PilotView = record { client = c.take.new.self; line = c.skip.new.self } in
+    let mid : PilotView = record { client = c.take.new.self; line = asking c.skip.new.self (option_to_list c.in_ok-done.done) } in
+    let waits = asked_waits old.line c.skip.new.self c.in_ok-done.done _ c.skip.ensures.waits c.in_ok-done.ensures.done in
     let front = subst (λ (p : PilotView). FirstReads reply_at p.line.came (Ok c.args.reply.now)) (sym c.self.view_is) c.requires.front in
-    let first : HasTaken old mid = skip_takes old mid c.args.reply.now front c.in_ok-done.ensures.who c.in_ok-done.ensures.got c.skip.ensures.told c.skip.ensures.came in
-    subst (λ (p : PilotView). HasTaken p c.answer.new.self) c.self.view_is (taken_more old mid c.answer.new.self first c.answer.ensures.taken)
+    let first : HasTaken old mid mid.line.waits = skip_takes old mid c.args.reply.now front c.in_ok-done.ensures.who c.in_ok-done.ensures.got c.skip.ensures.told waits c.skip.ensures.came in
+    let trouble = c.in_err-answer.field-0.0 in
+    failed_by c.from_residual-in_err-answer.result trouble c.from_residual-in_err-answer.ensures.1 (Takes c.args.self.now c.answer.new.self)
+    (subst (λ (p : PilotView). Takes {X = Unit} p c.answer.new.self (Err trouble)) c.self.view_is (then_taken {X = Unit} old mid c.answer.new.self (Err trouble) first c.in_err-answer.ensures.taken))
 
 pub returns-in_err-answer-clause-why : goal.returns-in_err-answer-clause-why
 returns-in_err-answer-clause-why g c =
@@ -61,11 +64,14 @@ returns-in_err-answer-clause-why g c =
 pub returns-clause-taken : goal.returns-clause-taken
 returns-clause-taken g c =
     let old : PilotView = record { client = c.self.inside.client; line = c.self.inside.connection } in
-    let mid : PilotView = record { client = c.take.new.self; line = c.skip.new.self } in
+    let mid : PilotView = record { client = c.take.new.self; line = asking c.skip.new.self (option_to_list c.in_ok-done.done) } in
+    let waits = asked_waits old.line c.skip.new.self c.in_ok-done.done _ c.skip.ensures.waits c.in_ok-done.ensures.done in
     let front = subst (λ (p : PilotView). FirstReads reply_at p.line.came (Ok c.args.reply.now)) (sym c.self.view_is) c.requires.front in
-    let first : HasTaken old mid = skip_takes old mid c.args.reply.now front c.in_ok-done.ensures.who c.in_ok-done.ensures.got c.skip.ensures.told c.skip.ensures.came in
-    subst (HasTaken c.args.self.now) (sym c.tell.ensures.same)
-    (subst (λ (p : PilotView). HasTaken p c.answer.new.self) c.self.view_is (taken_more old mid c.answer.new.self first c.answer.ensures.taken))
+    let first : HasTaken old mid mid.line.waits = skip_takes old mid c.args.reply.now front c.in_ok-done.ensures.who c.in_ok-done.ensures.got c.skip.ensures.told waits c.skip.ensures.came in
+    let after = c.answer.new.self in
+    let all : HasTaken old after after.line.waits = taken_more old mid after after.line.waits first (all_taken mid after tt c.in_ok-answer.ensures.taken) in
+    whole_taken c.args.self.now c.tell.new.self c.tell.result
+    (subst (λ (p : PilotView). HasTaken c.args.self.now p p.line.waits) (sym c.tell.ensures.same) (subst (λ (p : PilotView). HasTaken p after after.line.waits) c.self.view_is all))
 
 pub returns-clause-calm : goal.returns-clause-calm
 returns-clause-calm g c =
