@@ -255,8 +255,8 @@ refused_by p reply take_faults.Memory front e = calm_same p.line p.line refl
 
 -- The client did it, and what it asks was put behind what waited.
 pub doing_is : (old : PilotView) (v : ClientView) (e : Event) (asked : List Request) → v ≡ with_event old.client e → asked ≡ newly_asked old.client.who old.client.events e
-    → posting (record { client = v; line = old.line }) asked ≡ doing old e
-doing_is old v e asked same is = ap (λ (w : ClientView). record { client = w; line = asking old.line asked }) same ∙ ap (λ (rs : List Request). record { client = with_event old.client e; line = asking old.line rs }) is
+    → posting (record { client = v; line = old.line; told = old.told }) asked ≡ doing old e
+doing_is old v e asked same is = ap (λ (w : ClientView). record { client = w; line = asking old.line asked; told = old.told }) same ∙ ap (λ (rs : List Request). record { client = with_event old.client e; line = asking old.line rs; told = old.told }) is
 
 -- It was done, and what it asks was put.
 pub did_sent : (e : Event) (old mid : PilotView) (asked : List Request) (r : Result Unit Trouble) → mid.client ≡ with_event old.client e → asked ≡ newly_asked old.client.who old.client.events e

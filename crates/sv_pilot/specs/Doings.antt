@@ -1,6 +1,6 @@
 -- What a pilot did, as the events of its client and its connection tell it.
 -- Events stand with the latest first: `e ∷ t` is t, and then e.
-use Rattle.std.specs.Prelude.{◌≡◌, ℕ, zero, suc, ℤ, ◌<◌, ◌⊎◌, pos, List, [], ◌∷◌, ◌++◌, map, Option, Some, None, unwrap_or, Result, Ok, OnOk, true}
+use Rattle.std.specs.Prelude.{◌≡◌, ℕ, zero, suc, ℤ, ◌<◌, ◌⊎◌, pos, List, [], ◌∷◌, ◌++◌, map, Option, Some, None, unwrap_or, Result, Ok, Err, OnOk, true}
 use Rattle.std.specs.List.{slice_get}
 use Rattle.sv_world.specs.declared.action.Action.{Action}
 use Rattle.sv_world.specs.declared.world.ObjectId.{ObjectId}
@@ -22,12 +22,14 @@ use Rattle.sv_client.specs.Answers.{got_now}
 use Rattle.sv_client.specs.Seen.{ClientView, with_event, newly_asked}
 use Rattle.sv_pilot.specs.declared.trouble.Trouble.{Trouble}
 use Rattle.sv_pilot.specs.declared.trouble.Trouble.TheVariants as troubles
+use Rattle.sv_pilot.specs.Hearing.{Heard, HearsEach, HearsUntil}
 use Rattle.sv_pilot.specs.Lines.{Line, IsCalm, GoesOn, IsBadFront, request_frames, asking}
 
--- A pilot: its client, and its connection.
+-- A pilot: its client, its connection, and what its listener was told.
 pub record PilotView : Type 0 where
   pub client : ClientView
   pub line : Line
+  pub told : List Heard
 
 -- The events of replies that are got in order after the events t.
 abbrev pub got_all : List Event → List Reply → List Event
@@ -63,12 +65,32 @@ posting p requests = record p { line = asking p.line requests }
 
 -- With one event more of its client, where the requests that it asks wait to be sent.
 abbrev pub doing : PilotView → Event → PilotView
-doing p e = record { client = with_event p.client e; line = asking p.line (newly_asked p.client.who p.client.events e) }
+doing p e = record p { client = with_event p.client e; line = asking p.line (newly_asked p.client.who p.client.events e) }
 
 -- It did one thing, then took some replies, and did nothing else. What was sent is what had waited and then the requests that the client was to ask,
 -- in order, but for what is unsent at the end.
 abbrev pub Did : Event → PilotView → PilotView → List ℕ → Type 0
 Did e old new unsent = HasTaken (doing old e) new unsent
+
+-- The client did some more after the events t, and after each of its events the listener was told all news.
+pub record HeardAll (who : Identity) (t : List Event) (before : List Heard) (new : PilotView) : Type 0 where
+  pub more : List Event
+  pub events : new.client.events ≡ more ++ t
+  pub heard : HearsEach who t more before new.told
+
+-- The same, where it need not be all after the last event.
+pub record HeardPart (who : Identity) (t : List Event) (before : List Heard) (new : PilotView) : Type 0 where
+  pub more : List Event
+  pub events : new.client.events ≡ more ++ t
+  pub heard : HearsUntil who t more before new.told
+
+abbrev pub Hears : {X : Type 0} → Identity → List Event → List Heard → PilotView → Result X Trouble → Type 0
+Hears who t before new (Ok x) = HeardAll who t before new
+Hears who t before new (Err trouble) = HeardPart who t before new
+
+-- After each event of its client the listener was told all news; where the call failed, it need not be all after the last one.
+abbrev pub HasTold : {X : Type 0} → PilotView → PilotView → Result X Trouble → Type 0
+HasTold old new result = Hears old.client.who old.client.events old.told new result
 
 -- no reply is due
 abbrev pub NoReplyIsDue : PilotView → Type 0

@@ -12,11 +12,13 @@ ghost use Rattle.sv_client.specs.Taking.{outstanding};
 ghost use Rattle.sv_client.specs.Proper.{IsReadyToMake, MayPoll, MayObserve, MayLeave, in_session, most_numbers};
 ghost use Rattle.sv_pilot.specs.declared.trouble.Trouble.TheVariants as troubles;
 ghost use Rattle.sv_pilot.specs.Troubles.{trouble_of_text};
+ghost use Rattle.sv_pilot.specs.Hearing.{HearsSome, IsUpToDate};
 ghost use Rattle.sv_pilot.specs.Lines.{line_of, IsCalm};
-ghost use Rattle.sv_pilot.specs.Doings.{Takes, Did, posting, Stopped, StopsBy, Watched, StoppedWatch, NoReplyIsDue, IsSettled, MadeAction, StoppedMake, StoppedAction, weight, NoneMayBeMade, number_seen, text_limit};
+ghost use Rattle.sv_client.specs.declared.trace.Event.{Event};
+ghost use Rattle.sv_pilot.specs.Doings.{Hears, HasTold, Takes, Did, posting, Stopped, StopsBy, Watched, StoppedWatch, NoReplyIsDue, IsSettled, MadeAction, StoppedMake, StoppedAction, weight, NoneMayBeMade, number_seen, text_limit};
 
+use crate::audience::{Audience, Listener};
 use crate::connection::Connection;
-use crate::seen::{Listener, Seen, tell_all, unseen};
 use crate::shapes::is_good_shape;
 use crate::trouble::Trouble;
 use std::alloc::Global;
@@ -36,20 +38,23 @@ pub struct Pilot<E: End, L: Listener> {
     alloc: Global,
     client: LeanClient,
     connection: Connection<E>,
-    seen: Vec<Seen>,
-    listener: L,
+    audience: Audience<L>,
 }
 
 impl<E: End, L: Listener> Model for Pilot<E, L> {
+    ghost use Rattle.std.specs.Prelude.{◌≡◌};
     ghost use Rattle.std.specs.Coded.{codes};
     ghost use Rattle.sv_client.specs.contracts.trace.Event as event_rows;
-    ghost use Rattle.sv_pilot.specs.Doings.{PilotView};
+    ghost use Rattle.sv_client.specs.declared.trace.Event.{Event};
+ghost use Rattle.sv_pilot.specs.Doings.{Hears, HasTold, PilotView};
 
     ghost Value = { PilotView };
 
     ghost coded = { Prim.hlevel (codes, event_rows.the_row.coded) };
 
-    ghost view = { λ p. record { client = p.client; line = p.connection } };
+    ghost view = { λ p. record { client = p.client; line = p.connection; told = p.audience.heard } };
+
+    ghost invariant = { λ p. p.audience.interest ≡ p.client.who.interest };
 }
 
 /// The text of an action has fewer bytes.
@@ -74,17 +79,17 @@ impl<E: End, L: Listener> Pilot<E, L> {
         listener: L,
     ) -> Result<Pilot<E, L>, Trouble>
         requires open { (E.told end).closed ≡ false }
-        ensures pilot { IfOk result (λ pilot. pilot ≡ record { client = client; line = line_of (E.told end) (E.faults end) }) }
+        ensures pilot { IfOk result (λ pilot. pilot ≡ record { client = client; line = line_of (E.told end) (E.faults end); told = [] }) }
         ensures memory { IfErr result (λ trouble. trouble ≡ troubles.Memory) }
     {
-        let seen = unseen(alloc, client.interest())?;
+        client.asks_messages();
+        let audience = Audience::new(alloc, client.interest(), listener)?;
         let connection = Connection::new(alloc, end)?;
         Ok(Pilot {
             alloc,
             client,
             connection,
-            seen,
-            listener,
+            audience,
         })
     }
 
@@ -117,12 +122,14 @@ impl<E: End, L: Listener> Pilot<E, L> {
         ensures joined { OnOk result (Did (events.Join (joins self.old.client.events)) self.old self.new [] × IsSettled self.new × IsCalm self.old.line self.new.line) }
         ensures stopped { IfErr result (λ trouble. (trouble ≡ troubles.Game) ⊎ Stopped (events.Join (joins self.old.client.events)) self.old self.new trouble) }
         ensures refused { IfErr result (λ trouble. trouble ≡ troubles.Game → (self.new ≡ self.old) × (most_numbers ≤ joins self.old.client.events)) }
+        ensures told { HasTold self.old self.new result }
     {
         if self.client.sessions() >= MOST_NUMBERS {
             return Err(Trouble::Game);
         }
         self.client.asks_messages();
         let requests = self.client.join()?;
+        self.tell()?;
         self.connection.send_all(requests.as_slice())?;
         self.settle()
     }
@@ -147,6 +154,7 @@ impl<E: End, L: Listener> Pilot<E, L> {
         ensures made { OnOk result ((length text.now < text_limit) × MadeAction text.now self.old self.new [] × IsSettled self.new × IsCalm self.old.line self.new.line) }
         ensures stopped { IfErr result (λ trouble. (trouble ≡ troubles.Game) ⊎ StoppedAction text.now self.old self.new trouble) }
         ensures refused { IfErr result (λ trouble. trouble ≡ troubles.Game → (self.new ≡ self.old) × ((text_limit ≤ length text.now) ⊎ (NoneMayBeMade text.now self.old ⊎ (most_numbers ≤ makes self.old.client.events)))) }
+        ensures told { HasTold self.old self.new result }
     {
         let action = self.read(text)?;
         self.make(action)
@@ -177,6 +185,7 @@ impl<E: End, L: Listener> Pilot<E, L> {
         ensures made { OnOk result (IsReadyToMake self.old.client.who self.old.client.events action × Did (events.Make action) self.old self.new [] × IsSettled self.new × IsCalm self.old.line self.new.line) }
         ensures stopped { IfErr result (λ trouble. (trouble ≡ troubles.Game) ⊎ StoppedMake action self.old self.new trouble) }
         ensures refused { IfErr result (λ trouble. trouble ≡ troubles.Game → (self.new ≡ self.old) × ((IsReadyToMake self.old.client.who self.old.client.events action → ⊥) ⊎ (most_numbers ≤ makes self.old.client.events))) }
+        ensures told { HasTold self.old self.new result }
     {
         if !self.client.in_session() || self.client.made() >= MOST_NUMBERS {
             return Err(Trouble::Game);
@@ -194,6 +203,7 @@ impl<E: End, L: Listener> Pilot<E, L> {
         ensures polled { OnOk result (Did events.Poll self.old self.new [] × IsSettled self.new × IsCalm self.old.line self.new.line) }
         ensures stopped { IfErr result (λ trouble. (trouble ≡ troubles.Game) ⊎ Stopped events.Poll self.old self.new trouble) }
         ensures refused { IfErr result (λ trouble. trouble ≡ troubles.Game → (self.new ≡ self.old) × (MayPoll self.old.client.who self.old.client.events → ⊥)) }
+        ensures told { HasTold self.old self.new result }
     {
         if !self.client.in_session() {
             return Err(Trouble::Game);
@@ -212,6 +222,7 @@ impl<E: End, L: Listener> Pilot<E, L> {
         ensures observed { OnOk result (Did (events.Observe objects wait) self.old self.new [] × IsSettled self.new × IsCalm self.old.line self.new.line) }
         ensures stopped { IfErr result (λ trouble. (trouble ≡ troubles.Game) ⊎ Stopped (events.Observe objects wait) self.old self.new trouble) }
         ensures refused { IfErr result (λ trouble. trouble ≡ troubles.Game → (self.new ≡ self.old) × (MayObserve self.old.client.who self.old.client.events objects → ⊥)) }
+        ensures told { HasTold self.old self.new result }
     {
         if !self.client.in_session() {
             return Err(Trouble::Game);
@@ -226,6 +237,7 @@ impl<E: End, L: Listener> Pilot<E, L> {
         ensures watched { OnOk result (Watched objects.now wait times self.old self.new) }
         ensures calm { OnOk result (IsCalm self.old.line self.new.line) }
         ensures stopped { IfErr result (StoppedWatch objects.now wait times self.old self.new) }
+        ensures told { HasTold self.old self.new result }
     {
         for _ in 0..times {
             let asked = copy_objects(self.alloc, objects)?;
@@ -242,6 +254,7 @@ impl<E: End, L: Listener> Pilot<E, L> {
         ensures left { OnOk result (Did events.Leave self.old self.new [] × IsSettled self.new × IsCalm self.old.line self.new.line) }
         ensures stopped { IfErr result (λ trouble. (trouble ≡ troubles.Game) ⊎ Stopped events.Leave self.old self.new trouble) }
         ensures refused { IfErr result (λ trouble. trouble ≡ troubles.Game → (self.new ≡ self.old) × (MayLeave self.old.client.who self.old.client.events → ⊥)) }
+        ensures told { HasTold self.old self.new result }
     {
         if !self.client.in_session() || self.client.outstanding() != 0 {
             return Err(Trouble::Game);
@@ -253,8 +266,8 @@ impl<E: End, L: Listener> Pilot<E, L> {
 
     /// The listener. The connection is closed.
     pub fn into_listener(self) -> L {
-        let Pilot { listener, .. } = self;
-        listener
+        let Pilot { audience, .. } = self;
+        audience.into_listener()
     }
 
     /// Tells what a request that was just made is expected to change, sends it, and takes all replies.
@@ -263,13 +276,9 @@ impl<E: End, L: Listener> Pilot<E, L> {
         ensures taken { Takes (posting self.old (request.now ∷ [])) self.new result }
         ensures settled { OnOk result (IsSettled self.new × IsCalm self.old.line self.new.line) }
         ensures why { IfErr result (StopsBy self.old self.new) }
+        ensures told { (t : List Event) (e : Event) → self.old.client.events ≡ e ∷ t → Hears self.old.client.who t self.old.told self.new result }
     {
-        tell_all(
-            self.alloc,
-            &self.client,
-            self.seen.as_mut_slice(),
-            &mut self.listener,
-        )?;
+        self.tell()?;
         self.connection.send(request)?;
         self.settle()
     }
@@ -287,6 +296,7 @@ impl<E: End, L: Listener> Pilot<E, L> {
         ensures taken { Takes self.old self.new result }
         ensures settled { OnOk result (IsSettled self.new × IsCalm self.old.line self.new.line) }
         ensures why { IfErr result (StopsBy self.old self.new) }
+        ensures told { HasTold self.old self.new result }
     {
         while !self.is_settled() {
             self.take_next()?;
@@ -300,6 +310,7 @@ impl<E: End, L: Listener> Pilot<E, L> {
         ensures calm { OnOk result (IsCalm self.old.line self.new.line) }
         ensures lighter { OnOk result (weight (outstanding self.new.client.who self.new.client.events) < weight (outstanding self.old.client.who self.old.client.events)) }
         ensures why { IfErr result (StopsBy self.old self.new) }
+        ensures told { HasTold self.old self.new result }
     {
         let reply = self.connection.receive()?;
         self.take(&reply)
@@ -313,6 +324,7 @@ impl<E: End, L: Listener> Pilot<E, L> {
         ensures calm { OnOk result (IsCalm self.old.line self.new.line) }
         ensures lighter { OnOk result (weight (outstanding self.new.client.who self.new.client.events) < weight (outstanding self.old.client.who self.old.client.events)) }
         ensures why { IfErr result (StopsBy self.old self.new) }
+        ensures told { HasTold self.old self.new result }
     {
         self.client.asks_messages();
         let done = self.client.take(reply)?;
@@ -327,6 +339,7 @@ impl<E: End, L: Listener> Pilot<E, L> {
         requires { IsGoodShape self.old.client.who.shape → IfSome done IsWireRequest }
         ensures taken { Takes (posting self.old (option_to_list done)) self.new result }
         ensures client { self.new.client ≡ self.old.client }
+        ensures told { self.new.told ≡ self.old.told }
         ensures calm { OnOk result (IsCalm self.old.line self.new.line) }
         ensures why { IfErr result (StopsBy self.old self.new) }
     {
@@ -341,15 +354,12 @@ impl<E: End, L: Listener> Pilot<E, L> {
 
     /// Calls the listener for what changed.
     fn tell(&mut self) -> Result<(), Trouble>
-        ensures same { self.new ≡ self.old }
+        ensures same { self.new ≡ record self.old { told = self.new.told } }
+        ensures some { HearsSome self.old.client.who self.old.client.events self.old.told self.new.told }
+        ensures all { OnOk result (IsUpToDate self.old.client.who self.old.client.events self.new.told) }
         ensures memory { IfErr result (λ trouble. trouble ≡ troubles.Memory) }
     {
-        tell_all(
-            self.alloc,
-            &self.client,
-            self.seen.as_mut_slice(),
-            &mut self.listener,
-        )?;
+        self.audience.tell(&self.client)?;
         Ok(())
     }
 }

@@ -19,20 +19,20 @@ returns-then-not-is_good_shape-clause-taken g c = none_posted c.args.self.now _ 
 
 pub returns-clause-taken : goal.returns-clause-taken
 returns-clause-taken g c =
-    let old : PilotView = record { client = c.self.inside.client; line = c.self.inside.connection } in
-    let mid : PilotView = record { client = c.self.inside.client; line = c.send.new.self } in
+    let old : PilotView = record { client = c.self.inside.client; line = c.self.inside.connection; told = c.self.inside.audience.heard } in
+    let mid : PilotView = record { client = c.self.inside.client; line = c.send.new.self; told = c.self.inside.audience.heard } in
     let asked = c.in-Some.request ∷ [] in
     subst (λ (done : Option Request). Takes (posting c.args.self.now (option_to_list done)) mid c.send.result) (sym c.in-Some.is)
     (subst (λ (p : PilotView). Takes (posting p asked) mid c.send.result) c.self.view_is (line_takes (posting old asked) mid c.send.result refl c.send.ensures.sent))
 
 pub returns-clause-calm : goal.returns-clause-calm
 returns-clause-calm g c =
-    let old : PilotView = record { client = c.self.inside.client; line = c.self.inside.connection } in
-    let mid : PilotView = record { client = c.self.inside.client; line = c.send.new.self } in
+    let old : PilotView = record { client = c.self.inside.client; line = c.self.inside.connection; told = c.self.inside.audience.heard } in
+    let mid : PilotView = record { client = c.self.inside.client; line = c.send.new.self; told = c.self.inside.audience.heard } in
     subst (λ (p : PilotView). OnOk c.send.result (IsCalm p.line mid.line)) c.self.view_is (sent_calm old.line mid.line c.send.result c.send.ensures.answer)
 
 pub returns-clause-why : goal.returns-clause-why
 returns-clause-why g c =
-    let old : PilotView = record { client = c.self.inside.client; line = c.self.inside.connection } in
-    let mid : PilotView = record { client = c.self.inside.client; line = c.send.new.self } in
+    let old : PilotView = record { client = c.self.inside.client; line = c.self.inside.connection; told = c.self.inside.audience.heard } in
+    let mid : PilotView = record { client = c.self.inside.client; line = c.send.new.self; told = c.self.inside.audience.heard } in
     subst (λ (p : PilotView). IfErr c.send.result (StopsBy p mid)) c.self.view_is (sent_why old mid c.send.result c.send.ensures.answer)

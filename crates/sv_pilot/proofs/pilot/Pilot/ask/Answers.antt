@@ -10,15 +10,15 @@ use Rattle.sv_pilot.proofs.pilot.Pilot.ask.Goals as goal
 
 pub returns-in_err-tell_all-clause-taken : goal.returns-in_err-tell_all-clause-taken
 returns-in_err-tell_all-clause-taken g c =
-    let old : PilotView = record { client = c.self.inside.client; line = c.self.inside.connection } in
+    let old : PilotView = record { client = c.self.inside.client; line = c.self.inside.connection; told = c.self.inside.audience.heard } in
     let asked = c.args.request.now ∷ [] in
     failed_by c.from_residual.result troubles.Memory c.from_residual.ensures.1 (Takes (posting c.args.self.now asked) old)
     (subst (λ (p : PilotView). Takes {X = Unit} (posting p asked) old (Err troubles.Memory)) c.self.view_is (none_posted old asked troubles.Memory))
 
 pub returns-in_err-send-clause-taken : goal.returns-in_err-send-clause-taken
 returns-in_err-send-clause-taken g c =
-    let old : PilotView = record { client = c.self.inside.client; line = c.self.inside.connection } in
-    let mid : PilotView = record { client = c.self.inside.client; line = c.send.new.self } in
+    let old : PilotView = record { client = c.self.inside.client; line = c.self.inside.connection; told = c.self.inside.audience.heard } in
+    let mid : PilotView = record { client = c.self.inside.client; line = c.send.new.self; told = c.self.inside.audience.heard } in
     let asked = c.args.request.now ∷ [] in
     let trouble = c.in_err-send.field-0.0 in
     failed_by c.from_residual-in_err-send.result trouble c.from_residual-in_err-send.ensures.1 (Takes (posting c.args.self.now asked) mid)
@@ -26,28 +26,28 @@ returns-in_err-send-clause-taken g c =
 
 pub returns-in_err-send-clause-why : goal.returns-in_err-send-clause-why
 returns-in_err-send-clause-why g c =
-    let old : PilotView = record { client = c.self.inside.client; line = c.self.inside.connection } in
-    let mid : PilotView = record { client = c.self.inside.client; line = c.send.new.self } in
+    let old : PilotView = record { client = c.self.inside.client; line = c.self.inside.connection; told = c.self.inside.audience.heard } in
+    let mid : PilotView = record { client = c.self.inside.client; line = c.send.new.self; told = c.self.inside.audience.heard } in
     failed_by c.from_residual-in_err-send.result c.in_err-send.field-0.0 c.from_residual-in_err-send.ensures.1 (λ q. IfErr q (StopsBy c.args.self.now mid))
     (subst (λ (p : PilotView). StopsBy p mid c.in_err-send.field-0.0) c.self.view_is (sending_stops_it old mid c.in_err-send.field-0.0 c.in_err-send.ensures.answer))
 
 pub returns-clause-taken : goal.returns-clause-taken
 returns-clause-taken g c =
-    let old : PilotView = record { client = c.self.inside.client; line = c.self.inside.connection } in
-    let mid : PilotView = record { client = c.self.inside.client; line = c.send.new.self } in
+    let old : PilotView = record { client = c.self.inside.client; line = c.self.inside.connection; told = c.self.inside.audience.heard } in
+    let mid : PilotView = record { client = c.self.inside.client; line = c.send.new.self; told = c.self.inside.audience.heard } in
     let asked = c.args.request.now ∷ [] in
     let sent = all_taken (posting old asked) mid tt (line_takes {X = Unit} (posting old asked) mid (Ok tt) refl c.in_ok-send.ensures.sent) in
     subst (λ (p : PilotView). Takes (posting p asked) c.settle.new.self c.settle.result) c.self.view_is (then_taken (posting old asked) mid c.settle.new.self c.settle.result sent c.settle.ensures.taken)
 
 pub returns-clause-settled : goal.returns-clause-settled
 returns-clause-settled g c =
-    let old : PilotView = record { client = c.self.inside.client; line = c.self.inside.connection } in
-    let mid : PilotView = record { client = c.self.inside.client; line = c.send.new.self } in
+    let old : PilotView = record { client = c.self.inside.client; line = c.self.inside.connection; told = c.self.inside.audience.heard } in
+    let mid : PilotView = record { client = c.self.inside.client; line = c.send.new.self; told = c.self.inside.audience.heard } in
     subst (λ (p : PilotView). OnOk c.settle.result (IsSettled c.settle.new.self × IsCalm p.line c.settle.new.self.line)) c.self.view_is
     (settled_later old mid c.settle.new.self c.settle.result c.in_ok-send.ensures.answer c.settle.ensures.settled)
 
 pub returns-clause-why : goal.returns-clause-why
 returns-clause-why g c =
-    let old : PilotView = record { client = c.self.inside.client; line = c.self.inside.connection } in
-    let mid : PilotView = record { client = c.self.inside.client; line = c.send.new.self } in
+    let old : PilotView = record { client = c.self.inside.client; line = c.self.inside.connection; told = c.self.inside.audience.heard } in
+    let mid : PilotView = record { client = c.self.inside.client; line = c.send.new.self; told = c.self.inside.audience.heard } in
     subst (λ (p : PilotView). IfErr c.settle.result (StopsBy p c.settle.new.self)) c.self.view_is (stopped_later old mid c.settle.new.self c.settle.result c.in_ok-send.ensures.answer c.settle.ensures.why)

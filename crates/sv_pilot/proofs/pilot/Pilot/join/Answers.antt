@@ -22,16 +22,16 @@ send_all-requires g c =
 
 pub returns-in_err-requests-clause-stopped : goal.returns-in_err-requests-clause-stopped
 returns-in_err-requests-clause-stopped g c =
-    let new : PilotView = record { client = c.join.new.self; line = c.self.inside.connection } in
+    let new : PilotView = record { client = c.join.new.self; line = c.self.inside.connection; told = c.self.inside.audience.heard } in
     let e = events.Join (joins c.args.self.now.client.events) in
-    let same = ap (λ (v : ClientView). record { client = v; line = c.self.inside.connection }) c.in_err-requests.ensures.err ∙ c.self.view_is in
+    let same = ap (λ (v : ClientView). record { client = v; line = c.self.inside.connection; told = c.self.inside.audience.heard }) c.in_err-requests.ensures.err ∙ c.self.view_is in
     failed_by c.from_residual.result troubles.Memory c.from_residual.ensures.1 (λ q. IfErr q (λ (trouble : Trouble). (trouble ≡ troubles.Game) ⊎ Stopped e c.args.self.now new trouble))
     (nothing_done e c.args.self.now new troubles.Memory same (inr refl))
 
 pub returns-in_err-send_all-clause-stopped : goal.returns-in_err-send_all-clause-stopped
 returns-in_err-send_all-clause-stopped g c =
-    let old : PilotView = record { client = c.self.inside.client; line = c.self.inside.connection } in
-    let mid : PilotView = record { client = c.join.new.self; line = c.send_all.new.self } in
+    let old : PilotView = record { client = c.self.inside.client; line = c.self.inside.connection; told = c.self.inside.audience.heard } in
+    let mid : PilotView = record { client = c.join.new.self; line = c.send_all.new.self; told = c.self.inside.audience.heard } in
     let trouble = c.in_err-send_all.field-0.0 in
     let e = events.Join (joins old.client.events) in
     let did = did_sent e old mid _ (Err trouble) c.in_ok-requests.ensures.ok (c.as_slice.ensures.value ∙ c.in_ok-requests.ensures.requests) c.in_err-send_all.ensures.sent in
@@ -42,16 +42,16 @@ returns-in_err-send_all-clause-stopped g c =
 
 pub returns-in_err-send_all-clause-refused : goal.returns-in_err-send_all-clause-refused
 returns-in_err-send_all-clause-refused g c =
-    let mid : PilotView = record { client = c.join.new.self; line = c.send_all.new.self } in
-    let old : PilotView = record { client = c.self.inside.client; line = c.self.inside.connection } in
+    let mid : PilotView = record { client = c.join.new.self; line = c.send_all.new.self; told = c.self.inside.audience.heard } in
+    let old : PilotView = record { client = c.self.inside.client; line = c.self.inside.connection; told = c.self.inside.audience.heard } in
     let trouble = c.in_err-send_all.field-0.0 in
     failed_by c.from_residual-in_err-send_all.result trouble c.from_residual-in_err-send_all.ensures.1 (λ q. IfErr q (λ (t : Trouble). t ≡ troubles.Game → (mid ≡ c.args.self.now) × (most_numbers ≤ joins c.args.self.now.client.events)))
     (λ game. absurd (not_of_game old mid trouble c.in_err-send_all.ensures.answer game))
 
 pub returns-clause-joined : goal.returns-clause-joined
 returns-clause-joined g c =
-    let old : PilotView = record { client = c.self.inside.client; line = c.self.inside.connection } in
-    let mid : PilotView = record { client = c.join.new.self; line = c.send_all.new.self } in
+    let old : PilotView = record { client = c.self.inside.client; line = c.self.inside.connection; told = c.self.inside.audience.heard } in
+    let mid : PilotView = record { client = c.join.new.self; line = c.send_all.new.self; told = c.self.inside.audience.heard } in
     let new = c.settle.new.self in
     let e = events.Join (joins old.client.events) in
     let did = did_sent e old mid _ (Ok tt) c.in_ok-requests.ensures.ok (c.as_slice.ensures.value ∙ c.in_ok-requests.ensures.requests) c.in_ok-send_all.ensures.sent in
@@ -61,8 +61,8 @@ returns-clause-joined g c =
 
 pub returns-clause-stopped : goal.returns-clause-stopped
 returns-clause-stopped g c =
-    let old : PilotView = record { client = c.self.inside.client; line = c.self.inside.connection } in
-    let mid : PilotView = record { client = c.join.new.self; line = c.send_all.new.self } in
+    let old : PilotView = record { client = c.self.inside.client; line = c.self.inside.connection; told = c.self.inside.audience.heard } in
+    let mid : PilotView = record { client = c.join.new.self; line = c.send_all.new.self; told = c.self.inside.audience.heard } in
     let new = c.settle.new.self in
     let e = events.Join (joins old.client.events) in
     let did = did_sent e old mid _ (Ok tt) c.in_ok-requests.ensures.ok (c.as_slice.ensures.value ∙ c.in_ok-requests.ensures.requests) c.in_ok-send_all.ensures.sent in
@@ -73,5 +73,5 @@ returns-clause-stopped g c =
 
 pub returns-clause-refused : goal.returns-clause-refused
 returns-clause-refused g c =
-    let mid : PilotView = record { client = c.join.new.self; line = c.send_all.new.self } in
+    let mid : PilotView = record { client = c.join.new.self; line = c.send_all.new.self; told = c.self.inside.audience.heard } in
     not_refused mid c.settle.new.self c.settle.result _ c.settle.ensures.why

@@ -29,7 +29,7 @@ loop-self-preserved g c = record {
 
 pub returns-clause-taken : goal.returns-clause-taken
 returns-clause-taken g c =
-    let mid : PilotView = record { client = c.self.inside.client; line = c.self.inside.connection } in
-    let new : PilotView = record { client = c.self.inside.client; line = c.flush.new.self } in
+    let mid : PilotView = record { client = c.self.inside.client; line = c.self.inside.connection; told = c.self.inside.audience.heard } in
+    let new : PilotView = record { client = c.self.inside.client; line = c.flush.new.self; told = c.self.inside.audience.heard } in
     then_taken c.args.self.now c.loop-self.self new c.flush.result c.loop-self.invariant.taken
     (subst (λ (p : PilotView). Takes p new c.flush.result) c.self.view_is (line_takes mid new c.flush.result refl c.flush.ensures.sent))

@@ -20,13 +20,13 @@ use Rattle.sv_pilot.proofs.pilot.Pilot.take.Goals as goal
 
 pub returns-in_err-done-clause-taken : goal.returns-in_err-done-clause-taken
 returns-in_err-done-clause-taken g c =
-    let new : PilotView = record { client = c.take.new.self; line = c.self.inside.connection } in
-    none_taken c.args.self.now new c.from_residual.result (ap (λ (v : ClientView). record { client = v; line = c.self.inside.connection }) c.in_err-done.ensures.err ∙ c.self.view_is)
+    let new : PilotView = record { client = c.take.new.self; line = c.self.inside.connection; told = c.self.inside.audience.heard } in
+    none_taken c.args.self.now new c.from_residual.result (ap (λ (v : ClientView). record { client = v; line = c.self.inside.connection; told = c.self.inside.audience.heard }) c.in_err-done.ensures.err ∙ c.self.view_is)
 
 pub returns-in_err-done-clause-why : goal.returns-in_err-done-clause-why
 returns-in_err-done-clause-why g c =
-    let new : PilotView = record { client = c.take.new.self; line = c.self.inside.connection } in
-    let same = ap (λ (v : ClientView). record { client = v; line = c.self.inside.connection }) c.in_err-done.ensures.err ∙ c.self.view_is in
+    let new : PilotView = record { client = c.take.new.self; line = c.self.inside.connection; told = c.self.inside.audience.heard } in
+    let same = ap (λ (v : ClientView). record { client = v; line = c.self.inside.connection; told = c.self.inside.audience.heard }) c.in_err-done.ensures.err ∙ c.self.view_is in
     let why = subst (λ (p : PilotView). IsTakeFault p.client.who p.client.events c.args.reply.now c.in_err-done.field-0.0) c.self.view_is c.in_err-done.ensures.fault in
     failed_by c.from_residual.result (trouble_of_take c.in_err-done.field-0.0) c.from_residual.ensures.1 (λ q. IfErr q (StopsBy c.args.self.now new))
     (refused_at c.args.self.now new c.args.reply.now c.in_err-done.field-0.0 same c.requires.front why)
@@ -44,8 +44,8 @@ answer-requires g c = λ shape.
 
 pub returns-in_err-answer-clause-taken : goal.returns-in_err-answer-clause-taken
 returns-in_err-answer-clause-taken g c =
-    let old : PilotView = record { client = c.self.inside.client; line = c.self.inside.connection } in
-    let mid : PilotView = record { client = c.take.new.self; line = asking c.skip.new.self (option_to_list c.in_ok-done.done) } in
+    let old : PilotView = record { client = c.self.inside.client; line = c.self.inside.connection; told = c.self.inside.audience.heard } in
+    let mid : PilotView = record { client = c.take.new.self; line = asking c.skip.new.self (option_to_list c.in_ok-done.done); told = c.self.inside.audience.heard } in
     let waits = asked_waits old.line c.skip.new.self c.in_ok-done.done _ c.skip.ensures.waits c.in_ok-done.ensures.done in
     let front = subst (λ (p : PilotView). FirstReads reply_at p.line.came (Ok c.args.reply.now)) (sym c.self.view_is) c.requires.front in
     let first : HasTaken old mid mid.line.waits = skip_takes old mid c.args.reply.now front c.in_ok-done.ensures.who c.in_ok-done.ensures.got c.skip.ensures.told waits c.skip.ensures.came in
@@ -55,16 +55,16 @@ returns-in_err-answer-clause-taken g c =
 
 pub returns-in_err-answer-clause-why : goal.returns-in_err-answer-clause-why
 returns-in_err-answer-clause-why g c =
-    let old : PilotView = record { client = c.self.inside.client; line = c.self.inside.connection } in
-    let mid : PilotView = record { client = c.take.new.self; line = c.skip.new.self } in
+    let old : PilotView = record { client = c.self.inside.client; line = c.self.inside.connection; told = c.self.inside.audience.heard } in
+    let mid : PilotView = record { client = c.take.new.self; line = c.skip.new.self; told = c.self.inside.audience.heard } in
     let calm : IsCalm old.line mid.line = record { faults = c.skip.ensures.faults; ended = ap (λ (t : Told). t.ended) c.skip.ensures.told } in
     failed_by c.from_residual-in_err-answer.result c.in_err-answer.field-0.0 c.from_residual-in_err-answer.ensures.1 (λ q. IfErr q (StopsBy c.args.self.now c.answer.new.self))
     (subst (λ (p : PilotView). StopsBy p c.answer.new.self c.in_err-answer.field-0.0) c.self.view_is (stops_later old mid c.answer.new.self c.in_err-answer.field-0.0 calm c.in_err-answer.ensures.why))
 
 pub returns-clause-taken : goal.returns-clause-taken
 returns-clause-taken g c =
-    let old : PilotView = record { client = c.self.inside.client; line = c.self.inside.connection } in
-    let mid : PilotView = record { client = c.take.new.self; line = asking c.skip.new.self (option_to_list c.in_ok-done.done) } in
+    let old : PilotView = record { client = c.self.inside.client; line = c.self.inside.connection; told = c.self.inside.audience.heard } in
+    let mid : PilotView = record { client = c.take.new.self; line = asking c.skip.new.self (option_to_list c.in_ok-done.done); told = c.self.inside.audience.heard } in
     let waits = asked_waits old.line c.skip.new.self c.in_ok-done.done _ c.skip.ensures.waits c.in_ok-done.ensures.done in
     let front = subst (λ (p : PilotView). FirstReads reply_at p.line.came (Ok c.args.reply.now)) (sym c.self.view_is) c.requires.front in
     let first : HasTaken old mid mid.line.waits = skip_takes old mid c.args.reply.now front c.in_ok-done.ensures.who c.in_ok-done.ensures.got c.skip.ensures.told waits c.skip.ensures.came in
@@ -75,16 +75,16 @@ returns-clause-taken g c =
 
 pub returns-clause-calm : goal.returns-clause-calm
 returns-clause-calm g c =
-    let old : PilotView = record { client = c.self.inside.client; line = c.self.inside.connection } in
-    let mid : PilotView = record { client = c.take.new.self; line = c.skip.new.self } in
+    let old : PilotView = record { client = c.self.inside.client; line = c.self.inside.connection; told = c.self.inside.audience.heard } in
+    let mid : PilotView = record { client = c.take.new.self; line = c.skip.new.self; told = c.self.inside.audience.heard } in
     let calm : IsCalm old.line mid.line = record { faults = c.skip.ensures.faults; ended = ap (λ (t : Told). t.ended) c.skip.ensures.told } in
     let all = calm_more old.line mid.line c.answer.new.self.line calm c.in_ok-answer.ensures.calm in
     always _ c.tell.result (subst (λ (p : PilotView). IsCalm c.args.self.now.line p.line) (sym c.tell.ensures.same) (subst (λ (p : PilotView). IsCalm p.line c.answer.new.self.line) c.self.view_is all))
 
 pub returns-clause-why : goal.returns-clause-why
 returns-clause-why g c =
-    let old : PilotView = record { client = c.self.inside.client; line = c.self.inside.connection } in
-    let mid : PilotView = record { client = c.take.new.self; line = c.skip.new.self } in
+    let old : PilotView = record { client = c.self.inside.client; line = c.self.inside.connection; told = c.self.inside.audience.heard } in
+    let mid : PilotView = record { client = c.take.new.self; line = c.skip.new.self; told = c.self.inside.audience.heard } in
     let calm : IsCalm old.line mid.line = record { faults = c.skip.ensures.faults; ended = ap (λ (t : Told). t.ended) c.skip.ensures.told } in
     let all = calm_more old.line mid.line c.answer.new.self.line calm c.in_ok-answer.ensures.calm in
     memory_stops c.args.self.now c.tell.new.self c.tell.result
