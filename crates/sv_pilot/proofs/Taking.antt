@@ -15,6 +15,7 @@ use Rattle.sv_client.specs.Taking.{Identity, Fault, Unasked, WrongKind, BadOrder
 use Rattle.sv_client.specs.declared.trace.Event.{Event}
 use Rattle.sv_client.specs.Answers.{got_now, IsTakeFault}
 use Rattle.sv_client.specs.Seen.{ClientView, with_event, newly_asked}
+use Rattle.sv_pilot.specs.Hearing.{Heard}
 use Rattle.sv_pilot.specs.Lines.{Line, IsCalm, GoesOn, request_frames, asking}
 use Rattle.sv_pilot.specs.Sending.{HasSent, HasRead, Sends, Reads, IsSendFault, IsReceiveFault}
 use Rattle.sv_pilot.specs.Troubles.{trouble_of_take}
@@ -134,6 +135,31 @@ none_posted p requests trouble =
           (record { sent = []; received = []; line = record { sends = sym (append-nil p.line.told.sent); receives = sym (append-nil p.line.told.received); pair = refl; side = refl }; in_order = refl; came = sym (append-nil p.line.came) }),
       tt,
     )
+
+-- The same, where the listener was told something before that.
+pub none_posted_told : (p : PilotView) (told : List Heard) (requests : List Request) (trouble : Trouble) → Takes {X = Unit} (posting p requests) (record p { told = told }) (Err trouble)
+none_posted_told p told requests trouble =
+    let put = asking p.line requests in (
+      put.waits,
+      line_taken (posting p requests) (record p { told = told }) put.waits refl
+          (record { sent = []; received = []; line = record { sends = sym (append-nil p.line.told.sent); receives = sym (append-nil p.line.told.received); pair = refl; side = refl }; in_order = refl; came = sym (append-nil p.line.came) }),
+      tt,
+    )
+
+-- What a listener is told changes nothing of what was taken.
+pub taken_told : (old new : PilotView) (told : List Heard) (unsent : List ℕ) → HasTaken old new unsent → HasTaken old (record new { told = told }) unsent
+taken_told old new told unsent h = record {
+  who = h.who;
+  replies = h.replies;
+  events = h.events;
+  sent = h.sent;
+  received = h.received;
+  line = h.line;
+  in_order = h.in_order;
+  payloads = h.payloads;
+  stream = h.stream;
+  read = h.read;
+}
 
 -- No request was to be sent.
 pub nothing_to_post : (p : PilotView) → Takes {X = Unit} (posting p []) p (Ok tt)

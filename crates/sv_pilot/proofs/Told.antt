@@ -3,7 +3,7 @@ use Rattle.std.proofs.Common.{◌≡◌, List, [], ◌∷◌, ◌++◌, Result, 
 use Rattle.std.specs.Prelude.{OnOk}
 use Rattle.sv_client.specs.declared.trace.Event.{Event}
 use Rattle.sv_client.specs.Taking.{Identity}
-use Rattle.sv_client.specs.Seen.{ClientView}
+use Rattle.sv_client.specs.Seen.{ClientView, with_event}
 use Rattle.sv_pilot.specs.Hearing.{Heard, IsUpToDate, HearsSome, HearsAll, HearsEach, HearsUntil}
 use Rattle.sv_pilot.specs.Doings.{PilotView, HeardAll, HeardPart, Hears, HasTold}
 use Rattle.sv_pilot.specs.declared.trouble.Trouble.{Trouble}
@@ -70,3 +70,19 @@ told_by who t e before new (Err trouble) events some all = told_some who t e bef
 -- One event came, and nothing was told of it.
 pub told_not : (who : Identity) (t : List Event) (e : Event) (before : List Heard) (new : PilotView) → new.client.events ≡ e ∷ t → new.told ≡ before → HeardPart who t before new
 told_not who t e before new events same = told_some who t e before new events (subst (HearsSome who (e ∷ t) before) (sym same) (hears_none who (e ∷ t) before))
+
+-- One event came, and then a listener was told, by a call that leaves the client as it is.
+pub told_after : {X : Type 0} (who : Identity) (t : List Event) (e : Event) (before : List Heard) (mid new : PilotView) (r : Result X Trouble) → mid.client.who ≡ who → mid.client.events ≡ e ∷ t → mid.told ≡ before
+    → new.client ≡ mid.client → HearsSome mid.client.who mid.client.events mid.told new.told → OnOk r (IsUpToDate mid.client.who mid.client.events new.told) → Hears who t before new r
+told_after {X} who t e before mid new r same events heard client some all =
+    told_by who t e before new r (ap (λ (v : ClientView). v.events) client ∙ events)
+    (subst (λ (hs : List Heard). HearsSome who (e ∷ t) hs new.told) heard (subst (λ (s : List Event). HearsSome who s mid.told new.told) events (subst (λ (w : Identity). HearsSome w mid.client.events mid.told new.told) same some)))
+    (subst (λ (s : List Event). OnOk r (IsUpToDate who s new.told)) events (subst (λ (w : Identity). OnOk r (IsUpToDate w mid.client.events new.told)) same all))
+
+-- What was told behind all that was told.
+pub told_all : (who : Identity) (t : List Event) (before : List Heard) (p : PilotView) (trouble : Trouble) → p.client.who ≡ who → HeardAll who t before p → HeardPart who t before p
+told_all who t before p trouble same h = told_then {X = Unit {0}} who t before p p (Err trouble) same h (told_none {X = Unit {0}} p p (Err trouble) refl refl)
+
+-- A client did one thing, and a call went on from there.
+pub asked_told : (old : PilotView) (v : ClientView) (e : Event) (new : PilotView) (r : Result (Unit {0}) Trouble) → v ≡ with_event old.client e → ((t : List Event) (d : Event) → v.events ≡ d ∷ t → Hears v.who t old.told new r) → HasTold old new r
+asked_told old v e new r is f = subst (λ (w : Identity). Hears w old.client.events old.told new r) (ap (λ (c : ClientView). c.who) is) (f old.client.events e (ap (λ (c : ClientView). c.events) is))

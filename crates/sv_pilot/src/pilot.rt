@@ -129,7 +129,7 @@ impl<E: End, L: Listener> Pilot<E, L> {
         }
         self.client.asks_messages();
         let requests = self.client.join()?;
-        self.tell()?;
+        self.audience.tell(&self.client)?;
         self.connection.send_all(requests.as_slice())?;
         self.settle()
     }
@@ -278,7 +278,7 @@ impl<E: End, L: Listener> Pilot<E, L> {
         ensures why { IfErr result (StopsBy self.old self.new) }
         ensures told { (t : List Event) (e : Event) → self.old.client.events ≡ e ∷ t → Hears self.old.client.who t self.old.told self.new result }
     {
-        self.tell()?;
+        self.audience.tell(&self.client)?;
         self.connection.send(request)?;
         self.settle()
     }

@@ -9,8 +9,9 @@ use Rattle.sv_client.specs.Seen.{ClientView}
 use Rattle.sv_pilot.specs.declared.trouble.Trouble.{Trouble}
 use Rattle.sv_pilot.specs.declared.trouble.Trouble.TheVariants as troubles
 use Rattle.sv_pilot.specs.Lines.{IsCalm}
-use Rattle.sv_pilot.specs.Doings.{PilotView, Did, doing, IsSettled, Stopped}
-use Rattle.sv_pilot.proofs.Taking.{did_sent, then_taken, all_taken, sending_stops_it, asked_fine, asked_stops, may_stop, not_refused}
+use Rattle.sv_pilot.specs.Doings.{PilotView, Takes, Did, doing, HasTold, IsSettled, Stopped}
+use Rattle.sv_pilot.proofs.Taking.{doing_is, none_posted_told, calm_same, did_sent, then_taken, all_taken, sending_stops_it, asked_fine, asked_stops, may_stop, not_refused}
+use Rattle.sv_pilot.proofs.Told.{told_after, told_then}
 use Rattle.sv_pilot.proofs.Moved.{failed_by}
 use Rattle.sv_pilot.proofs.Asked.{nothing_done, not_of_game, settled_later, stopped_later}
 use Rattle.sv_pilot.proofs.pilot.Pilot.join.Goals as goal
@@ -28,10 +29,57 @@ returns-in_err-requests-clause-stopped g c =
     failed_by c.from_residual.result troubles.Memory c.from_residual.ensures.1 (λ q. IfErr q (λ (trouble : Trouble). (trouble ≡ troubles.Game) ⊎ Stopped e c.args.self.now new trouble))
     (nothing_done e c.args.self.now new troubles.Memory same (inr refl))
 
+pub returns-in_err-tell-clause-stopped : goal.returns-in_err-tell-clause-stopped
+returns-in_err-tell-clause-stopped g c =
+    let old : PilotView = record { client = c.self.inside.client; line = c.self.inside.connection; told = c.self.inside.audience.heard } in
+    let start : PilotView = record { client = c.join.new.self; line = c.self.inside.connection; told = c.self.inside.audience.heard } in
+    let new : PilotView = record start { told = c.tell.new.self.heard } in
+    let e = events.Join (joins old.client.events) in
+    let asked = c.in_ok-requests.requests.items in
+    let did = subst (λ (p : PilotView). Takes {X = Unit} p new (Err troubles.Memory)) (doing_is old c.join.new.self e asked c.in_ok-requests.ensures.ok c.in_ok-requests.ensures.requests)
+    (none_posted_told start c.tell.new.self.heard asked troubles.Memory) in
+    failed_by c.from_residual-in_err-tell.result troubles.Memory c.from_residual-in_err-tell.ensures.1
+    (λ q. IfErr q (λ (t : Trouble). (t ≡ troubles.Game) ⊎ Stopped (events.Join (joins c.args.self.now.client.events)) c.args.self.now new t))
+    (subst (λ (p : PilotView). (troubles.Memory ≡ troubles.Game) ⊎ Stopped (events.Join (joins p.client.events)) p new troubles.Memory) c.self.view_is (inr (inr (did.0, did.1, calm_same old.line old.line refl))))
+
+pub returns-in_err-tell-clause-told : goal.returns-in_err-tell-clause-told
+returns-in_err-tell-clause-told g c =
+    let old : PilotView = record { client = c.self.inside.client; line = c.self.inside.connection; told = c.self.inside.audience.heard } in
+    let start : PilotView = record { client = c.join.new.self; line = c.self.inside.connection; told = c.self.inside.audience.heard } in
+    let new : PilotView = record start { told = c.tell.new.self.heard } in
+    let is = c.in_ok-requests.ensures.ok in
+    failed_by c.from_residual-in_err-tell.result troubles.Memory c.from_residual-in_err-tell.ensures.1 (HasTold c.args.self.now new)
+    (subst (λ (p : PilotView). HasTold {X = Unit} p new (Err troubles.Memory)) c.self.view_is
+    (told_after {X = Unit} old.client.who old.client.events (events.Join (joins old.client.events)) old.told start new (Err troubles.Memory) (ap (λ (v : ClientView). v.who) is) (ap (λ (v : ClientView). v.events) is) refl refl c.tell.ensures.some tt))
+
+pub returns-in_err-send_all-clause-told : goal.returns-in_err-send_all-clause-told
+returns-in_err-send_all-clause-told g c =
+    let old : PilotView = record { client = c.self.inside.client; line = c.self.inside.connection; told = c.self.inside.audience.heard } in
+    let start : PilotView = record { client = c.join.new.self; line = c.self.inside.connection; told = c.self.inside.audience.heard } in
+    let mid : PilotView = record { client = c.join.new.self; line = c.send_all.new.self; told = c.tell.new.self.heard } in
+    let is = c.in_ok-requests.ensures.ok in
+    let trouble = c.in_err-send_all.field-0.0 in
+    failed_by c.from_residual-in_err-send_all.result trouble c.from_residual-in_err-send_all.ensures.1 (HasTold c.args.self.now mid)
+    (subst (λ (p : PilotView). HasTold {X = Unit} p mid (Err trouble)) c.self.view_is
+    (told_after {X = Unit} old.client.who old.client.events (events.Join (joins old.client.events)) old.told start mid (Err trouble) (ap (λ (v : ClientView). v.who) is) (ap (λ (v : ClientView). v.events) is) refl refl c.tell.ensures.some tt))
+
+pub returns-clause-told : goal.returns-clause-told
+returns-clause-told g c =
+    let old : PilotView = record { client = c.self.inside.client; line = c.self.inside.connection; told = c.self.inside.audience.heard } in
+    let start : PilotView = record { client = c.join.new.self; line = c.self.inside.connection; told = c.self.inside.audience.heard } in
+    let mid : PilotView = record { client = c.join.new.self; line = c.send_all.new.self; told = c.tell.new.self.heard } in
+    let new = c.settle.new.self in
+    let is = c.in_ok-requests.ensures.ok in
+    let who = ap (λ (v : ClientView). v.who) is in
+    subst (λ (p : PilotView). HasTold p new c.settle.result) c.self.view_is
+    (told_then old.client.who old.client.events old.told mid new c.settle.result who
+    (told_after {X = Unit} old.client.who old.client.events (events.Join (joins old.client.events)) old.told start mid (Ok tt) who (ap (λ (v : ClientView). v.events) is) refl refl c.tell.ensures.some c.in_ok-tell.ensures.all)
+    c.settle.ensures.told)
+
 pub returns-in_err-send_all-clause-stopped : goal.returns-in_err-send_all-clause-stopped
 returns-in_err-send_all-clause-stopped g c =
     let old : PilotView = record { client = c.self.inside.client; line = c.self.inside.connection; told = c.self.inside.audience.heard } in
-    let mid : PilotView = record { client = c.join.new.self; line = c.send_all.new.self; told = c.self.inside.audience.heard } in
+    let mid : PilotView = record { client = c.join.new.self; line = c.send_all.new.self; told = c.tell.new.self.heard } in
     let trouble = c.in_err-send_all.field-0.0 in
     let e = events.Join (joins old.client.events) in
     let did = did_sent e old mid _ (Err trouble) c.in_ok-requests.ensures.ok (c.as_slice.ensures.value ∙ c.in_ok-requests.ensures.requests) c.in_err-send_all.ensures.sent in
@@ -42,7 +90,7 @@ returns-in_err-send_all-clause-stopped g c =
 
 pub returns-in_err-send_all-clause-refused : goal.returns-in_err-send_all-clause-refused
 returns-in_err-send_all-clause-refused g c =
-    let mid : PilotView = record { client = c.join.new.self; line = c.send_all.new.self; told = c.self.inside.audience.heard } in
+    let mid : PilotView = record { client = c.join.new.self; line = c.send_all.new.self; told = c.tell.new.self.heard } in
     let old : PilotView = record { client = c.self.inside.client; line = c.self.inside.connection; told = c.self.inside.audience.heard } in
     let trouble = c.in_err-send_all.field-0.0 in
     failed_by c.from_residual-in_err-send_all.result trouble c.from_residual-in_err-send_all.ensures.1 (λ q. IfErr q (λ (t : Trouble). t ≡ troubles.Game → (mid ≡ c.args.self.now) × (most_numbers ≤ joins c.args.self.now.client.events)))
@@ -51,7 +99,7 @@ returns-in_err-send_all-clause-refused g c =
 pub returns-clause-joined : goal.returns-clause-joined
 returns-clause-joined g c =
     let old : PilotView = record { client = c.self.inside.client; line = c.self.inside.connection; told = c.self.inside.audience.heard } in
-    let mid : PilotView = record { client = c.join.new.self; line = c.send_all.new.self; told = c.self.inside.audience.heard } in
+    let mid : PilotView = record { client = c.join.new.self; line = c.send_all.new.self; told = c.tell.new.self.heard } in
     let new = c.settle.new.self in
     let e = events.Join (joins old.client.events) in
     let did = did_sent e old mid _ (Ok tt) c.in_ok-requests.ensures.ok (c.as_slice.ensures.value ∙ c.in_ok-requests.ensures.requests) c.in_ok-send_all.ensures.sent in
@@ -62,7 +110,7 @@ returns-clause-joined g c =
 pub returns-clause-stopped : goal.returns-clause-stopped
 returns-clause-stopped g c =
     let old : PilotView = record { client = c.self.inside.client; line = c.self.inside.connection; told = c.self.inside.audience.heard } in
-    let mid : PilotView = record { client = c.join.new.self; line = c.send_all.new.self; told = c.self.inside.audience.heard } in
+    let mid : PilotView = record { client = c.join.new.self; line = c.send_all.new.self; told = c.tell.new.self.heard } in
     let new = c.settle.new.self in
     let e = events.Join (joins old.client.events) in
     let did = did_sent e old mid _ (Ok tt) c.in_ok-requests.ensures.ok (c.as_slice.ensures.value ∙ c.in_ok-requests.ensures.requests) c.in_ok-send_all.ensures.sent in
@@ -73,5 +121,5 @@ returns-clause-stopped g c =
 
 pub returns-clause-refused : goal.returns-clause-refused
 returns-clause-refused g c =
-    let mid : PilotView = record { client = c.join.new.self; line = c.send_all.new.self; told = c.self.inside.audience.heard } in
+    let mid : PilotView = record { client = c.join.new.self; line = c.send_all.new.self; told = c.tell.new.self.heard } in
     not_refused mid c.settle.new.self c.settle.result _ c.settle.ensures.why

@@ -7,8 +7,9 @@ use Rattle.sv_pilot.specs.declared.trouble.Trouble.{Trouble}
 use Rattle.sv_pilot.specs.declared.trouble.Trouble.TheVariants as troubles
 use Rattle.sv_pilot.specs.Troubles.{trouble_of_poll}
 use Rattle.sv_pilot.specs.Lines.{IsCalm, asking}
-use Rattle.sv_pilot.specs.Doings.{PilotView, Did, IsSettled, Stopped}
+use Rattle.sv_pilot.specs.Doings.{PilotView, HasTold, Did, IsSettled, Stopped}
 use Rattle.sv_pilot.proofs.Taking.{doing_is, asked_fine, asked_stops, may_stop, not_refused}
+use Rattle.sv_pilot.proofs.Told.{asked_told}
 use Rattle.sv_pilot.proofs.Moved.{failed_by}
 use Rattle.sv_pilot.proofs.Asked.{stopped_same, asked_is_message, nothing_done, poll_or_memory}
 use Rattle.sv_pilot.proofs.pilot.Pilot.poll.Goals as goal
@@ -46,3 +47,8 @@ pub returns-clause-refused : goal.returns-clause-refused
 returns-clause-refused g c =
     let mid : PilotView = record { client = c.poll.new.self; line = c.self.inside.connection; told = c.self.inside.audience.heard } in
     not_refused mid c.ask.new.self c.ask.result _ c.ask.ensures.why
+
+pub returns-clause-told : goal.returns-clause-told
+returns-clause-told g c =
+    let old : PilotView = record { client = c.self.inside.client; line = c.self.inside.connection; told = c.self.inside.audience.heard } in
+    subst (λ (p : PilotView). HasTold p c.ask.new.self c.ask.result) c.self.view_is (asked_told old c.poll.new.self (events.Poll) c.ask.new.self c.ask.result c.in_ok-request.ensures.ok c.ask.ensures.told)

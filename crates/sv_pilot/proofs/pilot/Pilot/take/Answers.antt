@@ -8,13 +8,14 @@ use Rattle.sv_exchange.specs.Incoming.{FirstReads}
 use Rattle.sv_client.specs.declared.trace.Event.{Event}
 use Rattle.sv_client.specs.Taking.{Identity, outstanding}
 use Rattle.sv_client.specs.Proper.{AreInTurn}
-use Rattle.sv_client.specs.Answers.{IsTakeFault}
+use Rattle.sv_client.specs.Answers.{IsTakeFault, got_now}
 use Rattle.sv_client.specs.Seen.{ClientView}
 use Rattle.sv_pilot.specs.Troubles.{trouble_of_take}
 use Rattle.sv_pilot.specs.Lines.{IsCalm, asking}
-use Rattle.sv_pilot.specs.Doings.{PilotView, HasTaken, Takes, StopsBy, weight}
-use Rattle.sv_pilot.proofs.Taking.{none_taken, taken_more, then_taken, all_taken, whole_taken, calm_more, stops_later}
+use Rattle.sv_pilot.specs.Doings.{PilotView, HasTaken, Takes, HeardPart, Hears, HasTold, StopsBy, weight}
+use Rattle.sv_pilot.proofs.Taking.{none_taken, taken_more, then_taken, all_taken, whole_taken, taken_told, calm_more, stops_later}
 use Rattle.sv_pilot.proofs.Moved.{failed_by}
+use Rattle.sv_pilot.proofs.Told.{told_not, told_after}
 use Rattle.sv_pilot.proofs.Replied.{some_frame, skip_takes, asked_waits, done_is_message, fewer_are_due, refused_at, always, memory_stops}
 use Rattle.sv_pilot.proofs.pilot.Pilot.take.Goals as goal
 
@@ -71,7 +72,7 @@ returns-clause-taken g c =
     let after = c.answer.new.self in
     let all : HasTaken old after after.line.waits = taken_more old mid after after.line.waits first (all_taken mid after tt c.in_ok-answer.ensures.taken) in
     whole_taken c.args.self.now c.tell.new.self c.tell.result
-    (subst (λ (p : PilotView). HasTaken c.args.self.now p p.line.waits) (sym c.tell.ensures.same) (subst (λ (p : PilotView). HasTaken p after after.line.waits) c.self.view_is all))
+    (subst (λ (p : PilotView). HasTaken c.args.self.now p p.line.waits) (sym c.tell.ensures.same) (taken_told c.args.self.now after c.tell.new.self.told after.line.waits (subst (λ (p : PilotView). HasTaken p after after.line.waits) c.self.view_is all)))
 
 pub returns-clause-calm : goal.returns-clause-calm
 returns-clause-calm g c =
@@ -101,3 +102,22 @@ returns-clause-lighter g c =
     let new = subst (λ (w : ClientView). weight (outstanding w.who w.events) < weight (outstanding v.who v.events)) (sym same) mine in
     always _ c.tell.result
     (subst (λ (p : PilotView). weight (outstanding c.tell.new.self.client.who c.tell.new.self.client.events) < weight (outstanding p.client.who p.client.events)) c.self.view_is new)
+
+pub returns-in_err-answer-clause-told : goal.returns-in_err-answer-clause-told
+returns-in_err-answer-clause-told g c =
+    let v : ClientView = c.self.inside.client in
+    let new = c.answer.new.self in
+    let events = ap (λ (w : ClientView). w.events) c.answer.ensures.client ∙ c.in_ok-done.ensures.got in
+    failed_by c.from_residual-in_err-answer.result c.in_err-answer.field-0.0 c.from_residual-in_err-answer.ensures.1 (HasTold c.args.self.now new)
+    (subst (λ (p : PilotView). HeardPart p.client.who p.client.events p.told new) c.self.view_is
+    (told_not v.who v.events (got_now v.events c.args.reply.now) c.self.inside.audience.heard new events c.answer.ensures.told))
+
+pub returns-clause-told : goal.returns-clause-told
+returns-clause-told g c =
+    let v : ClientView = c.self.inside.client in
+    let mid = c.answer.new.self in
+    let events = ap (λ (w : ClientView). w.events) c.answer.ensures.client ∙ c.in_ok-done.ensures.got in
+    let who = ap (λ (w : ClientView). w.who) c.answer.ensures.client ∙ c.in_ok-done.ensures.who in
+    subst (λ (p : PilotView). HasTold p c.tell.new.self c.tell.result) c.self.view_is
+    (told_after v.who v.events (got_now v.events c.args.reply.now) c.self.inside.audience.heard mid c.tell.new.self c.tell.result who events c.answer.ensures.told (ap (λ (p : PilotView). p.client) c.tell.ensures.same)
+    c.tell.ensures.some c.tell.ensures.all)
