@@ -1,11 +1,10 @@
 -- What a listener was told, call by call.
-use Rattle.std.proofs.Common.{◌≡◌, ◌≢◌, ◌⊎◌, ℕ, zero, suc, ◌+◌, ◌<◌, ◌≤◌, inl, inr, Bool, true, false, cond, eqb, ltb, int_eq, ℤ, List, [], ◌∷◌, ◌++◌, map, reverse, length, get_or, slice_set, Option, Some, None, refl, sym, ap, subst, ◌∙◌, arith, append_assoc}
-use Rattle.std.specs.Prelude.{All, Contains}
+use Rattle.std.proofs.Common.{◌≡◌, ◌≢◌, ◌⊎◌, ℕ, zero, suc, ◌+◌, ◌<◌, ◌≤◌, inl, inr, Bool, true, false, cond, ltb, int_eq, ℤ, List, [], ◌∷◌, ◌++◌, map, reverse, length, get_or, slice_set, Option, Some, None, refl, sym, ap, subst, ◌∙◌, arith}
 use Rattle.std.specs.Bool.{MatchBool}
 use Rattle.std.proofs.lemmas.Bool.Decides.{Decides-int_eq}
 use lib.Pointwise.{pointwise, pointwise_decides}
 use Rattle.std.proofs.lemmas.Bool.{and_parts, ltb-true, eq-eqb, ne_eqb, cases_eq}
-use Rattle.std.proofs.lemmas.List.{map-append, reverse-append, append-nil, get_or-set_same, get_or-set_other, get_or-map, length-set, length-map}
+use Rattle.std.proofs.lemmas.List.{map-append, reverse-append, get_or-set_same, get_or-set_other, length-set}
 use Rattle.sv_world.specs.declared.world.ObjectId.{ObjectId}
 use Rattle.sv_world.specs.Sets.{numbers_of}
 use Rattle.sv_world.specs.Faults.{is_ascending}
@@ -14,7 +13,7 @@ use Rattle.sv_client.specs.Traces.{view_of}
 use Rattle.sv_client.specs.Taking.{Identity}
 use Rattle.sv_pilot.specs.declared.audience.Seen.{Seen}
 use Rattle.sv_pilot.specs.declared.audience.Call.{Call}
-use Rattle.sv_pilot.specs.Hearing.{Heard, last_heard, IsNews, AreNews, IsTold, IsUpToDate, HearsSome, HearsAll, HearsEach, HearsUntil}
+use Rattle.sv_pilot.specs.Hearing.{Heard, last_heard, IsTold, IsUpToDate}
 use Rattle.sv_pilot.specs.Calls.{AudienceView, objects_seen, all_unseen, calls_heard, IsAudience, Tells, IsTelling}
 
 -- ---- Ascending numbers
@@ -145,10 +144,12 @@ pub tells_news : (seen : List Seen) (cs after : List (Call × Unit {0})) (c : Ca
     → record { interest = objects_seen seen; heard = calls_heard cs } ≡ old → after ≡ cs ++ c ∷ [] → s.object ≡ (get_or seen at d).object → c.0.object ≡ object → c.0.value.value ≡ value → last_heard old.heard object.0 ≢ Some value
     → Tells old object (Some value) (record { interest = objects_seen (slice_set seen at s); heard = calls_heard after })
 tells_news seen cs after c at s d old object value is more kept named valued another =
-    inr (another,
+    inr (
+      another,
       ap (λ (os : List ObjectId). record { interest = os; heard = calls_heard after }) (objects_stay seen at s d kept ∙ ap (λ (a : AudienceView). a.interest) is)
-      ∙ ap (λ (hs : List Heard). record { interest = old.interest; heard = hs }) (ap calls_heard more ∙ calls_more cs c ∙ ap (λ (o : ObjectId). record { object = o; value = c.0.value.value } ∷ calls_heard cs) named
-      ∙ ap (λ (v : List ℤ). record { object = object; value = v } ∷ calls_heard cs) valued ∙ ap (λ (a : AudienceView). record { object = object; value = value } ∷ a.heard) is))
+          ∙ ap (λ (hs : List Heard). record { interest = old.interest; heard = hs }) (ap calls_heard more ∙ calls_more cs c ∙ ap (λ (o : ObjectId). record { object = o; value = c.0.value.value } ∷ calls_heard cs) named
+          ∙ ap (λ (v : List ℤ). record { object = object; value = v } ∷ calls_heard cs) valued ∙ ap (λ (a : AudienceView). record { object = object; value = value } ∷ a.heard) is),
+    )
 
 -- ---- Telling one after the other
 
@@ -198,11 +199,14 @@ module _ (who : Identity) (t : List Event) (before : List Heard) (at : ℕ) (obj
     some = record {
       calls = call ∷ h.some.calls;
       behind = ap (λ (hs : List Heard). call ∷ hs) h.some.behind;
-      news = (record {
+      news = (
+        record {
           interest = (at, subst (λ (n : ℕ). at < n) (sym (numbers_long who.interest)) within, number_in who.interest at object within object.0 ∙ ap (λ (o : ObjectId). o.0) (sym is));
           seen = seen;
           another = subst (λ (hs : List Heard). last_heard hs object.0 ≢ Some value) h.some.behind another;
-        }, h.some.news);
+        },
+        h.some.news,
+      );
     };
     told = both (record old { heard = call ∷ old.heard }) earlier
         (subst (λ (v : Option (List ℤ)). IsTold v (last_heard (call ∷ old.heard) object.0)) (sym seen) (heard_same call old.heard object.0 refl));

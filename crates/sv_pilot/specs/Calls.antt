@@ -1,5 +1,5 @@
 -- A listener, as its pilot keeps it.
-use Rattle.std.specs.Prelude.{◌≡◌, ◌≢◌, ◌⊎◌, ℕ, ◌<◌, ℤ, true, List, [], ◌∷◌, map, reverse, get_or, Option, Some, None, All}
+use Rattle.std.specs.Prelude.{◌≡◌, ◌≢◌, ◌⊎◌, ℕ, ◌<◌, ℤ, true, List, ◌∷◌, map, reverse, get_or, Option, Some, None, All}
 use Rattle.sv_world.specs.declared.world.ObjectId.{ObjectId}
 use Rattle.sv_world.specs.Sets.{numbers_of}
 use Rattle.sv_world.specs.Faults.{is_ascending}

@@ -1,5 +1,5 @@
 -- What a listener is told. Its calls stand with the latest first, as the events of a client do.
-use Rattle.std.specs.Prelude.{◌≡◌, ◌≢◌, ℕ, ℤ, List, [], ◌∷◌, ◌++◌, Option, Some, None, All, Contains, Result, Ok, Err, if◌then◌else◌, ◌==◌}
+use Rattle.std.specs.Prelude.{◌≡◌, ◌≢◌, ℕ, ℤ, List, [], ◌∷◌, ◌++◌, Option, Some, None, All, Contains, if◌then◌else◌, ◌==◌}
 use Rattle.sv_world.specs.declared.world.ObjectId.{ObjectId}
 use Rattle.sv_world.specs.Sets.{numbers_of}
 use Rattle.sv_client.specs.declared.trace.Event.{Event}

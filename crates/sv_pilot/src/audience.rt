@@ -8,10 +8,10 @@ ghost use Rattle.sv_pilot.specs.Hearing.{HearsSome, IsUpToDate};
 ghost use Rattle.sv_pilot.specs.Calls.{all_unseen, Tells};
 ghost use Rattle.sv_world.specs.declared.world.ObjectId.{ObjectId};
 
+use http_server::Log;
 use std::alloc::{AllocError, Global};
 use std::marker::Model;
 use std::snapshot::Snapshot;
-use http_server::Log;
 use sv_client::{LeanClient, View};
 use sv_world::{ObjectId, Value, copy_value};
 

@@ -46,7 +46,7 @@ impl<E: End, L: Listener> Model for Pilot<E, L> {
     ghost use Rattle.std.specs.Coded.{codes};
     ghost use Rattle.sv_client.specs.contracts.trace.Event as event_rows;
     ghost use Rattle.sv_client.specs.declared.trace.Event.{Event};
-ghost use Rattle.sv_pilot.specs.Doings.{Hears, HasTold, PilotView};
+    ghost use Rattle.sv_pilot.specs.Doings.{Hears, HasTold, PilotView};
 
     ghost Value = { PilotView };
 

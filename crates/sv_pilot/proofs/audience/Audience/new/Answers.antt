@@ -1,9 +1,8 @@
 -- What is proved by hand of `Audience::new`.
-use Rattle.std.proofs.Common.{◌≡◌, List, sym, ap, subst, ◌∙◌}
+use Rattle.std.proofs.Common.{List, sym, ap, subst, ◌∙◌}
 use Rattle.sv_world.specs.declared.world.ObjectId.{ObjectId}
 use Rattle.sv_pilot.specs.declared.audience.Seen.{Seen}
-use Rattle.sv_pilot.specs.Hearing.{Heard}
-use Rattle.sv_pilot.specs.Calls.{AudienceView, IsAudience, all_unseen, objects_seen, calls_heard}
+use Rattle.sv_pilot.specs.Calls.{IsAudience, all_unseen, objects_seen, calls_heard}
 use Rattle.sv_pilot.proofs.Heard.{objects_unseen, audience_begins}
 use Rattle.sv_pilot.proofs.audience.Audience.new.Goals as goal
 

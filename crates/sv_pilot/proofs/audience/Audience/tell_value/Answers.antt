@@ -1,5 +1,5 @@
 -- What is proved by hand of `Audience::tell_value`.
-use Rattle.std.proofs.Common.{◌≡◌, ◌≢◌, List, Some, refl, sym, ap, subst, ◌∙◌, slice_set}
+use Rattle.std.proofs.Common.{◌≢◌, List, Some, sym, ap, subst, ◌∙◌, slice_set}
 use Rattle.sv_world.specs.declared.world.ObjectId.{ObjectId}
 use Rattle.sv_pilot.specs.declared.audience.Seen.{Seen}
 use Rattle.sv_pilot.specs.declared.audience.Call.{Call}

@@ -1,5 +1,5 @@
 -- What is proved by hand of `Connection::send_all`.
-use Rattle.std.proofs.Common.{◌≡◌, ◌++◌, ◌+◌, drop, Err, refl}
+use Rattle.std.proofs.Common.{◌++◌, ◌+◌, drop, refl}
 use Rattle.sv_pilot.specs.Lines.{asking, request_frames}
 use Rattle.sv_pilot.specs.Sending.{Sends, IsSent}
 use Rattle.sv_pilot.proofs.Taking.{calm_same, calm_more, all_sent}

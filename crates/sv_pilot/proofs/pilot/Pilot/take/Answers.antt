@@ -12,7 +12,7 @@ use Rattle.sv_client.specs.Answers.{IsTakeFault, got_now}
 use Rattle.sv_client.specs.Seen.{ClientView}
 use Rattle.sv_pilot.specs.Troubles.{trouble_of_take}
 use Rattle.sv_pilot.specs.Lines.{IsCalm, asking}
-use Rattle.sv_pilot.specs.Doings.{PilotView, HasTaken, Takes, HeardPart, Hears, HasTold, StopsBy, weight}
+use Rattle.sv_pilot.specs.Doings.{PilotView, HasTaken, Takes, HeardPart, HasTold, StopsBy, weight}
 use Rattle.sv_pilot.proofs.Taking.{none_taken, taken_more, then_taken, all_taken, whole_taken, taken_told, calm_more, stops_later}
 use Rattle.sv_pilot.proofs.Moved.{failed_by}
 use Rattle.sv_pilot.proofs.Told.{told_not, told_after}
