@@ -16,7 +16,7 @@ use Rattle.sv_exchange.specs.Incoming.{first_payload_of}
 use Rattle.sv_exchange.specs.Outgoing.{Posts, LeavesUnsent}
 use Rattle.sv_pilot.specs.declared.trouble.Trouble.{Trouble}
 use Rattle.sv_pilot.specs.declared.trouble.Trouble.TheVariants as troubles
-use Rattle.sv_pilot.specs.Lines.{Line, IsCalm, request_frames, asking}
+use Rattle.sv_pilot.specs.Lines.{Line, IsCalm, IsPartial, request_frames, asking}
 use Rattle.sv_pilot.specs.Sending.{trouble_of_sent, trouble_of_read, HasSent, HasRead, Sends, IsSendFault, IsSent, IsReceiveFault, IsReadOn, IsReplyOf, IsFrontRead, IsReceived}
 use Rattle.sv_pilot.proofs.Taking.{calm_more, request_frames_append}
 
@@ -178,17 +178,17 @@ read_by old new reads.Failed r waits =
 read_by old new reads.Memory r waits =
     stood old new (ap (λ (t : Told). t.sent) r.0) (ap (λ (t : Told). t.received) r.0) (ap (λ (t : Told). t.pair) r.0) (ap (λ (t : Told). t.side) r.0) r.1 waits
 
-read_so : (old new : Line) (answer : EndRead) → ReadsInto old.told old.came answer new.told new.came → EndReadCause old.faults new.faults answer → IsReadOn old new (trouble_of_read answer)
-read_so old new (reads.Got n) r cause =
+read_so : (old new : Line) (answer : EndRead) → IsPartial old.came → ReadsInto old.told old.came answer new.told new.came → EndReadCause old.faults new.faults answer → IsReadOn old new (trouble_of_read answer)
+read_so old new (reads.Got n) partial r cause =
     let long : length new.came ≡ length old.came + length r.bytes = ap (λ (xs : List ℕ). length xs) r.rest ∙ length-append old.came r.bytes in
     (record { faults = cause; ended = ap (λ (t : Told). t.ended) r.told }, omega (arith, long, r.size, r.some))
-read_so old new reads.Ended r cause = inr (ap (λ (t : Told). t.ended) r.0)
-read_so old new reads.Failed r cause = inl cause
-read_so old new reads.Memory r cause = record { faults = cause; ended = ap (λ (t : Told). t.ended) r.0 }
+read_so old new reads.Ended partial r cause = inr (record { ended = ap (λ (t : Told). t.ended) r.0; partial = subst IsPartial (sym r.1) partial })
+read_so old new reads.Failed partial r cause = inl cause
+read_so old new reads.Memory partial r cause = record { faults = cause; ended = ap (λ (t : Told). t.ended) r.0 }
 
-pub read_on_by : (old new : Line) (answer : EndRead) (r : Result Unit Trouble) → r ≡ trouble_of_read answer → ReadsInto old.told old.came answer new.told new.came → EndReadCause old.faults new.faults answer
+pub read_on_by : (old new : Line) (answer : EndRead) (r : Result Unit Trouble) → r ≡ trouble_of_read answer → IsPartial old.came → ReadsInto old.told old.came answer new.told new.came → EndReadCause old.faults new.faults answer
     → IsReadOn old new r
-read_on_by old new answer r is came cause = subst (IsReadOn old new) (sym is) (read_so old new answer came cause)
+read_on_by old new answer r is partial came cause = subst (IsReadOn old new) (sym is) (read_so old new answer partial came cause)
 
 -- An end stays open while it is read.
 pub stays_open : (old new : Told) (before after : List ℕ) (answer : EndRead) → ReadsInto old before answer new after → old.closed ≡ false → new.closed ≡ false

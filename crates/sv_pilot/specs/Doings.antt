@@ -1,6 +1,6 @@
 -- What a pilot did, as the events of its client and its connection tell it.
 -- Events stand with the latest first: `e ∷ t` is t, and then e.
-use Rattle.std.specs.Prelude.{◌≡◌, ℕ, zero, suc, ℤ, ◌<◌, ◌⊎◌, pos, List, [], ◌∷◌, ◌++◌, map, Option, Some, None, unwrap_or, Result, Ok, Err, OnOk, true}
+use Rattle.std.specs.Prelude.{◌≡◌, ℕ, zero, suc, ℤ, ◌<◌, ◌⊎◌, pos, List, [], ◌∷◌, ◌++◌, map, length, Option, Some, None, unwrap_or, Result, Ok, Err, OnOk}
 use Rattle.std.specs.List.{slice_get}
 use Rattle.sv_world.specs.declared.action.Action.{Action}
 use Rattle.sv_world.specs.declared.world.ObjectId.{ObjectId}
@@ -23,7 +23,7 @@ use Rattle.sv_client.specs.Seen.{ClientView, with_event, newly_asked}
 use Rattle.sv_pilot.specs.declared.trouble.Trouble.{Trouble}
 use Rattle.sv_pilot.specs.declared.trouble.Trouble.TheVariants as troubles
 use Rattle.sv_pilot.specs.Hearing.{Heard, HearsEach, HearsUntil}
-use Rattle.sv_pilot.specs.Lines.{Line, IsCalm, GoesOn, IsBadFront, request_frames, asking}
+use Rattle.sv_pilot.specs.Lines.{Line, IsCalm, GoesOn, IsBadFront, HasEnded, request_frames, asking}
 
 -- A pilot: its client, its connection, and what its listener was told.
 pub record PilotView : Type 0 where
@@ -108,10 +108,10 @@ pub record IsRefused (p : PilotView) : Type 0 where
   pub front : FirstReads reply_at p.line.came (Ok reply)
   pub refused : first_fault_of_reply p.client.who p.client.events reply ≡ Some fault
 
--- Why a call did not come to its end, from what it had done first up to where it stopped: the end failed, or told that no more will come; the front of
--- what came is no reply, or one that the client does not take, or the client's world is none that there may be; or there was no memory.
+-- Why a call did not come to its end, from what it had done first up to where it stopped: the end failed, or told that no more will come before a whole
+-- reply came; the front of what came is no reply, or one that the client does not take, or the client's world is none that there may be; or there was no memory.
 abbrev pub StopsBy : PilotView → PilotView → Trouble → Type 0
-StopsBy old new troubles.Link = Rose old.line.faults new.line.faults ⊎ (new.line.told.ended ≡ true)
+StopsBy old new troubles.Link = Rose old.line.faults new.line.faults ⊎ HasEnded new.line
 StopsBy old new troubles.Reply = IsCalm old.line new.line × (IsBadFront new.line.came ⊎ (IsRefused new ⊎ (IsGoodShape new.client.who.shape → ⊥)))
 StopsBy old new troubles.Memory = IsCalm old.line new.line
 StopsBy old new troubles.Game = ⊥
@@ -143,8 +143,13 @@ abbrev pub StoppedMake : Action → PilotView → PilotView → Trouble → Type
 StoppedMake action old new trouble =
     ((new ≡ old) × (trouble ≡ troubles.Memory)) ⊎ (IsReadyToMake old.client.who old.client.events action × BrokeOff (events.Make action) old new trouble)
 
--- It made an action of the text, which it might make, and then took some replies.
+-- the text of an action has fewer bytes
+abbrev pub text_limit : ℕ
+text_limit = 1000
+
+-- It made an action of the text, which is short enough, and which it might make, and then took some replies.
 pub record MadeAction (text : List ℕ) (old new : PilotView) (unsent : List ℕ) : Type 0 where
+  pub short : length text < text_limit
   pub action : Action
   pub is_text : IsActionText action (tokens_of text)
   pub may : IsReadyToMake old.client.who old.client.events action
@@ -159,10 +164,6 @@ abbrev pub weight : List Request → ℕ
 weight [] = 0
 weight (requests.Done results ∷ rs) = suc (weight rs)
 weight (r ∷ rs) = suc (suc (weight rs))
-
--- the text of an action has fewer bytes
-abbrev pub text_limit : ℕ
-text_limit = 1000
 
 -- no action of the text may be made now
 abbrev pub NoneMayBeMade : List ℕ → PilotView → Type 0

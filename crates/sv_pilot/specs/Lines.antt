@@ -1,6 +1,6 @@
 -- A pilot's connection, and what is wrong with what came over it.
-use Rattle.std.specs.Prelude.{◌≡◌, ℕ, ◌⊎◌, List, [], ◌++◌, map, Some, Err}
-use Rattle.sv_frame.specs.Frames.{frames_of, too_long}
+use Rattle.std.specs.Prelude.{◌≡◌, ℕ, ◌⊎◌, true, List, [], ◌++◌, map, None, Some, Err}
+use Rattle.sv_frame.specs.Frames.{frames_of, first_frame, too_long}
 use Rattle.sv_wire.specs.declared.fault.Malformed.{Malformed}
 use Rattle.sv_wire.specs.declared.message.Request.{Request}
 use Rattle.sv_wire.specs.Messages.{reply_at}
@@ -50,3 +50,12 @@ IsTooLong came = (n : ℕ) × (too_long came ≡ Some n)
 -- the front of what came is no reply
 abbrev pub IsBadFront : List ℕ → Type 0
 IsBadFront came = IsMalformed came ⊎ IsTooLong came
+
+-- what came begins with no whole frame, and with no length that is too great
+abbrev pub IsPartial : List ℕ → Type 0
+IsPartial came = (first_frame came ≡ None) × (too_long came ≡ None)
+
+-- A read told that no more will come, and a whole reply has not come.
+pub record HasEnded (line : Line) : Type 0 where
+  pub ended : line.told.ended ≡ true
+  pub partial : IsPartial line.came

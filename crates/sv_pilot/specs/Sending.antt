@@ -1,5 +1,5 @@
 -- What a connection's calls change of it, and what they answer.
-use Rattle.std.specs.Prelude.{◌≡◌, ℕ, ◌<◌, ◌⊎◌, true, List, [], ◌++◌, length, Option, None, Some, Result, Ok, Err, OnOk}
+use Rattle.std.specs.Prelude.{◌≡◌, ℕ, ◌<◌, ◌⊎◌, List, [], ◌++◌, length, Option, None, Some, Result, Ok, Err, OnOk}
 use Rattle.sv_bytes.specs.Faults.{Rose}
 use Rattle.sv_frame.specs.Frames.{greatest_frame}
 use Rattle.sv_link.specs.declared.ends.EndRead.{EndRead}
@@ -13,7 +13,7 @@ use Rattle.sv_wire.specs.Messages.{reply_at}
 use Rattle.sv_exchange.specs.Incoming.{FirstReads}
 use Rattle.sv_pilot.specs.declared.trouble.Trouble.{Trouble}
 use Rattle.sv_pilot.specs.declared.trouble.Trouble.TheVariants as troubles
-use Rattle.sv_pilot.specs.Lines.{Line, IsCalm, GoesOn, IsBadFront}
+use Rattle.sv_pilot.specs.Lines.{Line, IsCalm, GoesOn, IsBadFront, IsPartial, HasEnded}
 
 abbrev pub trouble_of_sent : Sent → Result Unit Trouble
 trouble_of_sent answers.Whole = Ok tt
@@ -59,9 +59,9 @@ abbrev pub IsSent : Line → Line → Result Unit Trouble → Type 0
 IsSent old new (Ok _) = IsCalm old new
 IsSent old new (Err trouble) = IsSendFault old new trouble
 
--- Why no reply was received: the end failed, or told that no more will come; the front of what came is no reply; or there was no memory.
+-- Why no reply was received: the end failed, or told that no more will come before a whole reply came; the front of what came is no reply; or there was no memory.
 abbrev pub IsReceiveFault : Line → Line → Trouble → Type 0
-IsReceiveFault old new troubles.Link = Rose old.faults new.faults ⊎ (new.told.ended ≡ true)
+IsReceiveFault old new troubles.Link = Rose old.faults new.faults ⊎ HasEnded new
 IsReceiveFault old new troubles.Reply = IsCalm old new × IsBadFront new.came
 IsReceiveFault old new troubles.Memory = IsCalm old new
 IsReceiveFault old new troubles.Game = ⊥
@@ -87,7 +87,7 @@ IsFrontRead came (Err _) = ⊥
 
 -- The same, where a whole frame has come, or a length over the limit. Else there is room for another byte.
 abbrev pub IsFrontOf : List ℕ → Option (Result Reply Trouble) → Type 0
-IsFrontOf came None = length came < greatest_frame
+IsFrontOf came None = (length came < greatest_frame) × IsPartial came
 IsFrontOf came (Some read) = IsFrontRead came read
 
 -- A reply stands in front and no call failed, or it is said why.

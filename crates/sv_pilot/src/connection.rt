@@ -3,7 +3,7 @@ ghost use Rattle.std.specs.Prelude.{◌≡◌, ◌≢◌, ◌<◌, false, length
 ghost use Rattle.sv_frame.specs.Frames.{first_frame, greatest_frame};
 ghost use Rattle.sv_frame.specs.Answers.{Skips};
 ghost use Rattle.sv_wire.specs.Grammar.{IsWireRequest};
-ghost use Rattle.sv_pilot.specs.Lines.{line_of, asking};
+ghost use Rattle.sv_pilot.specs.Lines.{line_of, asking, IsPartial};
 ghost use Rattle.sv_pilot.specs.Sending.{trouble_of_sent, trouble_of_read, HasRead, Sends, Reads, IsSent, IsReadOn, IsReplyOf, IsFrontOf, IsReceived};
 
 use crate::trouble::Trouble;
@@ -122,6 +122,7 @@ impl<E: End> Connection<E> {
     /// Waits for more bytes.
     fn read(&mut self) -> Result<(), Trouble>
         requires room { length self.old.came < greatest_frame }
+        requires partial { IsPartial self.old.came }
         ensures read { HasRead self.old self.new self.new.waits }
         ensures answer { IsReadOn self.old self.new result }
     {

@@ -151,7 +151,7 @@ impl<E: End, L: Listener> Pilot<E, L> {
     /// `Game` comes outside a session, for a text that is longer or that of no action, and for an action that the client may not make; then nothing
     /// was done. Else the action may have been made: `Link`, `Reply` and `Memory` come as at `join`.
     pub fn act(&mut self, text: &str) -> Result<(), Trouble>
-        ensures made { OnOk result ((length text.now < text_limit) × MadeAction text.now self.old self.new [] × IsSettled self.new × IsCalm self.old.line self.new.line) }
+        ensures made { OnOk result (MadeAction text.now self.old self.new [] × IsSettled self.new × IsCalm self.old.line self.new.line) }
         ensures stopped { IfErr result (λ trouble. (trouble ≡ troubles.Game) ⊎ StoppedAction text.now self.old self.new trouble) }
         ensures refused { IfErr result (λ trouble. trouble ≡ troubles.Game → (self.new ≡ self.old) × ((text_limit ≤ length text.now) ⊎ (NoneMayBeMade text.now self.old ⊎ (most_numbers ≤ makes self.old.client.events)))) }
         ensures told { HasTold self.old self.new result }
