@@ -84,6 +84,7 @@ pub record HeardPart (who : Identity) (t : List Event) (before : List Heard) (ne
   pub events : new.client.events ≡ more ++ t
   pub heard : HearsUntil who t more before new.told
 
+-- One of both: all was told where the call went well.
 abbrev pub Hears : {X : Type 0} → Identity → List Event → List Heard → PilotView → Result X Trouble → Type 0
 Hears who t before new (Ok x) = HeardAll who t before new
 Hears who t before new (Err trouble) = HeardPart who t before new

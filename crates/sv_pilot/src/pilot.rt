@@ -31,8 +31,8 @@ use sv_world::{Action, List, ObjectId, copy_objects};
 
 /// A client over one connection, and a listener that is called for each change of what it sees of its interest.
 ///
-/// Contracts see the client; and of the connection what its end tells, how often the end failed, the bytes that came and were not taken as replies,
-/// and those that wait to be sent.
+/// Contracts see the client; of the connection what its end tells, how often the end failed, the bytes that came and were not taken as replies, and
+/// those that wait to be sent; and the calls of the listener that went well.
 #[derive(Drop)]
 pub struct Pilot<E: End, L: Listener> {
     alloc: Global,
@@ -113,7 +113,7 @@ impl<E: End, L: Listener> Pilot<E, L> {
         }
     }
 
-    /// Begins a session, and is told the objects of the interest.
+    /// Begins a session, and is told the objects of the interest. The listener is called after each reply for what changed.
     ///
     /// `Game` comes where so many were begun that a message has no room for the number of the next one, and then nothing was done. Else a session may
     /// have been begun: `Link` comes where the end failed or told that no more will come, `Reply` where the front of what came is no reply or one that
