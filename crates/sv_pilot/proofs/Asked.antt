@@ -14,17 +14,17 @@ use Rattle.sv_client.specs.declared.fault.PollFault.{PollFault}
 use Rattle.sv_client.specs.declared.fault.PollFault.TheVariants as poll_faults
 use Rattle.sv_client.specs.declared.trace.Event.{Event}
 use Rattle.sv_client.specs.declared.trace.Event.TheVariants as events
-use Rattle.sv_client.specs.Taking.{Identity}
+use Rattle.sv_client.specs.Taking.{Identity, outstanding}
 use Rattle.sv_client.specs.Traces.{makes}
 use Rattle.sv_client.specs.Proper.{MayCome, IsReadyToMake, most_numbers}
 use Rattle.sv_client.specs.Answers.{IsServed, IsMakeFault}
-use Rattle.sv_client.specs.Seen.{newly_asked}
+use Rattle.sv_client.specs.Seen.{ClientView, newly_asked}
 use Rattle.sv_pilot.specs.declared.trouble.Trouble.{Trouble}
 use Rattle.sv_pilot.specs.declared.trouble.Trouble.TheVariants as troubles
 use Rattle.sv_pilot.specs.Troubles.{trouble_of_make, trouble_of_poll, trouble_of_observe}
 use Rattle.sv_pilot.specs.Lines.{Line, IsCalm}
 use Rattle.sv_pilot.specs.Sending.{IsSendFault, IsSent}
-use Rattle.sv_pilot.specs.Doings.{PilotView, Did, NoReplyIsDue, StopsBy, Stopped, StoppedMake}
+use Rattle.sv_pilot.specs.Doings.{PilotView, Did, NoReplyIsDue, IsSettled, StopsBy, BrokeOff, Stopped, StoppedMake}
 use Rattle.sv_pilot.proofs.Taking.{calm_same, calm_more, stops_later, sending_stops_it}
 
 -- The one request that an event asks is a message.
@@ -62,13 +62,17 @@ not_of_game old new troubles.Game why e = why
 
 -- ---- Behind a part that went well
 
-pub settled_later : (old mid new : PilotView) (r : Result Unit Trouble) → IsCalm old.line mid.line → OnOk r (NoReplyIsDue new × IsCalm mid.line new.line) → OnOk r (NoReplyIsDue new × IsCalm old.line new.line)
+pub settled_later : (old mid new : PilotView) (r : Result Unit Trouble) → IsCalm old.line mid.line → OnOk r (IsSettled new × IsCalm mid.line new.line) → OnOk r (IsSettled new × IsCalm old.line new.line)
 settled_later old mid new (Ok x) calm s = (s.0, calm_more old.line mid.line new.line calm s.1)
 settled_later old mid new (Err t) calm s = tt
 
 pub stopped_later : (old mid new : PilotView) (r : Result Unit Trouble) → IsCalm old.line mid.line → IfErr r (StopsBy mid new) → IfErr r (StopsBy old new)
 stopped_later old mid new (Ok x) calm why = tt
 stopped_later old mid new (Err t) calm why = stops_later old mid new t calm why
+
+-- What stopped it is told from a state with the same connection.
+pub stopped_same : (old mid new : PilotView) (r : Result Unit Trouble) → mid.line ≡ old.line → IfErr r (StopsBy mid new) → IfErr r (StopsBy old new)
+stopped_same old mid new r same why = stopped_later old mid new r (calm_same old.line mid.line same) why
 
 pub calm_later : {X : Type 0} (a b c : Line) (r : Result X Trouble) → IsCalm a b → OnOk r (IsCalm b c) → OnOk r (IsCalm a c)
 calm_later a b c (Ok x) calm s = calm_more a b c calm s
@@ -81,6 +85,13 @@ sent_calm old new (Err t) s = tt
 pub sent_why : (old new : PilotView) (r : Result Unit Trouble) → IsSent old.line new.line r → IfErr r (StopsBy old new)
 sent_why old new (Ok x) s = tt
 sent_why old new (Err t) s = sending_stops_it old new t s
+
+-- No reply is due, and then all that waits is sent.
+pub settled_by : (old mid new : PilotView) (r : Result Unit Trouble) → NoReplyIsDue mid → new.client ≡ mid.client → IsCalm old.line mid.line → IsSent mid.line new.line r → OnOk r (new.line.waits ≡ [])
+    → OnOk r (IsSettled new × IsCalm old.line new.line)
+settled_by old mid new (Ok x) due same calm sent none =
+    (record { due = subst (λ (v : ClientView). outstanding v.who v.events ≡ []) (sym same) due; waits = none }, calm_more old.line mid.line new.line calm sent)
+settled_by old mid new (Err t) due same calm sent none = tt
 
 -- A world of another shape has no results that could be told.
 pub stops_for_shape : (p : PilotView) → (IsGoodShape p.client.who.shape → ⊥) → StopsBy p p troubles.Reply
@@ -105,12 +116,12 @@ make_nothing old new action make_faults.Busy same = inl refl
 make_nothing old new action make_faults.Memory same = inr (inl (same, refl))
 
 pub made_fine : (old new : PilotView) (action : Action) (r : Result Unit Trouble) → IsReadyToMake old.client.who old.client.events action
-    → OnOk r (Did (events.Make action) old new × NoReplyIsDue new × IsCalm old.line new.line)
-    → OnOk r (IsReadyToMake old.client.who old.client.events action × Did (events.Make action) old new × NoReplyIsDue new × IsCalm old.line new.line)
+    → OnOk r (Did (events.Make action) old new [] × IsSettled new × IsCalm old.line new.line)
+    → OnOk r (IsReadyToMake old.client.who old.client.events action × Did (events.Make action) old new [] × IsSettled new × IsCalm old.line new.line)
 made_fine old new action (Ok x) may s = (may, s.0, s.1, s.2)
 made_fine old new action (Err t) may s = tt
 
 pub made_stops : (old new : PilotView) (action : Action) (r : Result Unit Trouble) → IsReadyToMake old.client.who old.client.events action
-    → IfErr r (λ (trouble : Trouble). Did (events.Make action) old new × StopsBy old new trouble) → IfErr r (λ (trouble : Trouble). (trouble ≡ troubles.Game) ⊎ StoppedMake action old new trouble)
+    → IfErr r (BrokeOff (events.Make action) old new) → IfErr r (λ (trouble : Trouble). (trouble ≡ troubles.Game) ⊎ StoppedMake action old new trouble)
 made_stops old new action (Ok x) may why = tt
-made_stops old new action (Err t) may why = inr (inr (may, why.0, why.1))
+made_stops old new action (Err t) may why = inr (inr (may, why))

@@ -7,3 +7,5 @@ pub mod Replied
 pub mod Asked
 pub mod Watching
 pub mod Shaped
+pub mod Heard
+pub mod Told

@@ -1,5 +1,5 @@
 -- The reply at the front of what came is taken, and what it asks for is a message.
-use Rattle.std.proofs.Common.{◌≡◌, ◌≢◌, ℕ, ◌<◌, List, [], ◌∷◌, option_map, option_to_list, Option, Some, None, Ok, Err, Result, sym, ap, subst, ◌∙◌}
+use Rattle.std.proofs.Common.{◌≡◌, ◌≢◌, ℕ, ◌<◌, List, [], ◌∷◌, ◌++◌, option_map, option_to_list, Option, Some, None, Ok, Err, Result, sym, ap, subst, ◌∙◌}
 use Rattle.std.specs.Prelude.{All, IfSome, IfErr, OnOk}
 use Rattle.std.proofs.lemmas.List.Elements.{All-head}
 use Rattle.sv_world.specs.Worlds.{IsGoodShape}
@@ -21,7 +21,7 @@ use Rattle.sv_client.specs.Seen.{latest_session, newly_asked}
 use Rattle.sv_pilot.specs.declared.trouble.Trouble.{Trouble}
 use Rattle.sv_pilot.specs.declared.trouble.Trouble.TheVariants as troubles
 use Rattle.sv_pilot.specs.Troubles.{trouble_of_take}
-use Rattle.sv_pilot.specs.Lines.{IsCalm}
+use Rattle.sv_pilot.specs.Lines.{Line, IsCalm, request_frames, asking}
 use Rattle.sv_pilot.specs.Doings.{PilotView, HasTaken, StopsBy, weight}
 use Rattle.sv_pilot.proofs.Taking.{one_taken, refused_by}
 use Rattle.sv_pilot.proofs.Weights.{lighter}
@@ -37,9 +37,15 @@ taken_off old new payload None e s = cc
 taken_off old new payload (Some x) e s = let same : x.0 ≡ payload = cc in subst (λ (p : List ℕ). TakesOff p old new) same s
 
 pub skip_takes : (old mid : PilotView) (reply : Reply) → FirstReads reply_at old.line.came (Ok reply) → mid.client.who ≡ old.client.who → mid.client.events ≡ got_now old.client.events reply ∷ old.client.events
-    → mid.line.told ≡ old.line.told → Skips old.line.came mid.line.came → HasTaken old mid
-skip_takes old mid reply f who events told skips =
-    one_taken old mid f.payload reply who events told (taken_off old.line.came mid.line.came f.payload (first_frame old.line.came) f.first skips) f.is
+    → mid.line.told ≡ old.line.told → mid.line.waits ≡ old.line.waits ++ request_frames (newly_asked old.client.who old.client.events (got_now old.client.events reply)) → Skips old.line.came mid.line.came
+    → HasTaken old mid mid.line.waits
+skip_takes old mid reply f who events told waits skips =
+    one_taken old mid f.payload reply who events told waits (taken_off old.line.came mid.line.came f.payload (first_frame old.line.came) f.first skips) f.is
+
+-- What a reply asks for is put behind what waits.
+pub asked_waits : (old skipped : Line) (done : Option Request) (asked : List Request) → skipped.waits ≡ old.waits → option_to_list done ≡ asked
+    → (asking skipped (option_to_list done)).waits ≡ old.waits ++ request_frames asked
+asked_waits old skipped done asked same is = ap (λ (s : List ℕ). s ++ request_frames (option_to_list done)) same ∙ ap (λ (rs : List Request). old.waits ++ request_frames rs) is
 
 -- ---- What is asked for
 

@@ -1,5 +1,5 @@
 -- Observing over and over.
-use Rattle.std.proofs.Common.{◌≡◌, ◌+◌, ◌<◌, ◌⊎◌, inl, inr, ℕ, List, refl, sym, subst, add-one}
+use Rattle.std.proofs.Common.{◌≡◌, ◌+◌, ◌<◌, ◌⊎◌, inl, inr, ℕ, List, [], refl, sym, subst, add-one}
 use Rattle.sv_world.specs.declared.world.ObjectId.{ObjectId}
 use Rattle.sv_client.specs.declared.trace.Event.TheVariants as events
 use Rattle.sv_client.specs.Proper.{MayObserve}
@@ -8,9 +8,9 @@ use Rattle.sv_pilot.specs.declared.trouble.Trouble.TheVariants as troubles
 use Rattle.sv_pilot.specs.Doings.{PilotView, Did, Stopped, Watched, StoppedWatch}
 
 module _ (objects asked : List ObjectId) (wait : ℕ) (same : asked ≡ objects) where
-  pub watched_more : (n : ℕ) (old mid new : PilotView) → Watched objects wait n old mid → Did (events.Observe asked wait) mid new → Watched objects wait (n + 1) old new
+  pub watched_more : (n : ℕ) (old mid new : PilotView) → Watched objects wait n old mid → Did (events.Observe asked wait) mid new [] → Watched objects wait (n + 1) old new
   watched_more n old mid new w d =
-      subst (λ (k : ℕ). Watched objects wait k old new) (sym (add-one n)) (mid, w, subst (λ (os : List ObjectId). Did (events.Observe os wait) mid new) same d)
+      subst (λ (k : ℕ). Watched objects wait k old new) (sym (add-one n)) (mid, w, subst (λ (os : List ObjectId). Did (events.Observe os wait) mid new []) same d)
 
   pub watch_stopped : (times n : ℕ) (old mid new : PilotView) (trouble : Trouble) → n < times → Watched objects wait n old mid → (trouble ≡ troubles.Game) ⊎ Stopped (events.Observe asked wait) mid new trouble
       → (trouble ≡ troubles.Game → (new ≡ mid) × (MayObserve mid.client.who mid.client.events asked → ⊥)) → StoppedWatch objects wait times old new trouble

@@ -1,10 +1,10 @@
 //! A client's connection to the server: requests go out, replies come in, over any end.
-ghost use Rattle.std.specs.Prelude.{◌≡◌, ◌≢◌, ◌<◌, false, length, None, All, IfOk, IfErr};
+ghost use Rattle.std.specs.Prelude.{◌≡◌, ◌≢◌, ◌<◌, false, length, [], ◌∷◌, None, All, IfOk, IfErr, OnOk};
 ghost use Rattle.sv_frame.specs.Frames.{first_frame, greatest_frame};
 ghost use Rattle.sv_frame.specs.Answers.{Skips};
 ghost use Rattle.sv_wire.specs.Grammar.{IsWireRequest};
-ghost use Rattle.sv_pilot.specs.Lines.{line_of};
-ghost use Rattle.sv_pilot.specs.Sending.{trouble_of_sent, trouble_of_read, HasSent, HasRead, IsSent, IsReadOn, IsReplyOf, IsFrontOf, IsReceived};
+ghost use Rattle.sv_pilot.specs.Lines.{line_of, asking, IsPartial};
+ghost use Rattle.sv_pilot.specs.Sending.{trouble_of_sent, trouble_of_read, HasRead, Sends, Reads, IsSent, IsReadOn, IsReplyOf, IsFrontOf, IsReceived};
 
 use crate::trouble::Trouble;
 use std::alloc::Global;
@@ -14,7 +14,8 @@ use sv_frame::{FrameReader, Next};
 use sv_link::{End, EndRead, Sent};
 use sv_wire::{Reply, Request, WireFault, decode_reply, read_request};
 
-/// A connection. Contracts see what its end tells, which is open, how often the end failed, and the bytes that came and were not taken as replies.
+/// A connection. Contracts see what its end tells, which is open, how often the end failed, the bytes that came and were not taken as replies, and
+/// those that wait to be sent.
 #[derive(Drop)]
 pub(crate) struct Connection<E: End> {
     alloc: Global,
@@ -29,7 +30,7 @@ impl<E: End> Model for Connection<E> {
 
     ghost Value = { Line };
 
-    ghost view = { λ c. record { told = E.told c.end; faults = E.faults c.end; came = c.reader } };
+    ghost view = { λ c. record { told = E.told c.end; faults = E.faults c.end; came = c.reader; waits = c.outbox } };
 
     ghost invariant = { λ c. (E.told c.end).closed ≡ false };
 }
@@ -90,7 +91,7 @@ impl<E: End> Connection<E> {
     /// Puts a request behind those that wait to be sent.
     pub(crate) fn send(&mut self, request: &Request) -> Result<(), Trouble>
         requires { IsWireRequest request.now }
-        ensures sent { HasSent self.old self.new }
+        ensures sent { Sends (asking self.old (request.now ∷ [])) self.new result }
         ensures answer { IsSent self.old self.new result }
     {
         read_request(request);
@@ -100,7 +101,7 @@ impl<E: End> Connection<E> {
     /// Puts requests behind those that wait to be sent.
     pub(crate) fn send_all(&mut self, requests: &[Request]) -> Result<(), Trouble>
         requires { All IsWireRequest requests.now }
-        ensures sent { HasSent self.old self.new }
+        ensures sent { Sends (asking self.old requests.now) self.new result }
         ensures answer { IsSent self.old self.new result }
     {
         for request in requests {
@@ -110,8 +111,9 @@ impl<E: End> Connection<E> {
     }
 
     /// Sends what waits.
-    fn flush(&mut self) -> Result<(), Trouble>
-        ensures sent { HasSent self.old self.new }
+    pub(crate) fn flush(&mut self) -> Result<(), Trouble>
+        ensures sent { Sends self.old self.new result }
+        ensures empty { OnOk result (self.new.waits ≡ []) }
         ensures answer { IsSent self.old self.new result }
     {
         whole(self.outbox.flush(&mut self.end))
@@ -120,7 +122,8 @@ impl<E: End> Connection<E> {
     /// Waits for more bytes.
     fn read(&mut self) -> Result<(), Trouble>
         requires room { length self.old.came < greatest_frame }
-        ensures read { HasRead self.old self.new }
+        requires partial { IsPartial self.old.came }
+        ensures read { HasRead self.old self.new self.new.waits }
         ensures answer { IsReadOn self.old self.new result }
     {
         some(self.reader.read_from(&mut self.end))
@@ -139,7 +142,7 @@ impl<E: End> Connection<E> {
 
     /// Waits for the next reply, which stays in front of what came.
     fn wait(&mut self) -> Result<Reply, Trouble>
-        ensures read { HasRead self.old self.new }
+        ensures read { HasRead self.old self.new self.new.waits }
         ensures received { IsReceived self.old self.new result }
     {
         loop {
@@ -152,7 +155,7 @@ impl<E: End> Connection<E> {
 
     /// Sends what waits, and waits for the next reply, which stays in front of what came.
     pub(crate) fn receive(&mut self) -> Result<Reply, Trouble>
-        ensures read { HasRead self.old self.new }
+        ensures read { Reads self.old self.new result }
         ensures received { IsReceived self.old self.new result }
     {
         self.flush()?;
@@ -165,6 +168,7 @@ impl<E: End> Connection<E> {
         ensures told { self.new.told ≡ self.old.told }
         ensures faults { self.new.faults ≡ self.old.faults }
         ensures came { Skips self.old.came self.new.came }
+        ensures waits { self.new.waits ≡ self.old.waits }
     {
         self.reader.skip();
     }

@@ -2,12 +2,12 @@
 //! sees.
 #![tactic(auto)]
 
+mod audience;
 mod connection;
 mod pilot;
-mod seen;
 mod shapes;
 mod trouble;
 
+pub use audience::Listener;
 pub use pilot::Pilot;
-pub use seen::Listener;
 pub use trouble::Trouble;

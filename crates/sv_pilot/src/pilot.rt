@@ -1,5 +1,5 @@
 //! A client that game code drives.
-ghost use Rattle.std.specs.Prelude.{◌≡◌, ◌⊎◌, ◌<◌, ◌≤◌, true, false, length, Ok, IfOk, IfErr, IfSome, OnOk, OnErr};
+ghost use Rattle.std.specs.Prelude.{◌≡◌, ◌⊎◌, ◌<◌, ◌≤◌, true, false, length, [], ◌∷◌, option_to_list, Ok, IfOk, IfErr, IfSome, OnOk, OnErr};
 ghost use Rattle.sv_world.specs.Worlds.{IsGoodShape};
 ghost use Rattle.sv_text.specs.Grammar.{IsActionText};
 ghost use Rattle.sv_text.specs.Tokens.{tokens_of};
@@ -12,11 +12,13 @@ ghost use Rattle.sv_client.specs.Taking.{outstanding};
 ghost use Rattle.sv_client.specs.Proper.{IsReadyToMake, MayPoll, MayObserve, MayLeave, in_session, most_numbers};
 ghost use Rattle.sv_pilot.specs.declared.trouble.Trouble.TheVariants as troubles;
 ghost use Rattle.sv_pilot.specs.Troubles.{trouble_of_text};
+ghost use Rattle.sv_pilot.specs.Hearing.{HearsSome, IsUpToDate};
 ghost use Rattle.sv_pilot.specs.Lines.{line_of, IsCalm};
-ghost use Rattle.sv_pilot.specs.Doings.{HasTaken, Did, Stopped, StopsBy, Watched, StoppedWatch, NoReplyIsDue, MadeAction, StoppedMake, StoppedAction, weight, NoneMayBeMade, number_seen, text_limit};
+ghost use Rattle.sv_client.specs.declared.trace.Event.{Event};
+ghost use Rattle.sv_pilot.specs.Doings.{Hears, HasTold, Takes, Did, posting, Stopped, StopsBy, Watched, StoppedWatch, NoReplyIsDue, IsSettled, MadeAction, StoppedMake, StoppedAction, weight, NoneMayBeMade, number_seen, text_limit};
 
+use crate::audience::{Audience, Listener};
 use crate::connection::Connection;
-use crate::seen::{Listener, Seen, tell_all, unseen};
 use crate::shapes::is_good_shape;
 use crate::trouble::Trouble;
 use std::alloc::Global;
@@ -29,27 +31,30 @@ use sv_world::{Action, List, ObjectId, copy_objects};
 
 /// A client over one connection, and a listener that is called for each change of what it sees of its interest.
 ///
-/// Contracts see the client; and of the connection what its end tells, how often the end failed, and the bytes that came and were not taken as
-/// replies.
+/// Contracts see the client; of the connection what its end tells, how often the end failed, the bytes that came and were not taken as replies, and
+/// those that wait to be sent; and the calls of the listener that went well.
 #[derive(Drop)]
 pub struct Pilot<E: End, L: Listener> {
     alloc: Global,
     client: LeanClient,
     connection: Connection<E>,
-    seen: Vec<Seen>,
-    listener: L,
+    audience: Audience<L>,
 }
 
 impl<E: End, L: Listener> Model for Pilot<E, L> {
+    ghost use Rattle.std.specs.Prelude.{◌≡◌};
     ghost use Rattle.std.specs.Coded.{codes};
     ghost use Rattle.sv_client.specs.contracts.trace.Event as event_rows;
-    ghost use Rattle.sv_pilot.specs.Doings.{PilotView};
+    ghost use Rattle.sv_client.specs.declared.trace.Event.{Event};
+    ghost use Rattle.sv_pilot.specs.Doings.{Hears, HasTold, PilotView};
 
     ghost Value = { PilotView };
 
     ghost coded = { Prim.hlevel (codes, event_rows.the_row.coded) };
 
-    ghost view = { λ p. record { client = p.client; line = p.connection } };
+    ghost view = { λ p. record { client = p.client; line = p.connection; told = p.audience.heard } };
+
+    ghost invariant = { λ p. p.audience.interest ≡ p.client.who.interest };
 }
 
 /// The text of an action has fewer bytes.
@@ -74,17 +79,17 @@ impl<E: End, L: Listener> Pilot<E, L> {
         listener: L,
     ) -> Result<Pilot<E, L>, Trouble>
         requires open { (E.told end).closed ≡ false }
-        ensures pilot { IfOk result (λ pilot. pilot ≡ record { client = client; line = line_of (E.told end) (E.faults end) }) }
+        ensures pilot { IfOk result (λ pilot. pilot ≡ record { client = client; line = line_of (E.told end) (E.faults end); told = [] }) }
         ensures memory { IfErr result (λ trouble. trouble ≡ troubles.Memory) }
     {
-        let seen = unseen(alloc, client.interest())?;
+        client.asks_messages();
+        let audience = Audience::new(alloc, client.interest(), listener)?;
         let connection = Connection::new(alloc, end)?;
         Ok(Pilot {
             alloc,
             client,
             connection,
-            seen,
-            listener,
+            audience,
         })
     }
 
@@ -108,21 +113,23 @@ impl<E: End, L: Listener> Pilot<E, L> {
         }
     }
 
-    /// Begins a session, and is told the objects of the interest.
+    /// Begins a session, and is told the objects of the interest. The listener is called after each reply for what changed.
     ///
     /// `Game` comes where so many were begun that a message has no room for the number of the next one, and then nothing was done. Else a session may
     /// have been begun: `Link` comes where the end failed or told that no more will come, `Reply` where the front of what came is no reply or one that
     /// the client does not take, and `Memory`.
     pub fn join(&mut self) -> Result<(), Trouble>
-        ensures joined { OnOk result (Did (events.Join (joins self.old.client.events)) self.old self.new × NoReplyIsDue self.new × IsCalm self.old.line self.new.line) }
+        ensures joined { OnOk result (Did (events.Join (joins self.old.client.events)) self.old self.new [] × IsSettled self.new × IsCalm self.old.line self.new.line) }
         ensures stopped { IfErr result (λ trouble. (trouble ≡ troubles.Game) ⊎ Stopped (events.Join (joins self.old.client.events)) self.old self.new trouble) }
         ensures refused { IfErr result (λ trouble. trouble ≡ troubles.Game → (self.new ≡ self.old) × (most_numbers ≤ joins self.old.client.events)) }
+        ensures told { HasTold self.old self.new result }
     {
         if self.client.sessions() >= MOST_NUMBERS {
             return Err(Trouble::Game);
         }
         self.client.asks_messages();
         let requests = self.client.join()?;
+        self.audience.tell(&self.client)?;
         self.connection.send_all(requests.as_slice())?;
         self.settle()
     }
@@ -144,9 +151,10 @@ impl<E: End, L: Listener> Pilot<E, L> {
     /// `Game` comes outside a session, for a text that is longer or that of no action, and for an action that the client may not make; then nothing
     /// was done. Else the action may have been made: `Link`, `Reply` and `Memory` come as at `join`.
     pub fn act(&mut self, text: &str) -> Result<(), Trouble>
-        ensures made { OnOk result ((length text.now < text_limit) × MadeAction text.now self.old self.new × NoReplyIsDue self.new × IsCalm self.old.line self.new.line) }
+        ensures made { OnOk result (MadeAction text.now self.old self.new [] × IsSettled self.new × IsCalm self.old.line self.new.line) }
         ensures stopped { IfErr result (λ trouble. (trouble ≡ troubles.Game) ⊎ StoppedAction text.now self.old self.new trouble) }
         ensures refused { IfErr result (λ trouble. trouble ≡ troubles.Game → (self.new ≡ self.old) × ((text_limit ≤ length text.now) ⊎ (NoneMayBeMade text.now self.old ⊎ (most_numbers ≤ makes self.old.client.events)))) }
+        ensures told { HasTold self.old self.new result }
     {
         let action = self.read(text)?;
         self.make(action)
@@ -174,9 +182,10 @@ impl<E: End, L: Listener> Pilot<E, L> {
     /// `Game` comes outside a session and for an action that the client may not make, and then nothing was done. Else it may have been made: `Link`,
     /// `Reply` and `Memory` come as at `join`.
     pub fn make(&mut self, action: Action) -> Result<(), Trouble>
-        ensures made { OnOk result (IsReadyToMake self.old.client.who self.old.client.events action × Did (events.Make action) self.old self.new × NoReplyIsDue self.new × IsCalm self.old.line self.new.line) }
+        ensures made { OnOk result (IsReadyToMake self.old.client.who self.old.client.events action × Did (events.Make action) self.old self.new [] × IsSettled self.new × IsCalm self.old.line self.new.line) }
         ensures stopped { IfErr result (λ trouble. (trouble ≡ troubles.Game) ⊎ StoppedMake action self.old self.new trouble) }
         ensures refused { IfErr result (λ trouble. trouble ≡ troubles.Game → (self.new ≡ self.old) × ((IsReadyToMake self.old.client.who self.old.client.events action → ⊥) ⊎ (most_numbers ≤ makes self.old.client.events))) }
+        ensures told { HasTold self.old self.new result }
     {
         if !self.client.in_session() || self.client.made() >= MOST_NUMBERS {
             return Err(Trouble::Game);
@@ -191,9 +200,10 @@ impl<E: End, L: Listener> Pilot<E, L> {
     /// `Game` comes outside a session and where too many replies are due, and then nothing was asked. Else it may have been: `Link`, `Reply` and
     /// `Memory` come as at `join`.
     pub fn poll(&mut self) -> Result<(), Trouble>
-        ensures polled { OnOk result (Did events.Poll self.old self.new × NoReplyIsDue self.new × IsCalm self.old.line self.new.line) }
+        ensures polled { OnOk result (Did events.Poll self.old self.new [] × IsSettled self.new × IsCalm self.old.line self.new.line) }
         ensures stopped { IfErr result (λ trouble. (trouble ≡ troubles.Game) ⊎ Stopped events.Poll self.old self.new trouble) }
         ensures refused { IfErr result (λ trouble. trouble ≡ troubles.Game → (self.new ≡ self.old) × (MayPoll self.old.client.who self.old.client.events → ⊥)) }
+        ensures told { HasTold self.old self.new result }
     {
         if !self.client.in_session() {
             return Err(Trouble::Game);
@@ -209,9 +219,10 @@ impl<E: End, L: Listener> Pilot<E, L> {
     /// `Game` comes outside a session, for objects that may not be observed, and where too many replies are due; then nothing was asked. Else it may
     /// have been: `Link`, `Reply` and `Memory` come as at `join`.
     pub fn observe(&mut self, objects: List<ObjectId>, wait: u16) -> Result<(), Trouble>
-        ensures observed { OnOk result (Did (events.Observe objects wait) self.old self.new × NoReplyIsDue self.new × IsCalm self.old.line self.new.line) }
+        ensures observed { OnOk result (Did (events.Observe objects wait) self.old self.new [] × IsSettled self.new × IsCalm self.old.line self.new.line) }
         ensures stopped { IfErr result (λ trouble. (trouble ≡ troubles.Game) ⊎ Stopped (events.Observe objects wait) self.old self.new trouble) }
         ensures refused { IfErr result (λ trouble. trouble ≡ troubles.Game → (self.new ≡ self.old) × (MayObserve self.old.client.who self.old.client.events objects → ⊥)) }
+        ensures told { HasTold self.old self.new result }
     {
         if !self.client.in_session() {
             return Err(Trouble::Game);
@@ -226,6 +237,7 @@ impl<E: End, L: Listener> Pilot<E, L> {
         ensures watched { OnOk result (Watched objects.now wait times self.old self.new) }
         ensures calm { OnOk result (IsCalm self.old.line self.new.line) }
         ensures stopped { IfErr result (StoppedWatch objects.now wait times self.old self.new) }
+        ensures told { HasTold self.old self.new result }
     {
         for _ in 0..times {
             let asked = copy_objects(self.alloc, objects)?;
@@ -239,9 +251,10 @@ impl<E: End, L: Listener> Pilot<E, L> {
     /// `Game` comes outside a session and while a reply is due, and then nothing was done. Else the session may have been left: `Link`, `Reply` and
     /// `Memory` come as at `join`.
     pub fn leave(&mut self) -> Result<(), Trouble>
-        ensures left { OnOk result (Did events.Leave self.old self.new × NoReplyIsDue self.new × IsCalm self.old.line self.new.line) }
+        ensures left { OnOk result (Did events.Leave self.old self.new [] × IsSettled self.new × IsCalm self.old.line self.new.line) }
         ensures stopped { IfErr result (λ trouble. (trouble ≡ troubles.Game) ⊎ Stopped events.Leave self.old self.new trouble) }
         ensures refused { IfErr result (λ trouble. trouble ≡ troubles.Game → (self.new ≡ self.old) × (MayLeave self.old.client.who self.old.client.events → ⊥)) }
+        ensures told { HasTold self.old self.new result }
     {
         if !self.client.in_session() || self.client.outstanding() != 0 {
             return Err(Trouble::Game);
@@ -253,23 +266,19 @@ impl<E: End, L: Listener> Pilot<E, L> {
 
     /// The listener. The connection is closed.
     pub fn into_listener(self) -> L {
-        let Pilot { listener, .. } = self;
-        listener
+        let Pilot { audience, .. } = self;
+        audience.into_listener()
     }
 
     /// Tells what a request that was just made is expected to change, sends it, and takes all replies.
     fn ask(&mut self, request: &Request) -> Result<(), Trouble>
         requires { IsWireRequest request.now }
-        ensures taken { HasTaken self.old self.new }
-        ensures settled { OnOk result (NoReplyIsDue self.new × IsCalm self.old.line self.new.line) }
+        ensures taken { Takes (posting self.old (request.now ∷ [])) self.new result }
+        ensures settled { OnOk result (IsSettled self.new × IsCalm self.old.line self.new.line) }
         ensures why { IfErr result (StopsBy self.old self.new) }
+        ensures told { (t : List Event) (e : Event) → self.old.client.events ≡ e ∷ t → Hears self.old.client.who t self.old.told self.new result }
     {
-        tell_all(
-            self.alloc,
-            &self.client,
-            self.seen.as_mut_slice(),
-            &mut self.listener,
-        )?;
+        self.audience.tell(&self.client)?;
         self.connection.send(request)?;
         self.settle()
     }
@@ -282,24 +291,26 @@ impl<E: End, L: Listener> Pilot<E, L> {
         self.client.outstanding() == 0
     }
 
-    /// Takes replies until none is due.
+    /// Takes replies until none is due, and sends all that waits.
     fn settle(&mut self) -> Result<(), Trouble>
-        ensures taken { HasTaken self.old self.new }
-        ensures settled { OnOk result (NoReplyIsDue self.new × IsCalm self.old.line self.new.line) }
+        ensures taken { Takes self.old self.new result }
+        ensures settled { OnOk result (IsSettled self.new × IsCalm self.old.line self.new.line) }
         ensures why { IfErr result (StopsBy self.old self.new) }
+        ensures told { HasTold self.old self.new result }
     {
         while !self.is_settled() {
             self.take_next()?;
         }
-        Ok(())
+        self.connection.flush()
     }
 
     /// Waits for the next reply, and takes it.
     fn take_next(&mut self) -> Result<(), Trouble>
-        ensures taken { HasTaken self.old self.new }
+        ensures taken { Takes self.old self.new result }
         ensures calm { OnOk result (IsCalm self.old.line self.new.line) }
         ensures lighter { OnOk result (weight (outstanding self.new.client.who self.new.client.events) < weight (outstanding self.old.client.who self.old.client.events)) }
         ensures why { IfErr result (StopsBy self.old self.new) }
+        ensures told { HasTold self.old self.new result }
     {
         let reply = self.connection.receive()?;
         self.take(&reply)
@@ -309,10 +320,11 @@ impl<E: End, L: Listener> Pilot<E, L> {
     fn take(&mut self, reply: &Reply) -> Result<(), Trouble>
         requires front { FirstReads reply_at self.old.line.came (Ok reply.now) }
         requires message { IsWireReply reply.now }
-        ensures taken { HasTaken self.old self.new }
+        ensures taken { Takes self.old self.new result }
         ensures calm { OnOk result (IsCalm self.old.line self.new.line) }
         ensures lighter { OnOk result (weight (outstanding self.new.client.who self.new.client.events) < weight (outstanding self.old.client.who self.old.client.events)) }
         ensures why { IfErr result (StopsBy self.old self.new) }
+        ensures told { HasTold self.old self.new result }
     {
         self.client.asks_messages();
         let done = self.client.take(reply)?;
@@ -325,8 +337,9 @@ impl<E: End, L: Listener> Pilot<E, L> {
     /// Reports results, where there are any.
     fn answer(&mut self, done: Option<Request>) -> Result<(), Trouble>
         requires { IsGoodShape self.old.client.who.shape → IfSome done IsWireRequest }
-        ensures taken { HasTaken self.old self.new }
+        ensures taken { Takes (posting self.old (option_to_list done)) self.new result }
         ensures client { self.new.client ≡ self.old.client }
+        ensures told { self.new.told ≡ self.old.told }
         ensures calm { OnOk result (IsCalm self.old.line self.new.line) }
         ensures why { IfErr result (StopsBy self.old self.new) }
     {
@@ -341,15 +354,12 @@ impl<E: End, L: Listener> Pilot<E, L> {
 
     /// Calls the listener for what changed.
     fn tell(&mut self) -> Result<(), Trouble>
-        ensures same { self.new ≡ self.old }
+        ensures same { self.new ≡ record self.old { told = self.new.told } }
+        ensures some { HearsSome self.old.client.who self.old.client.events self.old.told self.new.told }
+        ensures all { OnOk result (IsUpToDate self.old.client.who self.old.client.events self.new.told) }
         ensures memory { IfErr result (λ trouble. trouble ≡ troubles.Memory) }
     {
-        tell_all(
-            self.alloc,
-            &self.client,
-            self.seen.as_mut_slice(),
-            &mut self.listener,
-        )?;
+        self.audience.tell(&self.client)?;
         Ok(())
     }
 }

@@ -1,7 +1,8 @@
 //! What pilots do, row by row: what comes over each end, what is done, what is answered, and what the listener is told.
 use crate::frames::{
-    BYE, DROPPED, IDLE, MALFORMED, NOTED, REFUSED, RELAY, RELAY_BEHIND_ANOTHER, RELAY_OF_FOURTH,
-    SEEN, TOO_LONG, WELCOME, WELCOME_OF_FOUR,
+    BYE, DENIED, DROPPED, DROPPED_ANOTHER, IDLE, MALFORMED, NOTED, REFUSED, RELAY,
+    RELAY_BEHIND_ANOTHER, RELAY_OF_FOURTH, RELAY_OF_TEN, SEEN, SETTLED, TOO_LONG, WELCOME,
+    WELCOME_AFTER, WELCOME_OF_FOUR,
 };
 use crate::notes::Notes;
 use std::alloc::Global;
@@ -18,6 +19,9 @@ const ADD: &str = "reads 0 writes 0 { set @0.0 (@0.0 + 1); }";
 
 /// An action that names the fourth number of its object.
 const FOURTH: &str = "reads 0 writes 0 { set @0.3 (@0.3 + 1); }";
+
+/// An action that sets what the object is at first.
+const TEN: &str = "reads 0 writes 0 { set @0.0 10; }";
 
 /// What is done.
 #[derive(Clone, Copy)]
@@ -241,6 +245,52 @@ const PLAYS: &[Row<'static>] = &[
         ],
         told: " 0=10 0=11 0=21",
     },
+    // The same, where the action was done before the connection ended: nothing is told twice.
+    Row {
+        attrs: 1,
+        failing: 0,
+        room: 9,
+        frames: &[WELCOME],
+        calls: &[
+            (Call::Join, None),
+            (Call::Act(ADD), Some(Trouble::Link)),
+            (Call::Over(&[WELCOME_AFTER, SETTLED]), None),
+            (Call::Join, None),
+        ],
+        told: " 0=10 0=11",
+    },
+    // The same, where it was dropped.
+    Row {
+        attrs: 1,
+        failing: 0,
+        room: 9,
+        frames: &[WELCOME],
+        calls: &[
+            (Call::Join, None),
+            (Call::Act(ADD), Some(Trouble::Link)),
+            (Call::Over(&[WELCOME, DROPPED]), None),
+            (Call::Join, None),
+        ],
+        told: " 0=10 0=11 0=10",
+    },
+    // What an action leaves as it was is not told again.
+    Row {
+        attrs: 1,
+        failing: 0,
+        room: 9,
+        frames: &[WELCOME, RELAY_OF_TEN, NOTED],
+        calls: &[(Call::Join, None), (Call::Act(TEN), None)],
+        told: " 0=10",
+    },
+    // A guess is taken back where its action is denied.
+    Row {
+        attrs: 1,
+        failing: 0,
+        room: 9,
+        frames: &[WELCOME, DENIED],
+        calls: &[(Call::Join, None), (Call::Act(ADD), None)],
+        told: " 0=10 0=11 0=10",
+    },
     // What an action on the fourth number of an object changes is reported.
     Row {
         attrs: 4,
@@ -323,6 +373,50 @@ const TROUBLES: &[Row<'static>] = &[
         frames: &[WELCOME, BYE],
         calls: &[(Call::Join, None), (Call::Poll, Some(Trouble::Reply))],
         told: " 0=10",
+    },
+    // A Submit can't be written. What was expected of it was told before.
+    Row {
+        attrs: 1,
+        failing: 3,
+        room: 9,
+        frames: &[WELCOME],
+        calls: &[(Call::Join, None), (Call::Act(ADD), Some(Trouble::Link))],
+        told: " 0=10 0=11",
+    },
+    // What comes for an action is of another one.
+    Row {
+        attrs: 1,
+        failing: 0,
+        room: 9,
+        frames: &[WELCOME, DROPPED_ANOTHER],
+        calls: &[(Call::Join, None), (Call::Act(ADD), Some(Trouble::Reply))],
+        told: " 0=10 0=11",
+    },
+    // What is no message stays in front, until there is another end.
+    Row {
+        attrs: 1,
+        failing: 0,
+        room: 9,
+        frames: &[MALFORMED],
+        calls: &[
+            (Call::Join, Some(Trouble::Reply)),
+            (Call::Poll, Some(Trouble::Reply)),
+            (Call::Over(&[WELCOME]), None),
+            (Call::Join, None),
+        ],
+        told: " 0=10",
+    },
+    // A session may not be left while a reply is due.
+    Row {
+        attrs: 1,
+        failing: 0,
+        room: 9,
+        frames: &[],
+        calls: &[
+            (Call::Join, Some(Trouble::Link)),
+            (Call::Leave, Some(Trouble::Game)),
+        ],
+        told: "",
     },
     // The value of an object of another world.
     Row {

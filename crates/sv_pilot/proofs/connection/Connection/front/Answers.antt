@@ -11,7 +11,7 @@ returns-in-Frame g c =
     subst (λ (l : Line). IsFrontOf l.came (Some c.reply_of.result)) c.self.view_is (front_by c.self.inside.reader c.in-Frame.payload.now c.reply_of.result c.in-Frame.ensures.answer c.reply_of.ensures)
 
 pub returns-in-NotYet : goal.returns-in-NotYet
-returns-in-NotYet g c = subst (λ (l : Line). IsFrontOf l.came None) c.self.view_is c.in-NotYet.ensures.room
+returns-in-NotYet g c = subst (λ (l : Line). IsFrontOf l.came None) c.self.view_is (c.in-NotYet.ensures.room, c.in-NotYet.ensures.answer)
 
 pub returns-in-TooLong : goal.returns-in-TooLong
 returns-in-TooLong g c =

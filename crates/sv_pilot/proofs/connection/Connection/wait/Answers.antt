@@ -12,7 +12,7 @@ pub returns-in-Some-clause-received : goal.returns-in-Some-clause-received
 returns-in-Some-clause-received g c = received_by c.args.self.now c.loop-reply.self c.in-Some.reply c.loop-reply.invariant.calm c.in-Some.ensures
 
 pub returns-in_err-read-clause-read : goal.returns-in_err-read-clause-read
-returns-in_err-read-clause-read g c = read_more c.args.self.now c.loop-reply.self c.read.new.self c.loop-reply.invariant.read c.read.ensures.read
+returns-in_err-read-clause-read g c = read_more c.args.self.now c.loop-reply.self c.read.new.self c.read.new.self.waits c.loop-reply.invariant.read c.read.ensures.read
 
 pub returns-in_err-read-clause-received : goal.returns-in_err-read-clause-received
 returns-in_err-read-clause-received g c =
@@ -21,6 +21,6 @@ returns-in_err-read-clause-received g c =
 
 pub loop-reply-preserved : goal.loop-reply-preserved
 loop-reply-preserved g c = record {
-  read = read_more c.args.self.now c.loop-reply.self c.read.new.self c.loop-reply.invariant.read c.read.ensures.read;
+  read = read_more c.args.self.now c.loop-reply.self c.read.new.self c.read.new.self.waits c.loop-reply.invariant.read c.read.ensures.read;
   calm = calm_more c.args.self.now c.loop-reply.self c.read.new.self c.loop-reply.invariant.calm c.in_ok-read.ensures.answer.0;
 }

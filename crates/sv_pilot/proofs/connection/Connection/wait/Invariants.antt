@@ -6,7 +6,7 @@ use Rattle.sv_pilot.proofs.connection.Connection.wait.Given as goal
 
 abbrev pub invariant-loop-reply : goal.invariant-loop-reply
 invariant-loop-reply g l = record {
-  read : HasRead l.fn.self l.self;
+  read : HasRead l.fn.self l.self l.self.waits;
   calm : IsCalm l.fn.self l.self;
 }
 

@@ -28,7 +28,7 @@ returns-clause-made g c =
 
 pub returns-clause-stopped : goal.returns-clause-stopped
 returns-clause-stopped g c =
-    weaken_err _ _ c.make.result (λ trouble p. stopped_text c.args.text.now c.args.self.now c.make.new.self c.in_ok-action.action trouble c.in_ok-action.ensures.text p) c.make.ensures.stopped
+    weaken_err _ _ c.make.result (λ trouble p. stopped_text c.args.text.now c.args.self.now c.make.new.self c.in_ok-action.action trouble c.in_ok-action.ensures.short c.in_ok-action.ensures.text p) c.make.ensures.stopped
 
 pub returns-clause-refused : goal.returns-clause-refused
 returns-clause-refused g c =
