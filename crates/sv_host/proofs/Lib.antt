@@ -9,5 +9,3 @@ pub mod Top2
 pub mod Loop1
 pub mod Written
 pub mod Boxes
-pub mod Through
-pub mod Staff

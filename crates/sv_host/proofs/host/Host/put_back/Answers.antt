@@ -1,0 +1,10 @@
+-- It is put back.
+use Rattle.sv_host.proofs.Loop1.{put_as}
+use Rattle.sv_host.proofs.Written.{written_in}
+use Rattle.sv_host.proofs.host.Host.put_back.Goals as goal
+
+pub returns-clause-served : goal.returns-clause-served
+returns-clause-served g c = put_as c.args.number c.args.self.now.room.guests c.args.guest _ c.put_back.ensures.guests c.requires.taken
+
+pub returns-clause-written : goal.returns-clause-written
+returns-clause-written g c told = written_in c.args.number c.args.self.now.room.guests _ c.args.guest c.put_back.ensures.guests
