@@ -1,24 +1,21 @@
 -- What the steward's calls add.
-use Rattle.std.proofs.Common.{◌≡◌, ◌≢◌, ◌⊎◌, inl, inr, ℕ, Bool, true, false, ◌||◌, List, map, Option, Some, None, refl, sym, ap, ◌∙◌, subst, eq-eqb}
-use Rattle.sv_wire.specs.declared.message.Item.{Item}
+use Rattle.std.proofs.Common.{◌≡◌, ◌≢◌, ◌⊎◌, inl, inr, ℕ, Bool, true, false, ◌||◌, List, Option, Some, None, refl, sym, ap, ◌∙◌, subst, eq-eqb}
 use Rattle.sv_wire.specs.declared.message.Request.{Request}
 use Rattle.sv_wire.specs.declared.message.Request.TheVariants as requests
 use Rattle.sv_wire.specs.declared.message.Reply.{Reply}
 use Rattle.sv_journal.specs.declared.entry.Entry.{Entry}
 use Rattle.sv_journal.specs.History.{accepted}
 use Rattle.sv_journal.specs.Living.{living}
-use Rattle.sv_journal.specs.Sessions.{positions_in}
 use Rattle.sv_sequencer.specs.Rows.{has_entry}
-use Rattle.sv_living.specs.World.{WorldView, after, reply_in}
+use Rattle.sv_living.specs.World.{WorldView, after}
 use Rattle.sv_client.specs.Kinds.{asks_for_done}
-use Rattle.sv_client.specs.Taking.{items_of}
 use Rattle.sv_office.specs.Admitting.{number_in, steward_number}
 use Rattle.sv_office.specs.Entering.{GoesOn, IsEntry, AsksIn, KeepsOwn, IsReport, IsReported, IsStewards, WasEntered, is_report}
 use Rattle.sv_office.specs.Offices.{HasBegun}
-use Rattle.sv_office.specs.Stewarding.{Reports, is_refused, reported_at}
+use Rattle.sv_office.specs.Stewarding.{IsDone, is_refused}
 use Rattle.sv_office.proofs.Adding.{goes_as, goes_then, entry_stays, asks_before}
 use Rattle.sv_office.proofs.Entered.{asks_entered}
-use Rattle.sv_office.proofs.Polling.{full_positions, polled_idle, polled_relay}
+use Rattle.sv_office.proofs.Polling.{polled_idle}
 
 one : {s t : ℕ} → Some s ≡ Some t → s ≡ t
 one e = cc
@@ -52,31 +49,26 @@ pub stewards_then : (v w x : WorldView) (mine mid : Option ℕ) → KeepsOwn v.h
     → GoesOn (IsStewards w.history mid) w x → GoesOn (IsStewards v.history mine) v x
 stewards_then v w x mine mid keeps none first next = goes_then first (goes_as (λ e is. (asks_before first.added keeps none e.session is.0, is.1)) next)
 
-pub report_entered : (v w : WorldView) (mine : Option ℕ) (s : ℕ) (request : Request) → mine ≡ Some s → is_report request ≡ true
-    → GoesOn (IsEntry s request) v w → GoesOn (IsReport mine) v w
-report_entered v w mine s request has report on =
-    goes_as (λ e is. (has ∙ ap (λ (t : ℕ). Some t) (sym is.0), ap is_report is.1 ∙ report)) on
+report_is : (request : Request) → (request ≡ requests.Poll) ⊎ IsDone request → is_report request ≡ true
+report_is request (inl poll) = ap is_report poll
+report_is request (inr (results, done)) = ap is_report done
 
-pub poll_entered : (v w : WorldView) (mine : Option ℕ) (s : ℕ) (request : Request) → mine ≡ Some s → request ≡ requests.Poll
+pub report_entered : (v w : WorldView) (mine : Option ℕ) (s : ℕ) (request : Request) → mine ≡ Some s → (request ≡ requests.Poll) ⊎ IsDone request
     → GoesOn (IsEntry s request) v w → GoesOn (IsReport mine) v w
-poll_entered v w mine s request has poll = report_entered v w mine s request has (ap is_report poll)
+report_entered v w mine s request has kind on =
+    goes_as (λ e is. (has ∙ ap (λ (t : ℕ). Some t) (sym is.0), ap is_report is.1 ∙ report_is request kind)) on
 
 pub reported_poll : (t : ℕ) (v w : WorldView) (request : Request) (reply : Reply) → request ≡ requests.Poll → WasEntered v w t request reply
     → asks_for_done reply ≡ false → is_refused reply ≡ false → IsReported t v.history w.history
 reported_poll t v w request reply poll entered nothing taken =
     subst (λ (x : WorldView). IsReported t v.history x.history) (sym entered.world) (IsReported.polled refl poll
-    (polled_idle (living v.stewardship) v.rules v.history t (accepted w.history) request reply poll entered.whole taken nothing))
+    (polled_idle (living v.stewardship) v.rules v.history t (accepted w.history) request reply poll entered.whole nothing taken))
 
-pub reported_done : (t : ℕ) (v w x : WorldView) (request done : Request) (reply : Reply) → request ≡ requests.Poll → WasEntered v w t request reply
-    → is_refused reply ≡ false → Reports reply done → x ≡ after w t done → IsReported t v.history x.history
-reported_done t v w x request done reply poll entered taken reports later =
+pub reported_done : (t : ℕ) (v w x : WorldView) (request done : Request) → request ≡ requests.Poll → w ≡ after v t request
+    → IsDone done → x ≡ after w t done → IsReported t v.history x.history
+reported_done t v w x request done poll world (results, is) later =
     subst (λ (y : WorldView). IsReported t v.history y.history) (sym later)
-    (subst (λ (y : WorldView). IsReported t v.history (after y t done).history) (sym entered.world)
-    (IsReported.reported reports.results refl poll
-    (polled_relay (living v.stewardship) v.rules v.history t (accepted w.history) request reply poll entered.whole taken reports.some) refl reports.done each))
-  where
-    each : reported_at reports.results ≡ positions_in (reply_in v t request)
-    each = reports.each ∙ ap (λ (r : Reply). map (λ (i : Item). i.pos) (items_of r)) entered.whole ∙ full_positions (accepted w.history) (reply_in v t request)
+    (subst (λ (y : WorldView). IsReported t v.history (after y t done).history) (sym world) (IsReported.reported results refl poll refl is))
 
 -- The steward's reports, in one call after the other.
 pub of_more : {v w x : WorldView} {mine later : Option ℕ} → later ≡ mine → GoesOn (IsReport mine) v w → GoesOn (IsReport later) w x → GoesOn (IsReport mine) v x

@@ -5,7 +5,7 @@ ghost use Rattle.sv_living.specs.World.{after};
 ghost use Rattle.sv_wire.specs.declared.message.Request.TheVariants as requests;
 ghost use Rattle.sv_office.specs.Admitting.{steward_number};
 ghost use Rattle.sv_office.specs.Entering.{KeepsOwn, GoesOn, IsEntry, IsReport, IsReported, IsStewards};
-ghost use Rattle.sv_office.specs.Stewarding.{Reports, is_refused};
+ghost use Rattle.sv_office.specs.Stewarding.{IsDone, is_refused};
 
 use crate::entering::{asking_session, enter};
 use crate::halt::Halt;
@@ -69,7 +69,7 @@ impl Steward {
     // Takes a reply. What it asks then is a Done, where there is something to report.
     fn take(&mut self, reply: &Reply) -> Result<Option<Request>, Halt>
         ensures session { self.new.session ≡ self.old.session }
-        ensures done { IfOk result (λ done. IfSome done (Reports reply.now)) }
+        ensures done { IfOk result (λ done. IfSome done IsDone) }
         ensures none { IfOk result (λ done. IfNone done (asks_for_done reply.now ≡ false)) }
         ensures taken { OnOk result (is_refused reply.now ≡ false) }
     {
