@@ -1,6 +1,6 @@
 -- Texts that may be what `serve` prints. Entries stand in order here, a history has the latest first.
-use Rattle.std.proofs.Common.{◌≡◌, ◌⊎◌, inl, inr, ℕ, ◌+◌, ◌^◌, ◌<◌, ◌≤◌, Bool, true, false, true≢false, List, [], ◌∷◌, ◌++◌, length, length-append, reverse, get_or, refl, sym, ap, subst, ◌∙◌, arith, decimal, append_assoc, append-nil}
-use Rattle.std.specs.Prelude.{codes}
+use Rattle.std.proofs.Common.{◌≡◌, ◌⊎◌, inl, inr, ℕ, ◌+◌, ◌^◌, ◌<◌, ◌≤◌, Bool, true, false, true≢false, List, [], ◌∷◌, ◌++◌, length, length-append, reverse, get_or, Result, Ok, Err, refl, sym, ap, subst, ◌∙◌, arith, decimal, append_assoc, append-nil}
+use Rattle.std.specs.Prelude.{codes, IfOk}
 use Rattle.std.specs.List.{flat_map}
 use Rattle.std.proofs.lemmas.List.{nil_from_length, length-reverse, reverse-reverse}
 use Rattle.sv_world.specs.declared.world.Shape.{Shape}
@@ -19,14 +19,16 @@ use Rattle.sv_system.specs.Records.{rules_of}
 use Rattle.sv_asked.specs.Asked.{RequestsAreMessages, AcceptedAreFew}
 use Rattle.sv_asked.specs.Numbers.{ScenarioFits}
 use Rattle.sv_report.specs.Report.{trace_text}
+use Rattle.sv_lines.specs.declared.stop.LineStop.{LineStop}
+use Rattle.sv_lines.specs.declared.stop.LineStop.TheVariants as stop
 use Rattle.sv_check.specs.declared.journal.Served.{Served}
 use Rattle.sv_check.specs.Consistent.{IsReport}
 use Rattle.sv_check.specs.Either.{IsRight, IsPart}
 use Rattle.sv_check.specs.Entering.{lines_of}
-use Rattle.sv_check.specs.Hosted.{IsHosted, IsHostedPlayed, begins_commit, commit_line, hosted_text}
+use Rattle.sv_check.specs.Hosted.{IsHosted, IsHostedOf, IsHostedPlayed, begins_commit, commit_line, hosted_text}
 use Rattle.sv_check.specs.Parts.{AreEntries, IsWholeJournal, IsReportPart, IsClientPart, IsWorldPart}
 use Rattle.sv_check.specs.Serving.{IsServed, entries_of}
-use Rattle.sv_check.specs.Stopping.{IsStop, IsTextStop, IsJournalStop, NoWholeJournal}
+use Rattle.sv_check.specs.Stopping.{IsStop, IsTextStop, IsJournalStop, IfWrong}
 use Rattle.sv_check.proofs.JournalParts.{headed, headed_long, in_lines, clients_behind, clients_split, world_behind, world_split}
 use Rattle.sv_check.proofs.Journals.{journals_tell, lines_long}
 use Rattle.sv_check.proofs.Reports.{report_full}
@@ -248,6 +250,55 @@ module _ (stay : FullRepliesStay) (names : LegalRelaysNameAccepted) (order : Ste
         };
         none = λ p. not_right p (λ e. some (no_longer rest (sym is ∙ e)));
       }
+
+-- ---- The line of the commit, as it is printed
+
+module _ (stay : FullRepliesStay) (names : LegalRelaysNameAccepted) (order : StepsAreDoneInOrder) (few : AcceptedAreFew) (messages : RequestsAreMessages)
+    (scenario : Scenario) (played : Played) (text last line : List ℕ) (good : IsGoodScenario scenario) (numbers : ScenarioFits scenario) (p : IsHostedPlayed scenario played)
+    (short : length text < 2 ^ 32) (text_is : text ≡ journal_text scenario.world.shape played.journal.entries ++ last) (begins : begins_commit last ≡ true)
+    (line_is : line ≡ commit_line played.commit) where
+  abbrev C : List ℕ
+  C = commit_line (commit_of (reverse played.journal.entries))
+
+  same : line ≡ C
+  same = line_is ∙ ap commit_line p.commit
+
+  next_is : (rest : List ℕ) → last ≡ line ++ rest → last ≡ C ++ rest
+  next_is rest e = e ∙ ap (λ (l : List ℕ). l ++ rest) same
+
+  -- Another line than that of the commit is the first wrong one.
+  pub stop_at_commit : ((rest : List ℕ) → last ≡ line ++ rest → ⊥) → IsTextStop scenario text (length last)
+  stop_at_commit other =
+      stop_commit stay names order few messages scenario good numbers played.journal.entries p.journal text last text_is short begins
+      (λ rest e. other rest (e ∙ ap (λ (l : List ℕ). l ++ rest) (sym same)))
+
+  -- A line behind it is the first wrong one.
+  pub stop_past_commit : (rest : List ℕ) → last ≡ line ++ rest → 0 < length rest → IsTextStop scenario text (length rest)
+  stop_past_commit rest e some =
+      stop_behind_commit stay names order few messages scenario good numbers played.journal.entries p.journal text last text_is short begins rest (next_is rest e)
+      (λ none. let size : length rest ≡ 0 = ap length none in omega (arith, some, size))
+
+  -- Where nothing is left, the text is what `serve` prints.
+  pub hosted_of : (rest : List ℕ) → last ≡ line ++ rest → length rest ≡ 0 → IsHostedOf scenario text played
+  hosted_of rest e none = record {
+    played_is = p;
+    text_is = hosted_whole stay names order few messages scenario good numbers played.journal.entries p.journal text last text_is short begins rest (next_is rest e) (nil_from_length rest none);
+  }
+
+-- ---- Answers that are passed on
+
+-- What holds of a right answer.
+pub ok_as : {A E : Type 0} (r : Result A E) (P Q : A → Type 0) → ((x : A) → P x → Q x) → IfOk r P → IfOk r Q
+ok_as (Ok x) P Q f p = f x p
+ok_as (Err e) P Q f p = tt
+
+pub wrong_as : {A : Type 0} (r : Result A LineStop) (P Q : ℕ → Type 0) → ((left : ℕ) → P left → Q left) → IfWrong r P → IfWrong r Q
+wrong_as (Ok x) P Q f p = tt
+wrong_as (Err (stop.Wrong left)) P Q f p = f left p
+wrong_as (Err stop.Memory) P Q f p = tt
+
+pub wrong_line : {A : Type 0} (e : LineStop) (n : ℕ) (P : ℕ → Type 0) → e ≡ stop.Wrong n → P n → IfWrong {A = A} (Err e) P
+wrong_line {A} e n P is p = subst (λ (x : LineStop). IfWrong {A = A} (Err x) P) (sym is) p
 
 -- ---- What is left of the server
 

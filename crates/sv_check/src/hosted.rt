@@ -11,6 +11,7 @@ ghost use Rattle.sv_check.specs.Stopping.{IsTextStop, IfWrong};
 use crate::journal::Served;
 use crate::runs::laws_of_runs;
 use std::alloc::{AllocError, Global};
+use sv_asked::read_scenario_numbers;
 use sv_lines::{LineStop, take_line};
 use sv_replay::played_of;
 use sv_scenario::Scenario;
@@ -61,7 +62,8 @@ fn take_commit(
     ensures wrong { IfWrong result (IsTextStop scenario.now text.now) }
 {
     laws_of_runs();
-    let _ = (scenario, text);
+    read_scenario_numbers(scenario);
+    let _ = text;
     let line = commit_line(alloc, played.commit)?;
     let rest = take_line(last, line.as_bytes())?;
     if rest.is_empty() {
