@@ -1,5 +1,5 @@
 //! The world at the end of a journal.
-ghost use Rattle.std.specs.Prelude.{◌≡◌, ◌^◌, ◌<◌, length, reverse, IfOk};
+ghost use Rattle.std.specs.Prelude.{◌≡◌, length, reverse, IfOk};
 ghost use Rattle.sv_journal.specs.History.{accepted, actions_of};
 ghost use Rattle.sv_why.specs.Reasons.{end_world};
 
@@ -29,6 +29,17 @@ fn world_by(
     Ok(world)
 }
 
+/// The position of the last accepted action, which is how many there are.
+fn last_position(journal: &Journal) -> Result<u32, AllocError>
+    ensures { IfOk result (λ last. last ≡ length (accepted (reverse journal.now.entries))) }
+{
+    let count = journal.accepted_count();
+    if count > u32::MAX as usize {
+        return Err(AllocError);
+    }
+    Ok(count as u32)
+}
+
 /// The world that all accepted actions of what was played give, executed in order from the opening world, and the last position.
 ///
 /// It holds for every journal, legal or not. The time is in proportion to the journal, and the memory to the world. There is no memory for a
@@ -41,9 +52,7 @@ pub fn world_at_end(
     ensures last { IfOk result (λ r. r.0 ≡ length (accepted (reverse played.now.journal.entries))) }
     ensures world { IfOk result (λ r. r.1 ≡ end_world scenario.now.world.values (actions_of (reverse played.now.journal.entries))) }
 {
-    let Ok(last) = u32::try_from(played.journal.accepted_count()) else {
-        return Err(AllocError);
-    };
+    let last = last_position(&played.journal)?;
     let opening = scenario.world.values.as_slice();
     let world = world_by(alloc, opening, &played.journal, last)?;
     Ok((last, world))
