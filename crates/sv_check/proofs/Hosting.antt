@@ -297,8 +297,8 @@ wrong_as (Ok x) P Q f p = tt
 wrong_as (Err (stop.Wrong left)) P Q f p = f left p
 wrong_as (Err stop.Memory) P Q f p = tt
 
-pub wrong_line : {A : Type 0} (e : LineStop) (n : ℕ) (P : ℕ → Type 0) → e ≡ stop.Wrong n → P n → IfWrong {A = A} (Err e) P
-wrong_line {A} e n P is p = subst (λ (x : LineStop). IfWrong {A = A} (Err x) P) (sym is) p
+pub wrong_line : (A : Type 0) (e : LineStop) (n : ℕ) (P : ℕ → Type 0) → e ≡ stop.Wrong n → P n → IfWrong {A = A} (Err e) P
+wrong_line A e n P is p = subst (λ (x : LineStop). IfWrong {A = A} (Err x) P) (sym is) p
 
 -- ---- What is left of the server
 

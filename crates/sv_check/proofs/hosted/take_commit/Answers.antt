@@ -13,7 +13,7 @@ returns-in_err-line-clause-wrong c = wrong_by c.from_residual.result stop.Memory
 pub returns-in_err-rest-clause-wrong : goal.returns-in_err-rest-clause-wrong
 returns-in_err-rest-clause-wrong c =
     wrong_by c.from_residual-in_err-rest.result c.in_err-rest.field-0.0 c.from_residual-in_err-rest.ensures.1 (IsTextStop c.args.scenario.now c.args.text.now)
-    (wrong_line {A = Unit {0}} c.in_err-rest.field-0.0 (length c.args.last.now) (IsTextStop c.args.scenario.now c.args.text.now) c.in_err-rest.ensures.wrong
+    (wrong_line (Unit {0}) c.in_err-rest.field-0.0 (length c.args.last.now) (IsTextStop c.args.scenario.now c.args.text.now) c.in_err-rest.ensures.wrong
     (stop_at_commit c.laws_of_runs.ensures.stay c.laws_of_runs.ensures.named c.laws_of_runs.ensures.steps c.laws_of_runs.ensures.few c.laws_of_runs.ensures.messages
     c.args.scenario.now c.args.played.now c.args.text.now c.args.last.now c.as_bytes.result.now c.requires.good c.read_scenario_numbers.ensures c.requires.hosted c.requires.short c.requires.last c.requires.begins
     (search rules) c.in_err-rest.ensures.differs))
