@@ -1,5 +1,5 @@
 -- How a call ends, and what each status says. `held` is what the scenario's file holds and `told` what the report's does, where that is told.
-use Rattle.std.specs.Prelude.{◌≡◌, ◌≢◌, ◌⊎◌, ℕ, ◌<◌, List, [], ◌++◌, length, take, Option, Some, None, codes, unwrap_or, Result, Ok, Err, string_bytes, IfSome}
+use Rattle.std.specs.Prelude.{◌≡◌, ◌≢◌, ◌⊎◌, ℕ, ◌<◌, List, [], ◌++◌, length, take, Option, codes, unwrap_or, Result, Ok, Err, string_bytes, IfSome}
 use Rattle.std.specs.Fmt.{decimal}
 use Rattle.sv_bytes.specs.Writing.{GrewOrRose}
 use Rattle.sv_command.specs.declared.ending.Ending.TheVariants as plain

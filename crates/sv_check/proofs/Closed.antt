@@ -1,7 +1,6 @@
 -- Parts are closed: without its last line a part of a report is one, and so is a part of any kind.
 use Rattle.std.proofs.Common.{◌≡◌, ◌⊎◌, inl, inr, ℕ, ◌^◌, ◌<◌, List, [], ◌∷◌, ◌++◌, length, reverse, refl, sym, ap, ◌∙◌, arith, decimal, append_assoc}
 use Rattle.std.specs.Prelude.{codes}
-use Rattle.std.proofs.lemmas.List.{length-reverse, reverse-reverse}
 use Rattle.sv_journal.specs.History.{commit_of}
 use Rattle.sv_journal.specs.Text.{journal_text}
 use Rattle.sv_journal.specs.Laws.{FullRepliesStay, LegalRelaysNameAccepted}

@@ -1,5 +1,5 @@
 -- Texts that may be what `serve` prints. Entries stand in order here, a history has the latest first.
-use Rattle.std.proofs.Common.{◌≡◌, ◌⊎◌, inl, inr, ℕ, ◌+◌, ◌^◌, ◌<◌, ◌≤◌, Bool, true, false, true≢false, List, [], ◌∷◌, ◌++◌, length, length-append, reverse, get_or, Result, Ok, Err, refl, sym, ap, subst, ◌∙◌, arith, decimal, append_assoc, append-nil}
+use Rattle.std.proofs.Common.{◌≡◌, inl, inr, ℕ, ◌+◌, ◌^◌, ◌<◌, ◌≤◌, Bool, true, false, true≢false, List, [], ◌∷◌, ◌++◌, length, length-append, reverse, get_or, Result, Ok, Err, refl, sym, ap, subst, ◌∙◌, arith, append_assoc, append-nil}
 use Rattle.std.specs.Prelude.{codes, IfOk}
 use Rattle.std.specs.List.{flat_map}
 use Rattle.std.proofs.lemmas.List.{nil_from_length, length-reverse, reverse-reverse}
@@ -27,7 +27,7 @@ use Rattle.sv_check.specs.Either.{IsRight, IsPart}
 use Rattle.sv_check.specs.Entering.{lines_of}
 use Rattle.sv_check.specs.Hosted.{IsHosted, IsHostedOf, IsHostedPlayed, begins_commit, commit_line, hosted_text}
 use Rattle.sv_check.specs.Parts.{AreEntries, IsWholeJournal, IsReportPart, IsClientPart, IsWorldPart}
-use Rattle.sv_check.specs.Serving.{IsServed, entries_of}
+use Rattle.sv_check.specs.Serving.{IsServed}
 use Rattle.sv_check.specs.Stopping.{IsStop, IsTextStop, IsJournalStop, IfWrong}
 use Rattle.sv_check.proofs.JournalParts.{headed, headed_long, in_lines, clients_behind, clients_split, world_behind, world_split}
 use Rattle.sv_check.proofs.Journals.{journals_tell, lines_long}

@@ -1,5 +1,5 @@
 -- What is proved by hand of `take_commit`.
-use Rattle.std.proofs.Common.{rules, arith, length, ◌∙◌}
+use Rattle.std.proofs.Common.{rules, arith, length}
 use Rattle.std.proofs.lemmas.Bool.Decides.{nat_tests}
 use Rattle.sv_lines.specs.declared.stop.LineStop.TheVariants as stop
 use Rattle.sv_check.specs.Stopping.{IsTextStop}

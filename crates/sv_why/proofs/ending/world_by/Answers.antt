@@ -1,5 +1,5 @@
 -- What is proved by hand of `world_by`.
-use Rattle.std.proofs.Common.{◌≡◌, ◌+◌, suc, ℕ, ℤ, List, ap, ap₂, sym, ◌∙◌, arith, length, reverse}
+use Rattle.std.proofs.Common.{◌≡◌, ◌+◌, suc, ℤ, List, ap, ap₂, sym, ◌∙◌, arith, length, reverse}
 use Rattle.std.proofs.lemmas.List.{length-map}
 use Rattle.sv_world.specs.declared.action.Action.{Action}
 use Rattle.sv_eval.specs.Serial.{world_after, serial_world}
