@@ -49,7 +49,7 @@ class Compared(Count):
         try:
             call()
         except Fault as fault:
-            self.same(str(fault), text, name)
+            self.same(fault.text, text, name)
         else:
             self.expect(False, f"{name}: it is not refused as {text}")
 
