@@ -614,7 +614,10 @@ const NUMBER_ASKED = { kind: "submit", number: 0, action: new Action([0], 0, [0,
 export class Client {
     constructor({ connect, key = null, onChange = () => {}, onStatus = () => {}, pause = 100, wait = 25_000,
         retry = {}, requests = 1024, patience = Infinity, ...world }) {
-        if (key && !(key.length >= 16 && key.length <= 64)) throw new TypeError("a key has 16 to 64 bytes");
+        if (key !== null && !(key instanceof Uint8Array)) {
+            throw new TypeError(`key: bytes belong there, as new TextEncoder().encode(".."), and no ${typeof key}`);
+        }
+        if (key && !(key.length >= 16 && key.length <= 64)) throw new TypeError("key: 16 to 64 bytes belong there");
         const knowledge = new Knowledge(world), seen = new Map(knowledge.interest.map(object => [object, null]));
         Object.assign(this, { knowledge, seen, connect, key, onChange, onStatus, pause, wait, requests, patience,
             retry: { first: 200, longest: 10_000, tries: Infinity, ...retry }, status: "new", knows: false, isLeaving: false,

@@ -7,7 +7,12 @@
 import { Client, action, obj, when } from "./dimboetu.js";
 import { nodeLink } from "./node-link.js";
 
-const [me, port] = process.argv.slice(2).map(Number);
+const given = process.argv.slice(2);
+if (given.length !== 2 || !/^[01]$/.test(given[0]) || !/^[1-9][0-9]{0,4}$/.test(given[1]) || given[1] > 65_535) {
+    console.error("words: PLAYER PORT, and PLAYER is 0 or 1");
+    process.exit(1);
+}
+const [me, port] = given.map(Number);
 const left = obj(0).attr(0), turn = obj(0).attr(1), purse = obj(me + 1);
 
 /** The rule: it checks for itself that it is the digger's turn, and that so many nuggets are there. */

@@ -40,7 +40,7 @@ NODE_OF_BYTE = {byte: kind for kind, (byte, _) in NODES.items()}
 REPLIES = {
     0x81: ("welcome", ("commit", "head")), 0x89: ("relay", ("number", "commit", "head", "items")),
     0x8a: ("dropped", ("number", "chain", "far")), 0x8b: ("seen", ("last", "commit", "head", "items")),
-    0x8c: ("denied", ("number", "target")), 0x84: ("settled", ("number", "position")),
+    0x8c: ("denied", ("number", "object")), 0x84: ("settled", ("number", "position")),
     0x85: ("noted", ("commit",)), 0x86: ("idle", ()), 0x87: ("refused", ("code", "detail")), 0x88: ("bye", ())}
 REFUSALS = ("malformed", "not joined", "already joined", "over", "wrong sequence", "bad action", "bad results", "bad interest",
             "too many requests", "no such client", "old life", "full")
@@ -58,8 +58,11 @@ class Fault(Exception):
 
     def __init__(self, text, **more):
         super().__init__(text)
-        self.word = text.split(" ")[0]
+        self.word, self.text = text.split(" ")[0], text
         self.__dict__.update(more)
+
+    def __str__(self):
+        return self.text + (f": refused {self.code} {self.detail}, {self.name}" if self.code else "")
 
 
 class Term:
@@ -407,7 +410,7 @@ class Payload:
                 (LARGE, lambda _: self.nodes < 64), (DEEP, lambda _: above < 8))]
             self.nodes += 1
             return (kind, *[self.field(inner, above + 1) for inner in NODES[kind][1]])
-        return self.take(*{"byte": "B", "wide": "q", "target": "H",
+        return self.take(*{"byte": "B", "wide": "q", "object": "H",
                            "code": ("B", (CODE, lambda code: 1 <= code <= 12))}.get(field, "I"))
 
     def action(self):
@@ -425,6 +428,8 @@ class Payload:
         reply.update((field, self.field(field)) for field in fields)
         if self.at < len(self.data):
             raise Fault(f"malformed {self.at} {REST}")
+        if kind == "denied":
+            reply["target"] = reply["object"]   # its older name
         return SimpleNamespace(**reply)
 
 
@@ -449,8 +454,10 @@ class Client:
     def __init__(self, number, objects, attributes, interest=(), on_change=lambda target, old, new: None, connect=None, *,
                  on_reply=lambda reply: None, on_status=lambda status, fault: None, retry=(0.2, 10, math.inf), key=None,
                  pause=0.1, wait=25, patience=math.inf):
+        if key is not None and not isinstance(key, (bytes, bytearray)):
+            raise TypeError(f"key: bytes belong there, as b\"..\", and no {type(key).__name__}")
         if key is not None and not 16 <= len(key) <= 64:
-            raise ValueError("a key has 16 to 64 bytes")
+            raise ValueError("key: 16 to 64 bytes belong there")
         self.number, self.shape, self.on_change, self.connect = number, (objects, attributes), on_change, connect
         self.on_reply, self.on_status, self.retry, self.key = on_reply, on_status, retry, key
         self.pause, self.wait, self.patience = pause, wait, patience

@@ -26,9 +26,8 @@ def connect(port, tries=100):
 
 
 def last_words(fault):
-    """What a program says that ends by this fault: also what the server refused, where it did so."""
-    refused = getattr(fault, "code", None)
-    return f"stopped: {fault}" + (f": refused {refused} {fault.detail}, {fault.name}" if refused else "")
+    """What a program says that ends by this fault."""
+    return f"stopped: {fault}"
 
 
 def play(path, number, port, count=6):

@@ -542,6 +542,7 @@ async function tryKeys() {
         const isWrong = isTypeError(() => clientOf({ key: new Uint8Array(length) }));
         count.same(isWrong, length !== 64, `a key of ${length} bytes`);
     }
+    for (const wrong of ["0123456789abcdef", "", [...key], 16]) count.expect(isTypeError(() => clientOf({ key: wrong })), `key ${wrong}`);
 }
 
 async function trySaving() {

@@ -16,7 +16,7 @@ use Rattle.sv_audit.specs.declared.ending.AuditEnding.{AuditEnding}
 use Rattle.sv_audit.specs.declared.ending.AuditEnding.TheVariants as endings
 use Rattle.sv_audit.specs.Judging.{IsReportFront, IsApproved, report_size, report_limit}
 use Rattle.sv_audit.specs.Statuses.{status_of, Raises, Ends, Leaves, IsPlaceOutside, audit_line, wrong_line, TellsStatus}
-use Rattle.sv_audit.specs.Words.{Asked, Asking, scenario_named}
+use Rattle.sv_audit.specs.Words.{Asked, Question, Right, World, Why, scenario_named}
 
 -- ---- Statuses
 
@@ -67,12 +67,12 @@ not_long P (Some all) bytes front short = λ long. absurd (few_taken all (rw fro
 
 -- ---- What is left, by the status
 
-module _ (held told : Option (List ℕ)) (place : Option Asking) (old new : Option (List ℕ)) where
+module _ (held told : Option (List ℕ)) (question : Question) (old new : Option (List ℕ)) where
   abbrev Long : ℕ → Type 0
   Long n = (n ≡ 3) ⊎ (n ≡ 4) ⊎ (n ≡ 8) ⊎ (n ≡ 9)
 
   -- An ending that tells of nothing but its own status, and of nothing that was judged.
-  early : (n : ℕ) → (n ≡ 0 → ⊥) → (n ≡ 5 → ⊥) → (n ≡ 9 → ⊥) → (n ≡ 10 → ⊥) → new ≡ old → Faulty n → Long n → Leaves held told place old new n
+  early : (n : ℕ) → (n ≡ 0 → ⊥) → (n ≡ 5 → ⊥) → (n ≡ 9 → ⊥) → (n ≡ 10 → ⊥) → new ≡ old → Faulty n → Long n → Leaves held told question old new n
   early n a b c d same faulty long = record {
     printed = λ s. absurd (a s);
     part = λ s. absurd (b s);
@@ -91,9 +91,10 @@ module _ (held told : Option (List ℕ)) (place : Option Asking) (old new : Opti
     judged_long : IfSome told (λ all. report_size < length all → Long n)
     judged_long = not_long (Long n) told approved.bytes approved.are_read.report_is approved.short
 
-  outside_is : (p : Option Asking) → IsPlaceOutside held told p → new ≡ old → Leaves held told p old new 10
-  outside_is None h same = absurd h
-  outside_is (Some asking) h same = record {
+  outside_is : (p : Question) → IsPlaceOutside held told p → new ≡ old → Leaves held told p old new 10
+  outside_is Right h same = absurd h
+  outside_is World h same = absurd h
+  outside_is (Why asking) h same = record {
     printed = λ s. absurd (omega arith);
     part = λ s. absurd (omega arith);
     nothing = λ z f. same;
@@ -103,7 +104,7 @@ module _ (held told : Option (List ℕ)) (place : Option Asking) (old new : Opti
     long = judged_long 10 h.scenario h.played h.approved;
   }
 
-  leaves_is : (e : AuditEnding) → Ends held told place old new e → Leaves held told place old new (status_of e)
+  leaves_is : (e : AuditEnding) → Ends held told question old new e → Leaves held told question old new (status_of e)
   leaves_is (endings.Plain plain.Done) h = record {
     printed = λ s. h;
     part = λ s. absurd (omega arith);
@@ -141,7 +142,7 @@ module _ (held told : Option (List ℕ)) (place : Option Asking) (old new : Opti
         faulty = read_is held (Faulty 9) w.scenario w.are_read.scenario_is;
         long = always (Long 9) (λ all. report_size < length all) told (inr (inr (inr refl)));
       }
-  leaves_is (endings.Plain plain.Range) h = outside_is place h.0 h.1
+  leaves_is (endings.Plain plain.Range) h = outside_is question h.0 h.1
   leaves_is (endings.Plain plain.Words) h = absurd h.0
   leaves_is (endings.Plain plain.Start) h = absurd h.0
   leaves_is (endings.Plain plain.Link) h = absurd h.0
@@ -149,7 +150,7 @@ module _ (held told : Option (List ℕ)) (place : Option Asking) (old new : Opti
   abbrev Range : ℕ → Type 0
   Range n = (n ≡ 0) ⊎ ((2 ≤ n) × (n ≤ 5)) ⊎ ((8 ≤ n) × (n ≤ 10))
 
-  range_of : (e : AuditEnding) → Ends held told place old new e → Range (status_of e)
+  range_of : (e : AuditEnding) → Ends held told question old new e → Range (status_of e)
   range_of (endings.Plain plain.Done) h = inl refl
   range_of (endings.Plain plain.Words) h = absurd h.0
   range_of (endings.Plain (plain.Scenario line)) h = inr (inl (omega arith, omega arith))
@@ -165,7 +166,7 @@ module _ (held told : Option (List ℕ)) (place : Option Asking) (old new : Opti
   abbrev Complete : ℕ → Type 0
   Complete n = (n ≡ 0) ⊎ ((8 ≤ n) × (n ≤ 10))
 
-  complete_of : (b a : Counts) (e : AuditEnding) → Ends held told place old new e → Raises b a e → HoldsScenario held → NoneRose b a → Complete (status_of e)
+  complete_of : (b a : Counts) (e : AuditEnding) → Ends held told question old new e → Raises b a e → HoldsScenario held → NoneRose b a → Complete (status_of e)
   complete_of b a (endings.Plain plain.Done) h r can none = inl refl
   complete_of b a (endings.Plain plain.Words) h r can none = absurd h.0
   complete_of b a (endings.Plain (plain.Scenario line)) h r can none = holds_none held (Complete 3) (string_bytes line) h.0 can
@@ -180,27 +181,27 @@ module _ (held told : Option (List ℕ)) (place : Option Asking) (old new : Opti
 
 -- What is left of a call, if something is asked for.
 abbrev AllEnds : (List ℕ → Option (List ℕ)) → (old new : Option (List ℕ)) → Option Asked → AuditEnding → Type 0
-AllEnds contents old new a e = IfSome a (λ (x : Asked). Ends (contents x.scenario) (contents x.report) x.place old new e)
+AllEnds contents old new a e = IfSome a (λ (x : Asked). Ends (contents x.scenario) (contents x.report) x.question old new e)
 
 module _ (contents : List ℕ → Option (List ℕ)) (old new : Option (List ℕ)) where
-  pub left_is : (a : Option Asked) (e : AuditEnding) → AllEnds contents old new a e → IfSome a (λ (x : Asked). Leaves (contents x.scenario) (contents x.report) x.place old new (status_of e))
+  pub left_is : (a : Option Asked) (e : AuditEnding) → AllEnds contents old new a e → IfSome a (λ (x : Asked). Leaves (contents x.scenario) (contents x.report) x.question old new (status_of e))
   left_is None e h = tt
-  left_is (Some x) e h = leaves_is (contents x.scenario) (contents x.report) x.place old new e h
+  left_is (Some x) e h = leaves_is (contents x.scenario) (contents x.report) x.question old new e h
 
   pub range_is : (a : Option Asked) (e : AuditEnding) → ((e ≡ endings.Plain plain.Words) ↔ (a ≡ None)) → AllEnds contents old new a e → (status_of e ≡ 0) ⊎ ((2 ≤ status_of e) × (status_of e ≤ 5)) ⊎ ((8 ≤ status_of e) × (status_of e ≤ 10))
   range_is None e w h =
       let two : status_of e ≡ 2 = ap status_of (w.1 refl) in
       inr (inl (omega (arith, two), omega (arith, two)))
-  range_is (Some x) e w h = range_of (contents x.scenario) (contents x.report) x.place old new e h
+  range_is (Some x) e w h = range_of (contents x.scenario) (contents x.report) x.question old new e h
 
   pub nothing_is : (a : Option Asked) (e : AuditEnding) → AllEnds contents old new a e → (a ≡ None → new ≡ old) → status_of e ≢ 0 → status_of e ≢ 5 → new ≡ old
   nothing_is None e h alone z f = alone refl
-  nothing_is (Some x) e h alone z f = (leaves_is (contents x.scenario) (contents x.report) x.place old new e h).nothing z f
+  nothing_is (Some x) e h alone z f = (leaves_is (contents x.scenario) (contents x.report) x.question old new e h).nothing z f
 
   pub complete_is : (b c : Counts) (a : Option Asked) (e : AuditEnding) → AllEnds contents old new a e → Raises b c e →
       IfSome a (λ (x : Asked). HoldsScenario (contents x.scenario) → NoneRose b c → (status_of e ≡ 0) ⊎ ((8 ≤ status_of e) × (status_of e ≤ 10)))
   complete_is b c None e h r = tt
-  complete_is b c (Some x) e h r = λ can none. complete_of (contents x.scenario) (contents x.report) x.place old new b c e h r can none
+  complete_is b c (Some x) e h r = λ can none. complete_of (contents x.scenario) (contents x.report) x.question old new b c e h r can none
 
 -- ---- The line
 
@@ -218,7 +219,7 @@ module _ (sure : List ℕ → Type 0) (contents : List ℕ → Option (List ℕ)
   }
 
   module _ (x : Asked) where
-    told_of : (e : AuditEnding) → Ends (contents x.scenario) (contents x.report) x.place old new e → (sure x.scenario → e ≢ endings.Plain plain.File) →
+    told_of : (e : AuditEnding) → Ends (contents x.scenario) (contents x.report) x.question old new e → (sure x.scenario → e ≢ endings.Plain plain.File) →
         (sure x.report → e ≢ endings.Report) → GrewOrRose t0 t1 n0 n1 (audit_line words_line (Some x) e) → TellsStatus sure contents words_line (Some x) (status_of e) t0 t1 n0 n1
     told_of (endings.Plain plain.Done) h p q t = told_plain (Some x) (endings.Plain plain.Done) (λ s. omega arith) (λ s. omega arith) (λ s. omega arith) refl t
     told_of (endings.Plain plain.Out) h p q t = told_plain (Some x) (endings.Plain plain.Out) (λ s. omega arith) (λ s. omega arith) (λ s. omega arith) refl t

@@ -1,5 +1,5 @@
 -- The text of an answer, or why there is none, from the parts of the call; and the counts of faults.
-use Rattle.std.proofs.Common.{◌≡◌, subst, ℕ, List, Option, Some, None}
+use Rattle.std.proofs.Common.{◌≡◌, subst, ℕ, List, Option}
 use Rattle.std.specs.Prelude.{IsErrAnd, IfErr, Result, Ok, Err, String}
 use Rattle.std.specs.declared.alloc.Global.{Global}
 use Rattle.sv_scenario.specs.declared.scenario.Scenario.{Scenario}
@@ -15,7 +15,7 @@ use Rattle.sv_audit.specs.declared.ending.AuditEnding.{AuditEnding}
 use Rattle.sv_audit.specs.declared.ending.AuditEnding.TheVariants as endings
 use Rattle.sv_audit.specs.Judging.{IsReportFront, AreRead, IsApproved, IsJudged, AnswersOrEnds, IsOverAt, IsText}
 use Rattle.sv_audit.specs.Statuses.{Raises, EndsEarly, AreUnread, ending_of}
-use Rattle.sv_audit.specs.Words.{Asking}
+use Rattle.sv_audit.specs.Words.{Question, Right, World, Why}
 
 -- ---- Answers that come by a `?`
 
@@ -27,8 +27,8 @@ unread_by r e by u = rw (came r (endings.Plain e) by) u
 
 -- ---- The answer
 
-module _ (held told : Option (List ℕ)) (place : Option Asking) where
-  pub unread_made : (e : AuditEnding) → AreUnread e → EndsEarly held told place e
+module _ (held told : Option (List ℕ)) (question : Question) where
+  pub unread_made : (e : AuditEnding) → AreUnread e → EndsEarly held told question e
   unread_made (endings.Plain plain.File) h = tt
   unread_made (endings.Plain plain.Memory) h = tt
   unread_made (endings.Plain plain.Done) h = absurd h
@@ -41,7 +41,7 @@ module _ (held told : Option (List ℕ)) (place : Option Asking) where
   unread_made (endings.Wrong line) h = absurd h
   unread_made (endings.Plain plain.Range) h = absurd h
 
-  pub refused_made : (bytes : List ℕ) (e : Ending) → IsFileFront held bytes → IsGiven bytes (Err e) → EndsEarly held told place (endings.Plain e)
+  pub refused_made : (bytes : List ℕ) (e : Ending) → IsFileFront held bytes → IsGiven bytes (Err e) → EndsEarly held told question (endings.Plain e)
   refused_made bytes (plain.Scenario line) front h = record { bytes = bytes; front = front; fault = h.fault; faulty = h.faulty; told = h.told }
   refused_made bytes plain.Memory front h = tt
   refused_made bytes plain.File front h = absurd h
@@ -56,7 +56,7 @@ module _ (held told : Option (List ℕ)) (place : Option Asking) where
     pub are_read : AreRead held told scenario bytes
     are_read = record { scenario_is = record { bytes = source; front = front; read = is }; report_is = report }
 
-    pub wrong_made : (e : AuditEnding) → IsJudged scenario bytes (Err e) → EndsEarly held told place e
+    pub wrong_made : (e : AuditEnding) → IsJudged scenario bytes (Err e) → EndsEarly held told question e
     wrong_made (endings.Wrong line) h = record { scenario = scenario; bytes = bytes; are_read = are_read; cause = h }
     wrong_made (endings.Plain plain.Memory) h = tt
     wrong_made (endings.Plain plain.File) h = absurd h
@@ -74,23 +74,24 @@ module _ (held told : Option (List ℕ)) (place : Option Asking) where
 
 -- The run was approved; it has no such place, or its answer is told.
 module _ (held told : Option (List ℕ)) (scenario : Scenario) (played : Played) (approved : IsApproved held told scenario played) where
-  over_made : (place : Option Asking) → IsOverAt scenario played place → EndsEarly held told place (endings.Plain plain.Range)
-  over_made None h = absurd h
-  over_made (Some asking) h = record { scenario = scenario; played = played; approved = approved; over = h }
+  over_made : (question : Question) → IsOverAt scenario played question → EndsEarly held told question (endings.Plain plain.Range)
+  over_made Right h = absurd h
+  over_made World h = absurd h
+  over_made (Why asking) h = record { scenario = scenario; played = played; approved = approved; over = h }
 
-  pub answer_made : (place : Option Asking) (r : Result (String Global) AuditEnding) → AnswersOrEnds scenario played place r → IsMade (IsText held told place) (EndsEarly held told place) r
-  answer_made place (Ok text) h = record { scenario = scenario; played = played; approved = approved; answer = h }
-  answer_made place (Err (endings.Plain plain.Range)) h = over_made place h
-  answer_made place (Err (endings.Plain plain.Memory)) h = tt
-  answer_made place (Err (endings.Plain plain.File)) h = absurd h
-  answer_made place (Err (endings.Plain plain.Done)) h = absurd h
-  answer_made place (Err (endings.Plain plain.Words)) h = absurd h
-  answer_made place (Err (endings.Plain (plain.Scenario line))) h = absurd h
-  answer_made place (Err (endings.Plain plain.Out)) h = absurd h
-  answer_made place (Err (endings.Plain plain.Link)) h = absurd h
-  answer_made place (Err (endings.Plain plain.Start)) h = absurd h
-  answer_made place (Err endings.Report) h = absurd h
-  answer_made place (Err (endings.Wrong line)) h = absurd h
+  pub answer_made : (question : Question) (r : Result (String Global) AuditEnding) → AnswersOrEnds scenario played question r → IsMade (IsText held told question) (EndsEarly held told question) r
+  answer_made question (Ok text) h = record { scenario = scenario; played = played; approved = approved; answer = h }
+  answer_made question (Err (endings.Plain plain.Range)) h = over_made question h
+  answer_made question (Err (endings.Plain plain.Memory)) h = tt
+  answer_made question (Err (endings.Plain plain.File)) h = absurd h
+  answer_made question (Err (endings.Plain plain.Done)) h = absurd h
+  answer_made question (Err (endings.Plain plain.Words)) h = absurd h
+  answer_made question (Err (endings.Plain (plain.Scenario line))) h = absurd h
+  answer_made question (Err (endings.Plain plain.Out)) h = absurd h
+  answer_made question (Err (endings.Plain plain.Link)) h = absurd h
+  answer_made question (Err (endings.Plain plain.Start)) h = absurd h
+  answer_made question (Err endings.Report) h = absurd h
+  answer_made question (Err (endings.Wrong line)) h = absurd h
 
 -- ---- Endings that tell of no fault
 
@@ -147,19 +148,19 @@ judged_calm scenario bytes (endings.Plain plain.Start) h = absurd h
 judged_calm scenario bytes endings.Report h = absurd h
 judged_calm scenario bytes (endings.Plain plain.Range) h = absurd h
 
-pub answer_calm : (scenario : Scenario) (played : Played) (place : Option Asking) (r : Result (String Global) AuditEnding) → AnswersOrEnds scenario played place r → IsCalm (ending_of r)
-answer_calm scenario played place (Ok text) h = tt
-answer_calm scenario played place (Err (endings.Plain plain.Range)) h = tt
-answer_calm scenario played place (Err (endings.Plain plain.Memory)) h = tt
-answer_calm scenario played place (Err (endings.Plain plain.File)) h = absurd h
-answer_calm scenario played place (Err (endings.Plain plain.Done)) h = absurd h
-answer_calm scenario played place (Err (endings.Plain plain.Words)) h = absurd h
-answer_calm scenario played place (Err (endings.Plain (plain.Scenario line))) h = absurd h
-answer_calm scenario played place (Err (endings.Plain plain.Out)) h = absurd h
-answer_calm scenario played place (Err (endings.Plain plain.Link)) h = absurd h
-answer_calm scenario played place (Err (endings.Plain plain.Start)) h = absurd h
-answer_calm scenario played place (Err endings.Report) h = absurd h
-answer_calm scenario played place (Err (endings.Wrong line)) h = absurd h
+pub answer_calm : (scenario : Scenario) (played : Played) (question : Question) (r : Result (String Global) AuditEnding) → AnswersOrEnds scenario played question r → IsCalm (ending_of r)
+answer_calm scenario played question (Ok text) h = tt
+answer_calm scenario played question (Err (endings.Plain plain.Range)) h = tt
+answer_calm scenario played question (Err (endings.Plain plain.Memory)) h = tt
+answer_calm scenario played question (Err (endings.Plain plain.File)) h = absurd h
+answer_calm scenario played question (Err (endings.Plain plain.Done)) h = absurd h
+answer_calm scenario played question (Err (endings.Plain plain.Words)) h = absurd h
+answer_calm scenario played question (Err (endings.Plain (plain.Scenario line))) h = absurd h
+answer_calm scenario played question (Err (endings.Plain plain.Out)) h = absurd h
+answer_calm scenario played question (Err (endings.Plain plain.Link)) h = absurd h
+answer_calm scenario played question (Err (endings.Plain plain.Start)) h = absurd h
+answer_calm scenario played question (Err endings.Report) h = absurd h
+answer_calm scenario played question (Err (endings.Wrong line)) h = absurd h
 
 -- ---- One part after another
 

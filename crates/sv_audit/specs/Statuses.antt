@@ -1,5 +1,5 @@
 -- How a call ends, and what each status says. `held` is what the scenario's file holds and `told` what the report's does, where that is told.
-use Rattle.std.specs.Prelude.{◌≡◌, ◌≢◌, ◌⊎◌, ℕ, ◌<◌, List, [], ◌++◌, length, take, Option, Some, None, codes, unwrap_or, Result, Ok, Err, string_bytes, IfSome}
+use Rattle.std.specs.Prelude.{◌≡◌, ◌≢◌, ◌⊎◌, ℕ, ◌<◌, List, [], ◌++◌, length, take, Option, codes, unwrap_or, Result, Ok, Err, string_bytes, IfSome}
 use Rattle.std.specs.Fmt.{decimal}
 use Rattle.sv_bytes.specs.Writing.{GrewOrRose}
 use Rattle.sv_command.specs.declared.ending.Ending.TheVariants as plain
@@ -10,7 +10,7 @@ use Rattle.sv_command.specs.Statuses.{Counts, IsUnread, Raises as PlainRaises, s
 use Rattle.sv_audit.specs.declared.ending.AuditEnding.{AuditEnding}
 use Rattle.sv_audit.specs.declared.ending.AuditEnding.TheVariants as endings
 use Rattle.sv_audit.specs.Judging.{IsText, IsWrong, IsOutside, report_size}
-use Rattle.sv_audit.specs.Words.{Asked, Asking, scenario_named, report_named}
+use Rattle.sv_audit.specs.Words.{Asked, Question, Why, scenario_named, report_named}
 
 -- ---- Endings
 
@@ -41,24 +41,24 @@ AreUnread (endings.Wrong line) = ⊥
 -- ---- What is left
 
 -- The run has no such place, where one is asked for.
-abbrev pub IsPlaceOutside : Option (List ℕ) → Option (List ℕ) → Option Asking → Type 0
-IsPlaceOutside held told None = ⊥
-IsPlaceOutside held told (Some place) = IsOutside held told place
+abbrev pub IsPlaceOutside : Option (List ℕ) → Option (List ℕ) → Question → Type 0
+IsPlaceOutside held told (Why place) = IsOutside held told place
+IsPlaceOutside held told _ = ⊥
 
 -- an ending without a text
-abbrev pub EndsEarly : (held told : Option (List ℕ)) → Option Asking → AuditEnding → Type 0
-EndsEarly held told place (endings.Plain (plain.Scenario line)) = IsRefused held (string_bytes line)
-EndsEarly held told place (endings.Plain plain.File) = Unit {0}
-EndsEarly held told place (endings.Plain plain.Memory) = Unit {0}
-EndsEarly held told place (endings.Plain plain.Range) = IsPlaceOutside held told place
-EndsEarly held told place (endings.Plain _) = ⊥
-EndsEarly held told place endings.Report = Unit {0}
-EndsEarly held told place (endings.Wrong line) = IsWrong held told line
+abbrev pub EndsEarly : (held told : Option (List ℕ)) → Question → AuditEnding → Type 0
+EndsEarly held told question (endings.Plain (plain.Scenario line)) = IsRefused held (string_bytes line)
+EndsEarly held told question (endings.Plain plain.File) = Unit {0}
+EndsEarly held told question (endings.Plain plain.Memory) = Unit {0}
+EndsEarly held told question (endings.Plain plain.Range) = IsPlaceOutside held told question
+EndsEarly held told question (endings.Plain _) = ⊥
+EndsEarly held told question endings.Report = Unit {0}
+EndsEarly held told question (endings.Wrong line) = IsWrong held told line
 
 -- what is left of a call, by its ending
-abbrev pub Ends : (held told : Option (List ℕ)) → Option Asking → (old new : Option (List ℕ)) → AuditEnding → Type 0
-Ends held told place old new (endings.Plain ending) = PlainEnds (IsText held told place) (λ e. EndsEarly held told place (endings.Plain e)) old new ending
-Ends held told place old new ending = EndsEarly held told place ending × (new ≡ old)
+abbrev pub Ends : (held told : Option (List ℕ)) → Question → (old new : Option (List ℕ)) → AuditEnding → Type 0
+Ends held told question old new (endings.Plain ending) = PlainEnds (IsText held told question) (λ e. EndsEarly held told question (endings.Plain e)) old new ending
+Ends held told question old new ending = EndsEarly held told question ending × (new ≡ old)
 
 -- Some line is told as wrong.
 pub record HasWrong (held told : Option (List ℕ)) : Type 0 where
@@ -66,12 +66,12 @@ pub record HasWrong (held told : Option (List ℕ)) : Type 0 where
   pub wrong : IsWrong held told number
 
 -- What each status says of what is asked.
-pub record Leaves (held told : Option (List ℕ)) (place : Option Asking) (old new : Option (List ℕ)) (status : ℕ) : Type 0 where
-  pub printed : status ≡ 0 → IsPrinted (IsText held told place) old new
-  pub part : status ≡ 5 → IsCutShort (IsText held told place) old new
+pub record Leaves (held told : Option (List ℕ)) (question : Question) (old new : Option (List ℕ)) (status : ℕ) : Type 0 where
+  pub printed : status ≡ 0 → IsPrinted (IsText held told question) old new
+  pub part : status ≡ 5 → IsCutShort (IsText held told question) old new
   pub nothing : status ≢ 0 → status ≢ 5 → new ≡ old
   pub wrong : status ≡ 9 → HasWrong held told
-  pub outside : status ≡ 10 → IsPlaceOutside held told place
+  pub outside : status ≡ 10 → IsPlaceOutside held told question
   -- where the scenario's file is told to hold none
   pub faulty : IfSome held (λ all. IsNoScenario (take read_limit all) → (status ≡ 3) ⊎ (status ≡ 4) ⊎ (status ≡ 8))
   -- where the report is told to have too many bytes

@@ -19,7 +19,7 @@ pub(crate) enum AuditEnding {
     /// The report can't be read.
     Report,
 
-    /// The report is none of a consistent run: its first wrong line, or 0 where it is too long.
+    /// The report is not right: its first wrong line, or 0 where it is too long.
     Wrong(u32),
 }
 

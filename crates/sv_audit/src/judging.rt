@@ -1,23 +1,24 @@
 //! What a report is judged as, and what is answered then.
-ghost use Rattle.std.specs.Prelude.{◌≡◌, ◌≤◌, codes, length, option_map, string_bytes, Some, IfOk};
+ghost use Rattle.std.specs.Prelude.{◌≡◌, ◌≤◌, codes, length, reverse, string_bytes, IfOk};
 ghost use Rattle.sv_scenario.specs.Limits.{IsGoodScenario};
-ghost use Rattle.sv_audit.specs.Judging.{report_limit, AnswersOrEnds, IsJudged};
-ghost use Rattle.sv_audit.specs.Words.{place_by};
+ghost use Rattle.sv_audit.specs.Judging.{report_limit, AnswersOrEnds, IsJudged, end_text};
+ghost use Rattle.sv_audit.specs.Words.{Why, place_by, question_by};
 
 use crate::ending::AuditEnding;
 use crate::texts::why_text;
-use crate::words::Place;
+use crate::words::{Place, Question};
 use std::alloc::{AllocError, Global};
 use sv_check::{Verdict, check};
 use sv_command::Ending;
+use sv_report::append_world;
 use sv_scenario::Scenario;
 use sv_system::Played;
-use sv_why::why;
+use sv_why::{why, world_at_end};
 
 /// The most bytes that a report may have.
 pub(crate) const REPORT_SIZE: usize = 67_108_864;
 
-/// The run whose report was read.
+/// What the report that was read tells, where it is right.
 pub(crate) fn judged(
     alloc: Global,
     scenario: &Scenario,
@@ -44,7 +45,7 @@ fn explained(
     played: &Played,
     place: Place,
 ) -> Result<String, AuditEnding>
-    ensures { AnswersOrEnds scenario.now played.now (option_map place_by (Some place)) result }
+    ensures { AnswersOrEnds scenario.now played.now (Why (place_by place)) result }
 {
     if place.object.0 >= scenario.world.shape.objects
         || place.pos as usize > played.journal.accepted_count()
@@ -63,17 +64,28 @@ fn approval(alloc: Global) -> Result<String, AllocError>
     Ok(text)
 }
 
+/// The world at the end of the run, as a report tells a world.
+fn ended(alloc: Global, scenario: &Scenario, played: &Played) -> Result<String, AllocError>
+    ensures { IfOk result (λ text. string_bytes text ≡ end_text scenario.now (reverse played.now.journal.entries)) }
+{
+    let (last, world) = world_at_end(alloc, scenario, played)?;
+    let mut text = String::new(alloc);
+    append_world(last, world.as_slice(), &mut text)?;
+    Ok(text)
+}
+
 /// What is answered of a run.
 pub(crate) fn answered(
     alloc: Global,
     scenario: &Scenario,
     played: &Played,
-    place: Option<Place>,
+    question: Question,
 ) -> Result<String, AuditEnding>
-    ensures { AnswersOrEnds scenario.now played.now (option_map place_by place) result }
+    ensures { AnswersOrEnds scenario.now played.now (question_by question) result }
 {
-    match place {
-        Some(place) => explained(alloc, scenario, played, place),
-        None => Ok(approval(alloc)?),
+    match question {
+        Question::Right => Ok(approval(alloc)?),
+        Question::World => Ok(ended(alloc, scenario, played)?),
+        Question::Why(place) => explained(alloc, scenario, played, place),
     }
 }

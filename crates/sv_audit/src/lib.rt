@@ -1,4 +1,4 @@
-//! The checker of reports as a call of the program: whether a report is one of a scenario, and why an object has its value.
+//! The checker of reports as a call of the program: whether a report is right, why an object has its value, and the world at its end.
 #![tactic(auto)]
 
 mod ending;

@@ -20,8 +20,8 @@ use sv_command::{Ending, given_scenario};
 
 /// The text that answers what is asked. It is whole before any of it is printed.
 fn text_for<F: Files>(alloc: Global, audit: Audit<'_>, files: &mut F) -> Result<String, AuditEnding>
-    ensures made { IsMade (IsText (F.contents files.old audit.entry.scenario.now) (F.contents files.old audit.entry.report.now) (asked_by audit.entry).place)
-        (EndsEarly (F.contents files.old audit.entry.scenario.now) (F.contents files.old audit.entry.report.now) (asked_by audit.entry).place) result }
+    ensures made { IsMade (IsText (F.contents files.old audit.entry.scenario.now) (F.contents files.old audit.entry.report.now) (asked_by audit.entry).question)
+        (EndsEarly (F.contents files.old audit.entry.scenario.now) (F.contents files.old audit.entry.report.now) (asked_by audit.entry).question) result }
     ensures raises { (k : ℕ) → Raises (counts (F.faults files.old) 0 0 k) (counts (F.faults files.new) 0 0 k) (ending_of result) }
     ensures sure_scenario { F.sure files.old audit.entry.scenario.now → result ≢ Err (endings.Plain plain.File) }
     ensures sure_report { F.sure files.old audit.entry.report.now → result ≢ Err endings.Report }
@@ -29,7 +29,7 @@ fn text_for<F: Files>(alloc: Global, audit: Audit<'_>, files: &mut F) -> Result<
     let both = read_both(alloc, audit, files)?;
     let scenario = given_scenario(alloc, &both.scenario)?;
     let played = judged(alloc, &scenario, &both.report)?;
-    answered(alloc, &scenario, &played, audit.place)
+    answered(alloc, &scenario, &played, audit.question)
 }
 
 /// Does what is asked for, and tells how it ended.
@@ -40,7 +40,7 @@ fn decide<F: Files, K: Sink>(
     out: &mut K,
 ) -> AuditEnding
     ensures words { (result ≡ endings.Plain plain.Words) ↔ (option_map asked_by audit.entry ≡ None) }
-    ensures ends { IfSome (option_map asked_by audit.entry) (λ a. Ends (F.contents files.old a.scenario) (F.contents files.old a.report) a.place (K.taken out.old) (K.taken out.new) result) }
+    ensures ends { IfSome (option_map asked_by audit.entry) (λ a. Ends (F.contents files.old a.scenario) (F.contents files.old a.report) a.question (K.taken out.old) (K.taken out.new) result) }
     ensures raises { Raises (counts (F.faults files.old) 0 0 (K.faults out.old)) (counts (F.faults files.new) 0 0 (K.faults out.new)) result }
     ensures sure_scenario { IfSome (option_map asked_by audit.entry) (λ a. F.sure files.old a.scenario → result ≢ endings.Plain plain.File) }
     ensures sure_report { IfSome (option_map asked_by audit.entry) (λ a. F.sure files.old a.report → result ≢ endings.Report) }
@@ -56,14 +56,16 @@ fn decide<F: Files, K: Sink>(
     }
 }
 
-/// Checks a report, or tells why an object has its value in one, and answers the status with which the program ends.
+/// Checks a report, or tells why an object has its value in one, or the world at its end, and answers the status with which the program ends.
 ///
-/// The words leave out the program's own name. They are `check SCENARIO REPORT` or `why SCENARIO REPORT OBJECT POSITION`, with both numbers
-/// without leading zeros. `check` prints `yes` where the report is that of a consistent run of the scenario, as `replay` and `play` print it.
-/// `why` prints, of such a report, the actions that the object's value at the position comes from, and the value.
+/// The words leave out the program's own name. They are `check SCENARIO REPORT`, `world SCENARIO REPORT` or `why SCENARIO REPORT OBJECT
+/// POSITION`, with both numbers without leading zeros. The report is right where it is that of a consistent run of the scenario, as `replay`
+/// and `play` print it, or what `serve` prints of a legal journal. `check` prints `yes` of a right one. `why` prints the actions that the
+/// object's value at the position comes from, and the value; `world` prints the last position, and the value that each object has after all
+/// accepted actions in order.
 ///
 /// The status is the first of these that applies: 2 where the words are others, 4 where a file can't be read, 3 where the first is no
-/// scenario, 9 where the report is no consistent one, or has more than 67,108,864 bytes, 10 where the world has no such object or the run has
+/// scenario, 9 where the report is not right, or has more than 67,108,864 bytes, 10 where the world has no such object or the run has
 /// accepted no such position, and 5 where the output failed; else it is 0, or 8 where memory ran out. Both files are read before any of them
 /// is judged. With status 9 the report's first wrong line is told, where the place after the last line counts as a line, or line 0 of a report
 /// that has too many bytes.
@@ -81,7 +83,7 @@ pub fn run_check<F: Files, K: Sink, E: Sink>(
     ensures sure { IfSome (asked_of (map string_bytes words.now)) (λ a. F.sure files.old a.scenario → F.sure files.old a.report → result ≢ 4) }
     ensures apart { result ≡ 2 → files.new ≡ files.old }
     ensures nothing { result ≢ 0 → result ≢ 5 → K.taken out.new ≡ K.taken out.old }
-    ensures left { IfSome (asked_of (map string_bytes words.now)) (λ a. Leaves (F.contents files.old a.scenario) (F.contents files.old a.report) a.place (K.taken out.old) (K.taken out.new) result) }
+    ensures left { IfSome (asked_of (map string_bytes words.now)) (λ a. Leaves (F.contents files.old a.scenario) (F.contents files.old a.report) a.question (K.taken out.old) (K.taken out.new) result) }
     ensures told { TellsStatus (F.sure files.old) (F.contents files.old) (words_line (map string_bytes words.now)) (asked_of (map string_bytes words.now)) result
         (E.taken err.old) (E.taken err.new) (E.faults err.old) (E.faults err.new) }
     ensures complete { IfSome (asked_of (map string_bytes words.now)) (λ a. HoldsScenario (F.contents files.old a.scenario)

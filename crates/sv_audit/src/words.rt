@@ -2,7 +2,7 @@
 ghost use Rattle.std.specs.Prelude.{◌≡◌, map, string_bytes, option_map};
 ghost use Rattle.std.specs.Option.{option_copied};
 ghost use Rattle.sv_command.specs.Numbers.{number_between};
-ghost use Rattle.sv_audit.specs.Words.{asked_by, asked_of, line_for, place_by, place_if, report_named, scenario_named, why_if, words_line};
+ghost use Rattle.sv_audit.specs.Words.{asked_by, asked_if, asked_of, line_for, place_by, place_if, plain_question, question_by, report_named, scenario_named, why_if, words_line};
 
 use sv_command::number_in;
 use sv_world::ObjectId;
@@ -14,12 +14,23 @@ pub(crate) struct Place {
     pub(crate) pos: u32,
 }
 
-/// What is asked for: whether a report is one of a scenario, and where there is a place, why the object has its value there.
+/// What is asked of a report.
+#[derive(Clone, Copy, Debug, Drop)]
+pub(crate) enum Question {
+    /// Whether it is right.
+    Right,
+    /// The world at its end.
+    World,
+    /// Why the object has its value at the position.
+    Why(Place),
+}
+
+/// What is asked for, of a scenario and a report.
 #[derive(Clone, Copy, Debug, Drop)]
 pub(crate) struct Audit<'a> {
     pub(crate) scenario: &'a str,
     pub(crate) report: &'a str,
-    pub(crate) place: Option<Place>,
+    pub(crate) question: Question,
 }
 
 fn place_of(object: &str, pos: &str) -> Option<Place>
@@ -39,20 +50,40 @@ fn why_of<'a>(scenario: &'a str, report: &'a str, place: Option<Place>) -> Optio
     Some(Audit {
         scenario,
         report,
-        place: Some(place?),
+        question: Question::Why(place?),
     })
 }
 
-/// What the words ask for: `check SCENARIO REPORT` or `why SCENARIO REPORT OBJECT POSITION`.
+fn plain_of(word: &str) -> Option<Question>
+    ensures { option_map question_by result ≡ plain_question word.now }
+{
+    match word {
+        "check" => Some(Question::Right),
+        "world" => Some(Question::World),
+        _ => None,
+    }
+}
+
+fn audit_by<'a>(question: Option<Question>, scenario: &'a str, report: &'a str) -> Option<Audit<'a>>
+    ensures { option_map asked_by result ≡ asked_if (option_map question_by question) scenario.entry.now report.entry.now }
+{
+    Some(Audit {
+        scenario,
+        report,
+        question: question?,
+    })
+}
+
+/// What the words ask for: `check SCENARIO REPORT`, `world SCENARIO REPORT` or `why SCENARIO REPORT OBJECT POSITION`.
 pub(crate) fn audit_of(words: &[String]) -> Option<Audit<'_>>
     ensures { option_map asked_by result ≡ asked_of (map string_bytes words.now) }
 {
     match words {
-        [word, scenario, report] if word.as_str() == "check" => Some(Audit {
-            scenario: scenario.as_str(),
-            report: report.as_str(),
-            place: None,
-        }),
+        [word, scenario, report] => audit_by(
+            plain_of(word.as_str()),
+            scenario.as_str(),
+            report.as_str(),
+        ),
         [word, scenario, report, object, pos] if word.as_str() == "why" => why_of(
             scenario.as_str(),
             report.as_str(),
@@ -81,6 +112,7 @@ fn line_for(word: &str) -> &'static [u8]
 {
     match word {
         "why" => b"words: why SCENARIO REPORT OBJECT POSITION\n",
+        "world" => b"words: world SCENARIO REPORT\n",
         _ => b"words: check SCENARIO REPORT\n",
     }
 }

@@ -1,6 +1,6 @@
 -- What a report has before the part of a client, and with the first lines of that, is a part of it.
 -- A history h is the list of a journal's entries with the latest first, and `entries` are the same in order.
-use Rattle.std.proofs.Common.{◌≡◌, inl, inr, ℕ, ◌+◌, ◌^◌, ◌<◌, List, [], ◌∷◌, ◌++◌, length, reverse, sym, ap, ◌∙◌, arith, decimal, append_assoc, append-nil}
+use Rattle.std.proofs.Common.{◌≡◌, inl, inr, ℕ, ◌+◌, ◌^◌, ◌<◌, List, [], ◌∷◌, ◌++◌, length, reverse, sym, ap, subst, ◌∙◌, arith, decimal, append_assoc, append-nil}
 use Rattle.std.specs.Prelude.{codes}
 use Rattle.std.specs.List.{flat_map}
 use Rattle.std.proofs.lemmas.List.{reverse-reverse, length-reverse}
@@ -44,20 +44,19 @@ module _ (scenario : Scenario) (h entries : List Entry) (in_order : entries ≡ 
     text_is = e ∙ ap (λ (es : List Entry). (journal_text shape es ++ flat_map (trace_text es) Ls) ++ trace_text es L) in_order;
   })))
 
-  journal_front : IsReportPart scenario (J ++ [])
+  pub journal_front : IsReportPart scenario J
   journal_front = inr (inl (record {
     count = length entries;
     h = h;
     small = small;
     within = let size = length-reverse h in let same = ap length in_order in omega (arith, size, same);
     entries = journal.entries;
-    text_is = append-nil J
-        ∙ ap (λ (es : List Entry). codes "journal " ++ decimal (length entries) ++ 10 ∷ entry_lines shape (accepted (reverse es)) 1 es) in_order
+    text_is = ap (λ (es : List Entry). codes "journal " ++ decimal (length entries) ++ 10 ∷ entry_lines shape (accepted (reverse es)) 1 es) in_order
         ∙ ap (λ (g : List Entry). codes "journal " ++ decimal (length entries) ++ 10 ∷ entry_lines shape (accepted g) 1 (reverse h)) (reverse-reverse h);
   }))
 
   pub traces_front : (before plans : List Plan) (Ls : List Trace) → scenario.clients ≡ before ++ plans → AreFirstTraces shape h before Ls → IsReportPart scenario (J ++ flat_map (trace_text entries) Ls)
-  traces_front [] plans [] c d = journal_front
+  traces_front [] plans [] c d = subst (IsReportPart scenario) (sym (append-nil J)) journal_front
   traces_front [] plans (L ∷ Ls) c d = absurd d.clients
   traces_front (p ∷ before) plans [] c d = absurd d.clients
   traces_front (p ∷ before) plans (L ∷ Ls) c d =

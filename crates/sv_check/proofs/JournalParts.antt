@@ -173,8 +173,9 @@ module _ (stay : FullRepliesStay) (names : LegalRelaysNameAccepted) (scenario : 
       abbrev X : List ℕ
       X = headed count (lines_of shape es)
 
-      in_journal : IsJournalPart scenario (X ++ y) → (y ≡ []) ⊎ GoesOn scenario count es y
-      in_journal p =
+      -- Some first lines of a journal.
+      pub in_lines : IsJournalPart scenario (X ++ y) → (y ≡ []) ⊎ ((length es < count) × Begins scenario es y)
+      in_lines p =
           let gs = reverse p.h in
           let is : p.h ≡ reverse gs = sym (reverse-reverse p.h) in
           let same : headed count (lines_of shape es ++ y) ≡ headed p.count (lines_of shape gs) =
@@ -185,8 +186,11 @@ module _ (stay : FullRepliesStay) (names : LegalRelaysNameAccepted) (scenario : 
           let most = p.within in
           elim (behind_part es gs y right (subst (AreEntries scenario) is p.entries) parts.1) [
             | inl none ↦ inl none
-            | inr b ↦ (let less = b.0 in let counts : count ≡ p.count = parts.0 in inr (inl (omega (arith, less, size, most, counts), b.1)))
+            | inr b ↦ (let less = b.0 in let counts : count ≡ p.count = parts.0 in inr (omega (arith, less, size, most, counts), b.1))
           ]
+
+      in_journal : IsJournalPart scenario (X ++ y) → (y ≡ []) ⊎ GoesOn scenario count es y
+      in_journal p = elim (in_lines p) [ inl none ↦ inl none | inr b ↦ inr (inl b) ]
 
       -- A text that begins with a whole journal.
       pub in_whole : (h : List Entry) (z : List ℕ) → IsWholeJournal scenario h → X ++ y ≡ journal_text shape (reverse h) ++ z → GoesOn scenario count es y

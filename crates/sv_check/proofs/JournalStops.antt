@@ -25,7 +25,7 @@ use Rattle.sv_check.specs.Parts.{AreEntries, IsWholeJournal, IsJournalPart, IsRe
 use Rattle.sv_lines.specs.Lines.{after_lines}
 use Rattle.sv_lines.specs.declared.stop.LineStop.{LineStop}
 use Rattle.sv_lines.specs.declared.stop.LineStop.TheVariants as stop
-use Rattle.sv_check.specs.Stopping.{IsStop, IfWrong}
+use Rattle.sv_check.specs.Stopping.{IsJournalStop, NoWholeJournal, IfWrong}
 use Rattle.sv_check.specs.Entering.{lines_of, line_after, header_text, NoHeader, NoEntry, EntriesAreTold, HasServedAll, TextBreaksOff}
 use Rattle.sv_check.proofs.Asking.{entries_right}
 use Rattle.sv_check.proofs.JournalLines.{broken_none, behind_all}
@@ -102,6 +102,11 @@ module _ (stay : FullRepliesStay) (names : LegalRelaysNameAccepted) (order : Ste
     no_text : IsReport scenario text → ⊥
     no_text r = no_report rest [] (sym (append-nil rest)) (subst (IsReport scenario) split r)
 
+    no_whole : NoWholeJournal scenario text
+    no_whole h z whole is =
+        let all = sym (append-nil rest) in
+        goes_wrong rest [] all (in_whole stay names scenario good.sessions count es rest small within right (within_text rest [] all) h z whole (sym split ∙ is))
+
     part_is : IsJournalPart scenario X
     part_is = record {
       count = count;
@@ -113,15 +118,18 @@ module _ (stay : FullRepliesStay) (names : LegalRelaysNameAccepted) (order : Ste
     }
 
     -- The line that comes next is wrong.
-    pub stop_behind : IsStop scenario text (length rest)
+    pub stop_behind : IsJournalStop scenario text (length rest)
     stop_behind = record {
-      before = X;
-      rest = rest;
-      split = split;
-      left_is = refl;
-      part = inr (inl part_is);
-      wrong = record { line = λ line next all is p. no_line line next is p; unfinished = no_end };
-      none = no_text;
+      stop = record {
+        before = X;
+        rest = rest;
+        split = split;
+        left_is = refl;
+        part = inr (inl part_is);
+        wrong = record { line = λ line next all is p. no_line line next is p; unfinished = no_end };
+        none = no_text;
+      };
+      none = no_whole;
     }
 
   -- ---- Before the first line
@@ -164,18 +172,21 @@ module _ (stay : FullRepliesStay) (names : LegalRelaysNameAccepted) (order : Ste
         ]
 
     -- The first line is wrong.
-    pub stop_first : IsStop scenario text (length text)
+    pub stop_first : IsJournalStop scenario text (length text)
     stop_first = record {
-      before = [];
-      rest = text;
-      split = refl;
-      left_is = refl;
-      part = inl refl;
-      wrong = record {
-        line = λ line next all is p. never_part (line ++ 10 ∷ []) next (is ∙ sym (append_assoc line (10 ∷ []) next)) (never_empty line []) p;
-        unfinished = λ e r. never_report [] [] e r;
+      stop = record {
+        before = [];
+        rest = text;
+        split = refl;
+        left_is = refl;
+        part = inl refl;
+        wrong = record {
+          line = λ line next all is p. never_part (line ++ 10 ∷ []) next (is ∙ sym (append_assoc line (10 ∷ []) next)) (never_empty line []) p;
+          unfinished = λ e r. never_report [] [] e r;
+        };
+        none = λ r. never_report text [] (sym (append-nil text)) r;
       };
-      none = λ r. never_report text [] (sym (append-nil text)) r;
+      none = λ h z whole is. never_whole text [] z (reverse h) (sym (append-nil text)) is;
     }
 
   -- ---- After the first line
@@ -187,24 +198,24 @@ module _ (stay : FullRepliesStay) (names : LegalRelaysNameAccepted) (order : Ste
         split ∙ headed_is count lines ∙ ap (headed count) is ∙ sym (headed_more count (lines_of scenario.world.shape front) rest)
 
     -- The line of an entry differs from what was printed.
-    pub stop_broken : length es ≤ count → EntriesAreTold scenario [] es lines → (left : ℕ) → TextBreaksOff scenario.world.shape es lines left → IsStop scenario text left
+    pub stop_broken : length es ≤ count → EntriesAreTold scenario [] es lines → (left : ℕ) → TextBreaksOff scenario.world.shape es lines left → IsJournalStop scenario text left
     stop_broken within told left b =
         let all : AreEntries scenario (reverse (b.front ++ b.next ∷ b.more)) = subst (λ (l : List Entry). AreEntries scenario (reverse l)) b.entries_are right in
         let front = first_right stay names scenario b.front b.more b.next all in
         let size : length es ≡ length b.front + suc (length b.more) = ap length b.entries_are ∙ length-append b.front (b.next ∷ b.more) in
-        subst (IsStop scenario text) (sym b.left_is)
+        subst (IsJournalStop scenario text) (sym b.left_is)
         (stop_behind count b.front text b.rest small (omega (arith, size, within)) front.1 (split_at b.front b.rest b.text_is) short
         (λ less. broken_none stay names scenario es lines left right told b) (λ equal whole. omega (arith, size, within, equal)))
 
     module _ (rest : List ℕ) (is : lines ≡ lines_of scenario.world.shape es ++ rest) where
       -- A line tells no entry.
-      pub stop_unread : length es < count → NoEntry scenario es (after_lines (length es) lines) → IsStop scenario text (length rest)
+      pub stop_unread : length es < count → NoEntry scenario es (after_lines (length es) lines) → IsJournalStop scenario text (length rest)
       stop_unread less none =
           let here : after_lines (length es) lines ≡ rest = ap (after_lines (length es)) is ∙ behind_all scenario es rest right in
           stop_behind count es text rest small (omega (arith, less)) right (split_at es rest is) short (λ l. subst (NoEntry scenario es) here none) (λ equal whole. omega (arith, less, equal))
 
       -- The entries end before each session has its End.
-      pub stop_open : length es ≡ count → (IsWholeJournal scenario (reverse es) → ⊥) → IsStop scenario text (length rest)
+      pub stop_open : length es ≡ count → (IsWholeJournal scenario (reverse es) → ⊥) → IsJournalStop scenario text (length rest)
       stop_open equal open_yet =
           stop_behind count es text rest small (omega (arith, equal)) right (split_at es rest is) short (λ less. absurd (omega (arith, less, equal))) (λ e whole. open_yet whole)
 
@@ -221,14 +232,14 @@ module _ (stay : FullRepliesStay) (names : LegalRelaysNameAccepted) (order : Ste
           | inr x ↦ (let less = told.some x in omega (arith, less))
         ]
 
-    pub served_broken : (left : ℕ) → TextBreaksOff scenario.world.shape (entries_of served) lines left → IsStop scenario text left
+    pub served_broken : (left : ℕ) → TextBreaksOff scenario.world.shape (entries_of served) lines left → IsJournalStop scenario text left
     served_broken left b = stop_broken count text lines small short split (entries_of served) g.entries no_more told.told left b
 
     module _ (rest : List ℕ) (is : lines ≡ lines_of scenario.world.shape (entries_of served) ++ rest) where
-      pub served_unread : whole ≡ false → IsStop scenario text (length rest)
+      pub served_unread : whole ≡ false → IsJournalStop scenario text (length rest)
       served_unread stopped = stop_unread count text lines small short split (entries_of served) g.entries rest is (told.some stopped) (told.none stopped)
 
-      pub served_open : whole ≡ true → (((s : ℕ) → MayBeSession served.sequencer.rules.sessions s → is_ended (history served.sequencer) s ≡ true) → ⊥) → IsStop scenario text (length rest)
+      pub served_open : whole ≡ true → (((s : ℕ) → MayBeSession served.sequencer.rules.sessions s → is_ended (history served.sequencer) s ≡ true) → ⊥) → IsJournalStop scenario text (length rest)
       served_open all open_yet =
           stop_open count text lines small short split (entries_of served) g.entries rest is (told.all all)
           (λ w. open_yet (λ s l. whole_ended scenario (history served.sequencer) w s (subst (λ (r : Rules). MayBeSession r.sessions s) g.rules l)))

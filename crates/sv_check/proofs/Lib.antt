@@ -38,5 +38,6 @@ pub mod LessJournal
 pub mod LessEvents
 pub mod LessClients
 pub mod LessWorld
+pub mod Hosting
 pub mod Closed
 pub mod FirstWrong

@@ -5,8 +5,8 @@ use Rattle.std.proofs.Math.Seq.{take-append_seam}
 use Rattle.std.proofs.lemmas.Bool.{cond_both}
 use Rattle.sv_lines.specs.Lines.{line_ends}
 use Rattle.sv_scenario.specs.declared.scenario.Scenario.{Scenario}
-use Rattle.sv_check.specs.Parts.{IsReportPart}
-use Rattle.sv_check.specs.Stopping.{IsStop}
+use Rattle.sv_check.specs.Either.{IsPart}
+use Rattle.sv_check.specs.Stopping.{IsTextStop}
 use Rattle.sv_check.specs.Wrong.{IsFirstWrong}
 
 ends_most : (text : List ℕ) → line_ends text ≤ length text
@@ -23,20 +23,21 @@ ends_fewer (c ∷ text) e =
     let less : line_ends text < suc (length text) = omega (arith, more) in
     subst (λ (b : ℕ). line_ends (b ∷ text) < suc (length text)) (sym e) less
 
-begins : (scenario : Scenario) (text : List ℕ) → IsReportPart scenario text → (text ≡ []) ⊎ (get_or text 0 0 ≡ 106)
-begins scenario text (inl e) = inl e
-begins scenario text (inr (inl p)) = inr (ap (λ (l : List ℕ). get_or l 0 0) p.text_is)
-begins scenario text (inr (inr (inl p))) = inr (ap (λ (l : List ℕ). get_or l 0 0) p.text_is)
-begins scenario text (inr (inr (inr p))) = inr (ap (λ (l : List ℕ). get_or l 0 0) p.text_is)
+begins : (scenario : Scenario) (text : List ℕ) → IsPart scenario text → (text ≡ []) ⊎ (get_or text 0 0 ≡ 106)
+begins scenario text (inl (inl e)) = inl e
+begins scenario text (inl (inr (inl p))) = inr (ap (λ (l : List ℕ). get_or l 0 0) p.text_is)
+begins scenario text (inl (inr (inr (inl p)))) = inr (ap (λ (l : List ℕ). get_or l 0 0) p.text_is)
+begins scenario text (inl (inr (inr (inr p)))) = inr (ap (λ (l : List ℕ). get_or l 0 0) p.text_is)
+begins scenario text (inr h) = inr (ap (λ (l : List ℕ). get_or l 0 0) h.1.text_is)
 
-few_ends : (scenario : Scenario) (text : List ℕ) → IsReportPart scenario text → length text < 2 ^ 32 → line_ends text + 1 < 2 ^ 32
+few_ends : (scenario : Scenario) (text : List ℕ) → IsPart scenario text → length text < 2 ^ 32 → line_ends text + 1 < 2 ^ 32
 few_ends scenario text p short = elim (begins scenario text p) [
   | inl e ↦ (let none : line_ends text ≡ 0 = ap line_ends e in omega (arith, none))
   | inr e ↦ (let fewer = ends_fewer text e in omega (arith, fewer, short))
 ]
 
 -- The line at which the reading stopped is the first wrong one, and this is its number.
-pub first_wrong : (scenario : Scenario) (text : List ℕ) (left : ℕ) (front : List ℕ) (ends n : ℕ) → length text < 2 ^ 32 → IsStop scenario text left →
+pub first_wrong : (scenario : Scenario) (text : List ℕ) (left : ℕ) (front : List ℕ) (ends n : ℕ) → length text < 2 ^ 32 → IsTextStop scenario text left →
     front ≡ take (length text - left) text → ends ≡ line_ends front % 2 ^ 32 → n ≡ (ends + 1) % 2 ^ 32 → IsFirstWrong scenario text n
 first_wrong scenario text left front ends n short s f e is =
     let split = s.split in

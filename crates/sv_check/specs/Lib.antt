@@ -1,6 +1,8 @@
 -- The definitions of this crate, file by file.
 pub mod Consistent
 pub mod Parts
+pub mod Hosted
+pub mod Either
 pub mod Wrong
 pub mod Next
 pub mod Stopping

@@ -2,17 +2,20 @@
 ghost use Rattle.std.specs.Prelude.{◌≡◌, ◌-◌, ◌<◌, ◌^◌, ◌++◌, length, take, reverse, string_bytes, IfOk};
 ghost use Rattle.sv_scenario.specs.Limits.{IsGoodScenario};
 ghost use Rattle.sv_sequencer.specs.Step.{history};
+ghost use Rattle.sv_journal.specs.Text.{journal_text};
 ghost use Rattle.sv_report.specs.Report.{world_text};
 ghost use Rattle.sv_check.specs.Consistent.{IsReportOf};
 ghost use Rattle.sv_check.specs.Serving.{IsServed, AreEnded, entries_of};
-ghost use Rattle.sv_check.specs.Parts.{AreFirstTraces};
+ghost use Rattle.sv_check.specs.Either.{IsRightOf};
+ghost use Rattle.sv_check.specs.Parts.{AreFirstTraces, IsWholeJournal};
 ghost use Rattle.sv_check.specs.Yes.{IsRightPlayed, IsOfServed, before_world};
-ghost use Rattle.sv_check.specs.Stopping.{IsStop, IfWrong};
+ghost use Rattle.sv_check.specs.Stopping.{IsStop, IsTextStop, IfWrong};
 ghost use Rattle.sv_check.specs.Wrong.{IsFirstWrong};
 ghost use Rattle.sv_check.specs.Verdicts.{IsVerdict};
 
 use crate::Verdict;
 use crate::clients::take_clients;
+use crate::hosted::{begins_commit, read_hosted};
 use crate::journal::{Served, take_journal};
 use crate::runs::laws_of_runs;
 use std::alloc::{AllocError, Global};
@@ -47,21 +50,26 @@ fn played_by(
     Ok(played)
 }
 
-/// What the lines of the journal and of the clients tell, and what comes after them.
+/// What the lines of the clients tell behind the journal, and what comes after them.
 #[tactic(auto, using(crate::proofs::Reporting::before_is, crate::proofs::Reporting::wrong_of))]
 fn take_traffic<'a>(
     alloc: Global,
     scenario: &Scenario,
-    text: &'a [u8],
+    served: Served,
+    text: &[u8],
+    clients: &'a [u8],
 ) -> Result<(Played, &'a [u8]), LineStop>
     requires good { IsGoodScenario scenario.now }
+    requires served { IsServed scenario.now served }
+    requires ended { AreEnded scenario.now (history served.sequencer) }
+    requires whole { IsWholeJournal scenario.now (history served.sequencer) }
     requires short { length text.now < 2 ^ 32 }
+    requires clients { text.now ≡ journal_text scenario.now.world.shape (entries_of served) ++ clients.now }
     ensures right { IfOk result (λ r. IsRightPlayed scenario.now r.0) }
     ensures text { IfOk result (λ r. text.now ≡ before_world scenario.now r.0 ++ r.1.now) }
     ensures wrong { IfWrong result (IsStop scenario.now text.now) }
 {
-    read_scenario_numbers(scenario);
-    let (served, clients) = take_journal(alloc, scenario, text)?;
+    let _ = text;
     let (traces, world) = take_clients(alloc, scenario, &served, clients)?;
     let played = played_by(alloc, scenario, served, traces)?;
     Ok((played, world))
@@ -102,16 +110,43 @@ fn take_world(
     }
 }
 
-/// What the lines of the whole text tell, where none is wrong.
-fn read_report(alloc: Global, scenario: &Scenario, text: &[u8]) -> Result<Played, LineStop>
+/// What the lines of a report tell behind its journal, where none is wrong.
+fn read_report(
+    alloc: Global,
+    scenario: &Scenario,
+    served: Served,
+    text: &[u8],
+    clients: &[u8],
+) -> Result<Played, LineStop>
     requires good { IsGoodScenario scenario.now }
+    requires served { IsServed scenario.now served }
+    requires ended { AreEnded scenario.now (history served.sequencer) }
+    requires whole { IsWholeJournal scenario.now (history served.sequencer) }
     requires short { length text.now < 2 ^ 32 }
+    requires clients { text.now ≡ journal_text scenario.now.world.shape (entries_of served) ++ clients.now }
     ensures report { IfOk result (λ played. IsReportOf scenario.now text.now played) }
     ensures wrong { IfWrong result (IsStop scenario.now text.now) }
 {
-    let (played, last) = take_traffic(alloc, scenario, text)?;
+    let (played, last) = take_traffic(alloc, scenario, served, text, clients)?;
     take_world(alloc, scenario, &played, text, last)?;
     Ok(played)
+}
+
+/// What the lines of the whole text tell, where none is wrong.
+fn read_text(alloc: Global, scenario: &Scenario, text: &[u8]) -> Result<Played, LineStop>
+    requires good { IsGoodScenario scenario.now }
+    requires short { length text.now < 2 ^ 32 }
+    ensures right { IfOk result (λ played. IsRightOf scenario.now text.now played) }
+    ensures wrong { IfWrong result (IsTextStop scenario.now text.now) }
+{
+    laws_of_runs();
+    read_scenario_numbers(scenario);
+    let (served, behind) = take_journal(alloc, scenario, text)?;
+    if begins_commit(behind) {
+        read_hosted(alloc, scenario, served, text, behind)
+    } else {
+        read_report(alloc, scenario, served, text, behind)
+    }
 }
 
 /// The text without so many last bytes.
@@ -125,27 +160,28 @@ fn front(text: &[u8], left: usize) -> &[u8]
 /// The number of the line with which so many last bytes of a text begin.
 fn line_number(scenario: &Scenario, text: &[u8], left: usize) -> u32
     requires short { length text.now < 2 ^ 32 }
-    requires stop { IsStop scenario.now text.now left }
+    requires stop { IsTextStop scenario.now text.now left }
     ensures { IsFirstWrong scenario.now text.now result }
 {
     let _ = scenario;
     line_ends(front(text, left)).wrapping_add(1)
 }
 
-/// Whether a text is the report of a consistent run of the scenario: yes, with the journal and the traces of that run; or the first wrong line.
+/// Whether a text is right: yes, with what it tells; or the first wrong line. It may be of two kinds: the report of a consistent run of the
+/// scenario, which tells the run's journal and traces; or what `serve` prints of a legal journal, which has no traces.
 ///
-/// `text` are the bytes of the report, as `replay` and `play` print it without told lines. The time is in proportion to its length.
+/// `text` are its bytes, as `replay` and `play` print it without told lines, or as `serve` does. The time is in proportion to its length.
 ///
-/// Both answers are proved. A yes names the very run whose report the text is, byte by byte. A no names the first wrong line, counted from 1:
-/// the lines before it are a part of a report, with nothing wrong so far as these lines can tell; with this line they are none, and the text is
-/// no report. The place after the last line counts as a line, and is named where no line is wrong and more have to come. A last line without
-/// its line end is wrong.
+/// Both answers are proved. A yes names the very run or journal whose text it is, byte by byte. A no names the first wrong line, counted from
+/// 1: the lines before it are a part of one of the two, with nothing wrong so far as these lines can tell; with this line they are a part of
+/// neither, and the text is not right. The place after the last line counts as a line, and is named where no line is wrong and more have to
+/// come. A last line without its line end is wrong.
 pub fn check(alloc: Global, scenario: &Scenario, text: &[u8]) -> Result<Verdict, AllocError>
     requires good { IsGoodScenario scenario.now }
     requires short { length text.now < 2 ^ 32 }
     ensures { IfOk result (IsVerdict scenario.now text.now) }
 {
-    match read_report(alloc, scenario, text) {
+    match read_text(alloc, scenario, text) {
         Ok(played) => Ok(Verdict::Yes(played)),
         Err(LineStop::Wrong { left }) => Ok(Verdict::No {
             line: line_number(scenario, text, left),

@@ -12,7 +12,7 @@ ghost use Rattle.sv_lines.specs.Told.{IsTold};
 ghost use Rattle.sv_check.specs.Serving.{IsServed, AreEnded, entries_of};
 ghost use Rattle.sv_check.specs.Entering.{header_text, NoHeader, lines_of, HasServed, HasServedAll, TextBreaksOff};
 ghost use Rattle.sv_check.specs.Parts.{IsWholeJournal};
-ghost use Rattle.sv_check.specs.Stopping.{IsStop, IfWrong};
+ghost use Rattle.sv_check.specs.Stopping.{IsJournalStop, IfWrong};
 
 use crate::runs::laws_of_runs;
 use std::alloc::{AllocError, Global};
@@ -202,7 +202,7 @@ pub(crate) fn take_journal<'a>(
     ensures ended { IfOk result (λ r. AreEnded scenario.now (history r.0.sequencer)) }
     ensures whole { IfOk result (λ r. IsWholeJournal scenario.now (history r.0.sequencer)) }
     ensures text { IfOk result (λ r. text.now ≡ journal_text scenario.now.world.shape (entries_of r.0) ++ r.1.now) }
-    ensures wrong { IfWrong result (IsStop scenario.now text.now) }
+    ensures wrong { IfWrong result (IsJournalStop scenario.now text.now) }
 {
     laws_of_runs();
     let (count, entries) = take_header(alloc, text)?;

@@ -1,9 +1,10 @@
-//! The checker of reports: whether a text is the report of a consistent run of a scenario.
+//! The checker: whether a text is the report of a consistent run of a scenario, or what `serve` prints of a legal journal.
 #![tactic(auto)]
 
 mod actor;
 mod checking;
 mod clients;
+mod hosted;
 mod journal;
 mod laws;
 mod moves;

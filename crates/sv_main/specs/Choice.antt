@@ -4,11 +4,11 @@ use Rattle.std.specs.Str.{bytes_eq}
 use Rattle.sv_main.specs.declared.commands.Command.{Command}
 use Rattle.sv_main.specs.declared.commands.Command.TheVariants as commands
 
--- `check` and `why` have one call.
+-- `check`, `why` and `world` have one call.
 abbrev pub is_check : List ℕ → Bool
-is_check word = bytes_eq word (codes "check") || bytes_eq word (codes "why")
+is_check word = bytes_eq word (codes "check") || (bytes_eq word (codes "why") || bytes_eq word (codes "world"))
 
--- `looks`, `witness`, `serve`, `host`, `join`, and `check` with `why`, have calls of their own, and all other first words are for `run`.
+-- `looks`, `witness`, `serve`, `host`, `join`, and `check` with `why` and `world`, have calls of their own, and all other first words are for `run`.
 abbrev pub call_of : List ℕ → Command
 call_of word = if bytes_eq word (codes "looks") then commands.Looks
     else (if bytes_eq word (codes "witness") then commands.Witness

@@ -13,7 +13,7 @@ fn call_of(word: &str) -> Command
         "serve" => Command::Serve,
         "host" => Command::Host,
         "join" => Command::Join,
-        "check" | "why" => Command::Check,
+        "check" | "why" | "world" => Command::Check,
         _ => Command::Run,
     }
 }

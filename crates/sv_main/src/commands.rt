@@ -21,6 +21,6 @@ pub enum Command {
     /// It plays one client over another program's server.
     Join,
 
-    /// It checks a report, or tells why an object has its value in one.
+    /// It checks a report, or tells why an object has its value in one, or the world at its end.
     Check,
 }

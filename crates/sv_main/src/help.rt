@@ -38,15 +38,18 @@ actions need, and keeps the one world that comes out.
   dimboetu join FILE K PORT      plays client K of a scenario at such a server
                                  dimboetu join examples/conflict.json 0 4000
   dimboetu check SCENARIO REPORT
-                                 says yes where a report is that of a run of the scenario, or names its first wrong line
+                                 says yes where a report, or what serve printed, is right, or names its first wrong line
                                  dimboetu check examples/trade.json examples/trade.out
   dimboetu why SCENARIO REPORT OBJECT POSITION
                                  prints the actions that an object's value at a position comes from, and the value
                                  dimboetu why examples/conflict.json examples/conflict.out 0 2
+  dimboetu world SCENARIO REPORT
+                                 prints the world that all actions of such a report give
+                                 dimboetu world examples/trade.json examples/trade.out
   dimboetu --help, --version     prints this, or the version
 
 A run ends with a status, and each but 0 with one line on standard error:
-  0 all was printed              5 standard output failed            9 check, why: the report has a wrong line
+  0 all was printed              5 standard output failed            9 check, why, world: a wrong line
   2 the words are no command     6 a connection failed              10 join, witness: no client K; why: no such object or position
   3 the file is no scenario      7 a thread could not be started    11 join: the server sent a wrong reply
   4 a file can't be read         8 out of memory                    12 join: the server closed too early

@@ -19,6 +19,10 @@ reasons_of A x pos = needed_for A 0 [] (writer_by A x pos)
 abbrev pub world_by : List (List ℤ) → List Action → List ℕ → List (List ℤ)
 world_by opening A ks = serial_world opening (map (action_at A) ks) (length ks)
 
+-- The world that all actions give, executed in order from the opening world.
+abbrev pub end_world : List (List ℤ) → List Action → List (List ℤ)
+end_world opening A = serial_world opening A (length A)
+
 -- These positions and this value say why the object has its value at the position.
 pub record Explains (opening : List (List ℤ)) (A : List Action) (x pos : ℕ) (positions : List ℕ) (value : List ℤ) : Type 0 where
   pub ascending : is_ascending positions ≡ true

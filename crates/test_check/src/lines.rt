@@ -24,9 +24,17 @@ fn is_cut_well(alloc: Global, scenario: &str, text: &[u8]) -> Result<bool, Alloc
     Ok(true)
 }
 
+/// What `serve` prints of a run of the first scenario.
+const FIRST_SERVED: &str =
+    "journal 5\n1 s0 join c0 1 [0] -> welcome 0 [0=(5)]\n2 s0 submit 1 reads 0 writes 0 { set @0.0 (@0.0 + 1); } -> relay 1 at 0 [] [1:c0.1]\n3 s0 done [1:(6)] -> noted 1\n4 s0 leave -> bye\n5 s0 end -> bye\ncommit 1\n";
+
 #[test]
 fn cut_reports_are_wrong_where_they_end(rt: HostRuntime) -> Result<(), Fail> {
-    for (scenario, text) in [(FIRST, FIRST_REPORT), (CONFLICT, CONFLICT_REPORT)] {
+    for (scenario, text) in [
+        (FIRST, FIRST_REPORT),
+        (FIRST, FIRST_SERVED),
+        (CONFLICT, CONFLICT_REPORT),
+    ] {
         let is_so = is_cut_well(rt.alloc(), scenario, text.as_bytes())?;
         assert!(&rt; is_so, "{scenario}");
     }

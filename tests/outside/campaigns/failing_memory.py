@@ -27,7 +27,7 @@ sys.path.insert(0, OUTSIDE)
 
 from rules.check_report import check
 from rules.first_wrong import Lines, take_journal
-from rules.reasons import why_lines
+from rules.reasons import why_lines, world_lines
 from rules.report import Fault
 from rules.scenario import read_scenario
 from rules.witness import text_of as witness_text, witnessed
@@ -37,7 +37,7 @@ MEMORY = (8, b"", b"memory\n")
 # out of memory closes its connection, which is a fault at the other end where something was not read yet.
 THREADS = {(7, b"", b"start\n"): "start", (6, b"", b"link\n"): "link"}
 # More calls than any run of these examples makes.
-BEHIND = {"replay": 0, "play": 60, "check": 0, "why": 0, "witness": 0}
+BEHIND = {"replay": 0, "play": 60, "check": 0, "why": 0, "world": 0, "witness": 0}
 
 
 def library_in(room):
@@ -89,16 +89,17 @@ def is_whole(path, text, known):
 
 def text_of(word, path, report):
     """What a call prints where nothing fails: of `replay` the report, which `play` too may print; of `why` what is so of object 0 at position 1;
-    of `witness` the lines of the run in which client 0 lies."""
+    of `world` the world at the end; of `witness` the lines of the run in which client 0 lies."""
     if word == "witness":
         return witness_text(witnessed(read_scenario(path), 0).server).encode()
     with open(report, "rb") as file:
         text = file.read()
     if word == "check":
         return b"yes\n"
-    if word == "why":
+    if word in ("why", "world"):
         scenario = read_scenario(path)
-        lines = why_lines(scenario, take_journal(scenario, Lines(text))[1].accepted, 0, 1)
+        accepted = take_journal(scenario, Lines(text))[1].accepted
+        lines = why_lines(scenario, accepted, 0, 1) if word == "why" else world_lines(scenario, accepted)
         return "".join(f"{line}\n" for line in lines).encode()
     return text
 
@@ -127,7 +128,7 @@ class Campaign:
         """All singles, or all pairs, of one call of the program. A pair whose second call is not reached is a single."""
         path, report, name = os.path.join(EXAMPLES, example + ".json"), os.path.join(EXAMPLES, example + ".out"), f"{word} {example}"
         known = {text_of(word, path, report): True}
-        words = [word, path, *{"check": [report], "why": [report, "0", "1"], "witness": ["0"]}.get(word, [])]
+        words = [word, path, *{"check": [report], "why": [report, "0", "1"], "world": [report], "witness": ["0"]}.get(word, [])]
         shim, begun, ends = Shim(self.library, self.program, words), time.monotonic(), collections.Counter()
         plain, least = shim.run()
         if plain[0] != 0:
@@ -155,7 +156,7 @@ def main(words):
     with tempfile.TemporaryDirectory() as room:
         campaign = Campaign(library_in(room), os.path.abspath(words[0]))
         for example in ("conflict", "bound"):
-            for word in ("replay", "play", "check", "why"):
+            for word in ("replay", "play", "check", "why", "world"):
                 campaign.go(word, example, False)
         campaign.go("witness", "conflict", False)
         for word, example in (("replay", "empty_script"), ("play", "empty_script"), ("replay", "first"), ("replay", "bound"), ("check", "first")):

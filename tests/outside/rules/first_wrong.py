@@ -1,9 +1,9 @@
 #!/usr/bin/env python3
-"""The first wrong line of a printed report, found apart from the product.
+"""The first wrong line of a printed report, or of what `serve` printed, found apart from the product.
 
     python3 tests/outside/rules/first_wrong.py SCENARIO.json REPORT
 
-Prints `yes` where the report is that of a consistent run of the scenario, and else `wrong line N`: the first line, from 1,
+Prints `yes` where the report is that of a consistent run of the scenario, or a journal with its commit, and else `wrong line N`: the first line, from 1,
 at which a rule of docs/CHECK.md fails, where the place behind the last line counts as a line. Ends with status 0 or 1; with 2
 where its words are wrong, a file can't be read, or the first is no scenario.
 
@@ -216,10 +216,14 @@ def take_client(follower, lines):
 
 
 def first_wrong(scenario, data):
-    """The first wrong line of a report's bytes, 0 where there is none."""
+    """The first wrong line of a report's bytes, or of what `serve` printed, 0 where there is none."""
     lines = Lines(data)
     try:
         entries, history = take_journal(scenario, lines)
+        if lines.peek() == f"commit {history.commit}":
+            lines.at += 1
+            lines.need(lines.peek() is None and not lines.rest)
+            return 0
         replies = replies_by_session(entries)
         ends = {entry.session: entry.line for entry in entries if entry.request.kind == "end"}
         for client in range(len(scenario.plans)):

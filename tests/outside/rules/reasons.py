@@ -1,4 +1,4 @@
-"""Why an object has its value at a position: what `why` prints, counted from the accepted actions of a report."""
+"""Why an object has its value at a position, and the world at the end: what `why` and `world` print, counted from the accepted actions."""
 
 from rules.actions import action_text, evaluate
 from rules.report import value_text
@@ -16,13 +16,25 @@ def least_set(accepted, target, position):
     return sorted(found)
 
 
+def do(world, action):
+    """Executes an action on a world."""
+    for written, value in zip(action.writes, evaluate(action, {read: world[read] for read in action.reads})):
+        world[written] = value
+
+
+def world_lines(scenario, accepted):
+    """The lines of the world that all accepted actions give, one after the other from the opening world."""
+    world = list(scenario.opening)
+    for one in accepted:
+        do(world, one.action)
+    return [f"world {len(accepted)}"] + [f"{target}={value_text(value)}" for target, value in enumerate(world)]
+
+
 def why_lines(scenario, accepted, target, position):
     """The lines: each action of the least set, and the value that these alone give, one after the other from the opening world."""
     world, lines = list(scenario.opening), []
     for place in least_set(accepted, target, position):
         one = accepted[place - 1]
-        given = evaluate(one.action, {read: world[read] for read in one.action.reads})
-        for written, value in zip(one.action.writes, given):
-            world[written] = value
+        do(world, one.action)
         lines.append(f"{place} c{one.author}.{one.number} {action_text(one.action)}")
     return lines + [f"value {target}={value_text(world[target])}"]

@@ -257,7 +257,7 @@ class Notes:
         try:
             return call()
         except (dimboetu.Fault, OSError) as stopped:
-            fault = str(stopped)
+            fault = getattr(stopped, "text", None) or str(stopped)
             raise
         finally:
             self.depth = 0

@@ -1,13 +1,13 @@
 #!/usr/bin/env python3
-"""Tests of `check` and `why` of the built program, beside checkers of their own.
+"""Tests of `check`, `why` and `world` of the built program, beside checkers of their own.
 
     python3 tests/outside/tests/test_check.py [--rounds N] [--seed S] [PROGRAM]
 
 PROGRAM is the built program; without it the repository's own is taken, and where that is not built yet nothing is
-tested. What the program prints of each example, by `replay` and by `play`, is right. Reports of N random scenarios (300 if
-left out), most of them with one change at random (a byte, a number, a line), and what the servers and players of
-wrong_runs.py print, have the first wrong line that first_wrong.py finds. And `why` tells the positions and the value that
-are counted here from the report. Closes with `N passed, M failed`.
+tested. What the program prints of each example, by `replay` and by `play`, is right, and so is its journal with its commit,
+as `serve` prints it. Reports and such journals of N random scenarios (300 if left out), most of them with one change at
+random (a byte, a number, a line), and what the servers and players of wrong_runs.py print, have the first wrong line that
+first_wrong.py finds. And `why` and `world` tell what is counted here from the report. Closes with `N passed, M failed`.
 """
 
 import argparse
@@ -25,7 +25,7 @@ from doubles import wrong_runs
 from rules import simulate
 from rules.first_wrong import Lines, answer, first_wrong, take_journal
 from rules.players import Player, Wrong
-from rules.reasons import why_lines
+from rules.reasons import why_lines, world_lines
 from rules.scenario import read_scenario, scenario_of
 from rules.server import Server
 from tests.counting import BUILT, ROOT, Room
@@ -71,15 +71,24 @@ def test_examples(test):
         for word in ("replay", "play"):
             _, report, _ = test.run(word, path)
             test.same(first_wrong(scenario, report), 0, f"first_wrong.py: {word} {path}")
-            test.check(path, report, 0, word)
-            test_places(test, random.Random(name), path, scenario, report)
+            for text in (report, served_text(scenario, report)):
+                test.check(path, text, 0, word)
+                test_places(test, random.Random(name), path, scenario, text)
+
+
+def served_text(scenario, report):
+    """What `serve` prints of the journal of a report."""
+    entries, history = take_journal(scenario, Lines(report))
+    return b"".join(report.splitlines(keepends=True)[:len(entries) + 1]) + f"commit {history.commit}\n".encode()
 
 
 def test_places(test, chance, path, scenario, report):
-    """`why` at two places of a right report, and at one that it has not."""
+    """The world at the end of a right report; and `why` at two places of it, and at one that it has not."""
     _, history = take_journal(scenario, Lines(report))
     accepted, objects = history.accepted, len(scenario.opening)
     file = test.file("report", report)
+    ended = "".join(f"{line}\n" for line in world_lines(scenario, accepted))
+    test.same(test.run("world", path, file), (0, ended.encode(), b""), f"world {path}")
     for position in {len(accepted), chance.randrange(len(accepted) + 1)}:
         target = chance.randrange(objects)
         given = test.run("why", path, file, str(target), str(position))
@@ -147,6 +156,8 @@ def test_random(test, rounds, seed):
         chance = random.Random(f"{seed} {place}")
         path, scenario = test.scenario_file(chance)
         report = report_of(test, chance, path, scenario)
+        if chance.randrange(4) == 0:
+            report = served_text(scenario, report)
         if place % 10 == 0:
             test.same(first_wrong(scenario, report), 0, f"first_wrong.py: --seed {seed}, round {place}")
             test.check(path, report, 0, f"--seed {seed}, round {place}")
@@ -173,6 +184,12 @@ def test_wrong_runs(test, rounds, seed):
         test.check(path, report, first_wrong(scenario, report), f"--seed {seed}, {kind.__name__} {place}")
 
 
+def test_world_of_wrong(test):
+    """The world of a text that is not right is refused as by `check`."""
+    path, report = os.path.join(EXAMPLES, "first.json"), os.path.join(EXAMPLES, "conflict.out")
+    test.same(test.run("world", path, report), (9, b"", b"wrong line 3\n"), "world of another scenario's report")
+
+
 def main():
     """The status of all tests."""
     parser = argparse.ArgumentParser()
@@ -188,6 +205,7 @@ def main():
         test_examples(test)
         test_random(test, words.rounds, words.seed)
         test_wrong_runs(test, words.rounds // 6, words.seed)
+        test_world_of_wrong(test)
     return test.close()
 
 

@@ -49,7 +49,7 @@ class Compared(Count):
         try:
             call()
         except Fault as fault:
-            self.same(str(fault), text, name)
+            self.same(fault.text, text, name)
         else:
             self.expect(False, f"{name}: it is not refused as {text}")
 
@@ -946,7 +946,8 @@ def test_refusals(count):
                 client.say(reply(f"refused {code} 77"))
             except Fault as fault:
                 found = (str(fault), fault.word, fault.code, fault.detail, fault.name, client.link)
-                count.same(found, ("wrongkind", "wrongkind", int(code), 77, name, None), f"refusal {code} to {asked}")
+                said = f"wrongkind: refused {code} 77, {name}"
+                count.same(found, (said, "wrongkind", int(code), 77, name, None), f"refusal {code} to {asked}")
                 count.same(vars(fault.refused), {"code": int(code), "detail": 77, "name": name}, "the refusal as a whole")
             else:
                 count.expect(False, f"refusal {code} to {asked} is no fault")
@@ -955,6 +956,15 @@ def test_refusals(count):
         client.say(reply("bye"))
     except Fault as fault:
         count.same((str(fault), fault.code, fault.detail, fault.name, fault.refused), ("wrongkind", *(None,) * 4), "no refusal")
+    denied = Payload(reply("denied 1 object 3")).reply()
+    count.same((denied.kind, denied.object, denied.target), ("denied", 3, 3), "the field of denied, and its older name")
+    for key in ("0123456789abcdef", list(range(16)), 16):
+        try:
+            Client(0, 1, 1, key=key)
+        except TypeError as fault:
+            count.expect(str(fault).startswith("key: bytes belong there"), f"key {key!r}: {fault}")
+        else:
+            count.expect(False, f"key {key!r} is none")
 
 
 def again(client, **more):

@@ -541,7 +541,7 @@ class Checker(Count):
                 files = [word for word in words if word.startswith("examples/")]
                 self.expect(all(os.path.exists(os.path.join(ROOT, each)) for each in files), f"{page}: {line}")
                 ends = words[0] in ("play", "replay", "load", "witness", "--help", "--version")
-                ends |= words[0] in ("check", "why") and len(files) == 2
+                ends |= words[0] in ("check", "why", "world") and len(files) == 2
                 if program and ends and (files or len(words) < 2 or words[0] == "load") and line not in tried:
                     tried.add(line)
                     self.check_run_of(program, words, files)

@@ -687,7 +687,7 @@ def test_page(test):
         host = Host(test, world, folder)
         done = subprocess.run([sys.executable, "-c", text.replace("4000", str(host.port))], cwd=ROOT, capture_output=True, text=True,
                               timeout=LONGEST, check=False)
-        test.same((done.stdout, done.stderr), (wanted, ""), "page: the player")
+        test.same((done.stdout, done.stderr), (f"joining None\njoined None\n{wanted}left None\n", ""), "page: the player")
         test.expect(wanted.strip() in page, f"page: it tells {wanted}")
         told = [line.split(", entry")[1] for line in host.lines[:2]]
         test.expect(wanted[:3] != "(95" or told == [" 0, commit 0\n", " 2, commit 0\n"], f"page: its lines: {host.lines}")

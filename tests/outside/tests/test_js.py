@@ -279,6 +279,9 @@ def test_stopped(count):
         done = node(os.path.join(JS, "mine.js"), "1", str(server.port))
         count.same((done.returncode, done.stderr), (1, line), f"the game stops: {done.stdout}")
         server.stop()
+    for words in ((), ("1",), ("2", "4000"), ("0", "x"), ("0", "65536"), ("0", "4000", "x")):
+        done = node(os.path.join(JS, "mine.js"), *words)
+        count.same((done.returncode, done.stdout, done.stderr), (1, "", "words: PLAYER PORT, and PLAYER is 0 or 1\n"), f"the game's words {words}")
 
 
 MEMBERS = """

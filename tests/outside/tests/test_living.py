@@ -376,7 +376,7 @@ def fault_of(call):
     try:
         call()
     except Fault as fault:
-        return (str(fault), fault.code, fault.detail)
+        return (fault.word, fault.code, fault.detail)
     except OSError as fault:
         return type(fault).__name__
     return None

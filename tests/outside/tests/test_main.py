@@ -28,6 +28,7 @@ PLAY = b"words: play FILE [--brief | --watch] | replay FILE | load N\n"
 SERVE, JOIN, LOOKS = b"words: serve FILE PORT\n", b"words: join FILE K PORT\n", b"words: looks FILE\n"
 WITNESS = b"words: witness FILE [K]\n"
 CHECK, WHY = b"words: check SCENARIO REPORT\n", b"words: why SCENARIO REPORT OBJECT POSITION\n"
+WORLD = b"words: world SCENARIO REPORT\n"
 NO_TEXT = b"\xff\xfe"
 OTHER = {"user": 65534, "group": 65534}
 FIRST = os.path.join(ROOT, "examples", "first.json")
@@ -36,7 +37,7 @@ TRADE = os.path.join(ROOT, "examples", "trade.json")
 REPORT = os.path.join(ROOT, "examples", "first.out")
 LONGEST_REPORT = 67_108_864
 RUNS = (("play", FIRST), ("play", FIRST, "--brief"), ("play", FIRST, "--watch"), ("replay", FIRST), ("load", "1"), ("looks", SEEN), ("witness", TRADE, "0"),
-        ("check", FIRST, REPORT), ("why", FIRST, REPORT, "0", "1"))
+        ("check", FIRST, REPORT), ("why", FIRST, REPORT, "0", "1"), ("world", FIRST, REPORT))
 
 
 class Test(Room):
@@ -79,6 +80,7 @@ def test_words(test):
                         (("witness", first, "-1"), WITNESS), (("witness", first, "65536"), WITNESS), (("witness", first, "0", "0"), WITNESS),
                         (("witness", "missing", "--brief"), WITNESS),
                         (("check",), CHECK), (("check", first), CHECK), (("check", first, REPORT, "0"), CHECK), (("why",), WHY),
+                        (("world",), WORLD), (("world", first), WORLD), (("world", first, REPORT, "0"), WORLD),
                         (("why", first, REPORT, "0"), WHY), (("why", first, REPORT, "0", "01"), WHY), (("why", first, REPORT, "65536", "1"), WHY)):
         test.ends(words, (2, b"", line), "words")
     test.ends(("--version",), (0, b"dimboetu 0.9.0\n", b""), "notices")
@@ -113,7 +115,7 @@ def test_files(test):
     # A client that there is not is told last.
     test.ends(("witness", missing, "65535"), (4, b"", f"file: {missing}\n".encode()), "no such file, and no such client")
     test.ends(("witness", faulty, "65535"), (3, b"", b"scenario: : kind\n"), "a faulty file, and no such client")
-    for word, behind in (("check", ()), ("why", ("0", "1"))):
+    for word, behind in (("check", ()), ("world", ()), ("why", ("0", "1"))):
         for name in (missing, test.room, ""):
             test.ends((word, name, REPORT, *behind), (4, b"", f"file: {name}\n".encode()), "a scenario that can't be read")
             test.ends((word, faulty, name, *behind), (4, b"", f"file: {name}\n".encode()), "a report that can't be read, beside a faulty file")
@@ -124,11 +126,12 @@ def test_files(test):
 def test_reports(test):
     """Reports, right and wrong, and places that a run has or has not."""
     test.ends(("check", FIRST, REPORT), (0, b"yes\n", b""), "a right report")
+    test.ends(("world", FIRST, REPORT), (0, b"world 1\n0=(6)\n", b""), "the world at its end")
     test.ends(("why", FIRST, REPORT, "0", "1"), (0, b"1 c0.1 reads 0 writes 0 { set @0.0 (@0.0 + 1); }\nvalue 0=(6)\n", b""), "why")
     for place in (("1", "1"), ("0", "2"), ("65535", "4294967295")):
         test.ends(("why", FIRST, REPORT, *place), (10, b"", b"range\n"), "no such place")
     long = test.file("long", b"")
-    for word, behind in (("check", ()), ("why", ("9", "9"))):
+    for word, behind in (("check", ()), ("world", ()), ("why", ("9", "9"))):
         test.ends((word, FIRST, FIRST, *behind), (9, b"", b"wrong line 1\n"), "a scenario in place of a report")
         test.ends((word, FIRST, "/dev/null", *behind), (9, b"", b"wrong line 1\n"), "an empty report")
         test.ends((word, SEEN, REPORT, *behind), (9, b"", b"wrong line 2\n"), "the report of another scenario")

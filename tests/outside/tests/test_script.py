@@ -33,8 +33,11 @@ case "$1" in
   host)
     [ -n "$3" ] || { echo "words: $2." >&2; exit 2; }
     [ "$2" != busy ] || { echo "busy: $3" >&2; exit 14; }
+    [[ "$*" != *:4999 ]] || { echo "busy: 127.0.0.1:4999" >&2; exit 14; }
+    [ "$2" != wrong ] || { echo "words: host WORLD DIR [OPTION ..]" >&2; exit 2; }
+    [ "$2" != die ] || kill -KILL $$
     echo "listening $2" >&2; cat >/dev/null; echo "stop $*" >&2; exit 0 ;;
-  replay | serve) printf '%s\n' "$3" >&2; exit "$4" ;;
+  replay | serve | join | witness | why) [ "$#" = 4 ] && [[ "$4" =~ ^[0-9]{1,2}$ ]] && { printf '%s\n' "$3" >&2; exit "$4"; }; echo "words: $1 .." >&2; exit 2 ;;
 esac
 echo "words: play FILE [--brief | --watch] | replay FILE | load N" >&2
 exit 2
@@ -178,6 +181,18 @@ def test_host(script):
     said = run.communicate(timeout=SECONDS)[1].decode()
     script.expect(f" {room}/world --stdin --site {room}/site --at 127.0.0.1:4321\n" in said and run.returncode == 0, f"demo: {said}")
     script.same(os.listdir(rooms), [], "demo: nothing is left")
+    for port, other in (("4999", "5000"),):
+        code, _, err = script.run("demo", port)
+        script.expect(code == 14 and err.endswith(f"\ndimboetu: for another port write ./dimboetu demo {other}\n".encode()), f"demo {port}: {err}")
+    code, _, err = script.run("host", "die", "d")
+    script.same((code, err), (137, b"dimboetu: the program was killed, by signal 9. Start it again: the world goes on\n"), "host: it is killed")
+    for words, text in (((), "write ./dimboetu host WORLD DIR"), (("--port", "4000"), "'host' has no option '--port'"), (("--at", "localhost:4660"), "'--at' takes ADDRESS:PORT"),
+                        (("--at", "127.0.0.1:4000", "--sync", "all"), "'--sync' takes 'none' or 'batch', and not 'all'"), (("--idle", "0"), "'--idle' takes seconds, 1 to 1000000, and not '0'"),
+                        (("--report-within", "x"), "'--report-within' takes milliseconds"), (("--at", "[::1]:65536"), "'--at' takes"), (("--stdin", "--keys"), "'--keys' takes something behind it"),
+                        (("--site", "s", "--no-steward"), "'--no-steward' may not stand where the world has \"authority\""), (("--at", "[::1]:4000"), "write ./dimboetu host WORLD DIR")):
+        code, _, err = script.run("host", "wrong", "d", *words)
+        said = err.decode().split("\n")
+        script.expect(code == 2 and len(said) == 3 and said[1].startswith(f"dimboetu: {text}"), f"host {words}: {err}")
     for words in (("x",), ("0",), ("65536",), ("1", "2")):
         script.same(script.run("demo", *words)[0], 2, f"demo {words}")
 
@@ -202,14 +217,22 @@ def test_lines(script):
                           ("stopped: wrongkind", "reply: wrongkind"), ("stopped: wrongkind: refused 11 7, old life", "| 11 | old life |"), ("stopped: missing 3 4", "reply: missing"),
                           ("stopped: [Errno 111] Connection refused", "nobody listened"), ("stopped: action 4", "| 4 | The world has no object"), ("stopped: text 3 1", "| 1 | No piece"),
                           ("stopped: list index out of range", "no client NUMBER"), ("stopped: full", "Nothing was done"),
-                          ("spent", "no request left"), ("the build stopped", "was not proved")):
+                          ("spent", "no request left"), ("the build stopped", "was not proved"), ("denied", "has no right"), ("start world, entry 0, commit 0", "it has read the log"),
+                          ("listening [::1]:4000, entry 7, commit 2", "players may come"), ("stop w w, entry 7, commit 2", "it stopped in order"), ("dimboetu.Fault: wrongkind", "reply: wrongkind"),
+                          ("dimboetu.Fault: text 19 3", "| 3 | Something else"), ("Fault: wrongkind", "reply: wrongkind"), ("ConnectionError: closed", "while a reply was due"),
+                          ("dimboetu.Fault: wrongkind: refused 4 0, over", "| 4 | over |"), ("ConnectionRefusedError: [Errno 111] Connection refused", "nobody listened"),
+                          ("TypeError: key: bytes belong there, as b\"..\", and no str", "is written wrongly"), ("dimboetu: step 2 of 3, compiling 58 crates (21 s)", "makes the unproved build"),
+                          ("dimboetu: this run is of an unproved build. './dimboetu build' proves the program and builds it for good.", "no fault"),
+                          ("report: line 1 is none of a report: x", "a scenario is no report"), ("dimboetu: the file can't be read. x; see docs/ERRORS.md#file", "A folder is no file")):
         script.expect(heading in script.run("explain", line)[1].decode(), f"explain {line} has {heading}")
     script.expect("behind 'reads'" in script.run("explain", "scenario: /a: text 3 4")[1].decode(), "the row of a cause")
     script.same(script.run("explain", "nothing"), (2, b"", b"dimboetu: docs/ERRORS.md has no such line\n"), "explain nothing")
     for words, text in ((("serve", "x", "link", "6"), "the port is in use"), (("replay", "x", "scenario: /a: text 1 4", "3"), "not among the reads"),
                         (("replay", "x", "wrong line 2", "9"), "another scenario"), (("replay", "x", "wrong line 9", "9"), "first wrong line"),
                         (("replay", "x", "log: journal-1.txt:4 reply", "13"), "not the one that is due"), (("replay", "x", "log: world.json world", "13"), "another world"),
-                        (("replay", "x", "log: world", "5"), "can't be written")):
+                        (("replay", "x", "log: world", "5"), "can't be written"), (("join", "x", "range", "10"), "has no client K"), (("witness", "x", "range", "10"), "has no client K"),
+                        (("why", "x", "range", "10"), "no such object"), (("replay", "x", "scenario: /bound: range", "3"), "HOSTING.md"),
+                        (("replay", "x", "scenario: /clients: key", "3"), "'host' takes a world without 'clients'"), (("replay", "x", "scenario: /bound: key", "3"), "a key is missing")):
         script.expect(text in script.says(words[2], int(words[3]), *words), f"{words}: {text}")
 
 
@@ -218,10 +241,38 @@ def test_words(script):
     line = b"words: play FILE [--brief | --watch] | replay FILE | load N\n"
     for words, text in (((), "'./dimboetu --help' has all commands"), (("plya", "x"), "no command 'plya', but 'play'"),
                         (("chek",), "but 'check'"), (("xyzzy",), "no command 'xyzzy'."), (("play",), "write ./dimboetu play FILE, or "),
-                        (("load", "x"), "write ./dimboetu load N;"), (("explain",), "write ./dimboetu explain LINE;"), (("biuld",), "but 'build'")):
+                        (("load", "x"), "N is a number from 1 to 192, and not 'x';"), (("load",), "write ./dimboetu load N;"), (("explain",), "write ./dimboetu explain LINE;"), (("biuld",), "but 'build'")):
         code, out, err = script.run(*words)
         script.same((code, out, err[:len(line)]), (2, b"", line), f"{words}")
         script.expect(text in err[len(line):].decode() and err.endswith(b"; see docs/ERRORS.md#words\n"), f"{words}: {err}")
+    for words, text in ((("serve", "x", "99999"), "PORT is a number from 1 to 65535, and not '99999'"), (("join", "x", "07", "4000"), "K is a number from 0 to 65535, and not '07'"),
+                        (("witness", "x", "-1"), "K is a number"), (("why", "x", "y", "0", "4294967296"), "POSITION is a number from 0 to 4294967295"), (("serve", "x"), "write ./dimboetu serve FILE PORT")):
+        code, _, err = script.run(*words)
+        script.expect(code == 2 and err.decode().split("\n")[1].startswith(f"dimboetu: {text}"), f"{words}: {err}")
+
+
+def test_unbuilt(script):
+    """Wrong words are answered before anything is built; another crate's line in crates.txt changes nothing, one of a crate below does."""
+    out, aside, crates = script.path("crates/sv_main/out"), script.path("aside"), script.path("crates.txt")
+    shutil.move(out, aside)
+    line = b"words: play FILE [--brief | --watch] | replay FILE | load N\n"
+    for words, text in (((), "has all commands"), (("hepl",), "there is no command 'hepl'"), (("-h",), "'./dimboetu --help' has all commands"), (("help",), "'./dimboetu --help' has all")):
+        code, printed, err = script.run(*words)
+        script.expect((code, printed) == (2, b"") and err.startswith(line) and text in err.decode() and err.count(b"\n") == 2, f"unbuilt, {words}: {err}")
+        script.expect(not os.path.exists(out), f"unbuilt, {words}: nothing is built")
+    shutil.move(aside, out)
+    for more, is_kept in (("yours: sv_world thiserror\n", True), ("sv_main: sv_world\n", False)):
+        with open(crates, encoding="utf-8") as file:
+            before = file.read()
+        with open(crates, "a", encoding="utf-8") as file:
+            file.write(more)
+        script.same(script.run("--help")[0], 0, "the sum is not asked for --help")
+        if is_kept:
+            script.same(script.run("say", "0", "seen\\n"), (0, b"", b"seen\n"), f"the build counts, with {more}")
+        else:
+            script.expect(b"sources changed" in script.run("load", "1")[2], f"the build does not count, with {more}")
+        with open(crates, "w", encoding="utf-8") as file:
+            file.write(before)
 
 
 def test_places(script):
@@ -289,7 +340,7 @@ def main():
     """The status of all tests."""
     with tempfile.TemporaryDirectory() as room:
         script = Script(room)
-        for test in (test_passing, test_signals, test_host, test_lines, test_words, test_places, test_json):
+        for test in (test_passing, test_signals, test_host, test_lines, test_words, test_places, test_json, test_unbuilt):
             test(script)
         return script.close()
 

@@ -70,11 +70,18 @@ class Test(Room):
         """What a server printed, which must have ended with 0 and told a legal journal; else None."""
         status, text, line = server.end()
         self.same((status, line), (0, ""), f"{name}: serve ends")
+        self.checked(path, text, name)
         try:
             return Served(read_scenario(path), text, is_honest)
         except Fault as fault:
             self.expect(False, f"{name}: what serve printed: {fault}\n{text[-2000:]}")
         return None
+
+    def checked(self, path, text, name):
+        """What `check` says of what a server printed: yes, or the first line that does not tell what was asked."""
+        untold = [number for number, line in enumerate(text.splitlines(), 1) if re.match(r"[0-9]+ s[0-9]+ (submit [0-9]+ )?bad ", line)]
+        wanted = (9, "", f"wrong line {untold[0]}\n") if untold else (0, "yes\n", "")
+        self.same(self.run("check", path, self.file("served", text.encode())).end(), wanted, f"{name}: check of what serve printed")
 
     def printed(self, journal, client, run, name):
         """A join's output is the one that the journal gives."""

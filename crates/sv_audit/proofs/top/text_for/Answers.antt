@@ -1,8 +1,7 @@
 -- The counts of faults, by the part of the call that ended it.
-use Rattle.std.specs.Option.{option_map}
 use Rattle.sv_audit.specs.declared.ending.AuditEnding.TheVariants as endings
 use Rattle.sv_audit.specs.Statuses.{ending_of}
-use Rattle.sv_audit.specs.Words.{place_by}
+use Rattle.sv_audit.specs.Words.{question_by}
 use Rattle.sv_audit.proofs.Making.{raised_by, calm_raises, given_calm, judged_calm, answer_calm}
 use Rattle.sv_audit.proofs.top.text_for.Goals as goal
 
@@ -23,4 +22,4 @@ returns-in_err-played-clause-raises g c =
 pub returns-clause-raises : goal.returns-clause-raises
 returns-clause-raises g c =
     λ k. calm_raises _ _ (ending_of c.answered.result)
-    (answer_calm c.in_ok-scenario.scenario c.in_ok-played.played (option_map place_by c.args.audit.place) c.answered.result c.answered.ensures) (c.in_ok-both.ensures.raises k)
+    (answer_calm c.in_ok-scenario.scenario c.in_ok-played.played (question_by c.args.audit.question) c.answered.result c.answered.ensures) (c.in_ok-both.ensures.raises k)
