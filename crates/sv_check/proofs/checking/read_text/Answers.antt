@@ -24,12 +24,12 @@ pub returns-then-begins_commit-clause-right : goal.returns-then-begins_commit-cl
 returns-then-begins_commit-clause-right c =
     ok_as c.read_hosted.result (IsHostedOf c.args.scenario.now c.args.text.now) (IsRightOf c.args.scenario.now c.args.text.now) (λ played h. inr h) c.read_hosted.ensures.hosted
 
-pub returns-clause-right : goal.returns-clause-right
-returns-clause-right c =
+pub returns-else-begins_commit-clause-right : goal.returns-else-begins_commit-clause-right
+returns-else-begins_commit-clause-right c =
     ok_as c.read_report.result (IsReportOf c.args.scenario.now c.args.text.now) (IsRightOf c.args.scenario.now c.args.text.now) (λ played h. inl h) c.read_report.ensures.report
 
-pub returns-clause-wrong : goal.returns-clause-wrong
-returns-clause-wrong c =
+pub returns-else-begins_commit-clause-wrong : goal.returns-else-begins_commit-clause-wrong
+returns-else-begins_commit-clause-wrong c =
     let text = c.args.text.now in
     let scenario = c.args.scenario.now in
     wrong_as c.read_report.result (IsStop scenario text) (IsTextStop scenario text)
