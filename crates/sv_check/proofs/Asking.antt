@@ -148,10 +148,10 @@ ends_more s h whole (after {g} e b) =
     let less = ends_more s h g b in
     cond_both (eqb e.session s && is_end e.request) (suc (ends_in g s)) (ends_in g s) (λ (n : ℕ). ends_in h s ≤ n) (λ t. omega (arith, less)) (λ t. less)
 
-pub one_end : (e : Entry) (h : List Entry) → is_end e.request ≡ true → ends_in (e ∷ h) e.session ≡ suc (ends_in h e.session)
+one_end : (e : Entry) (h : List Entry) → is_end e.request ≡ true → ends_in (e ∷ h) e.session ≡ suc (ends_in h e.session)
 one_end e h t = let here = eq-eqb e.session e.session refl in rw (here, t) refl
 
-pub not_ended : (h : List Entry) (s : ℕ) → ends_in h s ≡ 0 → is_ended h s ≡ false
+not_ended : (h : List Entry) (s : ℕ) → ends_in h s ≡ 0 → is_ended h s ≡ false
 not_ended h s none =
     elim (cases_Bool (is_ended h s)) [
       | inl x ↦ (let some = some_ended h s x in absurd (omega (arith, some, none)))
