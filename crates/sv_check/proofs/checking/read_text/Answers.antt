@@ -1,5 +1,5 @@
 -- What is proved by hand of `read_text`.
-use Rattle.std.proofs.Common.{Bor, List, ℕ, inl, inr, sym}
+use Rattle.std.proofs.Common.{Bor, List, ℕ, inl, inr, sym, ◌∙◌}
 use Rattle.std.proofs.lemmas.Result.{err_from_is_err_and}
 use Rattle.sv_system.specs.declared.played.Played.{Played}
 use Rattle.sv_check.specs.declared.journal.Served.{Served}
@@ -36,5 +36,5 @@ returns-else-begins_commit-clause-wrong c =
     (λ left s. text_stop scenario text left
     (not_hosted c.laws_of_runs.ensures.stay c.laws_of_runs.ensures.named c.laws_of_runs.ensures.steps c.laws_of_runs.ensures.few c.laws_of_runs.ensures.messages
     scenario c.requires.good c.read_scenario_numbers.ensures (entries_of c.in_ok-served.served) c.in_ok-served.ensures.whole text c.in_ok-served.behind.now c.in_ok-served.ensures.text c.requires.short
-    (sym c.begins_commit.ensures)) s)
+    (sym c.begins_commit.ensures ∙ c.if-begins_commit.false)) s)
     c.read_report.ensures.wrong
