@@ -41,3 +41,4 @@ pub mod LessWorld
 pub mod Hosting
 pub mod Closed
 pub mod FirstWrong
+pub mod Hostable

@@ -1,12 +1,17 @@
 //! Laws of reports. Each is the contract of a function that does nothing.
-ghost use Rattle.std.specs.Prelude.{◌≡◌, ℕ, ◌<◌, ◌^◌, List, ◌++◌, length, reverse};
+ghost use Rattle.std.specs.Prelude.{◌≡◌, ℕ, ◌<◌, ◌^◌, List, ◌++◌, All, length, reverse};
 ghost use Rattle.sv_journal.specs.declared.entry.Entry.{Entry};
+ghost use Rattle.sv_journal.specs.Answer.{Legal};
 ghost use Rattle.sv_journal.specs.Text.{journal_text};
 ghost use Rattle.sv_client.specs.declared.trace.Trace.{Trace};
 ghost use Rattle.sv_scenario.specs.declared.scenario.Scenario.{Scenario};
 ghost use Rattle.sv_scenario.specs.Limits.{IsGoodScenario};
+ghost use Rattle.sv_scenario.specs.Sessions.{session_count};
+ghost use Rattle.sv_system.specs.Records.{rules_of, ends_in};
+ghost use Rattle.sv_lines.specs.Told.{IsTold};
 ghost use Rattle.sv_asked.specs.Numbers.{ScenarioFits};
 ghost use Rattle.sv_check.specs.Consistent.{IsReportOfPair};
+ghost use Rattle.sv_check.specs.Hosted.{IsHosted, hosted_text};
 ghost use Rattle.sv_check.specs.Parts.{AreEntries};
 ghost use Rattle.sv_check.specs.Wrong.{IsFirstWrong};
 
@@ -43,3 +48,12 @@ pub fn first_wrong_lines_are_equal()
     full_replies_stay();
     legal_relays_name_accepted();
 }
+
+/// What `serve` prints is right where each request can be told: of every legal journal of the scenario's sessions with just one End for each.
+///
+/// A request that can't be told is printed as `bad`: a payload that is none, or an action that the check refuses.
+pub fn served_journals_are_right()
+    ensures { (scenario : Scenario) (h : List Entry) → Legal (rules_of scenario) h → All (λ (e : Entry). e.session < session_count scenario) h →
+        ((s : ℕ) → s < session_count scenario → ends_in h s ≡ 1) → All (λ (e : Entry). IsTold scenario.world.shape e.request) h →
+        IsHosted scenario (hosted_text scenario.world.shape (reverse h)) }
+{}

@@ -13,5 +13,7 @@ mod settled;
 mod verdict;
 
 pub use checking::check;
-pub use laws::{first_wrong_lines_are_equal, journals_are_told, reports_are_told};
+pub use laws::{
+    first_wrong_lines_are_equal, journals_are_told, reports_are_told, served_journals_are_right,
+};
 pub use verdict::Verdict;

@@ -1,5 +1,5 @@
 -- What is proved by hand of `read_text`.
-use Rattle.std.proofs.Common.{Bor, List, ℕ, inl, inr, sym}
+use Rattle.std.proofs.Common.{Bor, List, ℕ, inl, inr, sym, ◌∙◌}
 use Rattle.std.proofs.lemmas.Result.{err_from_is_err_and}
 use Rattle.sv_system.specs.declared.played.Played.{Played}
 use Rattle.sv_check.specs.declared.journal.Served.{Served}
@@ -24,17 +24,17 @@ pub returns-then-begins_commit-clause-right : goal.returns-then-begins_commit-cl
 returns-then-begins_commit-clause-right c =
     ok_as c.read_hosted.result (IsHostedOf c.args.scenario.now c.args.text.now) (IsRightOf c.args.scenario.now c.args.text.now) (λ played h. inr h) c.read_hosted.ensures.hosted
 
-pub returns-clause-right : goal.returns-clause-right
-returns-clause-right c =
+pub returns-else-begins_commit-clause-right : goal.returns-else-begins_commit-clause-right
+returns-else-begins_commit-clause-right c =
     ok_as c.read_report.result (IsReportOf c.args.scenario.now c.args.text.now) (IsRightOf c.args.scenario.now c.args.text.now) (λ played h. inl h) c.read_report.ensures.report
 
-pub returns-clause-wrong : goal.returns-clause-wrong
-returns-clause-wrong c =
+pub returns-else-begins_commit-clause-wrong : goal.returns-else-begins_commit-clause-wrong
+returns-else-begins_commit-clause-wrong c =
     let text = c.args.text.now in
     let scenario = c.args.scenario.now in
     wrong_as c.read_report.result (IsStop scenario text) (IsTextStop scenario text)
     (λ left s. text_stop scenario text left
     (not_hosted c.laws_of_runs.ensures.stay c.laws_of_runs.ensures.named c.laws_of_runs.ensures.steps c.laws_of_runs.ensures.few c.laws_of_runs.ensures.messages
     scenario c.requires.good c.read_scenario_numbers.ensures (entries_of c.in_ok-served.served) c.in_ok-served.ensures.whole text c.in_ok-served.behind.now c.in_ok-served.ensures.text c.requires.short
-    (sym c.begins_commit.ensures)) s)
+    (sym c.begins_commit.ensures ∙ c.if-begins_commit.false)) s)
     c.read_report.ensures.wrong
