@@ -1,6 +1,7 @@
 -- What is proved by hand of `world_by`.
-use Rattle.std.proofs.Common.{◌≡◌, ◌+◌, suc, ℤ, List, ap, ap₂, sym, ◌∙◌, arith, length, reverse}
+use Rattle.std.proofs.Common.{◌≡◌, ℕ, ◌+◌, suc, ℤ, List, ap, ap₂, sym, ◌∙◌, arith, length, reverse}
 use Rattle.std.proofs.lemmas.List.{length-map}
+use Rattle.sv_world.specs.Control.{action_at}
 use Rattle.sv_world.specs.declared.action.Action.{Action}
 use Rattle.sv_eval.specs.Serial.{world_after, serial_world}
 use Rattle.sv_system.proofs.Serials.{serial-step}
@@ -15,6 +16,7 @@ loop-at-preserved c =
       high = (let less = c.loop-at-test.true in omega arith);
       world = c.in_ok-execute.ensures
           ∙ ap₂ (λ (world : List (List ℤ)) (a : Action). world_after world a) c.loop-at.invariant.world c.accepted.ensures
+          ∙ ap (λ (n : ℕ). world_after (serial_world c.args.opening.now A c.loop-at.at) (action_at A n)) (sym next)
           ∙ sym (serial-step c.args.opening.now A c.loop-at.at)
           ∙ ap (serial_world c.args.opening.now A) next;
     }
