@@ -26,7 +26,7 @@ const LOOKS_WHY: &str = "3 c0.3 reads 1 writes 1 { set @1.0 (@1.0 + 1); }\nvalue
 const OBSERVE_WHY: &str = "1 c0.1 reads 0 writes 0 { set @0.0 (@0.0 + 1); }\nvalue 0=(11)\n";
 
 /// A line of words, and the status with both outputs.
-const ROWS: [(&str, u8, &str, &str); 57] = [
+const ROWS: [(&str, u8, &str, &str); 40] = [
     ("check first.json first.out", 0, "yes\n", ""),
     ("check conflict.json conflict.out", 0, "yes\n", ""),
     ("check looks.json looks.out", 0, "yes\n", ""),
@@ -36,29 +36,7 @@ const ROWS: [(&str, u8, &str, &str); 57] = [
     ("why looks.json looks.out 1 2", 0, "value 1=(20)\n", ""),
     ("why looks.json looks.out 0 0", 0, "value 0=(10)\n", ""),
     ("why observe.json observe.out 0 1", 0, OBSERVE_WHY, ""),
-    ("world first.json first.out", 0, "world 1\n0=(6)\n", ""),
-    (
-        "world looks.json looks.out",
-        0,
-        "world 3\n0=(11)\n1=(21)\n",
-        "",
-    ),
-    // What `serve` prints.
-    ("check first.json served.out", 0, "yes\n", ""),
-    ("why first.json served.out 0 1", 0, FIRST_WHY, ""),
-    ("why first.json served.out 0 2", 10, "", "range\n"),
-    ("world first.json served.out", 0, "world 1\n0=(6)\n", ""),
-    ("check first.json bad.out", 9, "", "wrong line 2\n"),
-    ("world first.json bad.out", 9, "", "wrong line 2\n"),
-    ("check first.json false.out", 9, "", "wrong line 3\n"),
-    ("why first.json false.out 0 0", 9, "", "wrong line 3\n"),
-    ("check first.json long.out", 9, "", "wrong line 4\n"),
-    ("check conflict.json served.out", 9, "", "wrong line 2\n"),
     // The words.
-    ("world", 2, "", WORLD_WORDS),
-    ("world first.json", 2, "", WORLD_WORDS),
-    ("world first.json first.out 0", 2, "", WORLD_WORDS),
-    ("world first.json first.out 0 1", 2, "", WORLD_WORDS),
     ("", 2, "", CHECK_WORDS),
     ("check", 2, "", CHECK_WORDS),
     ("check first.json", 2, "", CHECK_WORDS),
@@ -81,7 +59,6 @@ const ROWS: [(&str, u8, &str, &str); 57] = [
     ("check missing absent", 4, "", "file: missing\n"),
     ("check none.json absent", 4, "", "file: absent\n"),
     ("why first.json absent 0 1", 4, "", "file: absent\n"),
-    ("world first.json absent", 4, "", "file: absent\n"),
     (
         "check none.json first.out",
         3,
@@ -116,9 +93,44 @@ const ROWS: [(&str, u8, &str, &str); 57] = [
     ),
 ];
 
+/// What `serve` prints, and the world at the end.
+const SERVED_ROWS: [(&str, u8, &str, &str); 17] = [
+    ("world first.json first.out", 0, "world 1\n0=(6)\n", ""),
+    (
+        "world looks.json looks.out",
+        0,
+        "world 3\n0=(11)\n1=(21)\n",
+        "",
+    ),
+    ("check first.json served.out", 0, "yes\n", ""),
+    ("why first.json served.out 0 1", 0, FIRST_WHY, ""),
+    ("why first.json served.out 0 2", 10, "", "range\n"),
+    ("world first.json served.out", 0, "world 1\n0=(6)\n", ""),
+    ("check first.json bad.out", 9, "", "wrong line 2\n"),
+    ("world first.json bad.out", 9, "", "wrong line 2\n"),
+    ("check first.json false.out", 9, "", "wrong line 3\n"),
+    ("why first.json false.out 0 0", 9, "", "wrong line 3\n"),
+    ("check first.json long.out", 9, "", "wrong line 4\n"),
+    ("check conflict.json served.out", 9, "", "wrong line 2\n"),
+    ("world", 2, "", WORLD_WORDS),
+    ("world first.json", 2, "", WORLD_WORDS),
+    ("world first.json first.out 0", 2, "", WORLD_WORDS),
+    ("world first.json first.out 0 1", 2, "", WORLD_WORDS),
+    ("world first.json absent", 4, "", "file: absent\n"),
+];
+
 #[test]
 fn words_are_answered(rt: HostRuntime) -> Result<(), Fail> {
     for (line, status, out, err) in ROWS {
+        let printed = called(rt.alloc(), line)?;
+        assert!(&rt; printed.is(status, out, err), "{line}");
+    }
+    Ok(())
+}
+
+#[test]
+fn served_journals_are_answered(rt: HostRuntime) -> Result<(), Fail> {
+    for (line, status, out, err) in SERVED_ROWS {
         let printed = called(rt.alloc(), line)?;
         assert!(&rt; printed.is(status, out, err), "{line}");
     }
