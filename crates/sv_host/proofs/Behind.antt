@@ -120,23 +120,23 @@ unended_more line (byte ∷ front) more = go (byte == 10) (unended_more [] front
     go true next same = next
     go false next same = same
 
-pub read_on : (old new : Told) (piece : List ℕ) (input next : InputLines) (stops : Bool) → new.input ≡ old.input ++ piece
+pub read_on : (old new : Told) (piece : List ℕ) (input next : InputLines) (stops : Bool)
     → ((line : List ℕ) → IsAtLine input line → stops ≡ has_stop line piece)
     → ((line : List ℕ) → IsAtLine input line → stops ≡ false → IsAtLine next (unended line piece))
-    → IsReadTo old input → MatchBool stops (WasToldToStop new) (IsReadTo new next)
-read_on old new piece input next true more stop at read = inr (
-  ap (has_stop []) more ∙ stop_more [] old.input piece ∙ or_late (has_stop [] old.input) (has_stop (unended [] old.input) piece) (sym (stop (unended [] old.input) read))
-)
-read_on old new piece input next false more stop at read =
+    → new.input ≡ old.input ++ piece → IsReadTo old input → MatchBool stops (WasToldToStop new) (IsReadTo new next)
+read_on old new piece input next true stop at more read = inr (
+    ap (has_stop []) more ∙ stop_more [] old.input piece ∙ or_late (has_stop [] old.input) (has_stop (unended [] old.input) piece) (sym (stop (unended [] old.input) read))
+    )
+read_on old new piece input next false stop at more read =
     subst (λ (line : List ℕ). IsAtLine next line) (sym (ap (unended []) more ∙ unended_more [] old.input piece)) (at (unended [] old.input) read refl)
 
-pub match_true : {A B : Type 0} (b : Bool) → b ≡ true → MatchBool b A B → A
-match_true true is m = m
-match_true false is m = absurd (true≢false (sym is))
+pub match_true : {A : Type 0} (B : Type 0) (b : Bool) → b ≡ true → MatchBool b A B → A
+match_true B true is m = m
+match_true B false is m = absurd (true≢false (sym is))
 
-pub match_false : {A B : Type 0} (b : Bool) → b ≡ false → MatchBool b A B → B
-match_false true is m = absurd (true≢false is)
-match_false false is m = m
+pub match_false : {B : Type 0} (A : Type 0) (b : Bool) → b ≡ false → MatchBool b A B → B
+match_false A true is m = absurd (true≢false is)
+match_false A false is m = m
 
 -- Nothing was read yet.
 pub read_nothing : (told : Told) (input : InputLines) → IsAtLine input [] → told ≡ nothing_told → IsReadTo told input

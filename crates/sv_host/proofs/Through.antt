@@ -34,6 +34,10 @@ pub between_asked : (before first last after : Told) → (before ≡ nothing_tol
     → before ≡ nothing_told → WasToldToStop after
 between_asked before first last after new asked is fresh = subst WasToldToStop (sym is) (asked (new fresh))
 
+-- What was lent came back.
+pub told_at : {A : Type 0} {may : Entry → Type 0} {w : WorldView} (told : A → Told) (a b : A) → WereWritten may (told a) w → b ≡ a → WereWritten may (told b) w
+told_at {A} {may} {w} told a b were same = subst (λ (x : A). WereWritten may (told x) w) (sym same) were
+
 -- A door was opened, and closed.
 pub between_wrote : {may : Entry → Type 0} {v : WorldView} (before first last after : Told) → (before ≡ nothing_told → first ≡ nothing_told)
     → OnlyWrote may first last v → after ≡ last → OnlyWrote may before after v

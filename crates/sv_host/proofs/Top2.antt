@@ -17,7 +17,7 @@ use Rattle.sv_office.specs.declared.guest.Guest.{Guest}
 use Rattle.sv_worldfile.specs.declared.world_file.WorldFile.{WorldFile}
 use Rattle.sv_worldfile.specs.WorldFiles.{world_file_of}
 use Rattle.sv_host.specs.Causes.{file_place, is_authority, line_place, IsFileFront, IsPrepared, IsWrongLine, WhyBefore, WhyFaulty, WhyNoKeys, WhyUnread}
-use Rattle.sv_host.specs.Causes.{start_in, HasOpened, HasStopped, IsEndOf, IsOfDisk, WasServed, WasServedFirst, WhyBehind, WhyNoFolder, WhyStopped, WhyUnopened, WroteFirst}
+use Rattle.sv_host.specs.Causes.{start_in, HasOpened, HasStopped, IsEndOf, IsHalted, IsOfDisk, WasServed, WasServedFirst, WhyBehind, WhyNoFolder, WhyStopped, WhyUnopened, WroteFirst}
 use Rattle.sv_host.specs.Rooms.{AreServed}
 use Rattle.sv_host.specs.Served.{BreaksOff}
 use Rattle.sv_host.specs.Statuses.{IsEarly}
@@ -118,6 +118,18 @@ module _ (contents : List ℕ → Option (List ℕ)) (rose : Type 0) (asked : As
   keys_before now (endings.Busy name) same why = absurd why
 
 -- ---- With the folder, the door or the log
+
+pub halted_why : (refuses : DoorFault → Type 0) (at : List ℕ) (e : HostEnd) → IsHalted e → WhyStopped refuses at e
+halted_why refuses at (endings.Disk name) is = tt
+halted_why refuses at endings.Link is = tt
+halted_why refuses at endings.Memory is = tt
+halted_why refuses at (endings.Busy name) is = absurd is
+halted_why refuses at (endings.Done stopped) is = absurd is
+halted_why refuses at endings.Words is = absurd is
+halted_why refuses at (endings.World line) is = absurd is
+halted_why refuses at (endings.Keys which line) is = absurd is
+halted_why refuses at (endings.File which) is = absurd is
+halted_why refuses at (endings.Log line) is = absurd is
 
 module _ {F : Type 0} (disk : F → Disk) (is_honest : F → Type 0) where
   disk_rose : (before now : ℕ) (fault : OpenFault) → IsOfDisk fault → OpenCause before now fault → Rose before now

@@ -300,6 +300,9 @@ out_still n ps guest before now still out = record {
 pub left_as : {old new : Told} {next : ℕ} {written heard : List (ℕ × List ℕ)} → new ≡ record old { next = next; written = written; heard = heard } → LeftInput old new
 left_as is = record { input = ap (λ (t : Told). t.input) is; ended = ap (λ (t : Told). t.input_ended) is }
 
+pub left_equal : {old new : Told} → new ≡ old → LeftInput old new
+left_equal is = record { input = ap (λ (t : Told). t.input) is; ended = ap (λ (t : Told). t.input_ended) is }
+
 pub left_same : (told : Told) → LeftInput told told
 left_same told = record { input = refl; ended = refl }
 

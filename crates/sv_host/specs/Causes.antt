@@ -201,6 +201,13 @@ WhyNoFolder refuses folder (endings.Busy name) = (string_bytes name ≡ folder) 
 WhyNoFolder refuses folder endings.Memory = Unit {0}
 WhyNoFolder refuses folder _ = ⊥
 
+-- How it ends where the serving broke off; for private clauses.
+abbrev pub IsHalted : HostEnd → Type 0
+IsHalted (endings.Disk name) = Unit {0}
+IsHalted endings.Link = Unit {0}
+IsHalted endings.Memory = Unit {0}
+IsHalted _ = ⊥
+
 -- Why it stops, once the log is opened; for private clauses.
 abbrev pub WhyStopped : (DoorFault → Type 0) → List ℕ → HostEnd → Type 0
 WhyStopped refuses at (endings.Disk name) = Unit {0}

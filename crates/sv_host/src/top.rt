@@ -8,7 +8,7 @@ ghost use Rattle.sv_living.specs.World.{heeded_in};
 ghost use Rattle.sv_worldfile.specs.Limits.{IsGoodWorldFile};
 ghost use Rattle.sv_ports.specs.Told.{nothing_told};
 ghost use Rattle.sv_office.specs.Offices.{session_of};
-ghost use Rattle.sv_host.specs.Causes.{EndsFor, HasStopped, IsAtEnd, IsPrepared, WasServed, WhyBehind, WhyEnds, WhyStopped, WroteFirst};
+ghost use Rattle.sv_host.specs.Causes.{EndsFor, HasStopped, IsAtEnd, IsHalted, IsPrepared, WasServed, WhyBehind, WhyEnds, WhyStopped, WroteFirst};
 ghost use Rattle.sv_host.specs.Inputs.{WasToldToStop};
 ghost use Rattle.sv_host.specs.Lines.{standing_line};
 ghost use Rattle.sv_host.specs.Rooms.{AnyEntry, AreServed, Continues, IsAnEnd};
@@ -17,7 +17,6 @@ ghost use Rattle.sv_host.specs.Staffing.{IsOfficeFor, IsStaffFor};
 ghost use Rattle.sv_host.specs.Statuses.{EndsBy, IsEarly, IsStatus, IsToldLast};
 ghost use Rattle.sv_host.specs.Words.{AsksNothing, asked_by};
 ghost use Rattle.sv_host.specs.declared.ending.HostEnd.TheVariants as endings;
-ghost use Rattle.sv_host.specs.declared.hall.DoorFault.{DoorFault};
 
 use crate::ending::{HostEnd, Stopped, status_of, tell};
 use crate::hall::{DoorFault, Doors, Folders};
@@ -49,7 +48,7 @@ fn tell_keeper<F: Folder, E: Sink>(word: &str, name: &str, keeper: &Keeper<F>, e
 }
 
 fn halted<F: Folder>(alloc: Global, host: &Host<F>, halt: Halt) -> Result<HostEnd, AllocError>
-    ensures { (refuses : DoorFault → Type 0) → (at : List ℕ) → IfOk result (WhyStopped refuses at) }
+    ensures { IfOk result IsHalted }
 {
     match halt {
         Halt::Log => Ok(HostEnd::Disk(owned(alloc, host.office.keeper.file())?)),
@@ -152,7 +151,14 @@ fn serve_door<R: Wait, D: Doors, S, C: Clock, L: Files, E: Sink, F: Folder>(
     ensures asked { OnOk result (D.P.told ports.old ≡ nothing_told → WasToldToStop (D.P.told ports.new)) }
     ensures sent { OnlyWrote AnyEntry (D.P.told ports.old) (D.P.told ports.new) host.new.office.keeper.world }
 {
-    tell_door(place.alloc, options, place.doors, ports, &host.office.keeper, place.err);
+    tell_door(
+        place.alloc,
+        options,
+        place.doors,
+        ports,
+        &host.office.keeper,
+        place.err,
+    );
     let mut piece = vec![in place.alloc; 0u8; PIECE]?;
     serve_over(
         place.rt,
@@ -166,7 +172,7 @@ fn serve_door<R: Wait, D: Doors, S, C: Clock, L: Files, E: Sink, F: Folder>(
 }
 
 // The door is opened, it is served, and the door is closed.
-#[tactic(auto, using(crate::proofs::Through::nothing_wrote, crate::proofs::Through::between_wrote, crate::proofs::Through::between_asked, crate::proofs::Written::continues_same))]
+#[tactic(auto, using(crate::proofs::Top2::halted_why, crate::proofs::Through::nothing_wrote, crate::proofs::Through::between_wrote, crate::proofs::Through::between_asked, crate::proofs::Written::continues_same))]
 fn serve_between<R: Wait, D: Doors, S, C: Clock, L: Files, E: Sink, F: Folder>(
     place: &mut Place<'_, '_, '_, '_, '_, '_, R, D, S, C, L, E>,
     options: &Options<'_>,
@@ -191,7 +197,7 @@ fn serve_between<R: Wait, D: Doors, S, C: Clock, L: Files, E: Sink, F: Folder>(
 }
 
 // The steward joins, and then it is served, until it is told to stop.
-#[tactic(auto, using(crate::proofs::Through::nothing_wrote, crate::proofs::Written::continues_then))]
+#[tactic(auto, using(crate::proofs::Top2::halted_why, crate::proofs::Through::nothing_wrote, crate::proofs::Written::continues_then))]
 fn serve_at<R: Wait, D: Doors, S, C: Clock, L: Files, E: Sink, F: Folder>(
     place: &mut Place<'_, '_, '_, '_, '_, '_, R, D, S, C, L, E>,
     options: &Options<'_>,

@@ -15,7 +15,8 @@ returns-in-Ok-clause-done g c = λ contents prepared. ok_as c.serve_kept.result
 pub returns-in-Ok-clause-why : goal.returns-in-Ok-clause-why
 returns-in-Ok-clause-why g c = λ contents prepared. err_as c.serve_kept.result
     (stopped_behind g.S.F.Folder.disk g.S.F.Folder.is_honest (g.S.Folders.opens c.args.place.now.folders.now) contents (asked_by c.args.options.now)
-    _ _ _ _ _ c.args.prepared.file c.args.prepared.bytes.items c.in_ok-folder.folder c.in-Ok.keeper prepared
+    _ _ g.S.F.Folder.faults (g.S.Folders.refuses c.args.place.now.folders.now) (g.D.Doors.refuses c.args.place.now.doors.now)
+    c.args.prepared.file c.args.prepared.bytes.items c.in_ok-folder.folder c.in-Ok.keeper prepared
     c.in_ok-folder.ensures.opened c.in-Ok.ensures.opened c.serve_kept.ensures.broke)
     c.serve_kept.ensures.why
 
@@ -27,7 +28,8 @@ returns-in-Ok-clause-wrote g c = λ contents prepared. on_err c.serve_kept.resul
 
 pub returns-in-Err-clause-why : goal.returns-in-Err-clause-why
 returns-in-Err-clause-why g c = λ contents prepared. log_behind g.S.F.Folder.disk g.S.F.Folder.is_honest
-    (g.S.Folders.opens c.args.place.now.folders.now) contents (asked_by c.args.options.now) _ _ _ _ _ c.args.prepared.file c.args.prepared.bytes.items
+    (g.S.Folders.opens c.args.place.now.folders.now) contents (asked_by c.args.options.now)
+    _ _ g.S.F.Folder.faults (g.S.Folders.refuses c.args.place.now.folders.now) (g.D.Doors.refuses c.args.place.now.doors.now) c.args.prepared.file c.args.prepared.bytes.items
     c.in_ok-folder.folder c.in-Err.ending prepared c.in_ok-folder.ensures.opened c.in-Err.ensures.why
 
 pub returns-in-Err-clause-wrote : goal.returns-in-Err-clause-wrote

@@ -38,9 +38,9 @@ pub returns-clause-past : goal.returns-clause-past
 returns-clause-past g c are = c.serve_all.ensures.past (c.is_told_to_stop.ensures.written (c.wait.ensures.written are))
 
 pub returns-then-branch-clause-stops : goal.returns-then-branch-clause-stops
-returns-then-branch-clause-stops g c read =
-    match_true _ c.if-branch.true (c.in_ok-is_told_to_stop.ensures.stops (read_as _ _ c.args.input.now c.wait.ensures.still.left read))
+returns-then-branch-clause-stops g c read is =
+    match_true _ _ c.if-branch.true (c.in_ok-is_told_to_stop.ensures.stops (read_as _ _ c.args.input.now c.wait.ensures.still.left read))
 
 pub returns-clause-on : goal.returns-clause-on
 returns-clause-on g c read is =
-    read_as _ _ _ c.in_ok-serve_all.ensures.input (match_false _ c.if-branch.false (c.in_ok-is_told_to_stop.ensures.stops (read_as _ _ c.args.input.now c.wait.ensures.still.left read)))
+    read_as _ _ _ c.in_ok-serve_all.ensures.input (match_false _ _ c.if-branch.false (c.in_ok-is_told_to_stop.ensures.stops (read_as _ _ c.args.input.now c.wait.ensures.still.left read)))
