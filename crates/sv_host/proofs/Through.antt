@@ -1,8 +1,8 @@
 -- What was written through a door.
-use Rattle.std.proofs.Common.{◌≡◌, ℕ, ◌<◌, List, [], Option, Some, None, refl, sym, ap, ◌∙◌, subst, arith}
+use Rattle.std.proofs.Common.{◌≡◌, ◌<◌, List, [], refl, sym, ◌∙◌, subst, arith}
 use Rattle.sv_journal.specs.declared.entry.Entry.{Entry}
 use Rattle.sv_living.specs.World.{WorldView}
-use Rattle.sv_ports.specs.Told.{Told, bytes_of, nothing_told}
+use Rattle.sv_ports.specs.Told.{Told, nothing_told}
 use Rattle.sv_ports.specs.declared.numbered.Place.{Place}
 use Rattle.sv_office.specs.declared.guest.Guest.{Guest}
 use Rattle.sv_office.proofs.Adding.{goes_nowhere}

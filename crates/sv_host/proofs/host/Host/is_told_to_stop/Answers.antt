@@ -1,5 +1,5 @@
 -- What the input had.
-use Rattle.std.proofs.Common.{◌≡◌, inl, ℕ, ◌-◌, ◌++◌, take, sym, ap, ◌∙◌, arith}
+use Rattle.std.proofs.Common.{inl, take, ap}
 use Rattle.sv_ports.specs.Told.{Told}
 use Rattle.sv_host.proofs.Behind.{read_as, read_on}
 use Rattle.sv_host.proofs.Written.{left_equal, written_read}
@@ -10,11 +10,8 @@ returns-in-Got-clause-written g c = written_read c.args.self.now.room.guests _ _
 
 pub returns-in-Got-clause-stops : goal.returns-in-Got-clause-stops
 returns-in-Got-clause-stops g c read =
-    let same : c.in-Got.count - 0 ≡ c.in-Got.count = omega arith in
-    let old : Told = g.P.Ports.told c.args.ports.now in
-    read_on old (g.P.Ports.told c.read_input.new.self) (take (c.in-Got.count - 0) c.read_input.new.into) c.args.input.now c.take.new.self c.take.result
-    c.take.ensures.stops c.take.ensures.line
-    (ap (λ (t : Told). t.input) c.in-Got.ensures.2 ∙ ap (λ (n : ℕ). old.input ++ take n c.read_input.new.into) (sym same)) read
+    read_on (g.P.Ports.told c.args.ports.now) (g.P.Ports.told c.read_input.new.self) (take c.in-Got.count c.read_input.new.into) c.args.input.now c.take.new.self
+    c.take.result c.take.ensures.stops c.take.ensures.line (ap (λ (t : Told). t.input) c.in-Got.ensures.2) read
 
 pub returns-in-NotYet-clause-written : goal.returns-in-NotYet-clause-written
 returns-in-NotYet-clause-written g c = written_read c.args.self.now.room.guests _ _ c.read_input.new.into c.read_input.result c.read_input.ensures

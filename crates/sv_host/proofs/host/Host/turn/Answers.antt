@@ -1,6 +1,6 @@
 -- It is waited, and served.
 use Rattle.sv_host.proofs.Behind.{match_false, match_true, read_as}
-use Rattle.sv_host.proofs.Written.{continues_kept, continues_then, then_ok, were_written}
+use Rattle.sv_host.proofs.Written.{continues_kept, continues_then, were_written}
 use Rattle.sv_host.proofs.host.Host.turn.Goals as goal
 
 pub returns-in_err-wait-clause-goes : goal.returns-in_err-wait-clause-goes
