@@ -106,4 +106,5 @@ def main(program, sources, disk, rounds, actions):
           f"{statistics.median(each[1] for each in logs):.2f} s, {statistics.median(each[0]['entries'] / each[1] for each in logs):,.0f} entries a second")
 
 
-main(sys.argv[1], sys.argv[2], sys.argv[3], int(sys.argv[4]), int(sys.argv[5]))
+if __name__ == "__main__":
+    main(sys.argv[1], sys.argv[2], sys.argv[3], int(sys.argv[4]), int(sys.argv[5]))

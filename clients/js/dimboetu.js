@@ -501,7 +501,12 @@ function below(position, held = new Map()) {
 
 /** Versions, pending actions, numbers, and what is outstanding. It sends nothing: a Client does. */
 export class Knowledge {
-    constructor({ number: own, objects, attributes, interest = [] }) {
+    constructor({ number: own, objects, attributes, interest = [], ...other }) {
+        for (const name of Object.keys(other)) throw new TypeError(`there is no option ${name}`);
+        for (const [name, value, least, most] of [["number", own, 0, 65_534], ["objects", objects, 1, 65_535], ["attributes", attributes, 1, 4]]) {
+            if (Number.isInteger(value) && least <= value && value <= most) continue;
+            throw new TypeError(`${name}: a whole number from ${least} to ${most} belongs there, and not ${value}`);
+        }
         Object.assign(this, { number: own, objects, attributes, interest: ascending(interest), life: 0, made: 0, told: 0,
             versions: new Map(), pending: [], outstanding: [] });
     }
@@ -614,6 +619,7 @@ const NUMBER_ASKED = { kind: "submit", number: 0, action: new Action([0], 0, [0,
 export class Client {
     constructor({ connect, key = null, onChange = () => {}, onStatus = () => {}, pause = 100, wait = 25_000,
         retry = {}, requests = 1024, patience = Infinity, ...world }) {
+        if (typeof connect !== "function") throw new TypeError("connect: a function belongs there, which gives a link");
         if (key !== null && !(key instanceof Uint8Array)) {
             throw new TypeError(`key: bytes belong there, as new TextEncoder().encode(".."), and no ${typeof key}`);
         }
@@ -704,6 +710,7 @@ export class Client {
     /** Calls back with the views of all these objects, and those that changed: once all are known, and at each change; until it
      * answers `true`, or `stop()` of what `watch` gives back is called. */
     watch(objects, callback) {
+        if (typeof callback !== "function") throw new TypeError("watch: a function belongs there, which is called with the views");
         const watcher = { objects: ascending(objects), callback, told: null };
         this.needObjects(watcher.objects);
         this.needWorld();
@@ -1049,7 +1056,13 @@ export function webSocketLink(address, WebSocketClass = globalThis.WebSocket, ke
         for (const bytes of waiting.splice(0)) socket.send(bytes);
     };
     socket.onmessage = ({ data }) => link.onMessage(new Uint8Array(data instanceof ArrayBuffer ? data : 0));
-    socket.onerror = () => {};
-    socket.onclose = ({ code }) => link.onClose(new Error(`closed ${code}`));
+    let isOver = false;
+    const over = reason => {
+        if (!isOver) link.onClose(new Error(reason));
+        isOver = true;
+    };
+    // Of one that can't be made node 20 tells an error alone.
+    socket.onerror = () => link.wasOpen || setTimeout(over, 0, "closed");
+    socket.onclose = ({ code }) => over(`closed ${code}`);
     return link;
 }

@@ -454,6 +454,9 @@ class Client:
     def __init__(self, number, objects, attributes, interest=(), on_change=lambda target, old, new: None, connect=None, *,
                  on_reply=lambda reply: None, on_status=lambda status, fault: None, retry=(0.2, 10, math.inf), key=None,
                  pause=0.1, wait=25, patience=math.inf):
+        for name, value, least, most in (("number", number, 0, 65534), ("objects", objects, 1, 65535), ("attributes", attributes, 1, 4)):
+            if not (isinstance(value, int) and least <= value <= most):
+                raise ValueError(f"{name}: a whole number from {least} to {most} belongs there, and not {value!r}")
         if key is not None and not isinstance(key, (bytes, bytearray)):
             raise TypeError(f"key: bytes belong there, as b\"..\", and no {type(key).__name__}")
         if key is not None and not 16 <= len(key) <= 64:
@@ -644,7 +647,7 @@ class Client:
             if not self.link and self.connect:
                 return self.join_again(seconds)
             self.pump()
-            left = min(seconds, self.look_out())
+            left = max(min(seconds, self.look_out()), 0)
             if not self.outstanding and (self.parts or self.submitted < len(self.pending)):
                 return self.next_session("spent")
             held = self.outstanding[0][2] / 1000 if self.outstanding and self.outstanding[0][0] == "observe" else 0

@@ -543,6 +543,13 @@ async function tryKeys() {
         count.same(isWrong, length !== 64, `a key of ${length} bytes`);
     }
     for (const wrong of ["0123456789abcdef", "", [...key], 16]) count.expect(isTypeError(() => clientOf({ key: wrong })), `key ${wrong}`);
+    for (const wrong of [{ number: -1 }, { number: 65_535 }, { objects: 0 }, { objects: undefined }, { objects: 65_536 }, { attributes: 5 },
+        { attributes: "1" }, { atributes: 1 }, { onstatus() {} }]) {
+        count.expect(isTypeError(() => clientOf(wrong)), `the shape ${Object.entries(wrong)[0]}`);
+    }
+    for (const [number, objects, attributes] of [[0, 1, 1], [65_534, 65_535, 4]]) clientOf({ number, objects, attributes, interest: [0] });
+    count.expect(isTypeError(() => new Client({ number: 0, objects: 1, attributes: 1 })), "a client without connect");
+    count.expect(isTypeError(() => clientOf({}).client.watch([0])), "what is watched calls back");
 }
 
 async function trySaving() {

@@ -64,8 +64,13 @@ async function tryWebSocket() {
     last().onclose({ code: 1006 });
     await until(() => TestSocket.made.length > 2);
     count.same([TestSocket.made.length, client.life], [3, 2], "one that was never open takes no life");
+    last().onerror({});
+    await until(() => TestSocket.made.length > 3);
+    count.same([TestSocket.made.length, client.life], [4, 2], "node tells an error alone where none can be made");
+    TestSocket.made.at(-2).onclose({ code: 1006 });
     last().open();
     last().say(WELCOME);
+    count.same([TestSocket.made.length, client.status], [4, "joined"], "what is told later of an old one is nothing");
     last().onmessage({ data: "9999999999999999" });
     count.same([client.status, last().readyState, statuses.at(-1)], ["refused", 2, "refused"], "a text message is no reply");
     globalThis.WebSocket = TestSocket;

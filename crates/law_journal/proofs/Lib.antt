@@ -12,3 +12,4 @@ pub mod Answered
 pub mod Observed
 pub mod Stewarding
 pub mod Serves
+pub mod Counted

@@ -35,7 +35,7 @@ module _ (opening : List (List ℤ)) (A : List Action) where
   abbrev AreSerialResults : List Done1 → Type 0
   AreSerialResults results = AllByRecursion (IsSerialResult opening A) results
 
-  some-serial : (test : Done1 → Bool) (ds : List Done1) → AreSerialResults ds → AreSerialResults (filter test ds)
+  pub some-serial : (test : Done1 → Bool) (ds : List Done1) → AreSerialResults ds → AreSerialResults (filter test ds)
   some-serial test [] all = tt
   some-serial test (d ∷ ds) all = go (test d) (some-serial test ds all.1)
     where
@@ -43,7 +43,7 @@ module _ (opening : List (List ℤ)) (A : List Action) where
       go true rest = (all.0, rest)
       go false rest = rest
 
-  none-serial : (ds : List Done1) → AreSerialResults (filter (λ (d : Done1). false) ds)
+  pub none-serial : (ds : List Done1) → AreSerialResults (filter (λ (d : Done1). false) ds)
   none-serial [] = tt
   none-serial (d ∷ ds) = none-serial ds
 
@@ -62,7 +62,7 @@ module _ (opening : List (List ℤ)) (A : List Action) where
       go false here f rest = rest f
 
   -- A request reports what the serial execution gives, where the results do that are kept of it.
-  of-request : (test : Done1 → Bool) (p : ℕ) (q : Request) (vs : List (List ℤ)) → 0 < p →
+  pub of-request : (test : Done1 → Bool) (p : ℕ) (q : Request) (vs : List (List ℤ)) → 0 < p →
       ((results : List Done1) → q ≡ requests.Done results → AreSerialResults (filter test results)) → reports p (with_results test q) ≡ Some vs →
       vs ≡ serial_result opening A p
   of-request test p (requests.Done results) vs low all is = one-of p (filter test results) vs low (all results refl) is
@@ -75,7 +75,7 @@ module _ (opening : List (List ℤ)) (A : List Action) where
   of-request test p requests.End vs low all is = absurd (none-some vs is)
 
   -- One entry more, whose request reports what the serial execution gives, if anything.
-  with-entry : (e : Entry) (g : List Entry) → ResultsAreSerial opening A g →
+  pub with-entry : (e : Entry) (g : List Entry) → ResultsAreSerial opening A g →
       ((p : ℕ) (vs : List (List ℤ)) → 0 < p → reports p e.request ≡ Some vs → vs ≡ serial_result opening A p) → ResultsAreSerial opening A (e ∷ g)
   with-entry e g before new p vs low is = go (result_at g p) refl (is_noted e.reply) is
     where
@@ -168,7 +168,7 @@ stewards-client steward h s k is own = go (client_of h s) (sym (ap (λ (o : Opti
     go (Some j) e = ap (λ (m : ℕ). Some m) (eqb-true j k e)
 
 -- Where the steward's reports alone count, a session whose reports count was joined as the steward.
-counts-stewards : (w : Stewardship) (h : List Entry) (s : ℕ) → w.authority ≡ true → counts w h s ≡ true → is_stewards w.steward h s ≡ true
+pub counts-stewards : (w : Stewardship) (h : List Entry) (s : ℕ) → w.authority ≡ true → counts w h s ≡ true → is_stewards w.steward h s ≡ true
 counts-stewards w h s alone own = sym (ap (λ (b : Bool). not b || is_stewards w.steward h s) alone) ∙ own
 
 pub stewards-serial : HonestReportsAreSerial → (w : Stewardship) → IsKeeping (living w) → (r : Rules) (H : List Entry) (L : Trace) →

@@ -6,3 +6,4 @@ pub mod Brought
 pub mod Cuts
 pub mod Opened
 pub mod Stewarded
+pub mod Trusted

@@ -6,6 +6,7 @@ mod cuts;
 mod opening;
 mod relays;
 mod stewards;
+mod trusted;
 
 pub use commits::{commit_is_the_greatest, journals_keep_what_they_have};
 pub use cuts::{older_cuts_have_items, what_is_seen_never_goes_back};
@@ -14,3 +15,4 @@ pub use relays::{
     relays_bring_what_is_asked, relays_of_zero_answer_polls, sessions_in_order_get_items,
 };
 pub use stewards::{an_honest_steward_is_enough, honest_clients_are_enough};
+pub use trusted::{serial_results_stay, stewards_sessions_are_joined};

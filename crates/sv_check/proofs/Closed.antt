@@ -7,10 +7,10 @@ use Rattle.sv_journal.specs.Laws.{FullRepliesStay, LegalRelaysNameAccepted}
 use Rattle.sv_lines.proofs.EntryLines.{then_inner, inner_decimal}
 use Rattle.sv_scenario.specs.declared.scenario.Scenario.{Scenario}
 use Rattle.sv_check.specs.Either.{IsPart}
-use Rattle.sv_check.specs.Hosted.{IsHosted, commit_line}
+use Rattle.sv_check.specs.Bare.{IsBare, commit_line}
 use Rattle.sv_check.specs.Parts.{IsReportPart}
 use Rattle.sv_check.proofs.FrontParts.{journal_front}
-use Rattle.sv_check.proofs.Hosting.{entries_long}
+use Rattle.sv_check.proofs.BareStops.{entries_long}
 use Rattle.sv_check.proofs.LessClients.{client_less}
 use Rattle.sv_check.proofs.LessJournal.{journal_less}
 use Rattle.sv_check.proofs.LessWorld.{world_less}
@@ -24,8 +24,8 @@ part_less stay names scenario text short (inr (inr (inl p))) = inr (client_less 
 part_less stay names scenario text short (inr (inr (inr p))) = inr (world_less scenario text short p p.count p.within p.text_is)
 
 -- What `serve` prints has the line of the commit behind its journal.
-hosted_less : (scenario : Scenario) (text : List ℕ) → length text < 2 ^ 32 → IsHosted scenario text → HasLast (IsReportPart scenario) text
-hosted_less scenario text short p =
+bare_less : (scenario : Scenario) (text : List ℕ) → length text < 2 ^ 32 → IsBare scenario text → HasLast (IsReportPart scenario) text
+bare_less scenario text short p =
     let shape = scenario.world.shape in
     let es = reverse p.0 in
     let J = journal_text shape es in
@@ -47,4 +47,4 @@ any_last scenario text h = record { before = h.before; line = h.line; inner = h.
 pub any_less : FullRepliesStay → LegalRelaysNameAccepted → (scenario : Scenario) (text : List ℕ) → length text < 2 ^ 32 → IsPart scenario text → (text ≡ []) ⊎ HasLast (IsPart scenario) text
 any_less stay names scenario text short (inl p) =
     elim (part_less stay names scenario text short p) [ inl none ↦ inl none | inr h ↦ inr (any_last scenario text h) ]
-any_less stay names scenario text short (inr p) = inr (any_last scenario text (hosted_less scenario text short p))
+any_less stay names scenario text short (inr p) = inr (any_last scenario text (bare_less scenario text short p))

@@ -38,7 +38,7 @@ pub mod LessJournal
 pub mod LessEvents
 pub mod LessClients
 pub mod LessWorld
-pub mod Hosting
+pub mod BareStops
 pub mod Closed
 pub mod FirstWrong
-pub mod Hostable
+pub mod BareLegal

@@ -1,7 +1,7 @@
 -- The definitions of this crate, file by file.
 pub mod Consistent
 pub mod Parts
-pub mod Hosted
+pub mod Bare
 pub mod Either
 pub mod Wrong
 pub mod Next

@@ -14,8 +14,8 @@ ghost use Rattle.sv_check.specs.Wrong.{IsFirstWrong};
 ghost use Rattle.sv_check.specs.Verdicts.{IsVerdict};
 
 use crate::Verdict;
+use crate::bare::{begins_commit, read_bare};
 use crate::clients::take_clients;
-use crate::hosted::{begins_commit, read_hosted};
 use crate::journal::{Served, take_journal};
 use crate::runs::laws_of_runs;
 use std::alloc::{AllocError, Global};
@@ -143,7 +143,7 @@ fn read_text(alloc: Global, scenario: &Scenario, text: &[u8]) -> Result<Played, 
     read_scenario_numbers(scenario);
     let (served, behind) = take_journal(alloc, scenario, text)?;
     if begins_commit(behind) {
-        read_hosted(alloc, scenario, served, text, behind)
+        read_bare(alloc, scenario, served, text, behind)
     } else {
         read_report(alloc, scenario, served, text, behind)
     }

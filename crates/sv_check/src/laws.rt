@@ -11,7 +11,7 @@ ghost use Rattle.sv_system.specs.Records.{rules_of, ends_in};
 ghost use Rattle.sv_lines.specs.Told.{IsTold};
 ghost use Rattle.sv_asked.specs.Numbers.{ScenarioFits};
 ghost use Rattle.sv_check.specs.Consistent.{IsReportOfPair};
-ghost use Rattle.sv_check.specs.Hosted.{IsHosted, hosted_text};
+ghost use Rattle.sv_check.specs.Bare.{IsBare, bare_text};
 ghost use Rattle.sv_check.specs.Parts.{AreEntries};
 ghost use Rattle.sv_check.specs.Wrong.{IsFirstWrong};
 
@@ -55,5 +55,5 @@ pub fn first_wrong_lines_are_equal()
 pub fn served_journals_are_right()
     ensures { (scenario : Scenario) (h : List Entry) → Legal (rules_of scenario) h → All (λ (e : Entry). e.session < session_count scenario) h →
         ((s : ℕ) → s < session_count scenario → ends_in h s ≡ 1) → All (λ (e : Entry). IsTold scenario.world.shape e.request) h →
-        IsHosted scenario (hosted_text scenario.world.shape (reverse h)) }
+        IsBare scenario (bare_text scenario.world.shape (reverse h)) }
 {}

@@ -2,9 +2,9 @@
 #![tactic(auto)]
 
 mod actor;
+mod bare;
 mod checking;
 mod clients;
-mod hosted;
 mod journal;
 mod laws;
 mod moves;

@@ -16,7 +16,8 @@ use sv_link::{Book, Side, TcpEnd};
 /// Connections over TCP on this machine's loopback.
 ///
 /// It listens from its first `accept` on, at that call's port, and fails to accept at any other. A `connect` tries for ten seconds where
-/// nobody listens yet, so server and client may be started in either order.
+/// nobody listens yet, so server and client may be started in either order. A client's end fails to read where nothing comes for ten
+/// minutes: a server that is none of this wire may never say a word.
 #[derive(Drop)]
 pub struct TcpDoor<'r, R: Sockets<Listener = TcpListener, Stream = TcpStream> + Clock> {
     alloc: Global,
@@ -124,6 +125,9 @@ const CONNECT_TRIES: u32 = 501;
 
 const PAUSE_MILLIS: u64 = 20;
 
+// How long a client waits for bytes. A server answers nobody before all its connections are there, so it must be long.
+const READ_SECONDS: u64 = 600;
+
 fn connected<R: Sockets<Listener = TcpListener, Stream = TcpStream> + Clock>(
     rt: &R,
     port: u16,
@@ -151,5 +155,6 @@ fn connected_at_once<R: Sockets<Listener = TcpListener, Stream = TcpStream>>(
         return Err(io::Error::from(ErrorKind::ConnectionRefused));
     }
     stream.set_nodelay(true)?;
+    stream.set_read_timeout(Some(Duration::from_secs(READ_SECONDS)))?;
     Ok(stream)
 }

@@ -1,11 +1,14 @@
 -- What a word has behind a line that grows.
-use Rattle.std.proofs.Common.{◌≡◌, ℕ, ◌==◌, Bool, true, false, List, [], ◌∷◌, ◌++◌, Option, Some, None, cond, if◌then◌else◌, ◌||◌, option_and_then, refl, sym, ap, subst, ◌∙◌, codes}
+use Rattle.std.proofs.Common.{◌≡◌, ◌⊎◌, inl, inr, ℕ, ◌==◌, Bool, true, false, List, [], ◌∷◌, ◌++◌, Option, Some, None, cond, if◌then◌else◌, ◌||◌, option_and_then, refl, sym, ap, subst, ◌∙◌, codes}
 use Rattle.std.specs.Str.{bytes_eq}
 use Rattle.std.specs.Option.{option_copied}
 use Rattle.std.specs.Bool.{one_answer}
 use Rattle.std.proofs.lemmas.Bool.{true≢false, eqb-true, eq-eqb}
 use Rattle.std.proofs.lemmas.Slice.Eq.{bytes_eq-Decides}
-use Rattle.sv_host.specs.Inputs.{IsAtLine, behind, has_stop, is_nothing, unended}
+use Rattle.std.specs.Prelude.{MatchBool}
+use Rattle.sv_ports.specs.Told.{Told, nothing_told}
+use Rattle.sv_host.specs.Inputs.{IsAtLine, IsReadTo, WasToldToStop, behind, has_stop, is_nothing, unended}
+use Rattle.sv_host.specs.Rooms.{LeftInput}
 use Rattle.sv_host.specs.declared.input.InputLines.{InputLines}
 
 -- One byte more of the line.
@@ -81,3 +84,67 @@ gone_stop line input next bytes byte rest takes gone = go (byte == 10) (takes go
         → true ≡ has_stop line bytes
     go true is stops = sym (stops ∙ ap (λ (t : Bool). t || has_stop [] rest) (sym is))
     go false is stops = absurd (true≢false is)
+
+-- ---- The whole input
+
+or_assoc : (a b c : Bool) → (a || (b || c)) ≡ ((a || b) || c)
+or_assoc true b c = refl
+or_assoc false b c = refl
+
+or_late : (a b : Bool) → b ≡ true → (a || b) ≡ true
+or_late true b e = refl
+or_late false b e = e
+
+-- More of the input came.
+stop_more : (line front more : List ℕ) → has_stop line (front ++ more) ≡ (has_stop line front || has_stop (unended line front) more)
+stop_more line [] more = refl
+stop_more line (byte ∷ front) more = go (byte == 10) (stop_more [] front more) (stop_more (line ++ byte ∷ []) front more)
+  where
+    go : (ends : Bool) → has_stop [] (front ++ more) ≡ (has_stop [] front || has_stop (unended [] front) more)
+        → has_stop (line ++ byte ∷ []) (front ++ more) ≡ (has_stop (line ++ byte ∷ []) front || has_stop (unended (line ++ byte ∷ []) front) more)
+        → (if ends then bytes_eq line (codes "stop") || has_stop [] (front ++ more) else has_stop (line ++ byte ∷ []) (front ++ more))
+        ≡ ((if ends then bytes_eq line (codes "stop") || has_stop [] front else has_stop (line ++ byte ∷ []) front)
+        || has_stop (if ends then unended [] front else unended (line ++ byte ∷ []) front) more)
+    go true next same = ap (λ (b : Bool). bytes_eq line (codes "stop") || b) next
+        ∙ or_assoc (bytes_eq line (codes "stop")) (has_stop [] front) (has_stop (unended [] front) more)
+    go false next same = same
+
+unended_more : (line front more : List ℕ) → unended line (front ++ more) ≡ unended (unended line front) more
+unended_more line [] more = refl
+unended_more line (byte ∷ front) more = go (byte == 10) (unended_more [] front more) (unended_more (line ++ byte ∷ []) front more)
+  where
+    go : (ends : Bool) → unended [] (front ++ more) ≡ unended (unended [] front) more
+        → unended (line ++ byte ∷ []) (front ++ more) ≡ unended (unended (line ++ byte ∷ []) front) more
+        → (if ends then unended [] (front ++ more) else unended (line ++ byte ∷ []) (front ++ more))
+        ≡ unended (if ends then unended [] front else unended (line ++ byte ∷ []) front) more
+    go true next same = next
+    go false next same = same
+
+pub read_on : (old new : Told) (piece : List ℕ) (input next : InputLines) (stops : Bool)
+    → ((line : List ℕ) → IsAtLine input line → stops ≡ has_stop line piece)
+    → ((line : List ℕ) → IsAtLine input line → stops ≡ false → IsAtLine next (unended line piece))
+    → new.input ≡ old.input ++ piece → IsReadTo old input → MatchBool stops (WasToldToStop new) (IsReadTo new next)
+read_on old new piece input next true stop at more read = inr (
+    ap (has_stop []) more ∙ stop_more [] old.input piece ∙ or_late (has_stop [] old.input) (has_stop (unended [] old.input) piece) (sym (stop (unended [] old.input) read))
+    )
+read_on old new piece input next false stop at more read =
+    subst (λ (line : List ℕ). IsAtLine next line) (sym (ap (unended []) more ∙ unended_more [] old.input piece)) (at (unended [] old.input) read refl)
+
+pub match_true : {A : Type 0} (B : Type 0) (b : Bool) → b ≡ true → MatchBool b A B → A
+match_true B true is m = m
+match_true B false is m = absurd (true≢false (sym is))
+
+pub match_false : {B : Type 0} (A : Type 0) (b : Bool) → b ≡ false → MatchBool b A B → B
+match_false A true is m = absurd (true≢false is)
+match_false A false is m = m
+
+-- Nothing was read yet.
+pub read_nothing : (told : Told) (input : InputLines) → IsAtLine input [] → told ≡ nothing_told → IsReadTo told input
+read_nothing told input at fresh = subst (λ (t : Told). IsReadTo t input) (sym fresh) at
+
+pub read_as : (old new : Told) (input : InputLines) → LeftInput old new → IsReadTo old input → IsReadTo new input
+read_as old new input left read = subst (λ (bytes : List ℕ). IsAtLine input (unended [] bytes)) (sym left.input) read
+
+pub told_as : (old new : Told) → LeftInput old new → WasToldToStop old → WasToldToStop new
+told_as old new left (inl ended) = inl (left.ended ∙ ended)
+told_as old new left (inr stops) = inr (ap (has_stop []) left.input ∙ stops)

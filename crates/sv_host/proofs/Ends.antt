@@ -1,22 +1,31 @@
 -- Ends that are entered.
-use Rattle.std.proofs.Common.{◌≡◌, ◌≢◌, ◌⊎◌, inl, inr, ℕ, true, false, nat_eq, List, ◌∷◌, ◌++◌, Option, Some, None, refl, sym, ap, ◌∙◌, subst, eq-eqb}
-use Rattle.std.specs.Prelude.{Result, IfOk, IfErr}
+use Rattle.std.proofs.Common.{◌≡◌, ◌≢◌, ◌⊎◌, inl, inr, ℕ, ◌<◌, ◌≤◌, true, false, nat_eq, List, ◌∷◌, ◌++◌, Option, Some, None, refl, sym, ap, ◌∙◌, subst, eq-eqb}
+use Rattle.std.proofs.lemmas.Bool.{cases_lt}
+use Rattle.std.specs.Option.{ForSome}
+use Rattle.std.specs.Prelude.{[]}
+use Rattle.sv_world.specs.Control.{below, is_in}
+use Rattle.sv_world.proofs.Bases.{is_in-below}
+use Rattle.sv_world.proofs.Members.{is_in-filter}
 use Rattle.sv_wire.specs.declared.message.Reply.{Reply}
 use Rattle.sv_wire.specs.declared.message.Request.TheVariants as requests
 use Rattle.sv_journal.specs.declared.entry.Entry.{Entry}
 use Rattle.sv_journal.specs.Answer.{Rules}
 use Rattle.sv_journal.specs.Living.{Stewardship}
 use Rattle.sv_journal.specs.Sessions.{is_end}
+use Rattle.sv_journal.specs.Laws.{AreWithinLimits}
+use Rattle.sv_living.specs.Sessions.{is_open, next_session, open_sessions, AreInOrder}
 use Rattle.sv_living.specs.World.{WorldView}
-use Rattle.sv_keeper.specs.Keeping.{Stepped, WasNotStepped}
+use Rattle.sv_living.proofs.Turns.{open-parts}
+use Rattle.sv_keeper.specs.Opened.{AreEnded}
 use Rattle.sv_keeper.specs.Views.{KeeperView}
-use Rattle.sv_keeper.specs.declared.fault.KeepFault.{KeepFault}
 use Rattle.sv_ports.specs.declared.numbered.Place.{Place}
 use Rattle.sv_office.specs.Entering.{AreAdded, GoesOn, IsEntry}
+use Rattle.sv_office.specs.Knowing.{IsTrusted, IsUpToDate}
 use Rattle.sv_office.specs.Telling.{IsServedIn, IsTold, WereTold}
 use Rattle.sv_office.specs.declared.guest.Guest.{Guest}
+use Rattle.sv_office.specs.declared.steward.Steward.{Steward}
 use Rattle.sv_office.proofs.Adding.{goes_as, goes_nowhere, goes_then}
-use Rattle.sv_office.proofs.Entered.{step_added}
+use Rattle.sv_office.proofs.Orders.{above_next}
 use Rattle.sv_office.proofs.Served.{ended_stays}
 use Rattle.sv_host.specs.Rooms.{AreServed, AreTold, IsAnEnd, WasToldIn}
 use Rattle.sv_host.proofs.Places.{same_or_not}
@@ -28,9 +37,33 @@ pub no_end : (v : WorldView) → GoesOn IsAnEnd v v
 no_end v = goes_nowhere refl
 
 -- A step entered an End, or nothing.
-pub end_stepped : {F : Type 0} (v : WorldView) (old new : KeeperView F) (s : ℕ) (r : Result Reply KeepFault) → GoesOn IsAnEnd v old.world
-    → IfOk r (Stepped old new s requests.End) → IfErr r (WasNotStepped old new s requests.End) → GoesOn IsAnEnd v new.world
-end_stepped v old new s r on ok err = goes_then on (goes_as (ends s) (step_added old new s requests.End r ok err))
+pub end_stepped : {v w x : WorldView} (s : ℕ) → GoesOn IsAnEnd v w → GoesOn (IsEntry s requests.End) w x → GoesOn IsAnEnd v x
+end_stepped s on next = goes_then on (goes_as (ends s) next)
+
+pub limits_stay : {may : Entry → Type 0} {v w : WorldView} → GoesOn may v w → AreWithinLimits v.rules → AreWithinLimits w.rules
+limits_stay on limits = subst AreWithinLimits (sym on.rules) limits
+
+-- Where each session had its End, none is open that was joined as the steward.
+pub ended_none : {v w : WorldView} → AreEnded v w → open_sessions w.history ≡ []
+ended_none (AreEnded.none none) = none
+ended_none (AreEnded.some first rest) = ended_none rest
+
+none_open : (h : List Entry) (s : ℕ) → AreInOrder h → open_sessions h ≡ [] → is_open h s ≡ true → ⊥
+none_open h s order none lives = let clash : false ≡ true = sym (ap (is_in s) none) ∙ here in cc
+  where
+    low : (s < next_session h) ⊎ (next_session h ≤ s) → s < next_session h
+    low (inl below_it) = below_it
+    low (inr high) = let clash : true ≡ false = sym (open-parts h s lives).0 ∙ above_next h order s high in cc
+
+    here : is_in s (open_sessions h) ≡ true
+    here = is_in-filter (is_open h) s (below (next_session h)) (is_in-below (next_session h) s (low (cases_lt s (next_session h)))) lives
+
+pub trusted_at_first : {F : Type 0} (keeper : KeeperView F) (steward : Option Steward) → AreInOrder keeper.world.history → open_sessions keeper.world.history ≡ []
+    → ((v : WorldView) → ForSome steward (IsUpToDate v)) → IsTrusted keeper steward
+trusted_at_first keeper steward order none told = record {
+  alone = λ sound s lives joined. absurd (none_open keeper.world.history s order none lives);
+  told = told keeper.world;
+}
 
 -- ---- What connections were told
 

@@ -9,3 +9,5 @@ pub mod Top2
 pub mod Loop1
 pub mod Written
 pub mod Boxes
+pub mod Through
+pub mod Staff

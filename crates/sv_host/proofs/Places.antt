@@ -1,9 +1,9 @@
 -- What lies under a number, after changes at other numbers.
-use Rattle.std.proofs.Common.{◌≡◌, ◌≢◌, ◌⊎◌, inl, inr, ℕ, Bool, true, false, nat_eq, not, List, [], ◌∷◌, ◌++◌, Option, Some, None, refl, sym, ap, ◌∙◌}
+use Rattle.std.proofs.Common.{◌≡◌, ◌≢◌, ◌⊎◌, inl, inr, ℕ, suc, ◌<◌, Bool, true, false, ◌||◌, nat_eq, not, List, [], ◌∷◌, ◌++◌, length, Option, Some, None, refl, sym, ap, ◌∙◌, arith, ne_eqb}
 use Rattle.std.specs.Prelude.{if◌then◌else◌}
 use Rattle.std.proofs.lemmas.Bool.{eqb-true, eq-eqb, true≢false}
 use Rattle.sv_ports.specs.declared.numbered.Place.{Place}
-use Rattle.sv_ports.specs.Numbered.{item_of, with_item, without}
+use Rattle.sv_ports.specs.Numbered.{has_number, IsAbove, item_of, with_item, without}
 
 clash : {A : Type 0} {b : Bool} → b ≡ true → b ≡ false → A
 clash t f = absurd (true≢false (sym t ∙ f))
@@ -81,3 +81,56 @@ module _ {T : Type 0} where
       go : (b : Bool) → nat_eq n p.number ≡ b → item_of n (without n ps) ≡ None → item_of n (if not b then p ∷ without n ps else without n ps) ≡ None
       go true e rest = rest
       go false e rest = ap (λ (c : Bool). if c then p.item else item_of n (without n ps)) e ∙ rest
+
+  -- ---- Numbers with places
+
+  pub number_of_item : (n : ℕ) (ps : List (Place T)) (x : T) → item_of n ps ≡ Some x → has_number n ps ≡ true
+  number_of_item n [] x is = let never : None ≡ Some x = is in cc
+  number_of_item n (p ∷ ps) x is = go (nat_eq n p.number) is (number_of_item n ps x)
+    where
+      go : (b : Bool) → (if b then p.item else item_of n ps) ≡ Some x → (item_of n ps ≡ Some x → has_number n ps ≡ true) → (b || has_number n ps) ≡ true
+      go true is rest = refl
+      go false is rest = rest is
+
+  pub kept_number : (n : ℕ) (item : Option T) (ps : List (Place T)) → has_number n (with_item n item ps) ≡ has_number n ps
+  kept_number n item [] = refl
+  kept_number n item (p ∷ ps) = go (nat_eq n p.number) refl (kept_number n item ps)
+    where
+      put : Bool → Place T
+      put b = if b then record p { item = item } else p
+
+      go : (b : Bool) → nat_eq n p.number ≡ b → has_number n (with_item n item ps) ≡ has_number n ps
+          → (nat_eq n (put b).number || has_number n (with_item n item ps)) ≡ (nat_eq n p.number || has_number n ps)
+      go true e rest = ap (λ (b : Bool). nat_eq n p.number || b) rest
+      go false e rest = ap (λ (b : Bool). nat_eq n p.number || b) rest
+
+  -- What is put into a place lies there.
+  pub put_item : (n : ℕ) (item : Option T) (ps : List (Place T)) → has_number n ps ≡ true → item_of n (with_item n item ps) ≡ item
+  put_item n item [] has = clash has refl
+  put_item n item (p ∷ ps) has = go (nat_eq n p.number) refl has (put_item n item ps)
+    where
+      put : Bool → Place T
+      put b = if b then record p { item = item } else p
+
+      go : (b : Bool) → nat_eq n p.number ≡ b → (b || has_number n ps) ≡ true → (has_number n ps ≡ true → item_of n (with_item n item ps) ≡ item)
+          → (if nat_eq n (put b).number then (put b).item else item_of n (with_item n item ps)) ≡ item
+      go true e has rest = ap (λ (c : Bool). if c then item else item_of n (with_item n item ps)) e
+      go false e has rest = ap (λ (c : Bool). if c then p.item else item_of n (with_item n item ps)) e ∙ rest has
+
+  pub pushed_own : (n : ℕ) (item : Option T) (ps : List (Place T)) → IsAbove n ps → item_of n (ps ++ record { number = n; item = item } ∷ []) ≡ item
+  pushed_own n item [] above = ap (λ (c : Bool). if c then item else None) (eq-eqb n n refl)
+  pushed_own n item (p ∷ ps) above =
+      ap (λ (c : Bool). if c then p.item else item_of n (ps ++ record { number = n; item = item } ∷ [])) (ne_eqb n p.number unlike)
+      ∙ pushed_own n item ps (λ i d low. above (suc i) d (omega (arith, low)))
+    where
+      unlike : n ≡ p.number → ⊥
+      unlike same = let less : p.number < n = above 0 p (omega arith) in omega (arith, less, same)
+
+  pub pushed_none : (m n : ℕ) (item : Option T) (ps : List (Place T)) → nat_eq m n ≡ false → item_of m (ps ++ record { number = n; item = item } ∷ []) ≡ None → item_of m ps ≡ None
+  pushed_none m n item [] differ none = refl
+  pushed_none m n item (p ∷ ps) differ none = go (nat_eq m p.number) none (pushed_none m n item ps differ)
+    where
+      go : (b : Bool) → (if b then p.item else item_of m (ps ++ record { number = n; item = item } ∷ [])) ≡ None
+          → (item_of m (ps ++ record { number = n; item = item } ∷ []) ≡ None → item_of m ps ≡ None) → (if b then p.item else item_of m ps) ≡ None
+      go true is rest = is
+      go false is rest = rest is

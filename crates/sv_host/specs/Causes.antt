@@ -1,6 +1,6 @@
 -- Why a call of `host` ends as it does, and what it leaves.
 -- `contents` says what a file holds, `rose` that reading failed once more, and `opens` as which folder one of a name is opened.
-use Rattle.std.specs.Prelude.{◌≡◌, ◌⊎◌, ℕ, ◌+◌, ◌==◌, Bool, true, false, List, [], ◌∷◌, ◌++◌, length, take, Option, Some, None, Ok, Err, codes, string_bytes, if◌then◌else◌}
+use Rattle.std.specs.Prelude.{◌≡◌, ◌≢◌, ◌⊎◌, ℕ, ◌+◌, ◌==◌, Bool, true, false, List, [], ◌∷◌, ◌++◌, length, take, Option, Some, None, Ok, Err, codes, string_bytes, if◌then◌else◌}
 use Rattle.std.specs.Fmt.{decimal}
 use Rattle.sv_scenario.specs.declared.fault.ScenarioFault.{ScenarioFault}
 use Rattle.sv_scenario.specs.Lines.{fault_line}
@@ -29,10 +29,19 @@ use Rattle.sv_worldfile.specs.declared.world_file.Results.{Results}
 use Rattle.sv_worldfile.specs.declared.world_file.Results.TheVariants as results
 use Rattle.sv_worldfile.specs.declared.world_file.WorldFile.{WorldFile}
 use Rattle.sv_worldfile.specs.WorldFiles.{most_bytes, world_file_of}
+use Rattle.sv_ports.specs.Told.{Told, nothing_told}
+use Rattle.sv_host.specs.Inputs.{WasToldToStop}
+use Rattle.sv_host.specs.Rooms.{Continues, IsAnEnd}
+use Rattle.sv_host.specs.Served.{BreaksOff, OnlyWrote}
 use Rattle.sv_host.specs.Words.{Asked, Ask, AsksNothing}
 use Rattle.sv_host.specs.declared.ending.HostEnd.{HostEnd}
 use Rattle.sv_host.specs.declared.ending.HostEnd.TheVariants as endings
 use Rattle.sv_host.specs.declared.ending.Stopped.{Stopped}
+use Rattle.sv_host.specs.declared.hall.DoorFault.{DoorFault}
+use Rattle.sv_host.specs.declared.hall.DoorFault.TheVariants as barred
+use Rattle.sv_host.specs.declared.hall.FolderFault.{FolderFault}
+use Rattle.sv_host.specs.declared.hall.FolderFault.TheVariants as closed
+use Rattle.sv_bytes.specs.Faults.{Rose}
 
 -- ---- What is read
 
@@ -161,35 +170,75 @@ fault_place folder (faults.Refused refusal) = file_place (named_or folder (strin
 fault_place folder (faults.Line file line cause) = line_place (string_bytes file) line (line_word cause)
 fault_place folder _ = []
 
+-- What stands in the log is at fault, and not the disk or memory.
+abbrev pub IsOfLog : OpenFault → Type 0
+IsOfLog (faults.Refused refusal) = (refusal.cause ≢ causes.Failed) × (refusal.cause ≢ causes.Memory)
+IsOfLog (faults.Line file line cause) = Unit {0}
+IsOfLog _ = ⊥
+
+-- The disk is at fault.
+abbrev pub IsOfDisk : OpenFault → Type 0
+IsOfDisk (faults.Refused refusal) = refusal.cause ≡ causes.Failed
+IsOfDisk faults.Disk = Unit {0}
+IsOfDisk _ = ⊥
+
+-- What is told where the disk failed.
+abbrev pub disk_place : List ℕ → OpenFault → List ℕ
+disk_place folder (faults.Refused refusal) = named_or folder (string_bytes refusal.file)
+disk_place folder _ = folder
+
 -- How it ends where a log is not opened; for private clauses.
 abbrev pub IsEndOf : List ℕ → OpenFault → HostEnd → Type 0
-IsEndOf folder fault (endings.Log place) = string_bytes place ≡ fault_place folder fault
-IsEndOf folder fault (endings.Disk name) = Unit {0}
+IsEndOf folder fault (endings.Log place) = IsOfLog fault × (string_bytes place ≡ fault_place folder fault)
+IsEndOf folder fault (endings.Disk name) = IsOfDisk fault × (string_bytes name ≡ disk_place folder fault)
 IsEndOf folder fault endings.Memory = Unit {0}
 IsEndOf folder fault _ = ⊥
 
--- Why it stops, once the log is opened.
-abbrev pub WhyStopped : List ℕ → HostEnd → Type 0
-WhyStopped at (endings.Disk name) = Unit {0}
-WhyStopped at (endings.Busy name) = string_bytes name ≡ at
-WhyStopped at endings.Link = Unit {0}
-WhyStopped at endings.Memory = Unit {0}
-WhyStopped at _ = ⊥
+-- Why there is no folder; for private clauses.
+abbrev pub WhyNoFolder : (FolderFault → Type 0) → List ℕ → HostEnd → Type 0
+WhyNoFolder refuses folder (endings.Disk name) = (string_bytes name ≡ folder) × refuses closed.Failed
+WhyNoFolder refuses folder (endings.Busy name) = (string_bytes name ≡ folder) × refuses closed.Busy
+WhyNoFolder refuses folder endings.Memory = Unit {0}
+WhyNoFolder refuses folder _ = ⊥
+
+-- How it ends where the serving broke off; for private clauses.
+abbrev pub IsHalted : HostEnd → Type 0
+IsHalted (endings.Disk name) = Unit {0}
+IsHalted endings.Link = Unit {0}
+IsHalted endings.Memory = Unit {0}
+IsHalted _ = ⊥
+
+-- Why it stops, once the log is opened; for private clauses.
+abbrev pub WhyStopped : (DoorFault → Type 0) → List ℕ → HostEnd → Type 0
+WhyStopped refuses at (endings.Disk name) = Unit {0}
+WhyStopped refuses at (endings.Busy name) = (string_bytes name ≡ at) × refuses barred.Busy
+WhyStopped refuses at endings.Link = Unit {0}
+WhyStopped refuses at endings.Memory = Unit {0}
+WhyStopped refuses at _ = ⊥
 
 module _ {F : Type 0} (disk : F → Disk) (is_honest : F → Type 0) where
   -- The folder's log is refused, as this line tells. No file of it was changed.
   pub record IsRefusedLog (folder : F) (file : WorldFile) (bytes : List ℕ) (name line : List ℕ) : Type 0 where
     pub now : F
     pub fault : OpenFault
+    pub own : IsOfLog fault
     pub why : is_honest now → WhyNotOpened (disk folder) (disk now) bytes (start_in file) fault
     pub told : line ≡ fault_place name fault
 
+  -- The disk failed once more where the log was to be opened, as this line tells.
+  pub record IsFailedLog (count : F → ℕ) (folder : F) (name line : List ℕ) : Type 0 where
+    pub now : F
+    pub fault : OpenFault
+    pub own : IsOfDisk fault
+    pub rose : Rose (count folder) (count now)
+    pub told : line ≡ disk_place name fault
+
   -- Why the log of a folder is not opened.
-  abbrev pub WhyUnopened : F → WorldFile → List ℕ → List ℕ → HostEnd → Type 0
-  WhyUnopened folder file bytes name (endings.Log line) = IsRefusedLog folder file bytes name (string_bytes line)
-  WhyUnopened folder file bytes name (endings.Disk which) = Unit {0}
-  WhyUnopened folder file bytes name endings.Memory = Unit {0}
-  WhyUnopened folder file bytes name _ = ⊥
+  abbrev pub WhyUnopened : (F → ℕ) → F → WorldFile → List ℕ → List ℕ → HostEnd → Type 0
+  WhyUnopened count folder file bytes name (endings.Log line) = IsRefusedLog folder file bytes name (string_bytes line)
+  WhyUnopened count folder file bytes name (endings.Disk which) = IsFailedLog count folder name (string_bytes which)
+  WhyUnopened count folder file bytes name endings.Memory = Unit {0}
+  WhyUnopened count folder file bytes name _ = ⊥
 
   -- Each session has its End, the history is legal by the answer table, and all of it is on the disk: what a crash leaves is a log with all its
   -- lines.
@@ -202,10 +251,14 @@ module _ {F : Type 0} (disk : F → Disk) (is_honest : F → Type 0) where
         → LeavesOnly (disk keeper.log.segment.folder) (disk keeper.log.segment.folder)
         (HoldsFirst keeper.world.rules.world.shape world (newest disk keeper.log) keeper.world.history (length keeper.world.history))
 
-  -- The world was served until it was to stop, and this is told of it: the folder's name, how many entries there are, and the commit.
-  pub record HasStopped (first : KeeperView F) (name : List ℕ) (stopped : Stopped) : Type 0 where
+  -- The world was served until the input told to stop: it went on, and what was written is what connections were told before the last Ends. This is told of it:
+  -- the folder's name, how many entries there are, and the commit.
+  pub record HasStopped (first : KeeperView F) (before after : Told) (name : List ℕ) (stopped : Stopped) : Type 0 where
     pub keeper : KeeperView F
+    pub goes : Continues first.world keeper.world
     pub done : IsAtEnd keeper
+    pub sent : OnlyWrote IsAnEnd before after keeper.world
+    pub asked : before ≡ nothing_told → WasToldToStop after
     pub folder : string_bytes stopped.folder ≡ name
     pub entries : stopped.entries ≡ length keeper.world.history
     pub commit : stopped.commit ≡ commit_of (heeded_in keeper.world)
@@ -224,29 +277,51 @@ module _ {F : Type 0} (disk : F → Disk) (is_honest : F → Type 0) where
       pub over : HasFolder asked
       pub refused : IsRefusedLog over.folder over.file over.bytes asked.folder line
 
-    -- Why it ends with the folder, the door or the log.
-    abbrev pub WhyBehind : Asked → HostEnd → Type 0
-    WhyBehind asked (endings.Log line) = HasRefusedLog asked (string_bytes line)
-    WhyBehind asked (endings.Disk name) = Unit {0}
-    WhyBehind asked (endings.Busy name) = (string_bytes name ≡ asked.folder) ⊎ (string_bytes name ≡ asked.at)
-    WhyBehind asked endings.Link = Unit {0}
-    WhyBehind asked endings.Memory = Unit {0}
-    WhyBehind asked _ = ⊥
+    -- The folder is opened, and the disk failed where its log was to be opened.
+    pub record HasFailedLog (count : F → ℕ) (asked : Asked) (line : List ℕ) : Type 0 where
+      pub over : HasFolder asked
+      pub failed : IsFailedLog count over.folder asked.folder line
 
-    -- The log of the folder was opened, and its world served until it was to stop.
-    pub record WasServed (asked : Asked) (stopped : Stopped) : Type 0 where
+    -- The log of the folder was opened.
+    pub record HasOpened (asked : Asked) : Type 0 where
       pub over : HasFolder asked
       pub first : KeeperView F
       pub begun : IsOpened disk is_honest (disk over.folder) over.bytes (start_in over.file) first
-      pub last : HasStopped first asked.folder stopped
 
-    -- Why it ends without having been told to stop.
-    abbrev pub WhyEnds : Type 0 → Asked → HostEnd → Type 0
-    WhyEnds rose asked e = WhyBefore contents rose asked e ⊎ WhyBehind asked e
+    module _ (before after : Told) where
+      -- The log of the folder was opened, and its world served until it was to stop.
+      pub record WasServed (asked : Asked) (stopped : Stopped) : Type 0 where
+        pub log : HasOpened asked
+        pub last : HasStopped log.first before after asked.folder stopped
 
-    -- How a call of these words ends, and why.
-    pub data EndsFor (words : List (List ℕ)) (rose : Type 0) : HostEnd → Type 0 where
-      nothing : AsksNothing words → EndsFor words rose endings.Words
-      memory : EndsFor words rose endings.Memory
-      early : {e : HostEnd} (asked : Asked) → Ask words asked → WhyEnds rose asked e → EndsFor words rose e
-      served : {stopped : Stopped} (asked : Asked) → Ask words asked → WasServed asked stopped → EndsFor words rose (endings.Done stopped)
+      -- The log of the folder was opened, and its world served until it broke off.
+      pub record WasServedFirst (asked : Asked) : Type 0 where
+        pub log : HasOpened asked
+        pub broke : BreaksOff before after log.first.world
+
+      -- What was written where it was not told to stop: nothing through any door, or what connections of the folder's world were told.
+      abbrev pub WroteFirst : Asked → Type 0
+      WroteFirst asked = (after ≡ before) ⊎ WasServedFirst asked
+
+      module _ (count : F → ℕ) (closed_by : List ℕ → FolderFault → Type 0) (barred_by : List ℕ → DoorFault → Type 0) where
+        -- Why it ends with the folder, the log or the door.
+        abbrev pub WhyBehind : Asked → HostEnd → Type 0
+        WhyBehind asked (endings.Log line) = HasRefusedLog asked (string_bytes line)
+        WhyBehind asked (endings.Disk name) = ((string_bytes name ≡ asked.folder) × closed_by asked.folder closed.Failed)
+            ⊎ (HasFailedLog count asked (string_bytes name) ⊎ WasServedFirst asked)
+        WhyBehind asked (endings.Busy name) = ((string_bytes name ≡ asked.folder) × closed_by asked.folder closed.Busy)
+            ⊎ (((string_bytes name ≡ asked.at) × barred_by asked.at barred.Busy) × WasServedFirst asked)
+        WhyBehind asked endings.Link = WasServedFirst asked
+        WhyBehind asked endings.Memory = Unit {0}
+        WhyBehind asked _ = ⊥
+
+        -- Why it ends without having been told to stop.
+        abbrev pub WhyEnds : Type 0 → Asked → HostEnd → Type 0
+        WhyEnds rose asked e = WhyBefore contents rose asked e ⊎ WhyBehind asked e
+
+        -- How a call of these words ends, and why.
+        pub data EndsFor (words : List (List ℕ)) (rose : Type 0) : HostEnd → Type 0 where
+          nothing : AsksNothing words → after ≡ before → EndsFor words rose endings.Words
+          memory : after ≡ before → EndsFor words rose endings.Memory
+          early : {e : HostEnd} (asked : Asked) → Ask words asked → WhyEnds rose asked e → WroteFirst asked → EndsFor words rose e
+          served : {stopped : Stopped} (asked : Asked) → Ask words asked → WasServed asked stopped → EndsFor words rose (endings.Done stopped)

@@ -1,7 +1,8 @@
 -- The lines of the input.
-use Rattle.std.specs.Prelude.{◌≡◌, ℕ, ◌==◌, ◌||◌, Bool, true, false, List, [], ◌∷◌, ◌++◌, Option, Some, None, codes, if◌then◌else◌}
+use Rattle.std.specs.Prelude.{◌≡◌, ◌⊎◌, ℕ, ◌==◌, ◌||◌, Bool, true, false, List, [], ◌∷◌, ◌++◌, Option, Some, None, codes, if◌then◌else◌}
 use Rattle.std.specs.Str.{bytes_eq}
 use Rattle.std.specs.Option.{option_copied}
+use Rattle.sv_ports.specs.Told.{Told}
 use Rattle.sv_host.specs.declared.input.InputLines.{InputLines}
 
 -- The line that has no end yet, once these bytes came behind the front of one.
@@ -26,6 +27,14 @@ is_nothing (Some []) = true
 is_nothing (Some (byte ∷ rest)) = false
 is_nothing None = false
 
+-- The input ended, or one of its lines was `stop`.
+abbrev pub WasToldToStop : Told → Type 0
+WasToldToStop told = (told.input_ended ≡ true) ⊎ (has_stop [] told.input ≡ true)
+
 -- The line that has no end yet is this.
 pub record IsAtLine (input : InputLines) (line : List ℕ) : Type 0 where
   pub wanted_is : option_copied input.wanted ≡ behind line (codes "stop")
+
+-- It stands where the input was read to.
+abbrev pub IsReadTo : Told → InputLines → Type 0
+IsReadTo told input = IsAtLine input (unended [] told.input)

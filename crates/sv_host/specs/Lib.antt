@@ -3,5 +3,8 @@ pub mod Words
 pub mod Lines
 pub mod Inputs
 pub mod Rooms
+pub mod Served
+pub mod Staffing
 pub mod Statuses
 pub mod Causes
+pub mod Laws

@@ -4,9 +4,10 @@ use Rattle.sv_journal.specs.declared.entry.Entry.{Entry}
 use Rattle.sv_journal.specs.Sessions.{is_end, is_ended}
 use Rattle.sv_living.specs.World.{WorldView}
 use Rattle.sv_ports.specs.declared.numbered.Place.{Place}
-use Rattle.sv_ports.specs.Numbered.{item_of}
+use Rattle.sv_ports.specs.Numbered.{item_of, has_number}
 use Rattle.sv_ports.specs.Told.{Told, bytes_of}
-use Rattle.sv_peer.specs.View.{PeerView}
+use Rattle.sv_peer.specs.View.{PeerView, IsInStep}
+use Rattle.sv_office.specs.Entering.{GoesOn}
 use Rattle.sv_office.specs.Offices.{AreApart}
 use Rattle.sv_office.specs.Telling.{IsServed, IsTold}
 use Rattle.sv_office.specs.declared.guest.Guest.{Guest}
@@ -44,31 +45,82 @@ pub record WasSent (old new : Guest) : Type 0 where
   pub session : new.session ≡ old.session
   pub standing : (new.standing ≡ old.standing) ⊎ (new.standing ≡ standing.Gone)
 
--- To each connection just the bytes were written that it handed over, in order. No number of a later one was used.
-pub record AreWritten (told : Told) (guests : List (Place Guest)) : Type 0 where
-  pub sent : (n : ℕ) (guest : Guest) → item_of n guests ≡ Some guest → bytes_of n told.written ≡ guest.peer.sent
-  pub known : (n : ℕ) (guest : Guest) → item_of n guests ≡ Some guest → n < told.next
+abbrev pub AnyEntry : Entry → Type 0
+AnyEntry e = Unit {0}
+
+-- A world goes on by more entries, under the same rules. Where the steward's reports alone count, one that was serial is so still (`serial` of GoesOn).
+abbrev pub Continues : WorldView → WorldView → Type 0
+Continues v w = GoesOn AnyEntry v w
+
+-- ---- What was written
+
+-- To a connection just the bytes were written that it handed over. With those that wait they are what its replies are told by, and these are what
+-- its session's entries say.
+pub record WasWritten (v : WorldView) (told : Told) (n : ℕ) : Type 0 where
+  pub guest : Guest
+  pub served : IsServed v guest
+  pub in_step : IsInStep guest.peer
+  pub sent : bytes_of n told.written ≡ guest.peer.sent
+
+-- So it is of each connection that there ever was. Nothing was written to another one.
+pub record AllWereWritten (v : WorldView) (told : Told) : Type 0 where
+  pub each : (n : ℕ) → n < told.next → WasWritten v told n
   pub unused : (n : ℕ) → told.next ≤ n → bytes_of n told.written ≡ []
 
--- So it is of a connection that was taken out, and of the others.
-pub record IsWritten (told : Told) (guests : List (Place Guest)) (n : ℕ) (guest : Guest) : Type 0 where
-  pub others : AreWritten told guests
+-- So it was in a world from which this one goes on by such entries, and nothing was written since.
+pub record WereWritten (may : Entry → Type 0) (told : Told) (w : WorldView) : Type 0 where
+  pub before : WorldView
+  pub written : AllWereWritten before told
+  pub goes : GoesOn may before w
+
+-- No input was read.
+pub record LeftInput (old new : Told) : Type 0 where
+  pub input : new.input ≡ old.input
+  pub ended : new.input_ended ≡ old.input_ended
+
+-- Nothing was written, no number was given, and no input was read.
+pub record WroteNothing (old new : Told) : Type 0 where
+  pub written : new.written ≡ old.written
+  pub next : new.next ≡ old.next
+  pub left : LeftInput old new
+
+-- A connection is here no more, or never was; it has no session.
+pub record HasGone (v : WorldView) (told : Told) (n : ℕ) : Type 0 where
+  pub was : WasWritten v told n
+  pub over : was.guest.session ≡ None
+
+-- To each connection just the bytes were written that it handed over, in order, also to those that are gone. The number that is given is left out. No
+-- number of a later one was used.
+pub record AreWrittenBut (but : Option ℕ) (v : WorldView) (told : Told) (guests : List (Place Guest)) : Type 0 where
+  pub sent : (n : ℕ) (guest : Guest) → item_of n guests ≡ Some guest → bytes_of n told.written ≡ guest.peer.sent
+  pub in_step : (n : ℕ) (guest : Guest) → item_of n guests ≡ Some guest → IsInStep guest.peer
+  pub known : (n : ℕ) (guest : Guest) → item_of n guests ≡ Some guest → n < told.next
+  pub gone : (n : ℕ) → but ≢ Some n → n < told.next → item_of n guests ≡ None → HasGone v told n
+  pub unused : (n : ℕ) → told.next ≤ n → bytes_of n told.written ≡ []
+
+abbrev pub AreWritten : WorldView → Told → List (Place Guest) → Type 0
+AreWritten v told guests = AreWrittenBut None v told guests
+
+-- So it is of a connection that was taken out, and of the others. It has its place still.
+pub record IsWritten (v : WorldView) (told : Told) (guests : List (Place Guest)) (n : ℕ) (guest : Guest) : Type 0 where
+  pub others : AreWrittenBut (Some n) v told guests
   pub alone : item_of n guests ≡ None
+  pub place : has_number n guests ≡ true
   pub sent : bytes_of n told.written ≡ guest.peer.sent
   pub known : n < told.next
 
 -- A number was given to a connection, which is not among these, and to which nothing was written.
-pub record IsNew (told : Told) (guests : List (Place Guest)) (n : ℕ) : Type 0 where
-  pub others : AreWritten told guests
+pub record IsNew (v : WorldView) (told : Told) (guests : List (Place Guest)) (n : ℕ) : Type 0 where
+  pub others : AreWrittenBut (Some n) v told guests
   pub nothing : bytes_of n told.written ≡ []
   pub known : n < told.next
 
 -- So it stays, whatever was written before.
-abbrev pub KeepsWritten : List (Place Guest) → List (Place Guest) → Type 0
-KeepsWritten old new = (told : Told) → AreWritten told old → AreWritten told new
+abbrev pub KeepsWritten : WorldView → List (Place Guest) → WorldView → List (Place Guest) → Type 0
+KeepsWritten v old w new = (told : Told) → AreWritten v told old → AreWritten w told new
 
-abbrev pub KeepsOut : List (Place Guest) → Guest → List (Place Guest) → Guest → Type 0
-KeepsOut old guest new next = (told : Told) (n : ℕ) → IsWritten told old n guest → IsWritten told new n next
+abbrev pub KeepsOut : WorldView → List (Place Guest) → Guest → WorldView → List (Place Guest) → Guest → Type 0
+KeepsOut v old guest w new next = (told : Told) (n : ℕ) → IsWritten v told old n guest → IsWritten w told new n next
 
 -- Of what waits for a connection so much was written to it, and nothing else to any.
 pub record Sends (n : ℕ) (old new : PeerView) (before now : Told) : Type 0 where

@@ -1,7 +1,7 @@
 //! The turn of one connection of the room.
-ghost use Rattle.std.specs.Prelude.{OnOk};
+ghost use Rattle.std.specs.Prelude.{◌≡◌, OnOk};
 ghost use Rattle.sv_office.specs.Offices.{session_of};
-ghost use Rattle.sv_host.specs.Rooms.{AreServed, AreWritten};
+ghost use Rattle.sv_host.specs.Rooms.{AreServed, AreWritten, Continues, WroteNothing};
 
 use crate::host::Host;
 use sv_bytes::{Files, Sink};
@@ -18,6 +18,7 @@ impl<F: Folder> Host<F> {
     }
 
     // Reads what has come of a connection.
+    #[tactic(auto, using(crate::proofs::Written::continues_then, crate::proofs::Written::continues_same, crate::proofs::Written::wrote_then, crate::proofs::Written::wrote_same))]
     fn read<P: Ports, L: Files, E: Sink>(
         &mut self,
         outside: &mut Outside<'_, '_, '_, P, L, E>,
@@ -26,7 +27,10 @@ impl<F: Folder> Host<F> {
     ) -> Result<(), Halt>
         requires served { AreServed self.old.office.keeper.world (session_of self.old.office.steward) self.old.room.guests }
         ensures served { OnOk result (AreServed self.new.office.keeper.world (session_of self.new.office.steward) self.new.room.guests) }
-        ensures written { OnOk result (AreWritten (P.told outside.old.ports.now) self.old.room.guests → AreWritten (P.told outside.new.ports.now) self.new.room.guests) }
+        ensures written { OnOk result (AreWritten self.old.office.keeper.world (P.told outside.old.ports.now) self.old.room.guests → AreWritten self.new.office.keeper.world (P.told outside.new.ports.now) self.new.room.guests) }
+        ensures goes { Continues self.old.office.keeper.world self.new.office.keeper.world }
+        ensures still { WroteNothing (P.told outside.old.ports.now) (P.told outside.new.ports.now) }
+        ensures lent { outside.new.ports.ghost_name ≡ outside.old.ports.ghost_name }
     {
         let Some(mut guest) = self.take_out(number) else {
             return Ok(());
@@ -37,6 +41,7 @@ impl<F: Folder> Host<F> {
     }
 
     // A connection's turn.
+    #[tactic(auto, using(crate::proofs::Written::continues_then, crate::proofs::Written::continues_same, crate::proofs::Written::wrote_then, crate::proofs::Written::wrote_same))]
     fn hear<P: Ports, L: Files, E: Sink>(
         &mut self,
         outside: &mut Outside<'_, '_, '_, P, L, E>,
@@ -45,7 +50,10 @@ impl<F: Folder> Host<F> {
     ) -> Result<(), Halt>
         requires served { AreServed self.old.office.keeper.world (session_of self.old.office.steward) self.old.room.guests }
         ensures served { OnOk result (AreServed self.new.office.keeper.world (session_of self.new.office.steward) self.new.room.guests) }
-        ensures written { OnOk result (AreWritten (P.told outside.old.ports.now) self.old.room.guests → AreWritten (P.told outside.new.ports.now) self.new.room.guests) }
+        ensures written { OnOk result (AreWritten self.old.office.keeper.world (P.told outside.old.ports.now) self.old.room.guests → AreWritten self.new.office.keeper.world (P.told outside.new.ports.now) self.new.room.guests) }
+        ensures goes { Continues self.old.office.keeper.world self.new.office.keeper.world }
+        ensures still { WroteNothing (P.told outside.old.ports.now) (P.told outside.new.ports.now) }
+        ensures lent { outside.new.ports.ghost_name ≡ outside.old.ports.ghost_name }
     {
         let Some(mut guest) = self.take_out(number) else {
             return Ok(());
@@ -56,6 +64,7 @@ impl<F: Folder> Host<F> {
     }
 
     // A half of a connection's turn. It is answered where it had no turn yet: one that had more may be ready besides.
+    #[tactic(auto, using(crate::proofs::Written::continues_then, crate::proofs::Written::continues_same, crate::proofs::Written::wrote_then, crate::proofs::Written::wrote_same))]
     fn hear_once<P: Ports, L: Files, E: Sink>(
         &mut self,
         outside: &mut Outside<'_, '_, '_, P, L, E>,
@@ -65,7 +74,10 @@ impl<F: Folder> Host<F> {
     ) -> Result<(), Halt>
         requires served { AreServed self.old.office.keeper.world (session_of self.old.office.steward) self.old.room.guests }
         ensures served { OnOk result (AreServed self.new.office.keeper.world (session_of self.new.office.steward) self.new.room.guests) }
-        ensures written { OnOk result (AreWritten (P.told outside.old.ports.now) self.old.room.guests → AreWritten (P.told outside.new.ports.now) self.new.room.guests) }
+        ensures written { OnOk result (AreWritten self.old.office.keeper.world (P.told outside.old.ports.now) self.old.room.guests → AreWritten self.new.office.keeper.world (P.told outside.new.ports.now) self.new.room.guests) }
+        ensures goes { Continues self.old.office.keeper.world self.new.office.keeper.world }
+        ensures still { WroteNothing (P.told outside.old.ports.now) (P.told outside.new.ports.now) }
+        ensures lent { outside.new.ports.ghost_name ≡ outside.old.ports.ghost_name }
     {
         if half == Half::Reads {
             return self.read(outside, number, piece);
@@ -77,6 +89,7 @@ impl<F: Folder> Host<F> {
     }
 
     /// Gives each of these connections a half of its turn.
+    #[tactic(auto, using(crate::proofs::Written::continues_then, crate::proofs::Written::continues_same, crate::proofs::Written::wrote_then, crate::proofs::Written::wrote_same))]
     pub fn hear_each<P: Ports, L: Files, E: Sink>(
         &mut self,
         outside: &mut Outside<'_, '_, '_, P, L, E>,
@@ -86,7 +99,10 @@ impl<F: Folder> Host<F> {
     ) -> Result<(), Halt>
         requires served { AreServed self.old.office.keeper.world (session_of self.old.office.steward) self.old.room.guests }
         ensures served { OnOk result (AreServed self.new.office.keeper.world (session_of self.new.office.steward) self.new.room.guests) }
-        ensures written { OnOk result (AreWritten (P.told outside.old.ports.now) self.old.room.guests → AreWritten (P.told outside.new.ports.now) self.new.room.guests) }
+        ensures written { OnOk result (AreWritten self.old.office.keeper.world (P.told outside.old.ports.now) self.old.room.guests → AreWritten self.new.office.keeper.world (P.told outside.new.ports.now) self.new.room.guests) }
+        ensures goes { Continues self.old.office.keeper.world self.new.office.keeper.world }
+        ensures still { WroteNothing (P.told outside.old.ports.now) (P.told outside.new.ports.now) }
+        ensures lent { outside.new.ports.ghost_name ≡ outside.old.ports.ghost_name }
     {
         for number in numbers {
             self.hear_once(outside, *number, piece, half)?;

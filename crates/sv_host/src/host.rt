@@ -1,8 +1,8 @@
 //! What the loop keeps.
-ghost use Rattle.std.specs.Prelude.{◌≡◌, IfSome, IfNone, OnOk, MatchOption};
+ghost use Rattle.std.specs.Prelude.{◌≡◌, IfSome, IfNone, None, OnOk, MatchOption};
 ghost use Rattle.sv_ports.specs.Told.{Told};
 ghost use Rattle.sv_office.specs.Offices.{session_of};
-ghost use Rattle.sv_host.specs.Rooms.{AreServed, AreWritten, IsOut, IsWritten, KeepsOut, KeepsWritten};
+ghost use Rattle.sv_host.specs.Rooms.{AreServed, AreWritten, Continues, IsOut, IsWritten, KeepsOut, KeepsWritten, WroteNothing};
 
 use crate::boxed::BoxedGuest;
 use crate::room::Room;
@@ -27,7 +27,8 @@ impl<F: Folder> Host<F> {
         ensures some { IfSome result (λ guest. IsOut self.new.office.keeper.world (session_of self.new.office.steward) self.new.room.guests guest) }
         ensures none { IfNone result (AreServed self.new.office.keeper.world (session_of self.new.office.steward) self.new.room.guests) }
         ensures office { self.new.office ≡ self.old.office }
-        ensures written { (told : Told) → AreWritten told self.old.room.guests → MatchOption result (AreWritten told self.new.room.guests) (IsWritten told self.new.room.guests number) }
+        ensures written { (told : Told) → AreWritten self.old.office.keeper.world told self.old.room.guests
+            → MatchOption result (AreWritten self.new.office.keeper.world told self.new.room.guests) (IsWritten self.new.office.keeper.world told self.new.room.guests number) }
     {
         self.room.guests.take(number)
     }
@@ -37,8 +38,10 @@ impl<F: Folder> Host<F> {
         requires taken { IsOut self.old.office.keeper.world (session_of self.old.office.steward) self.old.room.guests guest }
         ensures served { AreServed self.new.office.keeper.world (session_of self.new.office.steward) self.new.room.guests }
         ensures office { self.new.office ≡ self.old.office }
-        ensures written { (told : Told) → IsWritten told self.old.room.guests number guest → AreWritten told self.new.room.guests }
+        ensures written { (told : Told) → IsWritten self.old.office.keeper.world told self.old.room.guests number guest → AreWritten self.new.office.keeper.world told self.new.room.guests }
     {
+        // What it handed over and what waits is what its replies are told by.
+        let _ = guest.get().peer.output();
         self.room.guests.put(number, guest);
     }
 
@@ -47,9 +50,23 @@ impl<F: Folder> Host<F> {
         requires taken { IsOut self.old.office.keeper.world (session_of self.old.office.steward) self.old.room.guests guest }
         ensures served { AreServed self.new.office.keeper.world (session_of self.new.office.steward) self.new.room.guests }
         ensures office { self.new.office ≡ self.old.office }
-        ensures written { (told : Told) → IsWritten told self.old.room.guests number guest → AreWritten told self.new.room.guests }
+        ensures written { (told : Told) → IsWritten self.old.office.keeper.world told self.old.room.guests number guest → AreWritten self.new.office.keeper.world told self.new.room.guests }
     {
-        self.room.put_back(number, guest)
+        self.put_in(number, guest);
+        self.room.touched.push(number)?;
+        Ok(())
+    }
+
+    /// Lets a connection go that was taken out, and whose session has its End.
+    pub fn let_go(&mut self, number: u64, guest: BoxedGuest)
+        requires taken { IsOut self.old.office.keeper.world (session_of self.old.office.steward) self.old.room.guests guest }
+        requires over { guest.session ≡ None }
+        ensures served { AreServed self.new.office.keeper.world (session_of self.new.office.steward) self.new.room.guests }
+        ensures office { self.new.office ≡ self.old.office }
+        ensures written { (told : Told) → IsWritten self.old.office.keeper.world told self.old.room.guests number guest → AreWritten self.new.office.keeper.world told self.new.room.guests }
+    {
+        let _ = guest.get().peer.output();
+        self.room.guests.remove(number);
     }
 
     /// Puts a connection with a held Observe into the list of them.
@@ -57,7 +74,7 @@ impl<F: Folder> Host<F> {
         requires taken { IsOut self.old.office.keeper.world (session_of self.old.office.steward) self.old.room.guests guest.old }
         ensures taken { IsOut self.new.office.keeper.world (session_of self.new.office.steward) self.new.room.guests guest.new }
         ensures office { self.new.office ≡ self.old.office }
-        ensures written { KeepsOut self.old.room.guests guest.old self.new.room.guests guest.new }
+        ensures written { KeepsOut self.old.office.keeper.world self.old.room.guests guest.old self.new.office.keeper.world self.new.room.guests guest.new }
     {
         self.room.list(number, guest)
     }
@@ -66,7 +83,8 @@ impl<F: Folder> Host<F> {
     pub fn unlist(&mut self, guest: &mut Guest)
         requires taken { IsOut self.old.office.keeper.world (session_of self.old.office.steward) self.old.room.guests guest.old }
         ensures taken { IsOut self.new.office.keeper.world (session_of self.new.office.steward) self.new.room.guests guest.new }
-        ensures written { KeepsOut self.old.room.guests guest.old self.new.room.guests guest.new }
+        ensures written { KeepsOut self.old.office.keeper.world self.old.room.guests guest.old self.new.office.keeper.world self.new.room.guests guest.new }
+        ensures office { self.new.office ≡ self.old.office }
     {
         guest.is_listed = false;
     }
@@ -75,12 +93,14 @@ impl<F: Folder> Host<F> {
     pub fn drop_guest(&mut self, guest: &mut Guest)
         requires taken { IsOut self.old.office.keeper.world (session_of self.old.office.steward) self.old.room.guests guest.old }
         ensures taken { IsOut self.new.office.keeper.world (session_of self.new.office.steward) self.new.room.guests guest.new }
-        ensures written { KeepsOut self.old.room.guests guest.old self.new.room.guests guest.new }
+        ensures written { KeepsOut self.old.office.keeper.world self.old.room.guests guest.old self.new.office.keeper.world self.new.room.guests guest.new }
+        ensures office { self.new.office ≡ self.old.office }
     {
         guest.leave();
     }
 
     /// Takes what a connection asks, in its turn. `piece` is for what is read at once.
+    #[tactic(auto, using(crate::proofs::Written::heard_nothing))]
     pub fn hear_guest<P: Ports, L: Files, E: Sink>(
         &mut self,
         outside: &mut Outside<'_, '_, '_, P, L, E>,
@@ -91,8 +111,11 @@ impl<F: Folder> Host<F> {
     ) -> Result<(), Halt>
         requires taken { IsOut self.old.office.keeper.world (session_of self.old.office.steward) self.old.room.guests guest.old }
         ensures taken { OnOk result (IsOut self.new.office.keeper.world (session_of self.new.office.steward) self.new.room.guests guest.new) }
-        ensures written { OnOk result (IsWritten (P.told outside.old.ports.now) self.old.room.guests number guest.old
-            → IsWritten (P.told outside.new.ports.now) self.new.room.guests number guest.new) }
+        ensures written { OnOk result (IsWritten self.old.office.keeper.world (P.told outside.old.ports.now) self.old.room.guests number guest.old
+            → IsWritten self.new.office.keeper.world (P.told outside.new.ports.now) self.new.room.guests number guest.new) }
+        ensures goes { Continues self.old.office.keeper.world self.new.office.keeper.world }
+        ensures still { WroteNothing (P.told outside.old.ports.now) (P.told outside.new.ports.now) }
+        ensures lent { outside.new.ports.ghost_name ≡ outside.old.ports.ghost_name }
     {
         self.office.hear(outside, number, guest, piece, half)?;
         self.office.keeper.is_lawful();
@@ -100,10 +123,12 @@ impl<F: Folder> Host<F> {
     }
 
     /// Answers the held Observe of a connection, where it is served and has one.
+    #[tactic(auto, using(crate::proofs::Written::continues, crate::proofs::Written::continues_same))]
     pub fn release_guest(&mut self, guest: &mut Guest) -> Result<(), Halt>
         requires taken { IsOut self.old.office.keeper.world (session_of self.old.office.steward) self.old.room.guests guest.old }
         ensures taken { OnOk result (IsOut self.new.office.keeper.world (session_of self.new.office.steward) self.new.room.guests guest.new) }
-        ensures written { OnOk result (KeepsOut self.old.room.guests guest.old self.new.room.guests guest.new) }
+        ensures written { OnOk result (KeepsOut self.old.office.keeper.world self.old.room.guests guest.old self.new.office.keeper.world self.new.room.guests guest.new) }
+        ensures goes { Continues self.old.office.keeper.world self.new.office.keeper.world }
     {
         if !guest.is_open() {
             return Ok(());
@@ -114,10 +139,13 @@ impl<F: Folder> Host<F> {
     }
 
     /// Enters the End of a connection's session, where it has one.
+    #[tactic(auto, using(crate::proofs::Written::continues))]
     pub fn end_guest(&mut self, guest: &mut Guest) -> Result<(), Halt>
         requires taken { IsOut self.old.office.keeper.world (session_of self.old.office.steward) self.old.room.guests guest.old }
         ensures taken { OnOk result (IsOut self.new.office.keeper.world (session_of self.new.office.steward) self.new.room.guests guest.new) }
-        ensures written { OnOk result (KeepsOut self.old.room.guests guest.old self.new.room.guests guest.new) }
+        ensures written { OnOk result (KeepsOut self.old.office.keeper.world self.old.room.guests guest.old self.new.office.keeper.world self.new.room.guests guest.new) }
+        ensures over { OnOk result (guest.new.session ≡ None) }
+        ensures goes { Continues self.old.office.keeper.world self.new.office.keeper.world }
     {
         self.office.end(guest)?;
         self.office.keeper.is_lawful();
@@ -125,10 +153,12 @@ impl<F: Folder> Host<F> {
     }
 
     /// Has the steward report what was without a result for too long.
+    #[tactic(auto, using(crate::proofs::Written::continues))]
     pub fn report(&mut self) -> Result<(), Halt>
         requires served { AreServed self.old.office.keeper.world (session_of self.old.office.steward) self.old.room.guests }
         ensures served { OnOk result (AreServed self.new.office.keeper.world (session_of self.new.office.steward) self.new.room.guests) }
-        ensures written { OnOk result (KeepsWritten self.old.room.guests self.new.room.guests) }
+        ensures written { OnOk result (KeepsWritten self.old.office.keeper.world self.old.room.guests self.new.office.keeper.world self.new.room.guests) }
+        ensures goes { Continues self.old.office.keeper.world self.new.office.keeper.world }
     {
         self.office.report_old()?;
         self.office.keeper.is_lawful();

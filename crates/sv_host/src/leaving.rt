@@ -1,7 +1,7 @@
 //! Connections that come and go.
-ghost use Rattle.std.specs.Prelude.{OnOk};
+ghost use Rattle.std.specs.Prelude.{◌≡◌, OnOk};
 ghost use Rattle.sv_office.specs.Offices.{session_of};
-ghost use Rattle.sv_host.specs.Rooms.{AreServed, AreWritten, IsNew};
+ghost use Rattle.sv_host.specs.Rooms.{AreServed, AreWritten, Continues, IsNew, LeftInput, WroteNothing};
 
 use crate::boxed::BoxedGuest;
 use crate::host::Host;
@@ -21,7 +21,9 @@ impl<F: Folder> Host<F> {
     fn admit<P: Ports>(&mut self, ports: &mut P, number: u64)
         requires served { AreServed self.old.office.keeper.world (session_of self.old.office.steward) self.old.room.guests }
         ensures served { AreServed self.new.office.keeper.world (session_of self.new.office.steward) self.new.room.guests }
-        ensures written { IsNew (P.told ports.old) self.old.room.guests number → AreWritten (P.told ports.new) self.new.room.guests }
+        ensures written { IsNew self.old.office.keeper.world (P.told ports.old) self.old.room.guests number → AreWritten self.new.office.keeper.world (P.told ports.new) self.new.room.guests }
+        ensures world { self.new.office.keeper ≡ self.old.office.keeper }
+        ensures input { LeftInput (P.told ports.old) (P.told ports.new) }
     {
         if self.room.guests.len() >= MOST_GUESTS {
             let office = &mut self.office;
@@ -44,7 +46,9 @@ impl<F: Folder> Host<F> {
     pub fn accept<P: Ports>(&mut self, ports: &mut P)
         requires served { AreServed self.old.office.keeper.world (session_of self.old.office.steward) self.old.room.guests }
         ensures served { AreServed self.new.office.keeper.world (session_of self.new.office.steward) self.new.room.guests }
-        ensures written { AreWritten (P.told ports.old) self.old.room.guests → AreWritten (P.told ports.new) self.new.room.guests }
+        ensures written { AreWritten self.old.office.keeper.world (P.told ports.old) self.old.room.guests → AreWritten self.new.office.keeper.world (P.told ports.new) self.new.room.guests }
+        ensures world { self.new.office.keeper ≡ self.old.office.keeper }
+        ensures input { LeftInput (P.told ports.old) (P.told ports.new) }
     {
         if !self.room.ready.door {
             return;
@@ -68,16 +72,19 @@ impl<F: Folder> Host<F> {
 
     /// Closes a connection, whose session has its End.
     #[inline(never)]
+    #[tactic(auto, using(crate::proofs::Written::continues_then, crate::proofs::Written::continues_same, crate::proofs::Written::wrote_then, crate::proofs::Written::wrote_same))]
     pub fn depart<P: Ports>(&mut self, ports: &mut P, number: u64) -> Result<(), Halt>
         requires served { AreServed self.old.office.keeper.world (session_of self.old.office.steward) self.old.room.guests }
         ensures served { OnOk result (AreServed self.new.office.keeper.world (session_of self.new.office.steward) self.new.room.guests) }
-        ensures written { OnOk result (AreWritten (P.told ports.old) self.old.room.guests → AreWritten (P.told ports.new) self.new.room.guests) }
+        ensures written { OnOk result (AreWritten self.old.office.keeper.world (P.told ports.old) self.old.room.guests → AreWritten self.new.office.keeper.world (P.told ports.new) self.new.room.guests) }
+        ensures goes { Continues self.old.office.keeper.world self.new.office.keeper.world }
+        ensures still { WroteNothing (P.told ports.old) (P.told ports.new) }
     {
         let Some(mut guest) = self.take_out(number) else {
             return Ok(());
         };
         self.end_guest(guest.get_mut())?;
-        self.room.guests.remove(number);
+        self.let_go(number, guest);
         ports.close(number);
         Ok(())
     }

@@ -8,6 +8,7 @@ mod hearing;
 mod holding;
 mod host;
 mod input;
+mod laws;
 mod leaving;
 mod opening;
 mod options;
@@ -21,5 +22,6 @@ mod turn;
 
 pub use ending::HostEnd;
 pub use hall::{DoorFault, Doors, FolderFault, Folders};
+pub use laws::worlds_begin_serial;
 pub use options::{Options, options_of};
 pub use top::{Place, run_host};

@@ -1,18 +1,21 @@
 //! What is read and opened before anybody is served.
-ghost use Rattle.std.specs.Prelude.{◌≡◌, ◌≢◌, ◌⊎◌, ℕ, List, [], None, Ok, IfOk, IfErr, IsErr, string_bytes};
-ghost use Rattle.std.specs.Option.{option_copied};
+ghost use Rattle.std.specs.Prelude.{◌≡◌, ◌≢◌, ◌⊎◌, ℕ, List, [], None, Ok, IfOk, IfErr, IsErr, is_some, map, option_map, string_bytes};
+ghost use Rattle.std.specs.Option.{ForSome, option_copied};
 ghost use Rattle.sv_bytes.specs.Faults.{Rose};
 ghost use Rattle.sv_bytes.specs.Writing.{GrewOrRose};
 ghost use Rattle.sv_journal.specs.Laws.{AreWithinLimits};
 ghost use Rattle.sv_log.specs.Rests.{IsAtRest};
 ghost use Rattle.sv_keeper.specs.Opened.{IsOpened};
+ghost use Rattle.sv_living.specs.World.{WorldView};
+ghost use Rattle.sv_office.specs.Knowing.{IsTrusted, IsUpToDate};
 ghost use Rattle.sv_office.specs.Offices.{session_of};
 ghost use Rattle.sv_scenario.specs.Lines.{fault_line};
 ghost use Rattle.sv_worldfile.specs.Limits.{IsGoodWorldFile};
 ghost use Rattle.sv_worldfile.specs.WorldFiles.{world_file_of};
 ghost use Rattle.sv_host.specs.Causes.{cause_word, file_place, is_authority, line_place, line_word, named_or, start_in};
-ghost use Rattle.sv_host.specs.Causes.{IsEndOf, IsFileFront, IsPrepared, WhyBefore, WhyFaulty, WhyNoKeys, WhyStopped, WhyUnopened, WhyUnread};
+ghost use Rattle.sv_host.specs.Causes.{IsEndOf, IsFileFront, IsPrepared, WhyBefore, WhyFaulty, WhyNoFolder, WhyNoKeys, WhyUnopened, WhyUnread};
 ghost use Rattle.sv_host.specs.Lines.{open_line};
+ghost use Rattle.sv_host.specs.Staffing.{AreKeysFor, IsStaffFor, manners_for};
 ghost use Rattle.sv_host.specs.Words.{IsLocal, asked_by};
 
 use crate::ending::HostEnd;
@@ -175,7 +178,7 @@ pub fn folder_of<D: Folders>(
 ) -> Result<D::F, HostEnd>
     ensures opened { IfOk result (D.opens folders.old options.now.folder.now) }
     ensures rest { IfOk result (λ folder. D.F.is_honest folder → IsAtRest (D.F.disk folder)) }
-    ensures why { IfErr result (WhyStopped options.now.folder.now) }
+    ensures why { IfErr result (WhyNoFolder (D.refuses folders.old options.now.folder.now) options.now.folder.now) }
 {
     match folders.open(options.folder, options.syncs) {
         Ok(folder) => Ok(folder),
@@ -213,7 +216,7 @@ pub fn keeper_of<F: Folder + Drop>(
     requires good { IsGoodWorldFile prepared.file }
     requires rest { F.is_honest folder → IsAtRest (F.disk folder) }
     ensures opened { IfOk result (IsOpened F.disk F.is_honest (F.disk folder) prepared.bytes.items (start_in prepared.file)) }
-    ensures why { IfErr result (WhyUnopened F.disk F.is_honest folder prepared.file prepared.bytes.items options.now.folder.now) }
+    ensures why { IfErr result (WhyUnopened F.disk F.is_honest F.faults folder prepared.file prepared.bytes.items options.now.folder.now) }
 {
     let Prepared { file, bytes } = prepared;
     let stewards = Stewards {
@@ -239,6 +242,7 @@ pub fn keys_of<L: Files, E: Sink>(
     files: &mut L,
     err: &mut E,
 ) -> Result<Option<Keys>, HostEnd>
+    ensures keys { IfOk result (AreKeysFor (L.contents files.old) (option_copied options.now.keys)) }
     ensures why { IfErr result (WhyNoKeys (L.contents files.old) (option_copied options.now.keys)) }
     ensures quiet { (IsErr result ⊎ IsLocal options.now.at.now) → err.new ≡ err.old }
     ensures named { option_copied options.now.keys ≢ None → err.new ≡ err.old }
@@ -259,14 +263,18 @@ pub fn keys_of<L: Files, E: Sink>(
     }
 }
 
-fn owned_of(alloc: Global, name: Option<&str>) -> Result<Option<String>, AllocError> {
+fn owned_of(alloc: Global, name: Option<&str>) -> Result<Option<String>, AllocError>
+    ensures { IfOk result (λ owned. option_map string_bytes owned ≡ option_copied name.entry) }
+{
     match name {
         Some(name) => Ok(Some(owned(alloc, name)?)),
         None => Ok(None),
     }
 }
 
-fn origins_of(alloc: Global, options: &Options<'_>) -> Result<Vec<String>, AllocError> {
+fn origins_of(alloc: Global, options: &Options<'_>) -> Result<Vec<String>, AllocError>
+    ensures { IfOk result (λ origins. map string_bytes origins.items ≡ (asked_by options.now).origins) }
+{
     let mut origins = Vec::new(alloc);
     for origin in &options.origins {
         origins.push(owned(alloc, *origin)?)?;
@@ -295,7 +303,9 @@ pub fn prepared_of<L: Files>(
 }
 
 fn steward_of(alloc: Global, is_wanted: bool, shape: Shape) -> Result<Option<Steward>, AllocError>
-    ensures { IfOk result (λ steward. session_of steward ≡ None) }
+    ensures is { IfOk result (λ steward. is_some steward ≡ is_wanted) }
+    ensures none { IfOk result (λ steward. session_of steward ≡ None) }
+    ensures told { IfOk result (λ steward. (v : WorldView) → ForSome steward (IsUpToDate v)) }
 {
     if is_wanted {
         Ok(Some(Steward::new(alloc, shape)?))
@@ -313,14 +323,16 @@ pub struct Staff {
     pub origins: Vec<String>,
 }
 
-/// The steward is in no session.
+/// The steward is in no session, and was told nothing.
 pub fn staff_of(
     alloc: Global,
     options: &Options<'_>,
     shape: Shape,
     keys: Option<Keys>,
 ) -> Result<Staff, AllocError>
-    ensures { IfOk result (λ staff. session_of staff.steward ≡ None) }
+    requires keys { is_some keys ≡ is_some (option_copied options.now.keys) }
+    ensures keys { IfOk result (λ staff. staff.keys ≡ keys) }
+    ensures staff { IfOk result (IsStaffFor (asked_by options.now)) }
 {
     let site = owned_of(alloc, options.site)?;
     let origins = origins_of(alloc, options)?;
@@ -334,7 +346,9 @@ pub fn staff_of(
 }
 
 /// How the server is to behave.
-pub fn manners_of(options: &Options<'_>, authority: bool) -> Manners {
+pub fn manners_of(options: &Options<'_>, authority: bool) -> Manners
+    ensures { result ≡ manners_for (asked_by options.now) authority }
+{
     Manners {
         idle: options.idle,
         report_within: options.report_within,
@@ -353,7 +367,13 @@ fn office_of<F: Folder + Drop>(
 ) -> Office<F>
     requires limits { AreWithinLimits keeper.world.rules }
     requires none { session_of staff.steward ≡ None }
+    requires trusted { IsTrusted keeper staff.steward }
     ensures keeper { result.keeper ≡ keeper }
+    ensures keys { result.keys ≡ staff.keys }
+    ensures steward { result.steward ≡ staff.steward }
+    ensures manners { result.manners ≡ manners }
+    ensures site { result.site ≡ staff.site }
+    ensures origins { result.origins ≡ staff.origins }
 {
     let Staff {
         keys,
@@ -386,7 +406,13 @@ pub fn host_of<F: Folder + Drop>(
 ) -> Host<F>
     requires limits { AreWithinLimits keeper.world.rules }
     requires none { session_of staff.steward ≡ None }
+    requires trusted { IsTrusted keeper staff.steward }
     ensures keeper { result.office.keeper ≡ keeper }
+    ensures keys { result.office.keys ≡ staff.keys }
+    ensures steward { result.office.steward ≡ staff.steward }
+    ensures manners { result.office.manners ≡ manners }
+    ensures site { result.office.site ≡ staff.site }
+    ensures origins { result.office.origins ≡ staff.origins }
     ensures nobody { result.room.guests ≡ [] }
 {
     let entries = keeper.entries();

@@ -1,10 +1,7 @@
 //! The connections.
-ghost use Rattle.std.specs.Prelude.{◌≡◌, [], Some};
-ghost use Rattle.sv_ports.specs.Numbered.{with_item};
-ghost use Rattle.sv_host.specs.Inputs.{IsAtLine};
+ghost use Rattle.std.specs.Prelude.{◌≡◌, []};
 
 use crate::boxed::BoxedGuest;
-use crate::input::InputLines;
 use std::alloc::Global;
 use sv_office::{Guest, Halt};
 use sv_ports::{Numbered, Ready};
@@ -13,7 +10,6 @@ use sv_ports::{Numbered, Ready};
 #[derive(Drop)]
 pub struct Room {
     pub guests: Numbered<BoxedGuest>,
-    pub input: InputLines,
     pub ready: Ready,
     /// Connections that had more than was taken of them in their turn.
     pub busy: Vec<u64>,
@@ -35,11 +31,9 @@ impl Room {
     /// Nobody is there, and there are so many entries.
     pub fn new(alloc: Global, entries: u64) -> Room
         ensures guests { result.guests ≡ [] }
-        ensures input { IsAtLine result.input [] }
     {
         Room {
             guests: Numbered::new(alloc),
-            input: InputLines::new(),
             ready: Ready::new(alloc),
             busy: Vec::new(alloc),
             touched: Vec::new(alloc),
@@ -51,21 +45,10 @@ impl Room {
         }
     }
 
-    /// Puts a connection back that was taken out. Something may be sent to it.
-    pub fn put_back(&mut self, number: u64, guest: BoxedGuest) -> Result<(), Halt>
-        ensures guests { self.new.guests ≡ with_item number (Some guest) self.old.guests }
-        ensures input { self.new.input ≡ self.old.input }
-    {
-        self.guests.put(number, guest);
-        self.touched.push(number)?;
-        Ok(())
-    }
-
     /// Puts a connection with a held Observe into the list of them.
     pub fn list(&mut self, number: u64, guest: &mut Guest) -> Result<(), Halt>
         ensures guest { guest.new ≡ record guest.old { is_listed = guest.new.is_listed } }
         ensures guests { self.new.guests ≡ self.old.guests }
-        ensures input { self.new.input ≡ self.old.input }
     {
         let Some(held) = &guest.held else {
             return Ok(());

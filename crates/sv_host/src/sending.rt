@@ -1,8 +1,8 @@
 //! Sending what was answered, once it is settled.
-ghost use Rattle.std.specs.Prelude.{ℕ, Option, OnOk};
+ghost use Rattle.std.specs.Prelude.{◌≡◌, ℕ, Option, OnOk};
 ghost use Rattle.sv_living.specs.World.{WorldView};
 ghost use Rattle.sv_office.specs.Offices.{session_of};
-ghost use Rattle.sv_host.specs.Rooms.{AreServed, AreWritten, KeepsWritten, Sends, WasSent};
+ghost use Rattle.sv_host.specs.Rooms.{AnyEntry, AreServed, AreWritten, Continues, KeepsWritten, LeftInput, Sends, WasSent, WereWritten, WroteNothing};
 
 use crate::boxed::BoxedGuest;
 use crate::host::Host;
@@ -94,12 +94,14 @@ fn send_to<P: Ports>(
     settled: &Settled<'_>,
 ) -> Then
     ensures served { (v : WorldView) (steward : Option ℕ) → AreServed v steward guests.old → AreServed v steward guests.new }
-    ensures written { AreWritten (P.told ports.old) guests.old → AreWritten (P.told ports.new) guests.new }
+    ensures written { (v : WorldView) → AreWritten v (P.told ports.old) guests.old → AreWritten v (P.told ports.new) guests.new }
+    ensures input { LeftInput (P.told ports.old) (P.told ports.new) }
 {
     let Some(mut guest) = guests.take(number) else {
         return Then::Waits;
     };
     let then = send_out(ports, number, guest.get_mut(), counts, settled);
+    let _ = guest.get().peer.output();
     guests.put(number, guest);
     then
 }
@@ -114,7 +116,8 @@ fn send_each<P: Ports>(
     settled: &Settled<'_>,
 ) -> Result<Vec<u64>, Halt>
     ensures served { (v : WorldView) (steward : Option ℕ) → AreServed v steward room.old.guests → AreServed v steward room.new.guests }
-    ensures written { AreWritten (P.told ports.old) room.old.guests → AreWritten (P.told ports.new) room.new.guests }
+    ensures written { (v : WorldView) → AreWritten v (P.told ports.old) room.old.guests → AreWritten v (P.told ports.new) room.new.guests }
+    ensures input { LeftInput (P.told ports.old) (P.told ports.new) }
 {
     let mut gone = Vec::new(alloc);
     for number in numbers {
@@ -132,7 +135,8 @@ impl<F: Folder> Host<F> {
     fn settle(&mut self) -> Result<(), Halt>
         requires served { AreServed self.old.office.keeper.world (session_of self.old.office.steward) self.old.room.guests }
         ensures served { AreServed self.new.office.keeper.world (session_of self.new.office.steward) self.new.room.guests }
-        ensures written { KeepsWritten self.old.room.guests self.new.room.guests }
+        ensures written { KeepsWritten self.old.office.keeper.world self.old.room.guests self.new.office.keeper.world self.new.room.guests }
+        ensures world { self.new.office.keeper.world ≡ self.old.office.keeper.world }
     {
         let office = &mut self.office;
         match office.keeper.settle() {
@@ -145,7 +149,9 @@ impl<F: Folder> Host<F> {
     fn send_settled<P: Ports>(&mut self, ports: &mut P, numbers: &[u64]) -> Result<Vec<u64>, Halt>
         requires served { AreServed self.old.office.keeper.world (session_of self.old.office.steward) self.old.room.guests }
         ensures served { AreServed self.new.office.keeper.world (session_of self.new.office.steward) self.new.room.guests }
-        ensures written { AreWritten (P.told ports.old) self.old.room.guests → AreWritten (P.told ports.new) self.new.room.guests }
+        ensures written { AreWritten self.old.office.keeper.world (P.told ports.old) self.old.room.guests → AreWritten self.new.office.keeper.world (P.told ports.new) self.new.room.guests }
+        ensures world { self.new.office.keeper ≡ self.old.office.keeper }
+        ensures input { LeftInput (P.told ports.old) (P.told ports.new) }
     {
         let mut counts = self.office.counts;
         let office = &self.office;
@@ -166,10 +172,13 @@ impl<F: Folder> Host<F> {
     }
 
     // Closes each of these.
+    #[tactic(auto, using(crate::proofs::Written::continues_then, crate::proofs::Written::continues_same, crate::proofs::Written::wrote_then, crate::proofs::Written::wrote_same))]
     fn depart_each<P: Ports>(&mut self, ports: &mut P, numbers: &[u64]) -> Result<(), Halt>
         requires served { AreServed self.old.office.keeper.world (session_of self.old.office.steward) self.old.room.guests }
         ensures served { OnOk result (AreServed self.new.office.keeper.world (session_of self.new.office.steward) self.new.room.guests) }
-        ensures written { OnOk result (AreWritten (P.told ports.old) self.old.room.guests → AreWritten (P.told ports.new) self.new.room.guests) }
+        ensures written { OnOk result (AreWritten self.old.office.keeper.world (P.told ports.old) self.old.room.guests → AreWritten self.new.office.keeper.world (P.told ports.new) self.new.room.guests) }
+        ensures goes { Continues self.old.office.keeper.world self.new.office.keeper.world }
+        ensures still { WroteNothing (P.told ports.old) (P.told ports.new) }
     {
         for number in numbers {
             self.depart(ports, *number)?;
@@ -181,7 +190,10 @@ impl<F: Folder> Host<F> {
     pub fn send<P: Ports>(&mut self, ports: &mut P) -> Result<(), Halt>
         requires served { AreServed self.old.office.keeper.world (session_of self.old.office.steward) self.old.room.guests }
         ensures served { OnOk result (AreServed self.new.office.keeper.world (session_of self.new.office.steward) self.new.room.guests) }
-        ensures written { OnOk result (AreWritten (P.told ports.old) self.old.room.guests → AreWritten (P.told ports.new) self.new.room.guests) }
+        ensures written { OnOk result (AreWritten self.old.office.keeper.world (P.told ports.old) self.old.room.guests → AreWritten self.new.office.keeper.world (P.told ports.new) self.new.room.guests) }
+        ensures goes { Continues self.old.office.keeper.world self.new.office.keeper.world }
+        ensures past { AreWritten self.old.office.keeper.world (P.told ports.old) self.old.room.guests → WereWritten AnyEntry (P.told ports.new) self.new.office.keeper.world }
+        ensures input { OnOk result (LeftInput (P.told ports.old) (P.told ports.new)) }
     {
         self.settle()?;
         let mut touched = std::mem::replace(&mut self.room.touched, Vec::new(self.alloc));

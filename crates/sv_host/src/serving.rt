@@ -1,20 +1,25 @@
 //! The loop, and its orderly end.
-ghost use Rattle.std.specs.Prelude.{◌≡◌, [], OnOk};
-ghost use Rattle.sv_living.specs.Sessions.{open_sessions};
+ghost use Rattle.std.specs.Prelude.{◌≡◌, [], Option, OnOk};
+ghost use Rattle.sv_journal.specs.Laws.{AreWithinLimits};
+ghost use Rattle.sv_living.specs.Sessions.{open_sessions, AreInOrder};
 ghost use Rattle.sv_keeper.specs.Keeping.{AreSettled};
 ghost use Rattle.sv_office.specs.Entering.{GoesOn};
+ghost use Rattle.sv_office.specs.Knowing.{IsTrusted};
 ghost use Rattle.sv_office.specs.Offices.{session_of};
-ghost use Rattle.sv_host.specs.Rooms.{AreServed, AreTold, AreWritten, IsAnEnd, KeepsWritten};
+ghost use Rattle.sv_office.specs.declared.steward.Steward.{Steward};
+ghost use Rattle.sv_ports.specs.Told.{nothing_told};
+ghost use Rattle.sv_host.specs.Inputs.{WasToldToStop};
+ghost use Rattle.sv_host.specs.Rooms.{AnyEntry, AreServed, AreTold, AreWritten, Continues, IsAnEnd, KeepsWritten, LeftInput, WereWritten};
 
 use crate::host::Host;
+use crate::input::InputLines;
 use crate::turn::Turned;
 use std::sync::Wait;
 use sv_bytes::{Files, Sink};
 use sv_keeper::Keeper;
 use sv_log::Folder;
-use sv_office::{Halt, Outside};
+use sv_office::{Halt, Outside, end_session};
 use sv_ports::{Clock, Ports};
-use sv_wire::Request;
 
 /// For how many turns it is waited at an orderly end for connections to take what they are sent.
 const LAST_TURNS: u32 = 20;
@@ -27,27 +32,31 @@ const MOST_ENDS: u32 = 70_000;
 
 // Enters the End of each session that is open.
 fn end_each<F: Folder>(keeper: &mut Keeper<F>) -> Result<(), Halt>
+    requires limits { AreWithinLimits keeper.old.world.rules }
     ensures ended { OnOk result (open_sessions keeper.new.world.history ≡ []) }
     ensures added { GoesOn IsAnEnd keeper.old.world keeper.new.world }
+    ensures trusted { (steward : Option Steward) → IsTrusted keeper.old steward → IsTrusted keeper.new steward }
 {
     for _ in 0..MOST_ENDS {
         let Some(session) = keeper.first_open() else {
             return Ok(());
         };
-        if keeper.step(session, &Request::End).is_err() {
-            return Err(Halt::Log);
-        }
+        end_session(keeper, session)?;
     }
     Err(Halt::Log)
 }
 
 // Enters the End of each session that is open, and settles.
 fn end_all<F: Folder>(keeper: &mut Keeper<F>) -> Result<(), Halt>
+    requires limits { AreWithinLimits keeper.old.world.rules }
     ensures ended { OnOk result (open_sessions keeper.new.world.history ≡ []) }
     ensures settled { OnOk result (AreSettled F.disk F.is_honest keeper.new) }
     ensures added { GoesOn IsAnEnd keeper.old.world keeper.new.world }
+    ensures order { OnOk result (AreInOrder keeper.new.world.history) }
+    ensures trusted { (steward : Option Steward) → IsTrusted keeper.old steward → IsTrusted keeper.new steward }
 {
     end_each(keeper)?;
+    keeper.is_lawful();
     match keeper.settle() {
         Ok(()) => Ok(()),
         Err(_) => Err(Halt::Log),
@@ -56,6 +65,7 @@ fn end_all<F: Folder>(keeper: &mut Keeper<F>) -> Result<(), Halt>
 
 impl<F: Folder> Host<F> {
     /// Serves until it is told to stop. Then each session has its End, and all is settled.
+    #[tactic(auto, using(crate::proofs::Behind::read_nothing, crate::proofs::Written::continues_then, crate::proofs::Written::continues_same))]
     pub fn serve<R: Wait, P: Ports, C: Clock, L: Files, E: Sink>(
         &mut self,
         rt: &R,
@@ -67,11 +77,20 @@ impl<F: Folder> Host<F> {
         ensures ended { OnOk result (open_sessions self.new.office.keeper.world.history ≡ []) }
         ensures settled { OnOk result (AreSettled F.disk F.is_honest self.new.office.keeper) }
         ensures told { OnOk result (AreTold self.new.office.keeper.world self.new.room.guests) }
-        ensures written { OnOk result (AreWritten (P.told outside.old.ports.now) self.old.room.guests → AreWritten (P.told outside.new.ports.now) self.new.room.guests) }
+        ensures written { OnOk result (AreWritten self.old.office.keeper.world (P.told outside.old.ports.now) self.old.room.guests → AreWritten self.new.office.keeper.world (P.told outside.new.ports.now) self.new.room.guests) }
+        ensures goes { Continues self.old.office.keeper.world self.new.office.keeper.world }
+        ensures lent { outside.new.ports.ghost_name ≡ outside.old.ports.ghost_name }
+        ensures past { AreWritten self.old.office.keeper.world (P.told outside.old.ports.now) self.old.room.guests
+            → WereWritten AnyEntry (P.told outside.new.ports.now) self.new.office.keeper.world }
+        ensures last { OnOk result (AreWritten self.old.office.keeper.world (P.told outside.old.ports.now) self.old.room.guests
+            → WereWritten IsAnEnd (P.told outside.new.ports.now) self.new.office.keeper.world) }
+        ensures asked { OnOk result (P.told outside.old.ports.now ≡ nothing_told → WasToldToStop (P.told outside.new.ports.now)) }
     {
+        let mut input = InputLines::new();
         for _ in rt.forever() {
-            if self.turn(outside, piece, clock)? == Turned::Stops {
-                return self.stop(outside.ports);
+            match self.turn(outside, piece, clock, &mut input)? {
+                Turned::On => {}
+                Turned::Stops => return self.stop(outside.ports),
             }
         }
         unreachable!()
@@ -81,7 +100,8 @@ impl<F: Folder> Host<F> {
     fn touch_all(&mut self) -> Result<bool, Halt>
         requires served { AreServed self.old.office.keeper.world (session_of self.old.office.steward) self.old.room.guests }
         ensures served { AreServed self.new.office.keeper.world (session_of self.new.office.steward) self.new.room.guests }
-        ensures written { KeepsWritten self.old.room.guests self.new.room.guests }
+        ensures written { KeepsWritten self.old.office.keeper.world self.old.room.guests self.new.office.keeper.world self.new.room.guests }
+        ensures world { self.new.office.keeper ≡ self.old.office.keeper }
     {
         let mut waits = false;
         for place in 0..self.room.guests.len() {
@@ -100,7 +120,10 @@ impl<F: Folder> Host<F> {
     fn send_rest<P: Ports>(&mut self, ports: &mut P) -> Result<(), Halt>
         requires served { AreServed self.old.office.keeper.world (session_of self.old.office.steward) self.old.room.guests }
         ensures served { OnOk result (AreServed self.new.office.keeper.world (session_of self.new.office.steward) self.new.room.guests) }
-        ensures written { OnOk result (AreWritten (P.told ports.old) self.old.room.guests → AreWritten (P.told ports.new) self.new.room.guests) }
+        ensures written { OnOk result (AreWritten self.old.office.keeper.world (P.told ports.old) self.old.room.guests → AreWritten self.new.office.keeper.world (P.told ports.new) self.new.room.guests) }
+        ensures goes { Continues self.old.office.keeper.world self.new.office.keeper.world }
+        ensures past { AreWritten self.old.office.keeper.world (P.told ports.old) self.old.room.guests → WereWritten AnyEntry (P.told ports.new) self.new.office.keeper.world }
+        ensures input { OnOk result (LeftInput (P.told ports.old) (P.told ports.new)) }
     {
         for _ in 0..LAST_TURNS {
             let waits = self.touch_all()?;
@@ -120,7 +143,11 @@ impl<F: Folder> Host<F> {
         ensures ended { OnOk result (open_sessions self.new.office.keeper.world.history ≡ []) }
         ensures settled { OnOk result (AreSettled F.disk F.is_honest self.new.office.keeper) }
         ensures told { OnOk result (AreTold self.new.office.keeper.world self.new.room.guests) }
-        ensures written { OnOk result (AreWritten (P.told ports.old) self.old.room.guests → AreWritten (P.told ports.new) self.new.room.guests) }
+        ensures written { OnOk result (AreWritten self.old.office.keeper.world (P.told ports.old) self.old.room.guests → AreWritten self.new.office.keeper.world (P.told ports.new) self.new.room.guests) }
+        ensures goes { Continues self.old.office.keeper.world self.new.office.keeper.world }
+        ensures past { AreWritten self.old.office.keeper.world (P.told ports.old) self.old.room.guests → WereWritten AnyEntry (P.told ports.new) self.new.office.keeper.world }
+        ensures last { OnOk result (AreWritten self.old.office.keeper.world (P.told ports.old) self.old.room.guests → WereWritten IsAnEnd (P.told ports.new) self.new.office.keeper.world) }
+        ensures input { OnOk result (LeftInput (P.told ports.old) (P.told ports.new)) }
     {
         self.send_rest(ports)?;
         let office = &mut self.office;

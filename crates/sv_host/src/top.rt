@@ -1,15 +1,20 @@
 //! The top call of the server.
-ghost use Rattle.std.specs.Prelude.{◌≡◌, ◌⊎◌, ℕ, List, [], Option, None, false, IfOk, IfErr, OnOk, length, map, string_bytes};
+ghost use Rattle.std.specs.Prelude.{◌≡◌, ◌⊎◌, ℕ, List, [], Option, None, false, IfOk, IfErr, OnErr, OnOk, length, map, string_bytes};
 ghost use Rattle.sv_bytes.specs.Faults.{Rose};
 ghost use Rattle.sv_bytes.specs.Writing.{GrewOrRose};
 ghost use Rattle.sv_journal.specs.History.{commit_of};
 ghost use Rattle.sv_journal.specs.Laws.{AreWithinLimits};
+ghost use Rattle.sv_living.specs.Sessions.{open_sessions};
 ghost use Rattle.sv_living.specs.World.{heeded_in};
 ghost use Rattle.sv_worldfile.specs.Limits.{IsGoodWorldFile};
+ghost use Rattle.sv_ports.specs.Told.{nothing_told};
 ghost use Rattle.sv_office.specs.Offices.{session_of};
-ghost use Rattle.sv_host.specs.Causes.{EndsFor, HasStopped, IsAtEnd, IsPrepared, WasServed, WhyBehind, WhyEnds, WhyStopped};
+ghost use Rattle.sv_host.specs.Causes.{EndsFor, HasStopped, IsAtEnd, IsHalted, IsPrepared, WasServed, WhyBehind, WhyEnds, WhyStopped, WroteFirst};
+ghost use Rattle.sv_host.specs.Inputs.{WasToldToStop};
 ghost use Rattle.sv_host.specs.Lines.{standing_line};
-ghost use Rattle.sv_host.specs.Rooms.{AreServed};
+ghost use Rattle.sv_host.specs.Rooms.{AnyEntry, AreServed, Continues, IsAnEnd};
+ghost use Rattle.sv_host.specs.Served.{BreaksOff, OnlyWrote};
+ghost use Rattle.sv_host.specs.Staffing.{IsOfficeFor, IsStaffFor};
 ghost use Rattle.sv_host.specs.Statuses.{EndsBy, IsEarly, IsStatus, IsToldLast};
 ghost use Rattle.sv_host.specs.Words.{AsksNothing, asked_by};
 ghost use Rattle.sv_host.specs.declared.ending.HostEnd.TheVariants as endings;
@@ -44,7 +49,7 @@ fn tell_keeper<F: Folder, E: Sink>(word: &str, name: &str, keeper: &Keeper<F>, e
 }
 
 fn halted<F: Folder>(alloc: Global, host: &Host<F>, halt: Halt) -> Result<HostEnd, AllocError>
-    ensures { (at : List ℕ) → IfOk result (WhyStopped at) }
+    ensures { IfOk result IsHalted }
 {
     match halt {
         Halt::Log => Ok(HostEnd::Disk(owned(alloc, host.office.keeper.file())?)),
@@ -54,7 +59,9 @@ fn halted<F: Folder>(alloc: Global, host: &Host<F>, halt: Halt) -> Result<HostEn
 }
 
 fn door_of<D: Doors>(alloc: Global, options: &Options<'_>, doors: &mut D) -> Result<D::P, HostEnd>
-    ensures why { IfErr result (WhyStopped options.now.at.now) }
+    ensures why { IfErr result (WhyStopped (D.refuses doors.old options.now.at.now) options.now.at.now) }
+    ensures new { D.told doors.old ≡ nothing_told → IfOk result (λ ports. D.P.told ports ≡ nothing_told) }
+    ensures same { OnErr result (D.told doors.new ≡ D.told doors.old) }
 {
     match doors.open(options.at, options.stops) {
         Ok(ports) => Ok(ports),
@@ -80,6 +87,8 @@ pub struct Place<'r, 'd, 's, 'c, 'l, 'e, R, D, S, C, L, E> {
 #[tactic(auto, using(crate::proofs::Top2::none_served))]
 fn begin<F: Folder>(host: &mut Host<F>) -> Result<(), Halt>
     requires nobody { host.old.room.guests ≡ [] }
+    ensures nobody { host.new.room.guests ≡ [] }
+    ensures goes { Continues host.old.office.keeper.world host.new.office.keeper.world }
     ensures served { OnOk result (AreServed host.new.office.keeper.world (session_of host.new.office.steward) host.new.room.guests) }
 {
     host.office.begin()
@@ -96,7 +105,12 @@ fn serve_over<R: Wait, P: Ports, C: Clock, L: Files, E: Sink, F: Folder>(
     host: &mut Host<F>,
 ) -> Result<(), Halt>
     requires served { AreServed host.old.office.keeper.world (session_of host.old.office.steward) host.old.room.guests }
+    requires nobody { host.old.room.guests ≡ [] }
     ensures done { OnOk result (IsAtEnd F.disk F.is_honest host.new.office.keeper) }
+    ensures goes { Continues host.old.office.keeper.world host.new.office.keeper.world }
+    ensures last { OnOk result (OnlyWrote IsAnEnd (P.told ports.old) (P.told ports.new) host.new.office.keeper.world) }
+    ensures asked { OnOk result (P.told ports.old ≡ nothing_told → WasToldToStop (P.told ports.new)) }
+    ensures sent { OnlyWrote AnyEntry (P.told ports.old) (P.told ports.new) host.new.office.keeper.world }
 {
     let mut outside = Outside { ports, files, err };
     host.serve(rt, &mut outside, piece, clock)?;
@@ -104,25 +118,87 @@ fn serve_over<R: Wait, P: Ports, C: Clock, L: Files, E: Sink, F: Folder>(
     Ok(())
 }
 
-// The door, and a line that tells where it is.
-fn open_door<R, D: Doors, S, C, L, E: Sink, F: Folder>(
+// Tells where a door is.
+fn tell_door<D: Doors, E: Sink, F: Folder>(
+    alloc: Global,
+    options: &Options<'_>,
+    doors: &D,
+    ports: &D::P,
+    keeper: &Keeper<F>,
+    err: &mut E,
+) {
+    let mut address = String::new(alloc);
+    let name = if doors.address(ports, &mut address) {
+        address.as_str()
+    } else {
+        options.at
+    };
+    tell_keeper("listening", name, keeper, err);
+}
+
+// Serves who comes through a door that was opened, until it is told to stop, and tells where it is.
+#[tactic(auto, using(crate::proofs::Through::nothing_wrote, crate::proofs::Written::continues_same))]
+fn serve_door<R: Wait, D: Doors, S, C: Clock, L: Files, E: Sink, F: Folder>(
     place: &mut Place<'_, '_, '_, '_, '_, '_, R, D, S, C, L, E>,
     options: &Options<'_>,
-    host: &Host<F>,
-) -> Result<D::P, HostEnd>
-    ensures why { IfErr result (WhyStopped options.now.at.now) }
+    ports: &mut D::P,
+    host: &mut Host<F>,
+) -> Result<(), Halt>
+    requires served { AreServed host.old.office.keeper.world (session_of host.old.office.steward) host.old.room.guests }
+    requires nobody { host.old.room.guests ≡ [] }
+    ensures done { OnOk result (IsAtEnd F.disk F.is_honest host.new.office.keeper) }
+    ensures goes { Continues host.old.office.keeper.world host.new.office.keeper.world }
+    ensures last { OnOk result (OnlyWrote IsAnEnd (D.P.told ports.old) (D.P.told ports.new) host.new.office.keeper.world) }
+    ensures asked { OnOk result (D.P.told ports.old ≡ nothing_told → WasToldToStop (D.P.told ports.new)) }
+    ensures sent { OnlyWrote AnyEntry (D.P.told ports.old) (D.P.told ports.new) host.new.office.keeper.world }
 {
-    let ports = door_of(place.alloc, options, place.doors)?;
-    let mut address = String::new(place.alloc);
-    if !place.doors.address(&ports, &mut address) {
-        address = owned(place.alloc, options.at)?;
+    tell_door(
+        place.alloc,
+        options,
+        place.doors,
+        ports,
+        &host.office.keeper,
+        place.err,
+    );
+    let mut piece = vec![in place.alloc; 0u8; PIECE]?;
+    serve_over(
+        place.rt,
+        ports,
+        place.files,
+        place.err,
+        piece.as_mut_slice(),
+        place.clock,
+        host,
+    )
+}
+
+// The door is opened, it is served, and the door is closed.
+#[tactic(auto, using(crate::proofs::Top2::halted_why, crate::proofs::Through::nothing_wrote, crate::proofs::Through::between_wrote, crate::proofs::Through::between_asked, crate::proofs::Written::continues_same))]
+fn serve_between<R: Wait, D: Doors, S, C: Clock, L: Files, E: Sink, F: Folder>(
+    place: &mut Place<'_, '_, '_, '_, '_, '_, R, D, S, C, L, E>,
+    options: &Options<'_>,
+    host: &mut Host<F>,
+) -> Result<(), HostEnd>
+    requires served { AreServed host.old.office.keeper.world (session_of host.old.office.steward) host.old.room.guests }
+    requires nobody { host.old.room.guests ≡ [] }
+    ensures done { OnOk result (IsAtEnd F.disk F.is_honest host.new.office.keeper) }
+    ensures why { IfErr result (WhyStopped (D.refuses place.old.doors.now options.now.at.now) options.now.at.now) }
+    ensures goes { Continues host.old.office.keeper.world host.new.office.keeper.world }
+    ensures last { OnOk result (OnlyWrote IsAnEnd (D.told place.old.doors.now) (D.told place.new.doors.now) host.new.office.keeper.world) }
+    ensures asked { OnOk result (D.told place.old.doors.now ≡ nothing_told → WasToldToStop (D.told place.new.doors.now)) }
+    ensures sent { OnlyWrote AnyEntry (D.told place.old.doors.now) (D.told place.new.doors.now) host.new.office.keeper.world }
+{
+    let mut ports = door_of(place.alloc, options, place.doors)?;
+    let served = serve_door(place, options, &mut ports, host);
+    place.doors.close(ports);
+    match served {
+        Ok(()) => Ok(()),
+        Err(halt) => Err(halted(place.alloc, host, halt)?),
     }
-    let name = address.as_str();
-    tell_keeper("listening", name, &host.office.keeper, place.err);
-    Ok(ports)
 }
 
 // The steward joins, and then it is served, until it is told to stop.
+#[tactic(auto, using(crate::proofs::Top2::halted_why, crate::proofs::Through::nothing_wrote, crate::proofs::Written::continues_then))]
 fn serve_at<R: Wait, D: Doors, S, C: Clock, L: Files, E: Sink, F: Folder>(
     place: &mut Place<'_, '_, '_, '_, '_, '_, R, D, S, C, L, E>,
     options: &Options<'_>,
@@ -130,37 +206,31 @@ fn serve_at<R: Wait, D: Doors, S, C: Clock, L: Files, E: Sink, F: Folder>(
 ) -> Result<(), HostEnd>
     requires nobody { host.old.room.guests ≡ [] }
     ensures done { OnOk result (IsAtEnd F.disk F.is_honest host.new.office.keeper) }
-    ensures why { IfErr result (WhyStopped options.now.at.now) }
+    ensures why { IfErr result (WhyStopped (D.refuses place.old.doors.now options.now.at.now) options.now.at.now) }
+    ensures goes { Continues host.old.office.keeper.world host.new.office.keeper.world }
+    ensures last { OnOk result (OnlyWrote IsAnEnd (D.told place.old.doors.now) (D.told place.new.doors.now) host.new.office.keeper.world) }
+    ensures asked { OnOk result (D.told place.old.doors.now ≡ nothing_told → WasToldToStop (D.told place.new.doors.now)) }
+    ensures sent { OnlyWrote AnyEntry (D.told place.old.doors.now) (D.told place.new.doors.now) host.new.office.keeper.world }
 {
     if let Err(halt) = begin(host) {
         return Err(halted(place.alloc, host, halt)?);
     }
-    let mut ports = open_door(place, options, host)?;
-    let mut piece = vec![in place.alloc; 0u8; PIECE]?;
-    let served = serve_over(
-        place.rt,
-        &mut ports,
-        place.files,
-        place.err,
-        piece.as_mut_slice(),
-        place.clock,
-        host,
-    );
-    match served {
-        Ok(()) => Ok(()),
-        Err(halt) => Err(halted(place.alloc, host, halt)?),
-    }
+    serve_between(place, options, host)
 }
 
 // Serves a world, and answers how it stands then.
+#[tactic(auto, using(crate::proofs::Through::nothing_wrote, crate::proofs::Written::continues_same))]
 fn serve_host<R: Wait, D: Doors, S, C: Clock, L: Files, E: Sink, F: Folder>(
     place: &mut Place<'_, '_, '_, '_, '_, '_, R, D, S, C, L, E>,
     options: &Options<'_>,
     host: &mut Host<F>,
 ) -> Result<Stopped, HostEnd>
     requires nobody { host.old.room.guests ≡ [] }
-    ensures done { IfOk result (HasStopped F.disk F.is_honest host.old.office.keeper options.now.folder.now) }
-    ensures why { IfErr result (WhyStopped options.now.at.now) }
+    requires office { IsOfficeFor (asked_by options.now) host.old.office.manners.authority host.old.office }
+    ensures done { IfOk result (HasStopped F.disk F.is_honest host.old.office.keeper (D.told place.old.doors.now) (D.told place.new.doors.now) options.now.folder.now) }
+    ensures why { IfErr result (WhyStopped (D.refuses place.old.doors.now options.now.at.now) options.now.at.now) }
+    ensures goes { Continues host.old.office.keeper.world host.new.office.keeper.world }
+    ensures sent { OnlyWrote AnyEntry (D.told place.old.doors.now) (D.told place.new.doors.now) host.new.office.keeper.world }
 {
     let folder = owned(place.alloc, options.folder)?;
     serve_at(place, options, host)?;
@@ -181,18 +251,24 @@ fn serve_kept<R: Wait, D: Doors, S, C: Clock, L: Files, E: Sink, F: Folder + Dro
     authority: bool,
 ) -> Result<Stopped, HostEnd>
     requires limits { AreWithinLimits keeper.world.rules }
-    requires none { session_of staff.steward ≡ None }
-    ensures done { IfOk result (HasStopped F.disk F.is_honest keeper options.now.folder.now) }
-    ensures why { IfErr result (WhyStopped options.now.at.now) }
+    requires ended { open_sessions keeper.world.history ≡ [] }
+    requires staff { IsStaffFor (asked_by options.now) staff }
+    ensures done { IfOk result (HasStopped F.disk F.is_honest keeper (D.told place.old.doors.now) (D.told place.new.doors.now) options.now.folder.now) }
+    ensures why { IfErr result (WhyStopped (D.refuses place.old.doors.now options.now.at.now) options.now.at.now) }
+    ensures broke { BreaksOff (D.told place.old.doors.now) (D.told place.new.doors.now) keeper.world }
 {
     tell_keeper("start", options.folder, &keeper, place.err);
+    keeper.is_lawful();
     let manners = manners_of(options, authority);
     let mut host = host_of(place.alloc, keeper, staff, place.random, manners);
-    serve_host(place, options, &mut host)
+    let served = serve_host(place, options, &mut host);
+    // However it ended.
+    host.office.keeper.is_lawful();
+    served
 }
 
 // Opens the folder, and serves its world.
-#[tactic(auto, using(crate::proofs::Top2::log_behind, crate::proofs::Top2::stopped_behind, crate::proofs::Rules::limits_in))]
+#[tactic(auto, using(crate::proofs::Top2::folder_behind, crate::proofs::Rules::limits_in))]
 fn serve_prepared<R: Wait, D: Doors, S: Folders, C: Clock, L: Files, E: Sink>(
     place: &mut Place<'_, '_, '_, '_, '_, '_, R, D, S, C, L, E>,
     options: &Options<'_>,
@@ -200,11 +276,16 @@ fn serve_prepared<R: Wait, D: Doors, S: Folders, C: Clock, L: Files, E: Sink>(
     staff: Staff,
 ) -> Result<Stopped, HostEnd>
     requires good { IsGoodWorldFile prepared.file }
-    requires none { session_of staff.steward ≡ None }
+    requires staff { IsStaffFor (asked_by options.now) staff }
     ensures done { (contents : List ℕ → Option (List ℕ)) → IsPrepared (contents options.now.world.now) (asked_by options.now) prepared.file prepared.bytes.items
-        → IfOk result (WasServed S.F.disk S.F.is_honest (S.opens place.old.folders.now) contents (asked_by options.now)) }
+        → IfOk result (WasServed S.F.disk S.F.is_honest (S.opens place.old.folders.now) contents (D.told place.old.doors.now) (D.told place.new.doors.now)
+        (asked_by options.now)) }
     ensures why { (contents : List ℕ → Option (List ℕ)) → IsPrepared (contents options.now.world.now) (asked_by options.now) prepared.file prepared.bytes.items
-        → IfErr result (WhyBehind S.F.disk S.F.is_honest (S.opens place.old.folders.now) contents (asked_by options.now)) }
+        → IfErr result (WhyBehind S.F.disk S.F.is_honest (S.opens place.old.folders.now) contents (D.told place.old.doors.now) (D.told place.new.doors.now)
+        S.F.faults (S.refuses place.old.folders.now) (D.refuses place.old.doors.now) (asked_by options.now)) }
+    ensures wrote { (contents : List ℕ → Option (List ℕ)) → IsPrepared (contents options.now.world.now) (asked_by options.now) prepared.file prepared.bytes.items
+        → OnErr result (WroteFirst S.F.disk S.F.is_honest (S.opens place.old.folders.now) contents (D.told place.old.doors.now) (D.told place.new.doors.now)
+        (asked_by options.now)) }
 {
     let alloc = place.alloc;
     let authority = is_authority(prepared.file.results);
@@ -221,8 +302,13 @@ fn run<R: Wait, D: Doors, S: Folders, C: Clock, L: Files, E: Sink>(
     place: &mut Place<'_, '_, '_, '_, '_, '_, R, D, S, C, L, E>,
     options: &Options<'_>,
 ) -> Result<Stopped, HostEnd>
-    ensures done { IfOk result (WasServed S.F.disk S.F.is_honest (S.opens place.old.folders.now) (L.contents place.old.files.now) (asked_by options.now)) }
+    ensures done { IfOk result (WasServed S.F.disk S.F.is_honest (S.opens place.old.folders.now) (L.contents place.old.files.now)
+        (D.told place.old.doors.now) (D.told place.new.doors.now) (asked_by options.now)) }
+    ensures wrote { OnErr result (WroteFirst S.F.disk S.F.is_honest (S.opens place.old.folders.now) (L.contents place.old.files.now)
+        (D.told place.old.doors.now) (D.told place.new.doors.now) (asked_by options.now)) }
     ensures why { IfErr result (WhyEnds S.F.disk S.F.is_honest (S.opens place.old.folders.now) (L.contents place.old.files.now)
+        (D.told place.old.doors.now) (D.told place.new.doors.now)
+        S.F.faults (S.refuses place.old.folders.now) (D.refuses place.old.doors.now)
         (Rose (L.faults place.old.files.now) (L.faults place.new.files.now)) (asked_by options.now)) }
     ensures apart { IfErr result (λ e. IsEarly e → (place.new.folders.now ≡ place.old.folders.now) × (place.new.doors.now ≡ place.old.doors.now)) }
     ensures quiet { IfErr result (λ e. IsEarly e → place.new.err.now ≡ place.old.err.now) }
@@ -240,6 +326,8 @@ fn ending_of<R: Wait, D: Doors, S: Folders, C: Clock, L: Files, E: Sink>(
 ) -> HostEnd
     ensures words { AsksNothing (map string_bytes words.now) → (result ≡ endings.Words) ⊎ (result ≡ endings.Memory) }
     ensures why { EndsFor S.F.disk S.F.is_honest (S.opens place.old.folders.now) (L.contents place.old.files.now)
+        (D.told place.old.doors.now) (D.told place.new.doors.now)
+        S.F.faults (S.refuses place.old.folders.now) (D.refuses place.old.doors.now)
         (map string_bytes words.now) (Rose (L.faults place.old.files.now) (L.faults place.new.files.now)) result }
     ensures apart { IsEarly result → (place.new.folders.now ≡ place.old.folders.now) × (place.new.doors.now ≡ place.old.doors.now) }
     ensures quiet { IsEarly result → place.new.err.now ≡ place.old.err.now }
@@ -268,6 +356,8 @@ pub fn run_host<R: Wait, D: Doors, S: Folders, C: Clock, L: Files, E: Sink>(
     ensures apart { (result ≡ 2) ⊎ ((result ≡ 3) ⊎ (result ≡ 4)) → (place.new.folders.now ≡ place.old.folders.now) × (place.new.doors.now ≡ place.old.doors.now) }
     ensures ends { EndsBy (λ ending. IsToldLast E.taken E.faults place.old.err.now place.new.err.now ending
         × EndsFor S.F.disk S.F.is_honest (S.opens place.old.folders.now) (L.contents place.old.files.now)
+        (D.told place.old.doors.now) (D.told place.new.doors.now)
+        S.F.faults (S.refuses place.old.folders.now) (D.refuses place.old.doors.now)
         (map string_bytes words.now) (Rose (L.faults place.old.files.now) (L.faults place.new.files.now)) ending) result }
 {
     let ending = ending_of(place, words);

@@ -1,3 +1,4 @@
 -- Lemmas of this crate.
 pub mod Numbers
 pub mod Walk
+pub mod Held

@@ -55,3 +55,10 @@ keys_line file faults.Memory = codes "keys: " ++ file ++ codes "\n"
 abbrev pub WasTold : Option (List ℕ) → Option (List ℕ) → ℕ → ℕ → List ℕ → Option KeysFault → Type 0
 WasTold taken now before after file None = (now ≡ taken) × (after ≡ before)
 WasTold taken now before after file (Some fault) = GrewOrRose taken now before after (keys_line file fault)
+
+-- The keys are those of the file of this name: its rows are those of a text, which is all that the file has, where that is known.
+pub record AreHeld (contents : List ℕ → Option (List ℕ)) (name : List ℕ) (keys : KeysView) : Type 0 where
+  pub file : keys.file ≡ name
+  pub text : List ℕ
+  pub whole : IsAllOf (contents name) text
+  pub read : AreKeys text keys.rows

@@ -1,6 +1,6 @@
 //! Who may join: the digests of keys.
 ghost use Rattle.std.specs.Prelude.{◌≡◌, ◌≢◌, List, ℕ, IfOk, IfErr, Option, Some, Err};
-ghost use Rattle.sv_keys.specs.Keeping.{has_key, has_digest, fault_in, IsAllOf, IsRenewed, WasTold, WhyWrong};
+ghost use Rattle.sv_keys.specs.Keeping.{has_key, has_digest, fault_in, AreHeld, IsAllOf, IsRenewed, WasTold, WhyWrong};
 ghost use Rattle.sv_keys.specs.KeyLines.{AreKeys, IsWrongAt};
 ghost use Rattle.sv_keys.specs.declared.fault.KeysFault.{KeysFault};
 ghost use Rattle.sv_keys.specs.declared.fault.KeysFault.TheVariants as faults;
@@ -39,6 +39,7 @@ impl Model for Keys {
 fn read_keys<L: Files>(alloc: Global, files: &mut L, name: &str) -> Result<Vec<u8>, KeysFault>
     ensures all { IfOk result (λ bytes. IsAllOf (L.contents files.old name.now) bytes.items) }
     ensures err { IfErr result (λ fault. (n : ℕ) → fault ≢ faults.Line n) }
+    ensures same { (n : List ℕ) → L.contents files.new n ≡ L.contents files.old n }
 {
     let bytes = match read_all(alloc, files, name, MOST_BYTES + 1) {
         Ok(bytes) => bytes,
@@ -57,6 +58,8 @@ impl Keys {
         ensures file { IfOk result (λ keys. keys.file ≡ name.now) }
         ensures all { IfOk result (λ keys. IsAllOf (L.contents files.old name.now) keys.bytes) }
         ensures keys { IfOk result (λ keys. AreKeys keys.bytes keys.rows) }
+        ensures held { IfOk result (AreHeld (L.contents files.old) name.now) }
+        ensures same { (n : List ℕ) → L.contents files.new n ≡ L.contents files.old n }
         ensures wrong { (n : ℕ) → result ≡ Err (faults.Line n) → (all : List ℕ) → L.contents files.old name.now ≡ Some all → IsWrongAt all n }
     {
         let bytes = read_keys(alloc, files, name)?;
@@ -80,7 +83,8 @@ impl Keys {
 
     // Reads the file again, and takes its keys where it has changed.
     fn renew<L: Files>(&mut self, files: &mut L) -> Result<(), KeysFault>
-        ensures { IsRenewed (L.contents files.old self.old.file) self.old self.new (fault_in result) }
+        ensures renewed { IsRenewed (L.contents files.old self.old.file) self.old self.new (fault_in result) }
+        ensures same { (n : List ℕ) → L.contents files.new n ≡ L.contents files.old n }
     {
         let bytes = read_keys(self.alloc, files, self.file.as_str())?;
         if bytes.as_slice() == self.bytes.as_slice() {
@@ -107,6 +111,8 @@ impl Keys {
     /// Looks at the file, and answers whether it has a key of this digest. Where it is wrong now, that is told, and the last good one holds.
     pub fn look<L: Files, E: Sink>(&mut self, files: &mut L, err: &mut E, digest: &[u8; 32]) -> bool
         ensures answer { result ≡ has_digest self.new digest.now }
+        ensures held { (name : List ℕ) → AreHeld (L.contents files.old) name self.old → AreHeld (L.contents files.old) name self.new }
+        ensures same { (n : List ℕ) → L.contents files.new n ≡ L.contents files.old n }
         ensures renewed { (fault : Option KeysFault)
             × IsRenewed (L.contents files.old self.old.file) self.old self.new fault
             × WasTold (E.taken err.old) (E.taken err.new) (E.faults err.old) (E.faults err.new) self.old.file fault }

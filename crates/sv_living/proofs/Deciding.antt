@@ -27,7 +27,7 @@ use Rattle.sv_journal.proofs.Stewards.{living-keeping}
 use Rattle.sv_sequencer.specs.declared.decision.Decision.{Decision}
 use Rattle.sv_sequencer.specs.declared.decision.Decision.TheVariants as decisions
 use Rattle.sv_sequencer.specs.Decisions.{reply_by, results_in, IsOld, Holds}
-use Rattle.sv_living.specs.Deciding.{answers_poll, is_report, first_relay, IsDecided}
+use Rattle.sv_living.specs.Deciding.{answers_poll, is_report, first_relay, IsDecided, IsDuePoll}
 use Rattle.sv_living.specs.Keeping.{heard}
 use Rattle.sv_living.proofs.Heeding.{accepted_heeded, heard_none}
 
@@ -422,3 +422,13 @@ module _ (w : Stewardship) (r : Rules) (h : List Entry) (s : ℕ) where
 
       due : due_to w h s ≡ unreported (heeded w h) s
       due = ap (λ (b : Bool). if b then unreported (heeded w h) s else orphans (heeded w h)) steward
+
+  answers-first : (xs : List ℕ) → answers_poll requests.Poll (first_relay xs) ≡ true
+  answers-first [] = refl
+  answers-first (p ∷ ps) = refl
+
+  -- The same where it is known without the core's decision that the Poll is not refused.
+  pub decided_poll : (q : Request) → IsDuePoll w r h s q → IsDecided w r h s q (first_relay (unreported (heeded w h) s))
+  decided_poll q due = subst (λ (x : Request). IsDecided w r h s x (first_relay (unreported (heeded w h) s))) (sym (poll-is q due.poll))
+      (decided_steward requests.Poll (first_relay (orphans (heeded w h))) refl (first-is (orphans (heeded w h)) requests.Poll ∙ sym due.told)
+      (ap (λ (b : Bool). b && is_stewards w.steward h s) (answers-first (orphans (heeded w h))) ∙ due.steward))

@@ -6,9 +6,9 @@ use Rattle.sv_wire.specs.declared.message.Request.TheVariants as requests
 use Rattle.sv_journal.specs.declared.entry.Entry.{Entry}
 use Rattle.sv_journal.specs.History.{result_at, commit_of}
 use Rattle.sv_journal.specs.Sessions.{sent_to}
-use Rattle.sv_journal.specs.Answer.{Rules}
+use Rattle.sv_journal.specs.Answer.{Rules, reply_to_request, reply_to_poll, orphans}
 use Rattle.sv_journal.specs.Serving.{is_poll, reply_for}
-use Rattle.sv_journal.specs.Living.{Stewardship, heeded, living}
+use Rattle.sv_journal.specs.Living.{Stewardship, is_stewards, heeded, living}
 use Rattle.sv_sequencer.specs.declared.decision.Decision.{Decision}
 use Rattle.sv_sequencer.specs.declared.decision.Decision.TheVariants as decisions
 use Rattle.sv_sequencer.specs.Decisions.{reply_by, Holds}
@@ -32,6 +32,12 @@ is_report _ = false
 abbrev pub first_relay : List ℕ → Decision
 first_relay [] = decisions.Idle
 first_relay (p ∷ ps) = decisions.Relay 0 p
+
+-- A steward's Poll, which the table does not refuse.
+pub record IsDuePoll (w : Stewardship) (r : Rules) (h : List Entry) (s : ℕ) (request : Request) : Type 0 where
+  pub poll : is_poll request ≡ true
+  pub steward : is_stewards w.steward h s ≡ true
+  pub told : reply_to_request r (heeded w h) s requests.Poll ≡ reply_to_poll r (heeded w h) s (orphans (heeded w h))
 
 -- By the results that count a decision stands for the reply that the history gives, and what it needs holds.
 pub record IsDecided (w : Stewardship) (r : Rules) (h : List Entry) (s : ℕ) (request : Request) (decision : Decision) : Type 0 where

@@ -56,7 +56,7 @@ fn is_report(request: &Request) -> bool
     }
 }
 
-fn is_poll(request: &Request) -> bool
+pub(crate) fn is_poll(request: &Request) -> bool
     ensures { result ≡ is_poll request.now }
 {
     match request {

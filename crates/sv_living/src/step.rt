@@ -1,5 +1,5 @@
 //! A step of what is live. Its core decides by the history of the results that count, but for what the steward polls.
-ghost use Rattle.std.specs.Prelude.{◌≡◌, ◌&&◌, List, ◌<◌, [], ◌∷◌, ◌++◌, true, false, None, length, IfOk, IfErr, IsOk, OnOk, OnErr, MatchResult};
+ghost use Rattle.std.specs.Prelude.{◌≡◌, ◌&&◌, List, ◌<◌, [], ◌∷◌, ◌++◌, true, false, None, length, IfOk, IfErr, IsOk, OnOk, OnErr, IsTrue, MatchResult};
 ghost use Rattle.sv_world.specs.Limits.{most_open};
 ghost use Rattle.sv_wire.specs.declared.message.Request.TheVariants as requests;
 ghost use Rattle.sv_wire.specs.declared.message.Reply.TheVariants as replies;
@@ -9,7 +9,7 @@ ghost use Rattle.sv_journal.specs.Sessions.{is_end, is_ended};
 ghost use Rattle.sv_journal.specs.Living.{is_stewards, heeded};
 ghost use Rattle.sv_sequencer.specs.Cores.{core_rules, open_by, SitsAt, Keeps, IsUnseated, Remained};
 ghost use Rattle.sv_sequencer.specs.Rows.{has_entry};
-ghost use Rattle.sv_living.specs.Deciding.{answers_poll, IsDecided};
+ghost use Rattle.sv_living.specs.Deciding.{answers_poll, IsDecided, IsDuePoll};
 ghost use Rattle.sv_living.specs.Keeping.{Course, stewardship_of, stewardship_at, KeepsLiving, Moved, StoodStill, CarriedOn, Began, Left};
 ghost use Rattle.sv_living.specs.Sessions.{is_open, most_session, may_begin, may_ask};
 ghost use Rattle.sv_living.specs.Table.{ends_below};
@@ -17,7 +17,7 @@ ghost use Rattle.sv_living.specs.World.{IsStepFault, told};
 
 use crate::due::due_decision;
 use crate::fault::StepFault;
-use crate::heard::{answers_poll, is_silent, is_stewards};
+use crate::heard::{answers_poll, is_poll, is_silent, is_stewards};
 use crate::live::Live;
 use crate::stewards::Stewards;
 use crate::table::OpenSessions;
@@ -37,6 +37,9 @@ fn decide(core: &Core, stewards: Stewards, seat: Seat, request: &Request) -> Dec
     requires more { is_end request.now ≡ false }
     ensures { IsDecided g.w (core_rules core.now) g.h seat.session request.now result }
 {
+    if is_due_poll(core, stewards, seat, request) {
+        return due_decision(core, seat);
+    }
     let decision = core.decide(seat, request);
     if is_due(core, stewards, seat, request, decision) {
         due_decision(core, seat)
@@ -60,6 +63,17 @@ fn is_due(
     ensures { result ≡ (answers_poll request.now decision && is_stewards g.w.steward g.h seat.session) }
 {
     answers_poll(request, decision) && is_stewards(core, stewards, seat)
+}
+
+/// Whether the steward polls, and it is sure at once that it is not refused. Then no abandoned position is looked for.
+fn is_due_poll(core: &Core, stewards: Stewards, seat: Seat, request: &Request) -> bool
+    ghost g: { Course }
+    requires keeps { Keeps core.now (heeded g.w g.h) }
+    requires stewards { g.w ≡ stewardship_of stewards }
+    requires seat { SitsAt core.now seat }
+    ensures { IsTrue result → IsDuePoll g.w (core_rules core.now) g.h seat.session request.now }
+{
+    is_poll(request) && is_stewards(core, stewards, seat) && core.may_poll(seat)
 }
 
 /// A report of no results.

@@ -1,3 +1,4 @@
 -- The definitions of the program's words.
 pub mod Choice
+pub mod Closed
 pub mod Notices

@@ -1,4 +1,5 @@
 //! Folders and doors of the system, for the server of a living world.
+use http_server::Log;
 use std::alloc::Global;
 use std::io::ErrorKind;
 use std::net::{Net, SocketAddr};
@@ -17,6 +18,8 @@ impl<'r> Folders for OsFolders<'r> {
     type F = DiskFolder<'r>;
 
     ghost opens = { λ _ _ _. Unit {0} };
+
+    ghost refuses = { λ _ _ _. Unit {0} };
 
     fn open(&mut self, name: &str, syncs: bool) -> Result<DiskFolder<'r>, FolderFault> {
         let mode = if syncs {
@@ -40,10 +43,18 @@ pub struct OsDoors<'r, R: Net> {
     pub alloc: Global,
     /// The standard input.
     pub input: Stdin,
+    /// The connections of the door that was closed last, for contracts alone.
+    pub closed: Log<MioPorts<Stdin>, ()>,
 }
 
 impl<'r, R: Net> Doors for OsDoors<'r, R> {
+    ghost use Rattle.sv_main.specs.Closed.{told_by};
+
     type P = MioPorts<Stdin>;
+
+    ghost told = { λ doors. told_by doors.closed.items };
+
+    ghost refuses = { λ _ _ _. Unit {0} };
 
     fn open(&mut self, address: &str, input: bool) -> Result<MioPorts<Stdin>, DoorFault> {
         let Ok(address) = address.parse::<SocketAddr>() else {
@@ -55,6 +66,10 @@ impl<'r, R: Net> Doors for OsDoors<'r, R> {
             Err(error) if error.kind() == ErrorKind::AddrInUse => Err(DoorFault::Busy),
             Err(_) => Err(DoorFault::Failed),
         }
+    }
+
+    fn close(&mut self, ports: MioPorts<Stdin>) {
+        self.closed = Log::new().and(&ports, &());
     }
 
     fn address(&self, ports: &MioPorts<Stdin>, out: &mut String) -> bool {

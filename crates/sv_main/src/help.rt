@@ -56,7 +56,8 @@ A run ends with a status, and each but 0 with one line on standard error:
  13 host: the log is refused           14 host: another has the folder or the address
 
 Read on: README.md (what this is good for), docs/TUTORIAL.md (a first game), docs/ACTIONS.md (the language of
-actions), docs/ERRORS.md (what can go wrong, and what to do), docs/WITNESS.md (a world with a liar in it).
+actions), docs/HOSTING.md (a world that goes on), docs/EMBEDDING.md (your own program in it), docs/PATTERNS.md (whole
+actions to copy), docs/ERRORS.md (what can go wrong, and what to do), docs/WITNESS.md (a world with a liar in it).
 "#;
 
 /// What `--version` prints.

@@ -12,6 +12,7 @@ use crate::choice::command;
 use crate::commands::Command;
 use crate::hall::{OsDoors, OsFolders};
 use crate::notices::{notice, print_text, text_of};
+use http_server::Log;
 use std::alloc::Global;
 use std::hash::RandomState;
 use std::net::{Net as Sockets, TcpListener, TcpStream};
@@ -134,6 +135,7 @@ fn host_here<R: Wait + Sockets + Clock, F: Files, E: Sink>(
         rt,
         alloc: call.alloc,
         input: hosting.input,
+        closed: Log::new(),
     };
     let mut folders = OsFolders {
         rt: hosting.runtime,

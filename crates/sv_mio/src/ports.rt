@@ -35,6 +35,8 @@ struct Line {
     stream: TcpStream,
     /// A read that does not fill its room may leave something behind.
     stops_short: bool,
+    /// The wait behind which a read took all that had come. Another wait tells when there is more.
+    emptied: u64,
 }
 
 /// Connections over TCP, under the numbers 0, 1, 2, ..
@@ -45,8 +47,8 @@ pub struct MioPorts<I: Read + Drop> {
     door: TcpListener,
     lines: Numbered<Line>,
     next: u64,
-    /// The connection of which the last read took all that had come. A wait tells when it has more.
-    emptied: Option<u64>,
+    /// How many waits there were, from 1 up.
+    waits: u64,
     input: Option<I>,
     /// The input is a file, which is always ready.
     input_is_file: bool,
@@ -85,7 +87,7 @@ impl<I: Read + Drop> MioPorts<I> {
             door,
             lines: Numbered::new(alloc),
             next: 0,
-            emptied: None,
+            waits: 1,
             input,
             input_is_file,
             written: Pieces::new(),
@@ -126,6 +128,7 @@ impl<I: Read + Drop> MioPorts<I> {
         let line = Line {
             stream,
             stops_short: false,
+            emptied: 0,
         };
         match self.lines.push(number, line) {
             Ok(()) => {
@@ -162,6 +165,14 @@ fn note_stops(events: &Events, lines: &mut Numbered<Line>) {
                 lines.put(number, line);
             }
         }
+    }
+}
+
+// Notes that a read behind this wait took all that had come of a connection.
+fn note_emptied(lines: &mut Numbered<Line>, number: u64, wait: u64) {
+    if let Some(mut line) = lines.take(number) {
+        line.emptied = wait;
+        lines.put(number, line);
     }
 }
 
@@ -216,7 +227,7 @@ impl<I: Read + Drop> Ports for MioPorts<I> {
     ghost told = { told_of };
 
     fn wait(&mut self, limit: u64, ready: &mut Ready) -> Waited {
-        self.emptied = None;
+        self.waits = self.waits.wrapping_add(1);
         let limit = if self.input_is_file { 0 } else { limit };
         match self
             .poll
@@ -242,13 +253,13 @@ impl<I: Read + Drop> Ports for MioPorts<I> {
         let Some(line) = self.lines.get(number) else {
             return PortRead::Failed;
         };
-        if self.emptied == Some(number) {
+        if line.emptied == self.waits {
             return PortRead::NotYet;
         }
         let answer = read_from(&mut &line.stream, into);
         if let PortRead::Got(count) = answer {
             if count < into.len() && !line.stops_short {
-                self.emptied = Some(number);
+                note_emptied(&mut self.lines, number, self.waits);
             }
             self.heard.note(number, &into[..count]);
         }

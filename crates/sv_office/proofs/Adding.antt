@@ -3,7 +3,8 @@ use Rattle.std.proofs.Common.{◌≡◌, ◌≢◌, inl, inr, ℕ, Bool, true, f
 use Rattle.sv_journal.specs.declared.entry.Entry.{Entry}
 use Rattle.sv_sequencer.specs.Rows.{has_entry}
 use Rattle.sv_living.specs.World.{WorldView}
-use Rattle.sv_office.specs.Entering.{AreAdded, GoesOn, AsksIn, KeepsOwn}
+use Rattle.sv_office.specs.Entering.{AreAdded, GrowsBy, GoesOn, AsksIn, KeepsOwn}
+use Rattle.sv_office.specs.Trusting.{IsAuthority, IsSerial, StaysSerial}
 
 any_more : (b : Bool) → (b || true) ≡ true
 any_more true = refl
@@ -17,18 +18,37 @@ pub added_then : {may : Entry → Type 0} {h g k : List Entry} → AreAdded may 
 added_then first AreAdded.none = first
 added_then first (AreAdded.one before m) = AreAdded.one (added_then first before) m
 
+-- What is serial stays so, in one call after the other.
+pub serial_same : {v w : WorldView} → w ≡ v → StaysSerial v w
+serial_same same authority is = subst IsSerial (sym same) is
+
+pub serial_then : {u v w : WorldView} → v.stewardship ≡ u.stewardship → StaysSerial u v → StaysSerial v w → StaysSerial u w
+serial_then same first next authority is = next (subst IsAuthority (sym same) authority) (first authority is)
+
+pub grows_nowhere : {may : Entry → Type 0} {v w : WorldView} → w ≡ v → GrowsBy may v w
+grows_nowhere {may} {v} {w} same = subst (λ (x : WorldView). GrowsBy may v x) (sym same) (record { rules = refl; stewardship = refl; added = AreAdded.none })
+
+-- It grew, and what was serial is so still.
+pub grew : {may : Entry → Type 0} {v w : WorldView} → GoesOn may v w → GrowsBy may v w
+grew on = record { rules = on.rules; stewardship = on.stewardship; added = on.added }
+
+pub goes_by : {may : Entry → Type 0} {v w : WorldView} → GrowsBy may v w → StaysSerial v w → GoesOn may v w
+goes_by on serial = record { rules = on.rules; stewardship = on.stewardship; added = on.added; serial = serial }
+
 pub goes_as : {may must : Entry → Type 0} {v w : WorldView} → ((e : Entry) → may e → must e) → GoesOn may v w → GoesOn must v w
-goes_as all on = record { rules = on.rules; stewardship = on.stewardship; added = added_as all on.added }
+goes_as all on = record { rules = on.rules; stewardship = on.stewardship; added = added_as all on.added; serial = on.serial }
 
 pub goes_then : {may : Entry → Type 0} {u v w : WorldView} → GoesOn may u v → GoesOn may v w → GoesOn may u w
 goes_then first next = record {
   rules = next.rules ∙ first.rules;
   stewardship = next.stewardship ∙ first.stewardship;
   added = added_then first.added next.added;
+  serial = serial_then first.stewardship first.serial next.serial;
 }
 
 pub goes_nowhere : {may : Entry → Type 0} {v w : WorldView} → w ≡ v → GoesOn may v w
-goes_nowhere {may} {v} {w} same = subst (λ (x : WorldView). GoesOn may v x) (sym same) (record { rules = refl; stewardship = refl; added = AreAdded.none })
+goes_nowhere {may} {v} {w} same =
+    subst (λ (x : WorldView). GoesOn may v x) (sym same) (record { rules = refl; stewardship = refl; added = AreAdded.none; serial = λ authority is. is })
 
 -- Entries stay.
 pub entry_stays : {may : Entry → Type 0} {h g : List Entry} → AreAdded may h g → (s : ℕ) → has_entry h s ≡ true → has_entry g s ≡ true

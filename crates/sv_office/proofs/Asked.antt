@@ -1,7 +1,9 @@
 -- What an honest client asks: a Poll is one, and a reply is reported by a Done.
-use Rattle.std.proofs.Common.{◌≡◌, ℕ, Bool, true, false, nat_eq, List, [], ◌∷◌, Option, Some, None, refl, sym, eq-eqb}
+use Rattle.std.proofs.Common.{◌≡◌, ℕ, Bool, true, false, nat_eq, List, [], ◌∷◌, ◌++◌, map, Option, Some, None, refl, sym, ap, eq-eqb}
 use Rattle.std.specs.Prelude.{if◌then◌else◌, not, IfSome, IfNone}
 use Rattle.std.specs.Option.{option_to_list}
+use Rattle.sv_versions.specs.Held.{Held}
+use Rattle.sv_wire.specs.declared.message.Item.{Item}
 use Rattle.sv_wire.specs.declared.message.Request.{Request}
 use Rattle.sv_wire.specs.declared.message.Request.TheVariants as requests
 use Rattle.sv_wire.specs.declared.message.Reply.{Reply}
@@ -10,12 +12,12 @@ use Rattle.sv_client.specs.Answers.{got_now}
 use Rattle.sv_client.specs.Seen.{latest_session, newly_asked}
 use Rattle.sv_client.specs.Kinds.{allows_awaited, asks_for_done, kind_of}
 use Rattle.sv_client.specs.Taking.{Fault, Identity, Unasked, WrongKind, fault_after, first_fault_of_reply, outstanding}
-use Rattle.sv_client.specs.Traces.{done_for, held_of, current_session, is_session}
+use Rattle.sv_client.specs.Traces.{done_for, head_held, held_of, item_held, results_of, current_session, is_session}
 use Rattle.sv_client.specs.declared.kinds.Awaited.{Awaited}
 use Rattle.sv_client.specs.declared.kinds.Awaited.TheVariants as kinds
 use Rattle.sv_client.specs.declared.trace.Event.{Event}
 use Rattle.sv_client.specs.declared.trace.Event.TheVariants as events
-use Rattle.sv_office.specs.Stewarding.{IsDone, is_refused}
+use Rattle.sv_office.specs.Stewarding.{Reports, is_refused, reported_at}
 
 no_more : {A : Type 0} {x : A} → x ∷ [] ≡ [] → ⊥
 no_more e = cc
@@ -23,14 +25,28 @@ no_more e = cc
 alone : {A : Type 0} {x y : A} → x ∷ [] ≡ y ∷ [] → x ≡ y
 alone e = cc
 
-pub got_done : (who : Identity) (t : List Event) (reply : Reply) (request : Request) → request ∷ [] ≡ newly_asked who t (got_now t reply) → IsDone request
+results_positions : (held : List Held) (items : List Item) → reported_at (results_of held items) ≡ map (λ (i : Item). i.pos) items
+results_positions held [] = refl
+results_positions held (item ∷ items) = ap (λ (ps : List ℕ). item.pos ∷ ps) (results_positions (held ++ item_held held item) items)
+
+pub got_done : (who : Identity) (t : List Event) (reply : Reply) (request : Request) → request ∷ [] ≡ newly_asked who t (got_now t reply) → Reports reply request
 got_done who t reply request e = by_kind (nat_eq (latest_session t) (latest_session (got_now t reply ∷ t))) reply e
   where
-    by_kind : (b : Bool) (r : Reply) → request ∷ [] ≡ (if b then done_for (held_of t) r else []) → IsDone request
+    by_kind : (b : Bool) (r : Reply) → request ∷ [] ≡ (if b then done_for (held_of t) r else []) → Reports r request
     by_kind false r e = absurd (no_more e)
-    by_kind true (replies.Relay seq commit head items) e = (_, alone e)
+    by_kind true (replies.Relay seq commit head items) e = record {
+      some = refl;
+      results = _;
+      done = alone e;
+      each = results_positions (held_of t ++ head_held commit head) items;
+    }
     by_kind true (replies.Seen last commit head []) e = absurd (no_more e)
-    by_kind true (replies.Seen last commit head (item ∷ items)) e = (_, alone e)
+    by_kind true (replies.Seen last commit head (item ∷ items)) e = record {
+      some = refl;
+      results = _;
+      done = alone e;
+      each = results_positions (held_of t ++ head_held commit head) (item ∷ items);
+    }
     by_kind true (replies.Welcome commit head) e = absurd (no_more e)
     by_kind true (replies.Dropped seq chain far) e = absurd (no_more e)
     by_kind true (replies.Denied seq object) e = absurd (no_more e)
@@ -67,7 +83,7 @@ got_none who t reply e =
     by_kind true is replies.Bye e = refl
 
 -- What is asked by a reply.
-pub asked_done : (who : Identity) (t : List Event) (reply : Reply) (asks : Option Request) → option_to_list asks ≡ newly_asked who t (got_now t reply) → IfSome asks IsDone
+pub asked_done : (who : Identity) (t : List Event) (reply : Reply) (asks : Option Request) → option_to_list asks ≡ newly_asked who t (got_now t reply) → IfSome asks (Reports reply)
 asked_done who t reply None e = tt
 asked_done who t reply (Some request) e = got_done who t reply request e
 

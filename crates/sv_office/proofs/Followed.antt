@@ -1,5 +1,6 @@
 -- What follows a reply.
 use Rattle.std.proofs.Common.{◌≡◌, ◌≢◌, inl, inr, ℕ, Bool, true, List, length, Option, Some, refl, subst}
+use Rattle.std.specs.Prelude.{Result, Ok, Err, OnOk}
 use Rattle.sv_wire.specs.declared.message.Request.{Request}
 use Rattle.sv_journal.specs.declared.entry.Entry.{Entry}
 use Rattle.sv_living.specs.World.{WorldView, after}
@@ -26,3 +27,10 @@ stepped_once {steward} {authority} {last} {mine} {now} v mid w s request world l
       (subst (λ (o : Option ℕ). WasFollowed steward authority last o now (after v s request).history w.history) has
       (subst (λ (x : WorldView). WasFollowed steward authority last mine now x.history w.history) world followed));
 })
+
+-- Nothing was entered, and then maybe the End of the session.
+pub answered_ended : {A E : Type 0} (r : Result A E) (steward : Option ℕ) (authority : Bool) (mine own now : Option ℕ) (v mid w : WorldView) (request : Request) → own ≡ mine
+    → mid ≡ v → OnOk r (IsEnded own now mid.history w.history) → OnOk r (WasAnswered steward authority mine now v w request)
+answered_ended (Err e) steward authority mine own now v mid w request same still ended = tt
+answered_ended (Ok a) steward authority mine own now v mid w request same still ended =
+    inl (subst (λ (x : WorldView). IsEnded mine now x.history w.history) still (subst (λ (o : Option ℕ). IsEnded o now mid.history w.history) same ended))

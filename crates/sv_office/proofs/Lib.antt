@@ -16,3 +16,9 @@ pub mod Answering
 pub mod Leaving
 pub mod Hearing2
 pub mod Stewarding2
+pub mod Renewed
+pub mod Serially
+pub mod Alone
+pub mod Knowing
+pub mod Admitting
+pub mod Getting

@@ -13,7 +13,7 @@ use Rattle.sv_sequencer.specs.Rows.{has_entry}
 use Rattle.sv_living.specs.Sessions.{is_open, may_ask, AreInOrder}
 use Rattle.sv_living.specs.World.{WorldView, after, reply_in}
 use Rattle.sv_living.proofs.Turns.{open-parts}
-use Rattle.sv_office.specs.Entering.{AreAdded, GoesOn, AsksIn, IsGuests, WasEntered}
+use Rattle.sv_office.specs.Entering.{AreAdded, GrowsBy, GoesOn, AsksIn, IsGuests, WasEntered}
 use Rattle.sv_office.specs.Laws.{OthersStay, AllStay}
 use Rattle.sv_wire.specs.declared.message.Request.TheVariants as requests
 use Rattle.sv_office.specs.Guests.{Closes, closed}
@@ -21,6 +21,7 @@ use Rattle.sv_office.specs.Telling.{WereTold, WereToldIn, is_gone, IsTold, IsSer
 use Rattle.sv_office.specs.declared.guest.Guest.{Guest}
 use Rattle.sv_office.specs.declared.guest.Standing.{Standing}
 use Rattle.sv_office.specs.declared.guest.Standing.TheVariants as standing
+use Rattle.sv_office.proofs.Adding.{grew}
 use Rattle.sv_office.proofs.Orders.{apart, unended_who_asks, open_after}
 
 -- A session without entries was told nothing.
@@ -72,9 +73,9 @@ module _ (v w : WorldView) (rules : w.rules ≡ v.rules) (stewardship : w.stewar
       (subst (λ (x : Stewardship). WereTold v.rules x s w.history told) (sym stewardship) t)
 
 -- A connection stands as it stood, while entries of other sessions are added.
-pub served_stays : {may : Entry → Type 0} {v w : WorldView} (guest : Guest) → AreInOrder w.history → GoesOn may v w
+pub served_grown : {may : Entry → Type 0} {v w : WorldView} (guest : Guest) → AreInOrder w.history → GrowsBy may v w
     → ((e : Entry) (s : ℕ) → guest.session ≡ Some s → may e → e.session ≢ s) → IsServed v guest → IsServed w guest
-served_stays {may} {v} {w} guest order on others = go guest.session refl
+served_grown {may} {v} {w} guest order on others = go guest.session refl
   where
     stays : (s : ℕ) (told : List Reply) → ((e : Entry) → may e → e.session ≢ s) → WereToldIn v s told → WereToldIn w s told
     stays s told other t = moved v w on.rules on.stewardship s told (told_stays on.added other t)
@@ -96,6 +97,10 @@ served_stays {may} {v} {w} guest order on others = go guest.session refl
         record { rest = t.rest; replies = over s (guest.peer.told ++ t.rest) ended t.replies; whole = t.whole },
       ),
     )
+
+pub served_stays : {may : Entry → Type 0} {v w : WorldView} (guest : Guest) → AreInOrder w.history → GoesOn may v w
+    → ((e : Entry) (s : ℕ) → guest.session ≡ Some s → may e → e.session ≢ s) → IsServed v guest → IsServed w guest
+served_stays guest order on = served_grown guest order (grew on)
 
 -- A connection that was told nothing more stands as it stood.
 pub served_as : (v : WorldView) (old new : Guest) → new.session ≡ old.session → new.peer.told ≡ old.peer.told
@@ -217,7 +222,7 @@ has_begun : (v : WorldView) (guest : Guest) (s : ℕ) → guest.session ≡ Some
 has_begun v guest s is h = (open-parts v.history s (subst (λ (o : Option ℕ). IsServedIn v guest o) is h).0).0
 
 pub others_stay : OthersStay
-others_stay v w guest steward mine order on away other h = served_stays guest order on unlike h
+others_stay v w guest steward mine order on away other h = served_grown guest order on unlike h
   where
     unlike : (e : Entry) (s : ℕ) → guest.session ≡ Some s → IsGuests v.history steward mine e → e.session ≢ s
     unlike e s is (inl report) same = away s is (report.0 ∙ ap (λ (t : ℕ). Some t) same)
@@ -225,7 +230,7 @@ others_stay v w guest steward mine order on away other h = served_stays guest or
     unlike e s is (inr (inr none, number)) same = apart v.history s e.session (has_begun v guest s is h) none.1 (sym same)
 
 pub all_stay : AllStay
-all_stay v w guest steward order on away h = served_stays guest order on (λ e s is report same. away s is (report.0 ∙ ap (λ (t : ℕ). Some t) same)) h
+all_stay v w guest steward order on away h = served_grown guest order on (λ e s is report same. away s is (report.0 ∙ ap (λ (t : ℕ). Some t) same)) h
 
 -- A connection that is open and has a session was told what its session was.
 pub told_now : (v : WorldView) (guest : Guest) (s : ℕ) → guest.standing ≡ standing.Open → guest.session ≡ Some s → IsServed v guest

@@ -19,7 +19,7 @@ use Rattle.sv_office.specs.declared.guest.Guest.{Guest}
 use Rattle.sv_office.specs.declared.guest.Held.{Held}
 use Rattle.sv_office.specs.declared.guest.Standing.{Standing}
 use Rattle.sv_office.specs.declared.guest.Standing.TheVariants as standing
-use Rattle.sv_office.proofs.Adding.{goes_as, goes_then}
+use Rattle.sv_office.proofs.Adding.{goes_as, goes_then, grew}
 use Rattle.sv_office.proofs.Answering.{asking_kept, end_came_of, entered_came}
 use Rattle.sv_office.proofs.Asking.{apart_stays, held_may}
 use Rattle.sv_office.proofs.Followed.{stepped_once}
@@ -50,7 +50,7 @@ none_held (inr gone) none = gone
 -- A connection that is served is so still, while the steward reports.
 pub served_reported : (v w : WorldView) (old new : Guest) (steward : Option ℕ) → AreInOrder w.history → GoesOn (IsReport steward) v w → AreApart old.session steward
     → new.session ≡ old.session → IsServed v new → IsServed w new
-served_reported v w old new steward order on away same served = all_stay v w new steward order on (λ s has is. away s (sym same ∙ has) is) served
+served_reported v w old new steward order on away same served = all_stay v w new steward order (grew on) (λ s has is. away s (sym same ∙ has) is) served
 
 pub clash : {b : Bool} → b ≡ true → b ≡ false → ⊥
 clash t f = let e : true ≡ false = sym t ∙ f in cc

@@ -1,5 +1,5 @@
 -- What the steward's calls add, one behind the other.
-use Rattle.std.proofs.Common.{◌≡◌, ◌≢◌, inl, inr, ℕ, suc, Bool, true, false, nat_eq, List, [], ◌∷◌, map, Option, Some, None, refl, sym, ap, ◌∙◌, subst, eq-eqb}
+use Rattle.std.proofs.Common.{◌≡◌, ◌≢◌, inl, ℕ, suc, Bool, true, false, nat_eq, List, [], ◌∷◌, map, Option, Some, None, refl, sym, ap, ◌∙◌, subst, eq-eqb}
 use Rattle.std.specs.Prelude.{Result, Ok, Err, OnOk, IfSome, IfNone, if◌then◌else◌, slice_get}
 use Rattle.sv_wire.specs.declared.message.Request.{Request}
 use Rattle.sv_wire.specs.declared.message.Request.TheVariants as requests
@@ -13,10 +13,10 @@ use Rattle.sv_client.specs.Traces.{joins, pending_of, submit_of}
 use Rattle.sv_client.specs.declared.trace.Event.{Event}
 use Rattle.sv_client.specs.declared.trace.Event.TheVariants as events
 use Rattle.sv_office.specs.Admitting.{number_in, steward_number}
-use Rattle.sv_office.specs.Entering.{GoesOn, IsEntry, IsReport, IsStewards, KeepsOwn, IsReported, WasEntered}
-use Rattle.sv_office.specs.Stewarding.{IsDone, is_refused}
+use Rattle.sv_office.specs.Entering.{GoesOn, IsEntry, IsReport, IsStewards, KeepsOwn, IsReported, WasEntered, is_report}
+use Rattle.sv_office.specs.Stewarding.{Reports, is_refused}
 use Rattle.sv_office.proofs.Adding.{goes_as, goes_then, keeps_then, still_none}
-use Rattle.sv_office.proofs.Stewarding.{report_entered, reported_done, reported_poll, stewards_then}
+use Rattle.sv_office.proofs.Stewarding.{poll_entered, report_entered, reported_done, reported_poll, stewards_then}
 
 -- In the session that it had still.
 pub keeps_later : {may : Entry → Type 0} {v w : WorldView} {mine mid same later : Option ℕ} → GoesOn may v w → KeepsOwn v.history mine mid
@@ -45,12 +45,12 @@ pub stewards_and_reports : (v w x : WorldView) (mine mid : Option ℕ) → GoesO
 stewards_and_reports v w x mine mid first keeps next = goes_then first (goes_as (λ e is. (keeps e.session is.0, inl is.1)) next)
 
 -- What it was sent is reported.
-pub reported_ok : {A E : Type 0} (result : Result A E) (mine : Option ℕ) (t : ℕ) (v w x : WorldView) (request done : Request) (asks : Option Request) → mine ≡ Some t
-    → request ≡ requests.Poll → w ≡ after v t request → asks ≡ Some done → IfSome asks IsDone
+pub reported_ok : {A E : Type 0} (result : Result A E) (mine : Option ℕ) (t : ℕ) (v w x : WorldView) (request done : Request) (reply : Reply) (asks : Option Request)
+    → mine ≡ Some t → request ≡ requests.Poll → WasEntered v w t request reply → asks ≡ Some done → IfSome asks (Reports reply) → is_refused reply ≡ false
     → OnOk result (x ≡ after w t done) → OnOk result ((s : ℕ) × (mine ≡ Some s) × IsReported s v.history x.history)
-reported_ok (Ok a) mine t v w x request done asks has poll world is sent later =
-    (t, has, reported_done t v w x request done poll world (subst (λ (o : Option Request). IfSome o IsDone) is sent) later)
-reported_ok (Err e) mine t v w x request done asks has poll world is sent later = tt
+reported_ok (Ok a) mine t v w x request done reply asks has poll entered is sent taken later =
+    (t, has, reported_done t v w x request done reply poll entered taken (subst (λ (o : Option Request). IfSome o (Reports reply)) is sent) later)
+reported_ok (Err e) mine t v w x request done reply asks has poll entered is sent taken later = tt
 
 pub reported_idle : (mine : Option ℕ) (t : ℕ) (v w : WorldView) (request : Request) (reply : Reply) (asks : Option Request) → mine ≡ Some t → request ≡ requests.Poll
     → WasEntered v w t request reply → asks ≡ None → IfNone asks (asks_for_done reply ≡ false) → is_refused reply ≡ false
@@ -59,11 +59,11 @@ reported_idle mine t v w request reply asks has poll entered is nothing taken =
     (t, has, reported_poll t v w request reply poll entered (subst (λ (o : Option Request). IfNone o (asks_for_done reply ≡ false)) is nothing) taken)
 
 -- It polled, and reported.
-pub polled_and_reported : (v w x : WorldView) (mine : Option ℕ) (s : ℕ) (request done : Request) (asks : Option Request) → mine ≡ Some s → request ≡ requests.Poll
-    → asks ≡ Some done → IfSome asks IsDone → GoesOn (IsEntry s request) v w → GoesOn (IsEntry s done) w x → GoesOn (IsReport mine) v x
-polled_and_reported v w x mine s request done asks has poll is sent first next =
-    goes_then (report_entered v w mine s request has (inl poll) first)
-    (report_entered w x mine s done has (inr (subst (λ (o : Option Request). IfSome o IsDone) is sent)) next)
+pub polled_and_reported : (v w x : WorldView) (mine : Option ℕ) (s : ℕ) (request done : Request) (reply : Reply) (asks : Option Request) → mine ≡ Some s
+    → request ≡ requests.Poll → asks ≡ Some done → IfSome asks (Reports reply) → GoesOn (IsEntry s request) v w → GoesOn (IsEntry s done) w x → GoesOn (IsReport mine) v x
+polled_and_reported v w x mine s request done reply asks has poll is sent first next =
+    goes_then (poll_entered v w mine s request has poll first)
+    (report_entered w x mine s done has (ap is_report (subst (λ (o : Option Request). IfSome o (Reports reply)) is sent).done) next)
 
 -- ---- The first request of a Join
 

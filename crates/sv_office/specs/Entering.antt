@@ -6,13 +6,15 @@ use Rattle.sv_wire.specs.declared.message.Request.TheVariants as requests
 use Rattle.sv_wire.specs.declared.message.Reply.{Reply}
 use Rattle.sv_journal.specs.declared.entry.Entry.{Entry}
 use Rattle.sv_journal.specs.declared.entry.Logged.TheVariants as logged
-use Rattle.sv_journal.specs.History.{accepted, full_reply}
-use Rattle.sv_journal.specs.Sessions.{is_end}
+use Rattle.sv_journal.specs.History.{accepted, full_reply, is_relay}
+use Rattle.sv_journal.specs.Sessions.{is_end, positions_in}
 use Rattle.sv_sequencer.specs.Rows.{has_entry}
 use Rattle.sv_living.specs.Sessions.{may_ask}
 use Rattle.sv_living.specs.World.{WorldView, after, reply_in}
 use Rattle.sv_keys.specs.Keeping.{KeysView}
 use Rattle.sv_office.specs.Admitting.{is_admitted, number_in, is_stewards_number, steward_number}
+use Rattle.sv_office.specs.Stewarding.{reported_at}
+use Rattle.sv_office.specs.Trusting.{StaysSerial}
 use Rattle.sv_office.specs.declared.guest.Guest.{Guest}
 use Rattle.sv_office.specs.declared.guest.Held.{Held}
 
@@ -21,11 +23,18 @@ pub data AreAdded (may : Entry → Type 0) (h : List Entry) : List Entry → Typ
   none : AreAdded may h h
   one : {g : List Entry} {e : Entry} → AreAdded may h g → may e → AreAdded may h (e ∷ g)
 
--- A world goes on by such entries, under the same rules.
+-- A world grows by such entries, under the same rules.
+pub record GrowsBy (may : Entry → Type 0) (v w : WorldView) : Type 0 where
+  pub rules : w.rules ≡ v.rules
+  pub stewardship : w.stewardship ≡ v.stewardship
+  pub added : AreAdded may v.history w.history
+
+-- A world goes on by such entries, under the same rules. Where the steward's reports alone count, one that was serial is so still.
 pub record GoesOn (may : Entry → Type 0) (v w : WorldView) : Type 0 where
   pub rules : w.rules ≡ v.rules
   pub stewardship : w.stewardship ≡ v.stewardship
   pub added : AreAdded may v.history w.history
+  pub serial : StaysSerial v w
 
 -- The entry of a request of a session.
 abbrev pub IsEntry : ℕ → Request → Entry → Type 0
@@ -108,11 +117,11 @@ pub record AsksInOne (steward mine after : Option ℕ) (h g : List Entry) : Type
   pub added : AreAdded (λ (e : Entry). IsReport steward e ⊎ IsOf (Some session) e) h g
   pub kept : (after ≡ Some session) ⊎ (after ≡ None)
 
--- The steward polled, and was answered that there is nothing to report, or reported what it was sent.
+-- The steward polled, and was answered that there is nothing to report; or it reported a result for each position that it was sent.
 pub data IsReported (t : ℕ) (h : List Entry) : List Entry → Type 0 where
   polled : {p : Entry} → p.session ≡ t → p.request ≡ requests.Poll → p.reply ≡ logged.Idle → IsReported t h (p ∷ h)
-  reported : {p d : Entry} (results : List Done1) → p.session ≡ t → p.request ≡ requests.Poll → d.session ≡ t → d.request ≡ requests.Done results
-      → IsReported t h (d ∷ p ∷ h)
+  reported : {p d : Entry} (results : List Done1) → p.session ≡ t → p.request ≡ requests.Poll → is_relay p.reply ≡ true → d.session ≡ t
+      → d.request ≡ requests.Done results → reported_at results ≡ positions_in p.reply → IsReported t h (d ∷ p ∷ h)
 
 -- The steward reported, where it is in a session.
 abbrev pub WasReported : Option ℕ → List Entry → List Entry → Type 0

@@ -1,18 +1,25 @@
--- What calls for one connection leave of the others.
-use Rattle.std.specs.Prelude.{ℕ, Option}
+-- What calls for one connection leave of the others, and what is so at first.
+use Rattle.std.specs.Prelude.{ℕ, [], Option}
+use Rattle.sv_journal.specs.Answer.{Rules}
+use Rattle.sv_journal.specs.Living.{Stewardship}
 use Rattle.sv_living.specs.Sessions.{AreInOrder}
 use Rattle.sv_living.specs.World.{WorldView}
-use Rattle.sv_office.specs.Entering.{GoesOn, IsReport, IsGuests}
+use Rattle.sv_office.specs.Entering.{GrowsBy, IsReport, IsGuests}
 use Rattle.sv_office.specs.Offices.{AreApart}
 use Rattle.sv_office.specs.Telling.{IsServed}
+use Rattle.sv_office.specs.Trusting.{IsSerial}
 use Rattle.sv_office.specs.declared.guest.Guest.{Guest}
 
 -- A connection stands as it stood, while entries of another one and of the steward are added.
 abbrev pub OthersStay : Type 0
-OthersStay = (v w : WorldView) (guest : Guest) (steward mine : Option ℕ) → AreInOrder w.history → GoesOn (IsGuests v.history steward mine) v w
+OthersStay = (v w : WorldView) (guest : Guest) (steward mine : Option ℕ) → AreInOrder w.history → GrowsBy (IsGuests v.history steward mine) v w
     → AreApart guest.session steward → AreApart guest.session mine → IsServed v guest → IsServed w guest
 
 -- A connection stands as it stood, while reports of the steward are added.
 abbrev pub AllStay : Type 0
-AllStay = (v w : WorldView) (guest : Guest) (steward : Option ℕ) → AreInOrder w.history → GoesOn (IsReport steward) v w → AreApart guest.session steward
+AllStay = (v w : WorldView) (guest : Guest) (steward : Option ℕ) → AreInOrder w.history → GrowsBy (IsReport steward) v w → AreApart guest.session steward
     → IsServed v guest → IsServed w guest
+
+-- A world in which nobody has asked anything is serial.
+abbrev pub NewWorldsAreSerial : Type 0
+NewWorldsAreSerial = (r : Rules) (w : Stewardship) → IsSerial (record { rules = r; stewardship = w; history = [] })

@@ -1,10 +1,11 @@
 //! A connection's turn: requests are taken of it, at most so many, and read on.
-ghost use Rattle.std.specs.Prelude.{◌≡◌, ◌≢◌, ◌≤◌, ℕ, false, Some, IfOk, OnOk, IsTrue, length};
+ghost use Rattle.std.specs.Prelude.{◌≡◌, ◌≢◌, ◌≤◌, ℕ, List, false, Some, IfOk, OnOk, IsTrue, length};
 ghost use Rattle.sv_journal.specs.Sessions.{is_end};
 ghost use Rattle.sv_living.specs.World.{WorldView};
 ghost use Rattle.sv_office.specs.Entering.{GoesOn, KeepsOwn, AsksInOne, MayEnter, MayHold};
 ghost use Rattle.sv_office.specs.Guests.{HasYetToAsk, IsHeardOf, OnlyHeard};
 ghost use Rattle.sv_office.specs.Offices.{AreApart, session_of};
+ghost use Rattle.sv_office.specs.Renewing.{KeepsKeys};
 ghost use Rattle.sv_office.specs.Telling.{IsServed};
 ghost use Rattle.sv_office.specs.Turns.{AreLent, ShowsFirst, TakesTurn};
 ghost use Rattle.sv_office.specs.declared.guest.Standing.TheVariants as standing;
@@ -102,13 +103,6 @@ fn drain<P: Ports>(ports: &mut P, number: u64, guest: &mut Guest, piece: &mut [u
     }
 }
 
-fn folder_of(site: &Option<String>) -> Option<&str> {
-    match site {
-        Some(folder) => Some(folder.as_str()),
-        None => None,
-    }
-}
-
 /// What a request asks. An End is none that a connection may make.
 fn asked(request: Request) -> Request
     ensures { is_end result ≡ false }
@@ -143,6 +137,7 @@ impl<F: Folder> Office<F> {
         ensures told { OnlyHeard number (P.told outside.old.ports.now) (P.told outside.new.ports.now) }
         ensures lent { AreLent outside.old outside.new }
         ensures sent { guest.new.peer.sent ≡ guest.old.peer.sent }
+        ensures kept { KeepsKeys (L.contents outside.old.files.now) (L.contents outside.new.files.now) self.old.keys self.new.keys }
     {
         if half == Half::Reads {
             return self.read_ahead(outside, number, guest, room);
@@ -174,6 +169,7 @@ impl<F: Folder> Office<F> {
         ensures told { OnlyHeard number (P.told outside.old.ports.now) (P.told outside.new.ports.now) }
         ensures lent { AreLent outside.old outside.new }
         ensures sent { guest.new.peer.sent ≡ guest.old.peer.sent }
+        ensures kept { KeepsKeys (L.contents outside.old.files.now) (L.contents outside.new.files.now) self.old.keys self.new.keys }
     {
         if guest.has_more || guest.peer.is_paused() || !guest.is_open() {
             return Ok(());
@@ -187,6 +183,7 @@ impl<F: Folder> Office<F> {
         ensures open { IsTrue result → guest.new.standing ≡ standing.Open }
         ensures served { (v : WorldView) → IsServed v guest.old → IsServed v guest.new }
         ensures guest { IsHeardOf guest.old guest.new }
+        ensures files { (name : List ℕ) → L.contents files.new name ≡ L.contents files.old name }
     {
         guest.has_more = false;
         if !guest.peer.is_paused() {
@@ -214,6 +211,7 @@ impl<F: Folder> Office<F> {
         ensures told { OnlyHeard number (P.told outside.old.ports.now) (P.told outside.new.ports.now) }
         ensures lent { AreLent outside.old outside.new }
         ensures sent { guest.new.peer.sent ≡ guest.old.peer.sent }
+        ensures kept { KeepsKeys (L.contents outside.old.files.now) (L.contents outside.new.files.now) self.old.keys self.new.keys }
     {
         let mut left = MOST_REQUESTS;
         for _ in 0..MOST_READS {
@@ -245,6 +243,7 @@ impl<F: Folder> Office<F> {
         ensures told { OnlyHeard number (P.told outside.old.ports.now) (P.told outside.new.ports.now) }
         ensures lent { AreLent outside.old outside.new }
         ensures sent { guest.new.peer.sent ≡ guest.old.peer.sent }
+        ensures kept { KeepsKeys (L.contents outside.old.files.now) (L.contents outside.new.files.now) self.old.keys self.new.keys }
     {
         match self.take_requests(outside.files, outside.err, guest, left)? {
             Course::On => self.read_guest(outside.ports, outside.files, number, guest, room),
@@ -270,6 +269,7 @@ impl<F: Folder> Office<F> {
         ensures idle { OnOk result (HasYetToAsk guest.old guest.new self.old.keeper.world self.new.keeper.world) }
         ensures told { OnlyHeard number (P.told ports.old) (P.told ports.new) }
         ensures sent { guest.new.peer.sent ≡ guest.old.peer.sent }
+        ensures kept { KeepsKeys (L.contents files.old) (L.contents files.new) self.old.keys self.new.keys }
     {
         let count = self.read_and_take(ports, files, number, guest, room);
         self.counts.came(count);
@@ -296,6 +296,7 @@ impl<F: Folder> Office<F> {
         ensures served { (v : WorldView) → IsServed v guest.old → IsServed v guest.new }
         ensures guest { IsHeardOf guest.old guest.new }
         ensures told { OnlyHeard number (P.told ports.old) (P.told ports.new) }
+        ensures files { (name : List ℕ) → L.contents files.new name ≡ L.contents files.old name }
     {
         let count = read_piece(ports, number, guest, room);
         if count == 0 {
@@ -309,12 +310,12 @@ impl<F: Folder> Office<F> {
     fn take_piece<L: Files>(&self, files: &mut L, guest: &mut Guest, piece: &[u8])
         ensures served { (v : WorldView) → IsServed v guest.old → IsServed v guest.new }
         ensures guest { IsHeardOf guest.old guest.new }
+        ensures files { (name : List ℕ) → L.contents files.new name ≡ L.contents files.old name }
     {
-        let folder = folder_of(&self.site);
         let mut site = Site {
             alloc: self.alloc,
             files,
-            folder,
+            folder: &self.site,
             origins: self.origins.as_slice(),
             figures: self.figures(),
             key: None,
@@ -344,6 +345,7 @@ impl<F: Folder> Office<F> {
         ensures turn { TakesTurn self.old self.new guest.old guest.new }
         ensures idle { OnOk result (HasYetToAsk guest.old guest.new self.old.keeper.world self.new.keeper.world) }
         ensures sent { guest.new.peer.sent ≡ guest.old.peer.sent }
+        ensures kept { KeepsKeys (L.contents files.old) (L.contents files.new) self.old.keys self.new.keys }
     {
         for _ in 0..=MOST_REQUESTS {
             if *left == 0 {
@@ -377,6 +379,7 @@ impl<F: Folder> Office<F> {
         ensures turn { TakesTurn self.old self.new guest.old guest.new }
         ensures idle { OnOk result (HasYetToAsk guest.old guest.new self.old.keeper.world self.new.keeper.world) }
         ensures sent { guest.new.peer.sent ≡ guest.old.peer.sent }
+        ensures kept { KeepsKeys (L.contents files.old) (L.contents files.new) self.old.keys self.new.keys }
     {
         let taken = self.take_one(files, err, guest)?;
         if !guest.is_open() {
@@ -407,6 +410,7 @@ impl<F: Folder> Office<F> {
         ensures turn { TakesTurn self.old self.new guest.old guest.new }
         ensures idle { OnOk result (HasYetToAsk guest.old guest.new self.old.keeper.world self.new.keeper.world) }
         ensures sent { guest.new.peer.sent ≡ guest.old.peer.sent }
+        ensures kept { KeepsKeys (L.contents files.old) (L.contents files.new) self.old.keys self.new.keys }
     {
         match guest.peer.next() {
             Heard::NotYet => Ok(Taken::Nothing),
@@ -445,6 +449,7 @@ impl<F: Folder> Office<F> {
         ensures turn { TakesTurn self.old self.new guest.old guest.new }
         ensures idle { OnOk result (HasYetToAsk guest.old guest.new self.old.keeper.world self.new.keeper.world) }
         ensures sent { guest.new.peer.sent ≡ guest.old.peer.sent }
+        ensures kept { KeepsKeys (L.contents files.old) (L.contents files.new) self.old.keys self.new.keys }
     {
         if guest.has_spoken {
             return self.take_request(guest, Request::Bad);

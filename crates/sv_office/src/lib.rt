@@ -16,10 +16,11 @@ mod steward;
 mod waiting;
 
 pub use ages::Ages;
+pub use entering::end_session;
 pub use guest::{Guest, Held, Standing};
 pub use halt::Halt;
 pub use hearing::{FULL, Half};
-pub use laws::{all_stay_served, others_stay_served};
+pub use laws::{all_stay_served, new_worlds_are_serial, others_stay_served};
 pub use office::{Manners, Office};
 pub use outside::Outside;
 pub use stepping::STEWARD_NUMBER;

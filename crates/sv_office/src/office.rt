@@ -1,4 +1,7 @@
 //! What answers: the kept world, who may join, and what is told of it.
+ghost use Rattle.std.specs.Coded.{Coded-set, codes};
+ghost use Rattle.sv_world.specs.contracts.action.Stmt as statements;
+ghost use Rattle.sv_office.specs.Knowing.{IsTrusted};
 ghost use Rattle.sv_office.specs.Offices.{IsSound};
 
 use crate::ages::Ages;
@@ -21,8 +24,8 @@ pub struct Manners {
     pub stops: bool,
 }
 
-/// What the connections are answered by. It knows of each only while it answers it. Its world is within the limits, and its steward's session has
-/// entries.
+/// What the connections are answered by. It knows of each only while it answers it. Its world is within the limits, its steward's session has
+/// entries, and nobody else reports as the steward.
 #[derive(Drop)]
 pub struct Office<F: Folder> {
     pub alloc: Global,
@@ -41,6 +44,7 @@ pub struct Office<F: Folder> {
     /// Pages of these origins may upgrade too.
     pub origins: Vec<String>,
     ghost sound: { IsSound keeper.world steward },
+    ghost trusted: { IsTrusted keeper steward } by { Prim.hlevel (Coded-set, codes, statements.the_row.coded) },
 }
 
 impl<F: Folder> Office<F> {

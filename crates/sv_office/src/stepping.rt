@@ -178,8 +178,9 @@ impl<F: Folder> Office<F> {
     }
 
     /// Answers a request: without an entry, where it is an Observe that would show nothing, and else by a step.
-    pub fn answer(&mut self, guest: &mut Guest, request: &Request) -> Result<(), Halt>
+    pub(crate) fn answer(&mut self, guest: &mut Guest, request: &Request) -> Result<(), Halt>
         requires asks { is_end request.now ≡ false }
+        requires another { is_stewards_number (number_in request.now) ≡ false }
         requires open { guest.old.standing ≡ standing.Open }
         requires served { IsServed self.old.keeper.world guest.old }
         requires apart { AreApart guest.old.session (session_of self.old.steward) }
@@ -220,6 +221,7 @@ impl<F: Folder> Office<F> {
     // Steps a request, and does what its reply asks for.
     fn step(&mut self, guest: &mut Guest, request: &Request) -> Result<(), Halt>
         requires asks { is_end request.now ≡ false }
+        requires another { is_stewards_number (number_in request.now) ≡ false }
         requires open { guest.old.standing ≡ standing.Open }
         requires served { IsServed self.old.keeper.world guest.old }
         requires apart { AreApart guest.old.session (session_of self.old.steward) }

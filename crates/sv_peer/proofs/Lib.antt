@@ -2,3 +2,4 @@
 pub mod Controls
 pub mod Steps
 pub mod Hellos
+pub mod Desks

@@ -204,7 +204,8 @@ impl Peer {
     #[inline(never)]
     fn upgrade<D: Desk>(&mut self, desk: &mut D) -> Result<(), AllocError>
         requires { self.old.manner ≡ Manner.Http }
-        ensures { Upgrades self.old self.new }
+        ensures upgrades { Upgrades self.old self.new }
+        ensures desk { D.keeps desk.old desk.new }
     {
         upgraded(self.alloc, &mut self.voice)?;
         self.shown = desk.take_key();
@@ -214,7 +215,8 @@ impl Peer {
     #[inline(never)]
     fn hear_web<D: Desk>(&mut self, piece: &[u8], desk: &mut D) -> Result<(), AllocError>
         requires { self.old.manner ≡ Manner.Http }
-        ensures { Answers self.old self.new }
+        ensures answers { Answers self.old self.new }
+        ensures desk { D.keeps desk.old desk.new }
     {
         let Voice::Web(web) = &mut self.voice else {
             return Ok(());
@@ -232,6 +234,7 @@ impl Peer {
     fn take_in<D: Desk>(&mut self, piece: &[u8], desk: &mut D) -> Result<(), AllocError>
         ensures ok { OnOk result (TakesIn self.old.manner self.old piece.now self.new) }
         ensures kept { Keeps self.old self.new }
+        ensures desk { D.keeps desk.old desk.new }
     {
         match &mut self.voice {
             Voice::Unknown | Voice::Closed => Ok(()),
@@ -254,6 +257,8 @@ impl Peer {
     ) -> Result<(), AllocError>
         ensures ok { OnOk result (Hears self.old piece.now self.new) }
         ensures kept { Keeps self.old self.new }
+        // What a desk keeps stays.
+        ensures desk { D.keeps desk.old desk.new }
     {
         if let Manner::Unknown = self.manner() {
             let Some(first) = piece.first() else {

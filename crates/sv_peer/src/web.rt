@@ -87,7 +87,8 @@ impl Web {
 
     // One step. False where nothing came of it.
     fn step<D: Desk>(&mut self, desk: &mut D, output: &mut Vec<u8>) -> Result<bool, AllocError>
-        ensures { HandsOut self.old self.new output.old.items output.new.items }
+        ensures handed { HandsOut self.old self.new output.old.items output.new.items }
+        ensures desk { D.keeps desk.old desk.new }
     {
         self.take_in()?;
         self.connection.advance(desk);
@@ -97,7 +98,8 @@ impl Web {
 
     // Answers what came, as long as not too much waits to be sent.
     fn go_on<D: Desk>(&mut self, desk: &mut D, output: &mut Vec<u8>) -> Result<(), AllocError>
-        ensures { HandsOut self.old self.new output.old.items output.new.items }
+        ensures handed { HandsOut self.old self.new output.old.items output.new.items }
+        ensures desk { D.keeps desk.old desk.new }
     {
         self.is_paused = true;
         'steps: for _ in 0..MOST_STEPS {
@@ -119,7 +121,8 @@ impl Web {
         piece: &[u8],
         output: &mut Vec<u8>,
     ) -> Result<Course, AllocError>
-        ensures { HandsOut self.old self.new output.old.items output.new.items }
+        ensures handed { HandsOut self.old self.new output.old.items output.new.items }
+        ensures desk { D.keeps desk.old desk.new }
     {
         self.rest.extend_from_slice(piece)?;
         self.go_on(desk, output)?;

@@ -1,5 +1,5 @@
 //! What is done on a request: the rows of the rules in order.
-ghost use Rattle.std.specs.Prelude.{◌≡◌, List, ◌<◌, ◌≤◌, false, Some, None, map, length};
+ghost use Rattle.std.specs.Prelude.{◌≡◌, List, ◌<◌, ◌≤◌, false, Some, None, IsTrue, map, length};
 ghost use Rattle.sv_world.specs.declared.world.ObjectId.{ObjectId};
 ghost use Rattle.sv_world.specs.Faults.{first_fault_of_action, IsGoodAction};
 ghost use Rattle.sv_world.specs.Sets.{numbers_of};
@@ -288,6 +288,16 @@ impl Core {
             Some(pos) => Decision::Relay { seq: 0, pos },
             None => Decision::Idle,
         }
+    }
+
+    /// Whether a Poll of a session is not refused. Then it is sent the first of the abandoned positions, where there is one.
+    pub fn may_poll(&self, seat: Seat) -> bool
+        ghost h: { List Entry }
+        requires keeps { Keeps self.now h }
+        requires seat { SitsAt self.now seat }
+        ensures { IsTrue result → reply_to_request (core_rules self.now) h seat.session requests.Poll ≡ reply_to_poll (core_rules self.now) h seat.session (orphans h) }
+    {
+        !self.is_over(seat) && self.has_more(seat) && self.client_of(seat).is_some()
     }
 
     #[inline(never)]

@@ -7,4 +7,5 @@ pub mod Origins
 pub mod Keys
 pub mod Figures
 pub mod Routes
+pub mod Lending
 pub mod Answers

@@ -1,5 +1,5 @@
 //! What HTTP requests get: files of a folder, the standing of the server, and the way to a WebSocket.
-ghost use Rattle.std.specs.Prelude.{◌≡◌, [], ◌++◌, ◌⊎◌, IfOk, OnOk, OnErr, option_map, option_copied, string_bytes};
+ghost use Rattle.std.specs.Prelude.{◌≡◌, ℕ, List, [], ◌++◌, ◌⊎◌, IfOk, OnOk, OnErr, option_map, string_bytes};
 ghost use Rattle.sv_site.specs.Figures.{status_text};
 ghost use Rattle.sv_site.specs.Answers.{named_in, FileStatus};
 
@@ -23,7 +23,8 @@ const MOST_BYTES: usize = 1 << 26;
 pub struct Site<'a, L: Files> {
     pub alloc: Global,
     pub files: &'a mut L,
-    pub folder: Option<&'a str>,
+    /// Borrowed whole: so it is known of the files, once they come back, what was done to them.
+    pub folder: &'a Option<String>,
     /// Pages of these origins may upgrade too.
     pub origins: &'a [String],
     pub figures: Figures,
@@ -70,11 +71,15 @@ fn put_standing(alloc: Global, figures: &Figures, response: &mut Response) -> Re
 }
 
 // The file that a path names, where there is a folder.
-fn named_in(alloc: Global, folder: Option<&str>, path: &str) -> Result<Option<String>, AllocError>
-    ensures { IfOk result (λ name. option_map string_bytes name ≡ named_in (option_copied folder.entry) path.now) }
+fn named_in(
+    alloc: Global,
+    folder: &Option<String>,
+    path: &str,
+) -> Result<Option<String>, AllocError>
+    ensures { IfOk result (λ name. option_map string_bytes name ≡ named_in (option_map string_bytes folder.now) path.now) }
 {
     match folder {
-        Some(folder) => path_in(alloc, folder, path),
+        Some(folder) => path_in(alloc, folder.as_str(), path),
         None => Ok(None),
     }
 }
@@ -87,7 +92,8 @@ fn put_file<L: Files>(
     response: &mut Response,
 ) -> Result<(), AllocError>
     requires { response.old.status ≡ 200 }
-    ensures { OnOk result ((response.new.status ≡ 200) ⊎ (response.new.status ≡ 404)) }
+    ensures status { OnOk result ((response.new.status ≡ 200) ⊎ (response.new.status ≡ 404)) }
+    ensures same { (n : List ℕ) → L.contents files.new n ≡ L.contents files.old n }
 {
     match read_all(alloc, files, name, MOST_BYTES + 1) {
         Ok(bytes) if bytes.len() <= MOST_BYTES => {
@@ -106,12 +112,13 @@ fn put_file<L: Files>(
 fn put_path<L: Files>(
     alloc: Global,
     files: &mut L,
-    folder: Option<&str>,
+    folder: &Option<String>,
     path: &str,
     response: &mut Response,
 ) -> Result<(), AllocError>
     requires { response.old.status ≡ 200 }
-    ensures { OnOk result (FileStatus (named_in (option_copied folder.entry) path.now) response.new.status) }
+    ensures status { OnOk result (FileStatus (named_in (option_map string_bytes folder.now) path.now) response.new.status) }
+    ensures same { (n : List ℕ) → L.contents files.new n ≡ L.contents files.old n }
 {
     match named_in(alloc, folder, path)? {
         Some(name) => put_file(alloc, files, name.as_str(), response),
@@ -147,13 +154,14 @@ fn mend(filled: Result<(), AllocError>, response: &mut Response)
 }
 
 impl<L: Files> Service for Site<'_, L> {
-    ghost use Rattle.std.specs.Prelude.{map, string_bytes, option_copied};
+    ghost use Rattle.std.specs.Prelude.{map, option_map, string_bytes};
     ghost use Rattle.http.specs.Request.{head_of};
     ghost use Rattle.sv_site.specs.Answers.{AnswersHead};
+    ghost use Rattle.sv_site.specs.Lending.{KeepsFiles};
 
     ghost answers = { λ site request response after. AnswersHead
-        (record { named = map string_bytes site.origins.now; folder = option_copied site.folder; figures = site.figures; shown = site.key })
-        (head_of request) response after.key };
+        (record { named = map string_bytes site.origins.now; folder = option_map string_bytes site.folder.now; figures = site.figures; shown = site.key })
+        (head_of request) response after.key × KeepsFiles L.contents site.files after.files };
 
     fn call(
         &mut self,
@@ -182,7 +190,17 @@ impl<L: Files> Service for Site<'_, L> {
 }
 
 impl<L: Files> Desk for Site<'_, L> {
+    ghost use Rattle.sv_site.specs.Lending.{KeepsFiles, keeps_itself, keeps_on};
+
     ghost shown = { λ site. site.key };
+
+    ghost keeps = { λ old new. KeepsFiles L.contents old.files new.files };
+
+    ghost keeps_itself = { λ site. keeps_itself L.contents site.files };
+
+    ghost keeps_on = { λ first next last here there. keeps_on L.contents first.files next.files last.files here there };
+
+    ghost answers_keep = { λ old new request response answered. answered.1 };
 
     fn take_key(&mut self) -> Option<[u8; 32]> {
         self.key.take()

@@ -51,6 +51,7 @@ pub mod Serials
 pub mod Taken
 pub mod Tellings
 pub mod Tests
+pub mod GotTold
 pub mod Trusted
 pub mod Window
 pub mod Within

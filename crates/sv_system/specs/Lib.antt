@@ -9,6 +9,7 @@ pub mod Cuts
 pub mod Served
 pub mod Within
 pub mod Delivery
+pub mod Told
 pub mod Outcomes
 pub mod Laws
 pub mod Records

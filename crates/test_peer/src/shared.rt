@@ -13,10 +13,11 @@ pub fn hear(
     files: &mut MemFiles,
     piece: &[u8],
 ) -> Result<(), AllocError> {
+    let folder = Some(String::from_str(alloc, "pages")?);
     let mut site = Site {
         alloc,
         files,
-        folder: Some("pages"),
+        folder: &folder,
         origins: &[],
         figures: Figures::default(),
         key: None,

@@ -1,9 +1,9 @@
 #!/usr/bin/env python3
 """Lets clients come and go at a `host` for a long time, and looks at its memory and its open files.
 
-    python3 tests/outside/campaigns/soak_host.py PROGRAM [SECONDS [CLIENTS]]
+    python3 tests/outside/campaigns/soak_host.py PROGRAM [SECONDS [CLIENTS [PAUSE]]]
 
-An hour with 300 clients, if not said otherwise. A client joins, acts and watches for some seconds, and leaves, or is gone, or falls
+An hour with 300 clients, if not said otherwise, who wait up to PAUSE (0.4) seconds after each action. A client joins, acts and watches for some seconds, and leaves, or is gone, or falls
 silent for a while; then it comes back under another number, of twice as many as there are clients. Sixty times the resident memory, the
 open files and the status are printed. The memory of the last five sixths may not be above that of the first one by more than 5 percent,
 and at the end the files are those of the beginning. The status is 1 where that is not so.
@@ -28,7 +28,7 @@ from tests.test_host import Host, Test
 OBJECTS, SAMPLES = 1024, 60
 
 
-def stay(chance, port, number, is_over):
+def stay(chance, port, number, pause, is_over):
     """One stay of a client."""
     own = sorted(chance.sample(range(OBJECTS), 4))
     client = Client(number, OBJECTS, 1, tuple(own), retry=(0.1, 1, 50), connect=lambda: socket.create_connection(("127.0.0.1", port), timeout=20))
@@ -39,7 +39,7 @@ def stay(chance, port, number, is_over):
             break
         if len(client.pending) < 8:
             client.make(move(*chance.sample(own, 2), 1))
-        client.run(chance.random() * 0.4)
+        client.run(chance.random() * pause)
     ending = chance.randrange(4)
     if ending == 0:
         client.leave()
@@ -50,12 +50,12 @@ def stay(chance, port, number, is_over):
     client.close()
 
 
-def work(seed, port, clients, is_over, faults):
+def work(seed, port, pause, is_over, faults):
     """Stays, one after the other. A number that another stay has at that moment is pushed out, and that is no fault."""
     chance = random.Random(seed)
     while not is_over.is_set():
         try:
-            stay(chance, port, 2 * seed + chance.randrange(2), is_over)
+            stay(chance, port, 2 * seed + chance.randrange(2), pause, is_over)
         except (Fault, OSError) as fault:
             faults.append(f"{type(fault).__name__}: {fault}")
             if len(faults) > 1000:
@@ -64,17 +64,18 @@ def work(seed, port, clients, is_over, faults):
 
 def main(words):
     """The status of these words."""
-    if not 1 <= len(words) <= 3:
-        print("words: PROGRAM [SECONDS [CLIENTS]]", file=sys.stderr)
+    if not 1 <= len(words) <= 4:
+        print("words: PROGRAM [SECONDS [CLIENTS [PAUSE]]]", file=sys.stderr)
         return 2
-    seconds, clients = ([*map(int, words[1:])] + [3600, 300][len(words) - 1:])[:2]
+    seconds, clients = ([*map(int, words[1:3])] + [3600, 300][len(words[1:3]):])[:2]
+    pause = float(words[3]) if len(words) > 3 else 0.4
     with tempfile.TemporaryDirectory() as room:
         test, faults, is_over = Test(os.path.abspath(words[0]), room), [], threading.Event()
         world = test.file("world.json", json.dumps({"attrs": 1, "objects": [[EACH]] * OBJECTS, "bound": 32}).encode())
         host = Host(test, world, os.path.join(room, "world"), "--idle", 3, port=free_port())
         files = f"/proc/{host.process.pid}/fd"
         opened, memory = len(os.listdir(files)), []
-        threads = [threading.Thread(target=work, args=(number, host.port, clients, is_over, faults), daemon=True) for number in range(clients)]
+        threads = [threading.Thread(target=work, args=(number, host.port, pause, is_over, faults), daemon=True) for number in range(clients)]
         for each in threads:
             each.start()
         print("seconds  resident  files  open  sessions  entries  uncommitted  log")

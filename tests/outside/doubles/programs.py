@@ -46,10 +46,16 @@ def stop_all():
             process.wait()
 
 
+GIVEN = set()
+
+
 def free_port():
-    """A port that nobody has. It is none of those that the system gives to connections."""
+    """A port that nobody has, and none that was given before. It is none of those that the system gives to connections."""
     while True:
         port = random.randrange(12_000, 32_000)
+        if port in GIVEN:
+            continue
+        GIVEN.add(port)
         with socket.socket() as trial:
             try:
                 trial.bind(("127.0.0.1", port))

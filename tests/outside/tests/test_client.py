@@ -958,6 +958,15 @@ def test_refusals(count):
         count.same((str(fault), fault.code, fault.detail, fault.name, fault.refused), ("wrongkind", *(None,) * 4), "no refusal")
     denied = Payload(reply("denied 1 object 3")).reply()
     count.same((denied.kind, denied.object, denied.target), ("denied", 3, 3), "the field of denied, and its older name")
+    for shape in ((-1, 1, 1), (65535, 1, 1), (70000, 1, 1), (0, 0, 1), (0, 65536, 1), (0, 1, 0), (0, 1, 5), ("0", 1, 1), (0, None, 1), (0, 1, 1.0)):
+        try:
+            Client(*shape)
+        except ValueError as fault:
+            count.expect(re.fullmatch(r"(number|objects|attributes): a whole number from \d+ to \d+ belongs there, and not .*", str(fault)), f"shape {shape}: {fault}")
+        else:
+            count.expect(False, f"shape {shape} is none")
+    for shape in ((0, 1, 1), (65534, 65535, 4)):
+        count.same(Client(*shape).status, "new", f"shape {shape}")
     for key in ("0123456789abcdef", list(range(16)), 16):
         try:
             Client(0, 1, 1, key=key)

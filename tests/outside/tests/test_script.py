@@ -43,7 +43,7 @@ echo "words: play FILE [--brief | --watch] | replay FILE | load N" >&2
 exit 2
 """
 RT = "#!/bin/bash\necho rt 0\n"
-FILES = ("dimboetu", "crates.txt", "HANDLES", "docs/ERRORS.md", "crates/sv_main/src/help.rt", "tools/site", "examples/site/index.html",
+FILES = ("dimboetu", "crates.txt", "HANDLES", "docs/ERRORS.md", "docs/JAVASCRIPT.md", "crates/sv_main/src/help.rt", "tools/site", "examples/site/index.html",
          "examples/site/style.css", "examples/site/room.js", "examples/site/icon.svg", "clients/js/dimboetu.js")
 SECONDS = 20
 
@@ -164,6 +164,8 @@ def test_host(script):
             (os.killpg if to_group else os.kill)(run.pid, number)
             script.same((*run.communicate(timeout=SECONDS), run.returncode), (b"", b"stop host w d --stdin\n", 0), f"host: signal {number}")
     script.same(script.run("host", "w", "d", "--stdin", input=b"", stdin=None), (0, b"", b"listening w\nstop host w d --stdin\n"), "host: its input ends")
+    said = b"listening w\ndimboetu: there is no folder 'no': --site has no file to answer with; see docs/HOSTING.md#options\nstop host w d --stdin --site no --at 127.0.0.1:1\n"
+    script.same(script.run("host", "w", "d", "--stdin", "--site", "no", "--at", "127.0.0.1:1", input=b"", stdin=None), (0, b"", said), "host: no such folder")
     code, _, err = script.run("host", "busy", "d")
     script.expect((code, err[:8]) == (14, b"busy: d\n") and err.endswith(b"see docs/ERRORS.md#busy\n"), f"host: {err}")
     for words in ((), ("w",)):
@@ -215,24 +217,43 @@ def test_lines(script):
     for line, heading in (("link", "link of serve"), ("wrongkind", "reply: wrongkind"), ("json", "scenario: json"), ("text 3 4", "scenario: text"),
                           ("refused 9 0", "Refusals of the server"), ("dropped 1 chain 1 far 0", "An action was dropped"), ("9", "status 9 "), ("stopped: spent", "no request left"),
                           ("stopped: wrongkind", "reply: wrongkind"), ("stopped: wrongkind: refused 11 7, old life", "| 11 | old life |"), ("stopped: missing 3 4", "reply: missing"),
-                          ("stopped: [Errno 111] Connection refused", "nobody listened"), ("stopped: action 4", "| 4 | The world has no object"), ("stopped: text 3 1", "| 1 | No piece"),
+                          ("stopped: [Errno 111] Connection refused", "nobody listens"), ("stopped: action 4", "| 4 | The world has no object"), ("stopped: text 3 1", "| 1 | No piece"),
                           ("stopped: list index out of range", "no client NUMBER"), ("stopped: full", "Nothing was done"),
                           ("spent", "no request left"), ("the build stopped", "was not proved"), ("denied", "has no right"), ("start world, entry 0, commit 0", "it has read the log"),
                           ("listening [::1]:4000, entry 7, commit 2", "players may come"), ("stop w w, entry 7, commit 2", "it stopped in order"), ("dimboetu.Fault: wrongkind", "reply: wrongkind"),
                           ("dimboetu.Fault: text 19 3", "| 3 | Something else"), ("Fault: wrongkind", "reply: wrongkind"), ("ConnectionError: closed", "while a reply was due"),
-                          ("dimboetu.Fault: wrongkind: refused 4 0, over", "| 4 | over |"), ("ConnectionRefusedError: [Errno 111] Connection refused", "nobody listened"),
-                          ("TypeError: key: bytes belong there, as b\"..\", and no str", "is written wrongly"), ("dimboetu: step 2 of 3, compiling 58 crates (21 s)", "makes the unproved build"),
+                          ("dimboetu.Fault: wrongkind: refused 4 0, over", "| 4 | over |"), ("ConnectionRefusedError: [Errno 111] Connection refused", "nobody listens"),
+                          ("TypeError: key: bytes belong there, as b\"..\", and no str", "16 to 64 bytes"), ("key: 16 to 64 bytes belong there", "16 to 64 bytes"),
+                          ("ValueError: key: 16 to 64 bytes belong there", "16 to 64 bytes"), ("action 13 never happens: no right to write object 2", "An action was denied"),
+                          ("action 3 never happens: chain 2, far 0", "An action was dropped"), ("wrongkind: refused 4 0, over", "| 4 | over |"), ("pushed out", "takes the place again"),
+                          ("pushed out wrongkind: refused 4 0, over", "takes the place again"), ("lost", "It joins again by itself"), ("status lost closed", "It joins again by itself"),
+                          ("refused wrongkind: refused 8 0, bad interest", "| 8 | bad interest |"), ("[Errno 111] Connection refused", "nobody listens"),
+                          ("lost closed", "missing, wrong or another's"), ("lost Error: closed 1006", "missing, wrong or another's"), ("lost [Errno 111] Connection refused", "nobody listens"),
+                          ("lost Error: connect ECONNREFUSED 127.0.0.1:46113", "nobody listens"), ("refused baditem", "reply: baditem"), ("refused Fault: baditem", "reply: baditem"),
+                          ("refused Fault: wrongkind", "reply: wrongkind"), ("TypeError: this.connect is not a function", "missing or misspelt"), ("player 0: lost", "It joins again by itself"),
+                          ("player 1: joined", "the player is in the world"), ("player 0: refused", "'fault' says which"), ("Error: closed 1006", "missing, wrong or another's"),
+                          ("{ number: 1, kind: 'denied', object: 2 }", "An action was denied"), ("Error: Received network error or non-101 status code.", "missing, wrong or another's"),
+                          ("number: a whole number from 0 to 65534 belongs there, and not 70000", "missing or misspelt"), ("ReferenceError: WebSocket is not defined", "experimental-websocket"),
+                          ("dimboetu: 'host' has no option '--kyes'; see docs/HOSTING.md#options", "the option that it names"), ("words: host WORLD DIR [OPTION ..]", "docs/HOSTING.md#options"),
+                          ("keys: garden/room.keys", "without one the file can't be read"), ("joined None", "the player is in the world"), ("link", "Several commands say"), ("link of host", "The address can't be had"), ("range of why", "no such object"),
+                          ("dimboetu: step 2 of 3, compiling 58 crates (21 s)", "makes the unproved build"),
                           ("dimboetu: this run is of an unproved build. './dimboetu build' proves the program and builds it for good.", "no fault"),
                           ("report: line 1 is none of a report: x", "a scenario is no report"), ("dimboetu: the file can't be read. x; see docs/ERRORS.md#file", "A folder is no file")):
         script.expect(heading in script.run("explain", line)[1].decode(), f"explain {line} has {heading}")
     script.expect("behind 'reads'" in script.run("explain", "scenario: /a: text 3 4")[1].decode(), "the row of a cause")
+    script.expect("The world has no object" not in script.run("explain", "stopped: objects")[1].decode(), "a row of another fault")
+    script.same(script.run("explain", "refused_connections")[0], 2, "a word that begins as another")
+    script.same([script.run("explain", f"{line} of host")[1].startswith(f"{line} of".encode()) for line in ("link", "range")], [True, False], "an entry of one command")
     script.same(script.run("explain", "nothing"), (2, b"", b"dimboetu: docs/ERRORS.md has no such line\n"), "explain nothing")
     for words, text in ((("serve", "x", "link", "6"), "the port is in use"), (("replay", "x", "scenario: /a: text 1 4", "3"), "not among the reads"),
                         (("replay", "x", "wrong line 2", "9"), "another scenario"), (("replay", "x", "wrong line 9", "9"), "first wrong line"),
                         (("replay", "x", "log: journal-1.txt:4 reply", "13"), "not the one that is due"), (("replay", "x", "log: world.json world", "13"), "another world"),
                         (("replay", "x", "log: world", "5"), "can't be written"), (("join", "x", "range", "10"), "has no client K"), (("witness", "x", "range", "10"), "has no client K"),
                         (("why", "x", "range", "10"), "no such object"), (("replay", "x", "scenario: /bound: range", "3"), "HOSTING.md"),
-                        (("replay", "x", "scenario: /clients: key", "3"), "'host' takes a world without 'clients'"), (("replay", "x", "scenario: /bound: key", "3"), "a key is missing")):
+                        (("replay", "x", "scenario: /clients: key", "3"), "'host' takes a world without 'clients'"), (("replay", "x", "log: a/b", "5"), "the folder above is missing"),
+                        (("replay", "x", "busy: 127.0.0.1:4000", "14"), "another program has this address"), (("replay", "x", "busy: w2", "14"), "another program has this folder"),
+                        (("replay", "x", "scenario: /results: kind", "3"), "or \"authority\""), (("replay", "x", "scenario: /rights/0/clients/1: order", "3"), "is below its first one"),
+                        (("replay", "x", "scenario: /rights/0/clients/1: range", "3"), "clients are 0 to 65535"), (("replay", "x", "scenario: /bound: key", "3"), "a key is missing")):
         script.expect(text in script.says(words[2], int(words[3]), *words), f"{words}: {text}")
 
 
@@ -256,6 +277,7 @@ def test_unbuilt(script):
     out, aside, crates = script.path("crates/sv_main/out"), script.path("aside"), script.path("crates.txt")
     shutil.move(out, aside)
     line = b"words: play FILE [--brief | --watch] | replay FILE | load N\n"
+    script.same(script.run("--version"), (0, b"dimboetu 0.9.0\n", b""), "the version")
     for words, text in (((), "has all commands"), (("hepl",), "there is no command 'hepl'"), (("-h",), "'./dimboetu --help' has all commands"), (("help",), "'./dimboetu --help' has all")):
         code, printed, err = script.run(*words)
         script.expect((code, printed) == (2, b"") and err.startswith(line) and text in err.decode() and err.count(b"\n") == 2, f"unbuilt, {words}: {err}")

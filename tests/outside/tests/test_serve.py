@@ -12,6 +12,7 @@ import json
 import os
 import random
 import re
+import shutil
 import signal
 import socket
 import sys
@@ -662,6 +663,26 @@ def test_outputs(test):
         test.same(test.run("join", path, 7, port, stderr=full).end()[0], 10, "standard error that is full")
 
 
+def test_mute_server(test):
+    """A server that is none and never says a word: `join` waits for ten minutes at most."""
+    if shutil.which("strace") is None:
+        print("a mute server: skipped, there is no strace")
+        return
+    with socket.create_server(("127.0.0.1", 0)) as mute:
+        log = os.path.join(test.room, "calls")
+        run = Run("strace", ["-f", "-e", "trace=setsockopt,recvfrom,read", "-o", log, test.program, "join", example("first"), "0", str(mute.getsockname()[1])])
+        link, _ = mute.accept()
+        test.expect(link.recv(4096), "a mute server: join asks")
+        test.expect(run.process.poll() is None, "a mute server: join waits")
+        # Here it ends, and strace with it: strace alone would leave it running.
+        link.close()
+        test.same(run.end()[0], 12, "a mute server that goes away")
+    with open(log, encoding="utf-8", errors="replace") as file:
+        limits = re.findall(r"SO_RCVTIMEO\w*, (.*), 16\)", file.read())
+    packed = r'"X\2' + r"\0" * 14 + '"'      # the same, as older ones print it
+    test.expect(limits and limits[0] in ("{tv_sec=600, tv_usec=0}", packed), f"a mute server: ten minutes, not {limits}")
+
+
 def nobody(test):
     """Joins where nobody listens, started early; answers what looks at them at last."""
     run = test.run("join", example("first"), 0, free_port())
@@ -677,7 +698,7 @@ def run_all(test):
     judge = nobody(test)
     for one in (test_words, test_first_example, test_examples, test_python_client, test_python_observer, test_python_example, test_order,
                 test_bad_peers, test_silence, test_careless, test_reset_in_queue, test_lives,
-                test_lying_result, test_stolen_numbers, test_lying_servers, test_ports, test_outputs,
+                test_lying_result, test_stolen_numbers, test_lying_servers, test_mute_server, test_ports, test_outputs,
                 lambda _: judge()):
         begun, failed = time.monotonic(), test.failed
         try:

@@ -5,10 +5,10 @@ use Rattle.sv_system.specs.declared.played.Played.{Played}
 use Rattle.sv_check.specs.declared.journal.Served.{Served}
 use Rattle.sv_check.specs.Consistent.{IsReportOf}
 use Rattle.sv_check.specs.Either.{IsRightOf}
-use Rattle.sv_check.specs.Hosted.{IsHostedOf}
+use Rattle.sv_check.specs.Bare.{IsBareOf}
 use Rattle.sv_check.specs.Serving.{entries_of}
 use Rattle.sv_check.specs.Stopping.{IsStop, IsTextStop, IsJournalStop}
-use Rattle.sv_check.proofs.Hosting.{journal_stop, text_stop, not_hosted, ok_as, wrong_as}
+use Rattle.sv_check.proofs.BareStops.{journal_stop, text_stop, not_bare, ok_as, wrong_as}
 use Rattle.sv_check.proofs.JournalStops.{passed_on}
 use Rattle.sv_check.proofs.checking.read_text.Goals as goal
 
@@ -22,7 +22,7 @@ returns-in_err-served-clause-wrong c =
 
 pub returns-then-begins_commit-clause-right : goal.returns-then-begins_commit-clause-right
 returns-then-begins_commit-clause-right c =
-    ok_as c.read_hosted.result (IsHostedOf c.args.scenario.now c.args.text.now) (IsRightOf c.args.scenario.now c.args.text.now) (λ played h. inr h) c.read_hosted.ensures.hosted
+    ok_as c.read_bare.result (IsBareOf c.args.scenario.now c.args.text.now) (IsRightOf c.args.scenario.now c.args.text.now) (λ played h. inr h) c.read_bare.ensures.bare
 
 pub returns-else-begins_commit-clause-right : goal.returns-else-begins_commit-clause-right
 returns-else-begins_commit-clause-right c =
@@ -34,7 +34,7 @@ returns-else-begins_commit-clause-wrong c =
     let scenario = c.args.scenario.now in
     wrong_as c.read_report.result (IsStop scenario text) (IsTextStop scenario text)
     (λ left s. text_stop scenario text left
-    (not_hosted c.laws_of_runs.ensures.stay c.laws_of_runs.ensures.named c.laws_of_runs.ensures.steps c.laws_of_runs.ensures.few c.laws_of_runs.ensures.messages
+    (not_bare c.laws_of_runs.ensures.stay c.laws_of_runs.ensures.named c.laws_of_runs.ensures.steps c.laws_of_runs.ensures.few c.laws_of_runs.ensures.messages
     scenario c.requires.good c.read_scenario_numbers.ensures (entries_of c.in_ok-served.served) c.in_ok-served.ensures.whole text c.in_ok-served.behind.now c.in_ok-served.ensures.text c.requires.short
     (sym c.begins_commit.ensures ∙ c.if-begins_commit.false)) s)
     c.read_report.ensures.wrong

@@ -1,5 +1,5 @@
 -- What is proved by hand of `served_journals_are_right`.
-use Rattle.sv_check.proofs.Hostable.{served_right}
+use Rattle.sv_check.proofs.BareLegal.{served_right}
 use Rattle.sv_check.proofs.laws.served_journals_are_right.Goals as goal
 
 pub returns : goal.returns

@@ -10,3 +10,6 @@ ghost-is_due g a = g.g
 
 abbrev pub ghost-due_decision : goal.ghost-due_decision
 ghost-due_decision g a = heeded g.g.w g.g.h
+
+abbrev pub ghost-is_due_poll : goal.ghost-is_due_poll
+ghost-is_due_poll g a = g.g

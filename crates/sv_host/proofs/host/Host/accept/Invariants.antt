@@ -1,10 +1,14 @@
 -- Some were accepted.
+use Rattle.std.proofs.Common.{◌≡◌}
 use Rattle.sv_office.specs.Offices.{session_of}
-use Rattle.sv_host.specs.Rooms.{AreServed, AreWritten}
+use Rattle.sv_host.specs.Rooms.{AreServed, AreWritten, LeftInput}
 use Rattle.sv_host.proofs.host.Host.accept.Given as goal
 
 abbrev pub invariant-loop : goal.invariant-loop
 invariant-loop g l = record {
   served : AreServed l.self.office.keeper.world (session_of l.self.office.steward) l.self.room.guests;
-  written : AreWritten (g.P.Ports.told l.fn.ports) l.fn.self.room.guests → AreWritten (g.P.Ports.told l.ports) l.self.room.guests;
+  written : AreWritten l.fn.self.office.keeper.world (g.P.Ports.told l.fn.ports) l.fn.self.room.guests
+      → AreWritten l.self.office.keeper.world (g.P.Ports.told l.ports) l.self.room.guests;
+  input : LeftInput (g.P.Ports.told l.fn.ports) (g.P.Ports.told l.ports);
+  world : l.self.office.keeper ≡ l.fn.self.office.keeper;
 }

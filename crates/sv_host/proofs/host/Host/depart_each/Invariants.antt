@@ -1,10 +1,13 @@
 -- The connections so far are gone.
 use Rattle.sv_office.specs.Offices.{session_of}
-use Rattle.sv_host.specs.Rooms.{AreServed, AreWritten}
+use Rattle.sv_host.specs.Rooms.{AreServed, AreWritten, Continues, WroteNothing}
 use Rattle.sv_host.proofs.host.Host.depart_each.Given as goal
 
 abbrev pub invariant-loop-number : goal.invariant-loop-number
 invariant-loop-number g l = record {
   served : AreServed l.self.office.keeper.world (session_of l.self.office.steward) l.self.room.guests;
-  written : AreWritten (g.P.Ports.told l.fn.ports) l.fn.self.room.guests → AreWritten (g.P.Ports.told l.ports) l.self.room.guests;
+  written : AreWritten l.fn.self.office.keeper.world (g.P.Ports.told l.fn.ports) l.fn.self.room.guests
+      → AreWritten l.self.office.keeper.world (g.P.Ports.told l.ports) l.self.room.guests;
+  goes : Continues l.fn.self.office.keeper.world l.self.office.keeper.world;
+  still : WroteNothing (g.P.Ports.told l.fn.ports) (g.P.Ports.told l.ports);
 }

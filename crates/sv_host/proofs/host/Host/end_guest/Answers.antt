@@ -1,6 +1,6 @@
 -- Its session has its End.
 use Rattle.sv_host.proofs.Loop1.{ended_out}
-use Rattle.sv_host.proofs.Written.{written_as}
+use Rattle.sv_host.proofs.Written.{out_later}
 use Rattle.sv_host.proofs.host.Host.end_guest.Goals as goal
 
 pub returns-clause-taken : goal.returns-clause-taken
@@ -9,4 +9,5 @@ returns-clause-taken g c =
     c.in_ok-end.ensures.added c.in_ok-end.ensures.session
 
 pub returns-clause-written : goal.returns-clause-written
-returns-clause-written g c told n = written_as n c.args.self.now.room.guests c.args.guest.now _ told c.in_ok-end.ensures.guest.sent
+returns-clause-written g c told n =
+    out_later c.is_lawful.ensures.order c.in_ok-end.ensures.added n c.args.self.now.room.guests c.args.guest.now _ c.in_ok-end.ensures.guest.sent

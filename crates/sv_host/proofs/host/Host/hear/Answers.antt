@@ -6,6 +6,6 @@ use Rattle.sv_host.proofs.host.Host.hear.Goals as goal
 pub returns-clause-written : goal.returns-clause-written
 returns-clause-written g c =
     on_ok c.put_back.result (λ are.
-    let out = lent_written _ _ c.args.number _ _ c.get_mut.ensures.value (c.in-Some.ensures.written _ are) in
-    let heard = lent_written _ _ c.args.number _ _ c.get_mut-2.ensures.value (c.in_ok-hear_guest.ensures.written out) in
+    let out = lent_written _ _ _ c.args.number _ _ c.get_mut.ensures.value (c.in-Some.ensures.written _ are) in
+    let heard = lent_written _ _ _ c.args.number _ _ c.get_mut-2.ensures.value (c.in_ok-hear_guest.ensures.written out) in
     c.put_back.ensures.written _ (c.list.ensures.written _ c.args.number heard))

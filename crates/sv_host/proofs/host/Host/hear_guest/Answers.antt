@@ -1,6 +1,6 @@
 -- A connection had its turn.
 use Rattle.sv_host.proofs.Loop1.{heard_out}
-use Rattle.sv_host.proofs.Written.{heard_written}
+use Rattle.sv_host.proofs.Written.{continues, heard_nothing, out_later, out_still}
 use Rattle.sv_host.proofs.host.Host.hear_guest.Goals as goal
 
 pub returns-clause-taken : goal.returns-clause-taken
@@ -8,6 +8,13 @@ returns-clause-taken g c =
     heard_out c.args.self.now.office.sound.begun c.is_lawful.ensures.order c.in_ok-hear.ensures.steward c.in_ok-hear.ensures.served c.requires.taken
     _ _ c.in_ok-hear.ensures.added c.in_ok-hear.ensures.session
 
+pub returns-in_err-hear-clause-goes : goal.returns-in_err-hear-clause-goes
+returns-in_err-hear-clause-goes g c = continues c.hear.ensures.added
+
+pub returns-clause-goes : goal.returns-clause-goes
+returns-clause-goes g c = continues c.in_ok-hear.ensures.added
+
 pub returns-clause-written : goal.returns-clause-written
-returns-clause-written g c =
-    heard_written c.args.number c.args.self.now.room.guests c.args.guest.now _ _ _ c.in_ok-hear.ensures.told c.in_ok-hear.ensures.sent
+returns-clause-written g c out =
+    out_still c.args.number c.args.self.now.room.guests _ _ _ (heard_nothing c.args.number _ _ c.in_ok-hear.ensures.told)
+    (out_later c.is_lawful.ensures.order c.in_ok-hear.ensures.added c.args.number c.args.self.now.room.guests c.args.guest.now _ c.in_ok-hear.ensures.sent out)

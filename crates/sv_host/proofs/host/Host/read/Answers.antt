@@ -4,4 +4,4 @@ use Rattle.sv_host.proofs.host.Host.read.Goals as goal
 
 pub returns-clause-written : goal.returns-clause-written
 returns-clause-written g c are =
-    c.put_in.ensures.written _ (c.in_ok-hear_guest.ensures.written (lent_written _ _ c.args.number _ _ c.get_mut.ensures.value (c.in-Some.ensures.written _ are)))
+    c.put_in.ensures.written _ (c.in_ok-hear_guest.ensures.written (lent_written _ _ _ c.args.number _ _ c.get_mut.ensures.value (c.in-Some.ensures.written _ are)))

@@ -1,6 +1,6 @@
 -- What was held is answered.
 use Rattle.sv_host.proofs.Loop1.{released_out}
-use Rattle.sv_host.proofs.Written.{written_as}
+use Rattle.sv_host.proofs.Written.{continues, out_later}
 use Rattle.sv_host.proofs.host.Host.release_guest.Goals as goal
 
 pub returns-clause-taken : goal.returns-clause-taken
@@ -9,4 +9,11 @@ returns-clause-taken g c =
     c.in_ok-release.ensures.added c.in_ok-release.ensures.session
 
 pub returns-clause-written : goal.returns-clause-written
-returns-clause-written g c told n = written_as n c.args.self.now.room.guests c.args.guest.now _ told c.in_ok-release.ensures.sent
+returns-clause-written g c told n =
+    out_later c.is_lawful.ensures.order c.in_ok-release.ensures.added n c.args.self.now.room.guests c.args.guest.now _ c.in_ok-release.ensures.sent
+
+pub returns-in_err-release-clause-goes : goal.returns-in_err-release-clause-goes
+returns-in_err-release-clause-goes g c = continues c.release.ensures.added
+
+pub returns-clause-goes : goal.returns-clause-goes
+returns-clause-goes g c = continues c.in_ok-release.ensures.added

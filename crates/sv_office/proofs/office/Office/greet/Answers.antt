@@ -5,6 +5,7 @@ use Rattle.sv_office.specs.declared.guest.Guest.{Guest}
 use Rattle.sv_office.proofs.Asking.{may_hold_with}
 use Rattle.sv_office.proofs.Hearing2.{turn_asked, turn_looked, turn_nowhere}
 use Rattle.sv_office.proofs.Stepping1.{gone_shut, may_hold_none, yet_same, yet_shut}
+use Rattle.sv_office.proofs.Renewed.{kept_same}
 use Rattle.sv_office.proofs.office.Office.greet.Goals as goal
 
 pub returns-then-guest-clause-turn : goal.returns-then-guest-clause-turn
@@ -34,3 +35,9 @@ returns-clause-turn g c =
 
 pub returns-clause-idle : goal.returns-clause-idle
 returns-clause-idle g c = yet_shut (gone_shut (ap (λ (guest : Guest). guest.standing) c.leave.ensures))
+
+pub returns-then-guest-clause-kept : goal.returns-then-guest-clause-kept
+returns-then-guest-clause-kept g c = kept_same (λ name. refl) c.take_request.ensures.keys
+
+pub returns-in_default-clause-kept : goal.returns-in_default-clause-kept
+returns-in_default-clause-kept g c = kept_same (λ name. refl) refl

@@ -5,6 +5,7 @@ use Rattle.sv_office.proofs.Adding.{goes_nowhere, keeps_same}
 use Rattle.sv_office.proofs.Hearing2.{holds_still, shows_same, turn_heard}
 use Rattle.sv_office.proofs.Leaving.{served_still}
 use Rattle.sv_office.proofs.Turning.{keeps_one, one_nowhere}
+use Rattle.sv_office.proofs.Renewed.{kept_same, kept_then}
 use Rattle.sv_office.proofs.office.Office.hear.Goals as goal
 
 pub returns-then-not-is_open-clause-served : goal.returns-then-not-is_open-clause-served
@@ -106,3 +107,12 @@ returns-clause-held g c =
 
 pub returns-clause-shut : goal.returns-clause-shut
 returns-clause-shut g c = λ shut. absurd (shut (c.is_open.ensures.0 c.if-not-is_open.false))
+
+pub returns-then-not-is_open-clause-kept : goal.returns-then-not-is_open-clause-kept
+returns-then-not-is_open-clause-kept g c = kept_same (λ name. refl) refl
+
+pub returns-then-not-take_waiting-clause-kept : goal.returns-then-not-take_waiting-clause-kept
+returns-then-not-take_waiting-clause-kept g c = kept_same c.take_waiting.ensures.files refl
+
+pub returns-clause-kept : goal.returns-clause-kept
+returns-clause-kept g c = kept_then (kept_same c.take_waiting.ensures.files refl) c.take_all.ensures.kept

@@ -3,6 +3,7 @@ use Rattle.std.proofs.Common.{refl}
 use Rattle.sv_office.proofs.Hearing2.{turn_ended_as, turn_nowhere}
 use Rattle.sv_office.proofs.Leaving.{served_still}
 use Rattle.sv_office.proofs.Stepping1.{end_shut, not_open, yet_same, yet_shut}
+use Rattle.sv_office.proofs.Renewed.{kept_same}
 use Rattle.sv_office.proofs.office.Office.read_guest.Goals as goal
 
 pub end-requires : goal.end-requires
@@ -44,3 +45,15 @@ returns-clause-turn g c =
 
 pub returns-clause-idle : goal.returns-clause-idle
 returns-clause-idle g c = yet_same c.read_and_take-count.ensures.guest.session refl
+
+pub returns-in_err-end-clause-kept : goal.returns-in_err-end-clause-kept
+returns-in_err-end-clause-kept g c = kept_same c.read_and_take-count.ensures.files c.end.ensures.keys
+
+pub returns-then-not-is_open-clause-kept : goal.returns-then-not-is_open-clause-kept
+returns-then-not-is_open-clause-kept g c = kept_same c.read_and_take-count.ensures.files c.end.ensures.keys
+
+pub returns-then-count-eq0-clause-kept : goal.returns-then-count-eq0-clause-kept
+returns-then-count-eq0-clause-kept g c = kept_same c.read_and_take-count.ensures.files refl
+
+pub returns-clause-kept : goal.returns-clause-kept
+returns-clause-kept g c = kept_same c.read_and_take-count.ensures.files refl

@@ -2,6 +2,7 @@
 use Rattle.std.proofs.Common.{refl, sym, ◌∙◌}
 use Rattle.sv_office.specs.Offices.{session_of}
 use Rattle.sv_office.proofs.Adding.{goes_nowhere}
+use Rattle.sv_office.proofs.Admitting.{observes_another}
 use Rattle.sv_office.proofs.Answering.{no_end}
 use Rattle.sv_office.proofs.Leaving.{served_still}
 use Rattle.sv_office.proofs.Stepping1.{held_came_of, held_enters, released_none, released_some, yet_same}
@@ -44,3 +45,6 @@ returns-in-None-clause-asked g c = one_nowhere refl refl
 
 pub returns-in-None-clause-idle : goal.returns-in-None-clause-idle
 returns-in-None-clause-idle g c = yet_same refl refl
+
+pub answer-requires-clause-another : goal.answer-requires-clause-another
+answer-requires-clause-another g c = observes_another _ c.in-Some.held.observes

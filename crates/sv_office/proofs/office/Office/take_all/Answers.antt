@@ -2,6 +2,7 @@
 use Rattle.std.proofs.Common.{inl, refl, ◌∙◌}
 use Rattle.sv_office.proofs.Hearing2.{heard_nothing, heard_then, lent_then, turn_apart, turn_nowhere, turn_then}
 use Rattle.sv_office.proofs.Stepping1.{yet_same, yet_then}
+use Rattle.sv_office.proofs.Renewed.{kept_same, kept_then}
 use Rattle.sv_office.proofs.office.Office.take_all.Goals as goal
 
 pub loop-init : goal.loop-init
@@ -9,6 +10,7 @@ loop-init g c = record {
   open_still = c.requires.open;
   served = c.requires.served;
   turn = turn_nowhere _ _ _ _ refl refl refl refl refl refl refl (inl refl);
+  kept = kept_same (λ name. refl) refl;
   idle = yet_same refl refl;
   told = heard_nothing _ _ _ refl;
   sent = refl;
@@ -40,8 +42,15 @@ loop-preserved g c = record {
   open_still = c.in_ok-take_and_read.ensures.open c.in-On.is;
   served = c.in_ok-take_and_read.ensures.served;
   turn = turn_then c.args.self.now c.loop.self _ c.args.guest.now c.loop.guest _ c.loop.invariant.turn c.loop.invariant.idle c.loop.invariant.open_still c.take_and_read.ensures.turn;
+  kept = kept_then c.loop.invariant.kept c.take_and_read.ensures.kept;
   idle = yet_then c.loop.invariant.idle c.loop.invariant.open_still c.in_ok-take_and_read.ensures.idle;
   told = heard_then _ _ _ _ c.loop.invariant.told c.take_and_read.ensures.told;
   sent = c.take_and_read.ensures.sent ∙ c.loop.invariant.sent;
   lent = lent_then _ _ _ c.loop.invariant.lent c.take_and_read.ensures.lent;
 }
+
+pub returns-in_err-take_and_read-clause-kept : goal.returns-in_err-take_and_read-clause-kept
+returns-in_err-take_and_read-clause-kept g c = kept_then c.loop.invariant.kept c.take_and_read.ensures.kept
+
+pub returns-in-Over-clause-kept : goal.returns-in-Over-clause-kept
+returns-in-Over-clause-kept g c = kept_then c.loop.invariant.kept c.take_and_read.ensures.kept

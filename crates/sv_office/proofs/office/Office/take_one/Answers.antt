@@ -3,6 +3,7 @@ use Rattle.std.proofs.Common.{inl, inr, refl, ap}
 use Rattle.sv_office.specs.declared.guest.Guest.{Guest}
 use Rattle.sv_office.proofs.Hearing2.{turn_asked, turn_nowhere}
 use Rattle.sv_office.proofs.Stepping1.{yet_same}
+use Rattle.sv_office.proofs.Renewed.{kept_same}
 use Rattle.sv_office.proofs.office.Office.take_one.Goals as goal
 
 pub returns-in_err-take_request-in-Request-clause-turn : goal.returns-in_err-take_request-in-Request-clause-turn
@@ -37,3 +38,18 @@ returns-in_ok-take_request-in-Request-clause-turn g c =
     turn_asked c.args.self.now c.take_request.new.self c.args.guest.now c.take_request.new.guest c.asked.result c.take_request.ensures.added c.take_request.ensures.asked
     c.take_request.ensures.steward c.take_request.ensures.manners c.take_request.ensures.keys c.take_request.ensures.key c.take_request.ensures.spoken
     c.take_request.ensures.may_hold
+
+pub returns-in_err-take_request-in-Request-clause-kept : goal.returns-in_err-take_request-in-Request-clause-kept
+returns-in_err-take_request-in-Request-clause-kept g c = kept_same (λ name. refl) c.take_request.ensures.keys
+
+pub returns-in-NotYet-clause-kept : goal.returns-in-NotYet-clause-kept
+returns-in-NotYet-clause-kept g c = kept_same (λ name. refl) refl
+
+pub returns-in-Memory-clause-kept : goal.returns-in-Memory-clause-kept
+returns-in-Memory-clause-kept g c = kept_same (λ name. refl) refl
+
+pub returns-in-Closed-clause-kept : goal.returns-in-Closed-clause-kept
+returns-in-Closed-clause-kept g c = kept_same (λ name. refl) refl
+
+pub returns-in_ok-take_request-in-Request-clause-kept : goal.returns-in_ok-take_request-in-Request-clause-kept
+returns-in_ok-take_request-in-Request-clause-kept g c = kept_same (λ name. refl) c.take_request.ensures.keys

@@ -6,6 +6,7 @@ use Rattle.sv_office.specs.Offices.{session_of}
 use Rattle.sv_office.specs.declared.office.Manners.{Manners}
 use Rattle.sv_office.specs.declared.guest.Guest.{Guest}
 use Rattle.sv_office.proofs.Adding.{keeps_then}
+use Rattle.sv_office.proofs.Admitting.{admitted_another}
 use Rattle.sv_office.proofs.Answering.{asked_then, held_came}
 use Rattle.sv_office.proofs.Leaving.{served_left, served_still}
 use Rattle.sv_office.proofs.Stepping1.{away_after, clash, end_shut, ended_asked_in, gone_shut, held_none, may_hold_none, none_held, ok_any, one_yet, taken_answered, taken_nothing, yet_shut, yet_then_ok}
@@ -128,3 +129,6 @@ pub returns-clause-idle : goal.returns-clause-idle
 returns-clause-idle g c =
     yet_then_ok c.answer.result c.args.guest.now c.release.new.guest c.answer.new.guest c.args.self.now.keeper.world c.release.new.self.keeper.world
     c.answer.new.self.keeper.world c.in_ok-release.ensures.idle (c.is_open.ensures.0 c.if-not-is_open.false) c.answer.ensures.idle
+
+pub answer-requires-clause-another : goal.answer-requires-clause-another
+answer-requires-clause-another g c = admitted_another c.args.self.now.keys c.args.guest.now.key c.args.request (sym c.admits.ensures ∙ c.if-not-admits.false)

@@ -2,6 +2,7 @@
 use Rattle.std.proofs.Common.{inl, refl, ◌∙◌}
 use Rattle.sv_office.proofs.Hearing2.{none_other, turn_apart, turn_nowhere, turn_then}
 use Rattle.sv_office.proofs.Stepping1.{yet_same, yet_then}
+use Rattle.sv_office.proofs.Renewed.{kept_same, kept_then}
 use Rattle.sv_office.proofs.office.Office.take_requests.Goals as goal
 
 pub loop-init : goal.loop-init
@@ -9,6 +10,7 @@ loop-init g c = record {
   open_still = c.requires.open;
   served = c.requires.served;
   turn = turn_nowhere _ _ _ _ refl refl refl refl refl refl refl (inl refl);
+  kept = kept_same (λ name. refl) refl;
   idle = yet_same refl refl;
   sent = refl;
 }
@@ -38,6 +40,13 @@ loop-preserved g c = record {
   open_still = c.in_ok-course.ensures.open (none_other c.in-None.is);
   served = c.in_ok-course.ensures.served;
   turn = turn_then c.args.self.now c.loop.self _ c.args.guest.now c.loop.guest _ c.loop.invariant.turn c.loop.invariant.idle c.loop.invariant.open_still c.take_next.ensures.turn;
+  kept = kept_then c.loop.invariant.kept c.take_next.ensures.kept;
   idle = yet_then c.loop.invariant.idle c.loop.invariant.open_still c.in_ok-course.ensures.idle;
   sent = c.take_next.ensures.sent ∙ c.loop.invariant.sent;
 }
+
+pub returns-in_err-course-clause-kept : goal.returns-in_err-course-clause-kept
+returns-in_err-course-clause-kept g c = kept_then c.loop.invariant.kept c.take_next.ensures.kept
+
+pub returns-in-Some-clause-kept : goal.returns-in-Some-clause-kept
+returns-in-Some-clause-kept g c = kept_then c.loop.invariant.kept c.take_next.ensures.kept

@@ -1,0 +1,36 @@
+-- It was sent again and again.
+use Rattle.std.proofs.Common.{refl}
+use Rattle.sv_host.proofs.Written.{closed_written, continues_kept, continues_same, continues_then, left_as, left_same, left_then, were_written}
+use Rattle.sv_host.proofs.host.Host.send_rest.Goals as goal
+
+pub loop-init : goal.loop-init
+loop-init g c = record { served = c.requires.served; written = λ are. are; input = left_same _; goes = continues_same refl }
+
+pub returns-in_err-waits-clause-goes : goal.returns-in_err-waits-clause-goes
+returns-in_err-waits-clause-goes g c = continues_then c.loop.invariant.goes (continues_kept c.touch_all.ensures.world)
+
+pub returns-in_err-waits-clause-past : goal.returns-in_err-waits-clause-past
+returns-in_err-waits-clause-past g c are = were_written _ c.touch_all.ensures.served (c.touch_all.ensures.written _ (c.loop.invariant.written are))
+
+pub returns-in_err-send-clause-goes : goal.returns-in_err-send-clause-goes
+returns-in_err-send-clause-goes g c = continues_then c.loop.invariant.goes (continues_then (continues_kept c.touch_all.ensures.world) c.send.ensures.goes)
+
+pub returns-in_err-send-clause-past : goal.returns-in_err-send-clause-past
+returns-in_err-send-clause-past g c are = c.send.ensures.past (c.touch_all.ensures.written _ (c.loop.invariant.written are))
+
+pub returns-then-not-waits-clause-goes : goal.returns-then-not-waits-clause-goes
+returns-then-not-waits-clause-goes g c = continues_then c.loop.invariant.goes (continues_then (continues_kept c.touch_all.ensures.world) c.send.ensures.goes)
+
+pub returns-then-not-waits-clause-past : goal.returns-then-not-waits-clause-past
+returns-then-not-waits-clause-past g c are = c.send.ensures.past (c.touch_all.ensures.written _ (c.loop.invariant.written are))
+
+pub loop-preserved : goal.loop-preserved
+loop-preserved g c = record {
+  served = c.in_ok-send.ensures.served;
+  written = λ are. closed_written _ _ _ c.wait.ensures (c.in_ok-send.ensures.written (c.touch_all.ensures.written _ (c.loop.invariant.written are)));
+  input = left_then (left_then c.loop.invariant.input c.in_ok-send.ensures.input) (left_as c.wait.ensures);
+  goes = continues_then c.loop.invariant.goes (continues_then (continues_kept c.touch_all.ensures.world) c.send.ensures.goes);
+}
+
+pub returns-clause-past : goal.returns-clause-past
+returns-clause-past g c are = were_written _ c.loop.invariant.served (c.loop.invariant.written are)

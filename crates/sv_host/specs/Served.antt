@@ -1,0 +1,21 @@
+-- What was written through a door, where nothing was before.
+use Rattle.std.specs.Prelude.{◌≡◌}
+use Rattle.sv_journal.specs.declared.entry.Entry.{Entry}
+use Rattle.sv_journal.specs.Living.{living}
+use Rattle.sv_journal.specs.Serving.{LegalFor}
+use Rattle.sv_living.specs.Sessions.{AreInOrder}
+use Rattle.sv_living.specs.World.{WorldView}
+use Rattle.sv_ports.specs.Told.{Told, nothing_told}
+use Rattle.sv_host.specs.Rooms.{AnyEntry, Continues, WereWritten}
+
+-- Where nothing was told before, just that was written which connections were told in a world from which this one went on by such entries.
+abbrev pub OnlyWrote : (Entry → Type 0) → Told → Told → WorldView → Type 0
+OnlyWrote may before after v = before ≡ nothing_told → WereWritten may after v
+
+-- A world went on until something failed, and what was written is what connections were told in it. Its history is legal by the answer table.
+pub record BreaksOff (before after : Told) (first : WorldView) : Type 0 where
+  pub last : WorldView
+  pub goes : Continues first last
+  pub legal : LegalFor (living last.stewardship) last.rules last.history
+  pub order : AreInOrder last.history
+  pub sent : OnlyWrote AnyEntry before after last
