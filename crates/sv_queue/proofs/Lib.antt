@@ -1,4 +1,5 @@
 -- The lemmas of this crate, file by file.
+pub mod Blocks
 pub mod Entries
 pub mod Forgets
 pub mod Installs

@@ -1,16 +1,15 @@
 -- Sets of slots by their bits.
-use Rattle.std.proofs.Common.{◌≡◌, ℕ, zero, suc, ◌+◌, ◌-◌, ◌*◌, ◌/◌, ◌%◌, ◌^◌, ◌<◌, ◌≤◌, inl, inr, Bool, true, false, ◌&&◌, ◌||◌, not, nat_eq, cond, filter, List, [], ◌∷◌, ◌++◌, length, slice_index, slice_index_or, slice_set, bit_and, bit_or, IsTrue, IsFalse, refl, sym, ◌∙◌, ap, ap₂, arith, eq-eqb, ne_eqb, get_or-set_same, get_or-set_other}
+use Rattle.std.proofs.Common.{◌≡◌, ℕ, zero, suc, ◌+◌, ◌-◌, ◌*◌, ◌/◌, ◌%◌, ◌^◌, ◌<◌, ◌≤◌, inl, inr, Bool, true, false, ◌&&◌, ◌||◌, not, nat_eq, max, cond, filter, List, [], ◌∷◌, ◌++◌, length, slice_index, slice_index_or, slice_set, bit_and, bit_or, IsTrue, IsFalse, refl, sym, ◌∙◌, ap, ap₂, arith, eq-eqb, ne_eqb, get_or-set_same, get_or-set_other}
 use Rattle.std.proofs.lemmas.Bool.{cases_eq, cases_lt, eqb-true}
 use Rattle.std.proofs.lemmas.List.{take_at, get_or_past, get_or_append_left, get_or-append_right}
 use Rattle.std.proofs.lemmas.Nat.{and_le_l}
-use Rattle.std.proofs.lemmas.Nat.Bits.{bit_at-zero, bit_at_and, bit_at-trailing_zeros, bit_at_set_same, bit_at_set_other, bit_at_clear_same, bit_at_clear_other}
+use Rattle.std.proofs.lemmas.Nat.Bits.{bit_at-zero, bit_at-lt, bit_at_and, bit_at_or, bit_at-trailing_zeros, bit_at_set_same, bit_at_set_other, bit_at_clear_same, bit_at_clear_other}
 use Rattle.std.specs.Int.{bit_at, bit_not, trailing_zeros, w64}
 use Rattle.std.specs.List.{list_any, refill}
 use Rattle.sv_world.specs.Control.{is_in, below}
 use Rattle.sv_world.proofs.Members.{any_from, any_parts}
-use Rattle.sv_queue.specs.Slots.{SlotSet, has_bit, set_of, slots_where, with_slot, all_but}
-use Rattle.sv_queue.proofs.Members.{is_in-filtered}
-use Rattle.sv_queue.proofs.SlotSets.{in_slots, out_of_slots, slots_where-ext, slots_where-none}
+use Rattle.sv_queue.specs.Slots.{has_bit, set_of, slots_where, with_slot, with_slots, all_but}
+use Rattle.sv_queue.proofs.SlotSets.{in_slots, out_of_slots, slots_where-ext}
 
 pub refilled : {X : Type 0} (xs ws : List X) → length ws ≡ length xs → refill (length xs) xs ws ≡ ws
 refilled xs ws e = take_at ws _ (length xs) (omega (arith, e))
@@ -170,6 +169,39 @@ slots-copied new' others same within = slots_where-ext _ _ go
     go s low = elim (cases_lt (s / 64) (length new')) [
       | inl l ↦ ap (λ (w : ℕ). nat_eq (bit_at w (s % 64)) 1) (same (s / 64) l)
       | inr l ↦ has_bit-past new' s l ∙ sym (gone s low l (has_bit others s) refl)
+    ]
+
+-- The words of two sets joined, and what the other set has is within.
+bit_joined : (p q : ℕ) → p < 2 → q < 2 → nat_eq (max p q) 1 ≡ (nat_eq p 1 || nat_eq q 1)
+bit_joined zero zero a b = refl
+bit_joined zero (suc zero) a b = refl
+bit_joined zero (suc (suc q)) a b = absurd (omega arith)
+bit_joined (suc zero) zero a b = refl
+bit_joined (suc zero) (suc zero) a b = refl
+bit_joined (suc zero) (suc (suc q)) a b = absurd (omega arith)
+bit_joined (suc (suc p)) q a b = absurd (omega arith)
+
+pub slots-joined : (new' old others : List ℕ) → length new' ≡ length old →
+    ((i : ℕ) → i < length old → slice_index new' i ≡ bit_or (slice_index old i) (slice_index others i)) →
+    ((s : ℕ) → is_in s (slots_where (has_bit others)) ≡ true → s < 64 * length old) →
+    slots_where (has_bit new') ≡ with_slots (slots_where (has_bit others)) (slots_where (has_bit old))
+slots-joined new' old others count joined within = slots_where-ext _ _ (λ s low.
+    bits s low ∙ ap₂ (λ (b c : Bool). b || c) (sym (in_slots (has_bit old) s low)) (sym (in_slots (has_bit others) s low)))
+  where
+    gone : (s : ℕ) → s < 1024 → length old ≤ s / 64 → (b : Bool) → has_bit others s ≡ b → has_bit others s ≡ false
+    gone s low past true h = (let l : s < 64 * length old = within s (in_slots (has_bit others) s low ∙ h) in absurd (omega arith))
+    gone s low past false h = h
+
+    bits : (s : ℕ) → s < 1024 → has_bit new' s ≡ (has_bit old s || has_bit others s)
+    bits s low = elim (cases_lt (s / 64) (length old)) [
+      | inl l ↦
+          (let a = slice_index old (s / 64) in
+          let b = slice_index others (s / 64) in
+          ap (λ (w : ℕ). nat_eq (bit_at w (s % 64)) 1) (joined (s / 64) l)
+          ∙ ap (λ (n : ℕ). nat_eq n 1) (bit_at_or a b (s % 64))
+          ∙ bit_joined (bit_at a (s % 64)) (bit_at b (s % 64)) (bit_at-lt a (s % 64)) (bit_at-lt b (s % 64)))
+      | inr l ↦ has_bit-past new' s (omega (arith, l, count))
+          ∙ sym (ap₂ (λ (b c : Bool). b || c) (has_bit-past old s l) (gone s low l (has_bit others s) refl))
     ]
 
 -- The slots and the room are the set.

@@ -7,6 +7,7 @@ use Rattle.sv_world.specs.Faults.{IsGoodAction}
 use Rattle.sv_world.specs.Limits.{most_open}
 use Rattle.sv_world.specs.Sets.{read_set, write_set}
 use Rattle.sv_queue.specs.declared.queue.Queue.TheInside.{Inside}
+use Rattle.sv_queue.specs.Blocks.{HaveBlocks}
 use Rattle.sv_queue.specs.Marks.{all_queued, marks_of}
 use Rattle.sv_queue.specs.Pairs.{pairs_of}
 use Rattle.sv_queue.specs.Queue.{Queued, QueueView, entry_actions}
@@ -78,3 +79,4 @@ pub record IsQueue (a : Inside) : Type 0 where
   pub agree : AgreeOn a.shape a.commit a.committed (all_queued a.entries.items) a.writers (slots_in a.given.items)
   pub sources : HaveSources a.commit (entry_actions (all_queued a.entries.items)) a.sources.items
   pub room : HaveRoom a.room (marks_of a.entries.items) a.given.items
+  pub cover : HaveBlocks a.room a.given.items a.blocks.items

@@ -1,4 +1,5 @@
 -- The definitions of this crate, file by file.
+pub mod Blocks
 pub mod Invariant
 pub mod Marks
 pub mod Pairs

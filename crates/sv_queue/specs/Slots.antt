@@ -21,6 +21,10 @@ slots_where p = filter p (below most_open)
 abbrev pub with_slot : ℕ → List ℕ → List ℕ
 with_slot slot slots = slots_where (λ s. nat_eq s slot || is_in s slots)
 
+-- The slots of two lists.
+abbrev pub with_slots : List ℕ → List ℕ → List ℕ
+with_slots more slots = slots_where (λ s. is_in s slots || is_in s more)
+
 -- The slots of a list but for one.
 abbrev pub all_but : ℕ → List ℕ → List ℕ
 all_but slot slots = filter (λ s. not (nat_eq s slot)) slots
@@ -30,6 +34,9 @@ set_with slot r = record r { slots = with_slot slot r.slots }
 
 abbrev pub set_but : ℕ → SlotSet → SlotSet
 set_but slot r = record r { slots = all_but slot r.slots }
+
+abbrev pub set_joined : List ℕ → SlotSet → SlotSet
+set_joined more r = record r { slots = with_slots more r.slots }
 
 -- Slot 64 n + k is bit k of word n.
 abbrev pub has_bit : List ℕ → ℕ → Bool

@@ -9,13 +9,13 @@ ghost use Rattle.sv_queue.specs.Pairs.{is_pair};
 ghost use Rattle.sv_queue.specs.Queue.{IsFirstWriter, IsUncommitted, IsUnwritten, last_position, entry_at, queue_actions, sent_positions, opening_queue, with_action, without_last, with_mark, with_result, with_given, without_slot, ready, first_installed, ready_installed};
 ghost use Rattle.sv_world.specs.Worlds.{IsGoodShape, IsGoodWorld, HaveAttrs};
 
-use crate::rooms::{forget_given, forget_marks, make_given_room, make_marks_room};
+use crate::rooms::{BLOCK, forget_given, forget_marks, make_given_room, make_marks_room};
 use crate::slots::Slots;
 use crate::sources::Sources;
 use crate::steps::Steps;
 use crate::waiting::Waiting;
 use crate::writers::Writers;
-use crate::written::{give_written, no_rows, put_values};
+use crate::written::{give_written, no_rows, put_values, tell_blocks};
 use std::alloc::{AllocError, Global};
 use std::collections::VecDeque;
 use std::marker::Model;
@@ -42,7 +42,10 @@ pub struct Queue {
     /// The last writers of what each entry reads, found when it was pushed: later ones are above it.
     sources: VecDeque<Sources>,
     writers: Writers,
+    /// Of each object the slots that were given its committed value.
     given: Vec<Slots>,
+    /// Of each 64 objects the slots that one of them may have in `given`, so that a slot is forgotten without a look at all objects.
+    blocks: Vec<Slots>,
 }
 
 impl Model for Queue {
@@ -80,6 +83,7 @@ impl Queue {
         let objects = shape.objects as usize;
         let writers = Writers::new(alloc, objects)?;
         let given = no_rows(alloc, objects)?;
+        let blocks = no_rows(alloc, objects.div_ceil(BLOCK))?;
         Ok(Queue {
             alloc,
             shape,
@@ -90,6 +94,7 @@ impl Queue {
             sources: VecDeque::new(alloc),
             writers,
             given,
+            blocks,
         })
     }
 
@@ -333,6 +338,8 @@ impl Queue {
     {
         let row = &mut self.given[object.0 as usize];
         row.add(slot);
+        let block = &mut self.blocks[object.0 as usize / BLOCK];
+        block.add(slot);
     }
 
     /// Makes room for so many slots.
@@ -347,6 +354,7 @@ impl Queue {
         }
         let room = slots.max(2 * self.room).min(MOST_OPEN);
         make_marks_room(&mut self.entries, room)?;
+        make_given_room(&mut self.blocks, room)?;
         make_given_room(&mut self.given, room)?;
         self.room = room;
         Ok(())
@@ -357,7 +365,7 @@ impl Queue {
         ensures { self.new ≡ without_slot self.old slot }
     {
         forget_marks(&mut self.entries, slot);
-        forget_given(&mut self.given, slot);
+        forget_given(&mut self.given, &mut self.blocks, slot);
     }
 
     /// Commits the actions before the first that has no result, in order, and answers how many.
@@ -396,6 +404,7 @@ impl Queue {
         } = entry;
         put_values(&mut self.committed, &action, result.unwrap());
         self.writers.remove_first(&action);
+        tell_blocks(&mut self.blocks, &action, &marks);
         give_written(&mut self.given, &action, &marks);
         self.commit += 1;
     }

@@ -1,14 +1,18 @@
 //! Room for more slots, and slots that are forgotten, in all sets of a queue.
-ghost use Rattle.std.specs.Prelude.{◌≡◌, ◌≤◌, All, map, OnOk};
+ghost use Rattle.std.specs.Prelude.{◌≡◌, ◌==◌, ◌/◌, ◌≤◌, All, map, OnOk};
 ghost use Rattle.sv_world.specs.Limits.{most_open};
 ghost use Rattle.sv_queue.specs.Slots.{SlotSet, set_but};
-ghost use Rattle.sv_queue.specs.Rooms.{HaveGrown};
+ghost use Rattle.sv_queue.specs.Blocks.{AreCovered};
+ghost use Rattle.sv_queue.specs.Rooms.{HaveGrown, AreWithout};
 ghost use Rattle.sv_queue.specs.Marks.{all_queued, marks_of, waiting_but};
 
 use crate::slots::Slots;
 use crate::waiting::Waiting;
 use std::alloc::AllocError;
 use std::collections::VecDeque;
+
+/// How many objects a block has.
+pub const BLOCK: usize = 64;
 
 /// Makes room in the marks of each action. After running out of memory some have more room, and all have the slots that they had.
 pub fn make_marks_room(entries: &mut VecDeque<Waiting>, room: u16) -> Result<(), AllocError>
@@ -47,11 +51,28 @@ pub fn forget_marks(entries: &mut VecDeque<Waiting>, slot: u16)
     }
 }
 
-/// The same of the rows of objects.
-pub fn forget_given(rows: &mut Vec<Slots>, slot: u16)
-    ensures { rows.new.items ≡ map (set_but slot) rows.old.items }
+/// Takes a slot out of the rows of objects and of their blocks. Only the rows of a block that has it are looked at.
+pub fn forget_given(rows: &mut Vec<Slots>, blocks: &mut Vec<Slots>, slot: u16)
+    requires { AreCovered rows.old.items blocks.old.items }
+    ensures rows { rows.new.items ≡ map (set_but slot) rows.old.items }
+    ensures blocks { blocks.new.items ≡ map (set_but slot) blocks.old.items }
 {
-    for place in 0..rows.len() {
+    for place in 0..blocks.len() {
+        let block = &mut blocks[place];
+        if block.has(slot) {
+            block.remove(slot);
+            forget_in_block(rows, place, slot);
+        }
+    }
+}
+
+/// Takes a slot out of the rows of one block.
+fn forget_in_block(rows: &mut Vec<Slots>, block: usize, slot: u16)
+    ensures { AreWithout slot (λ x. x / 64 == block) rows.old.items rows.new.items }
+{
+    let start = block.saturating_mul(BLOCK).min(rows.len());
+    let end = start.saturating_add(BLOCK).min(rows.len());
+    for place in start..end {
         let row = &mut rows[place];
         row.remove(slot);
     }

@@ -1,9 +1,9 @@
 //! Sets of slots.
-ghost use Rattle.std.specs.Prelude.{◌≡◌, ℕ, ◌*◌, ◌<◌, ◌≤◌, ◌&&◌, ◌||◌, not, [], true, false, nat_eq, length, slice_index, IsTrue, IsFalse, IfOk, OnOk};
+ghost use Rattle.std.specs.Prelude.{◌≡◌, ℕ, ◌*◌, ◌<◌, ◌≤◌, ◌&&◌, ◌||◌, not, [], true, false, nat_eq, length, slice_index, bit_or, IsTrue, IsFalse, IfOk, OnOk};
 ghost use Rattle.std.specs.List.{list_any};
 ghost use Rattle.sv_world.specs.Control.{is_in};
 ghost use Rattle.sv_world.specs.Limits.{most_open};
-ghost use Rattle.sv_queue.specs.Slots.{no_slots, set_with, set_but, has_bit};
+ghost use Rattle.sv_queue.specs.Slots.{no_slots, set_with, set_but, set_joined, has_bit};
 
 use smallvec::SmallVec;
 use std::alloc::{AllocError, Global};
@@ -14,10 +14,10 @@ const WORD: u16 = 64;
 
 /// A set of slots. A slot is the place of an open session, and stands for it.
 ///
-/// A set has room for 64 slots at first, and takes memory only for more.
+/// A set has room for 64 slots at first. For more than 512 it takes memory.
 #[derive(Debug, Drop)]
 pub struct Slots {
-    words: SmallVec<u64, 1>,
+    words: SmallVec<u64, 8>,
 }
 
 impl Model for Slots {
@@ -101,6 +101,14 @@ impl Slots {
     {
         copy_words(self.words.as_mut_slice(), other.words.as_slice());
     }
+
+    /// Takes the slots of another set beside its own.
+    pub fn join(&mut self, other: &Slots)
+        requires { (s : ℕ) → is_in s other.now.slots ≡ true → s < self.old.room }
+        ensures { self.new ≡ set_joined other.now.slots self.old }
+    {
+        join_words(self.words.as_mut_slice(), other.words.as_slice());
+    }
 }
 
 /// The word at a place, 0 where there is none.
@@ -157,5 +165,15 @@ fn copy_words(words: &mut [u64], others: &[u64])
 {
     for place in 0..words.len() {
         words[place] = word_at(others, place);
+    }
+}
+
+/// Each word gets the other's bits at its place.
+fn join_words(words: &mut [u64], others: &[u64])
+    ensures count { length words.new ≡ length words.old }
+    ensures words { (i : ℕ) → i < length words.old → slice_index words.new i ≡ bit_or (slice_index words.old i) (slice_index others.now i) }
+{
+    for place in 0..words.len() {
+        words[place] |= word_at(others, place);
     }
 }

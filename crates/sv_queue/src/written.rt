@@ -1,14 +1,16 @@
 //! The objects that an action writes, and rows that are changed at them.
-ghost use Rattle.std.specs.Prelude.{◌≡◌, ◌+◌, ◌<◌, ◌≤◌, ℕ, false, true, [], ◌++◌, length, map, replicate, slice_index_or, All, IfOk, IfSome, option_to_list};
+ghost use Rattle.std.specs.Prelude.{◌≡◌, ◌+◌, ◌*◌, ◌<◌, ◌≤◌, ℕ, false, true, [], ◌++◌, length, map, replicate, slice_index_or, All, IfOk, IfSome, option_to_list};
 ghost use Rattle.sv_world.specs.declared.world.ObjectId.{ObjectId};
 ghost use Rattle.sv_world.specs.Control.{is_in};
 ghost use Rattle.sv_world.specs.Faults.{is_ascending};
 ghost use Rattle.sv_world.specs.Limits.{most_reads};
 ghost use Rattle.sv_world.specs.Sets.{read_set, write_set};
 ghost use Rattle.sv_eval.specs.Serial.{put_all};
+ghost use Rattle.sv_queue.specs.Blocks.{AreTold};
 ghost use Rattle.sv_queue.specs.Slots.{SlotSet, no_slots};
 ghost use Rattle.sv_queue.specs.Written.{CanWrite, IsChangedAt, writes_before};
 
+use crate::rooms::BLOCK;
 use crate::slots::Slots;
 use std::alloc::{AllocError, Global};
 use sv_world::{Action, List, ObjectId, Value};
@@ -66,6 +68,20 @@ pub fn give_written(rows: &mut Vec<Slots>, action: &Action, slots: &Slots)
         if let Some(object) = written_at(action, slot) {
             let row = &mut rows[object.0 as usize];
             row.copy_from(slots);
+        }
+    }
+}
+
+/// Tells the block of each object that an action writes of these slots.
+pub fn tell_blocks(blocks: &mut Vec<Slots>, action: &Action, slots: &Slots)
+    requires can { CanWrite (64 * length blocks.old.items) action.now }
+    requires room { All (λ (r : SlotSet). (s : ℕ) → is_in s slots.now.slots ≡ true → s < r.room) blocks.old.items }
+    ensures { AreTold (write_set action.now) slots.now.slots blocks.old.items blocks.new.items }
+{
+    for slot in 0..action.reads.len() {
+        if let Some(object) = written_at(action, slot) {
+            let block = &mut blocks[object.0 as usize / BLOCK];
+            block.join(slots);
         }
     }
 }

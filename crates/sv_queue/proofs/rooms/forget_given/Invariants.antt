@@ -1,7 +1,10 @@
 -- The loop invariant of `forget_given`.
-use Rattle.std.proofs.Common.{◌≡◌, ◌++◌, map, take, drop}
-use Rattle.sv_queue.specs.Slots.{set_but}
+use Rattle.std.proofs.Common.{◌/◌, nat_lt}
+use Rattle.sv_queue.specs.Rooms.{AreWithout}
 use Rattle.sv_queue.proofs.rooms.forget_given.Given as goal
 
 abbrev pub invariant-loop-place : goal.invariant-loop-place
-invariant-loop-place l = l.rows.items ≡ map (set_but l.slot) (take l.place l.initial.rows.items) ++ drop l.place l.initial.rows.items
+invariant-loop-place l = record {
+  rows : AreWithout l.slot (λ x. nat_lt (x / 64) l.place) l.initial.rows.items l.rows.items;
+  blocks : AreWithout l.slot (λ b. nat_lt b l.place) l.initial.blocks.items l.blocks.items;
+}

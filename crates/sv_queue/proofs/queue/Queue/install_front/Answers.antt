@@ -1,13 +1,13 @@
 -- What the check leaves to prove of `Queue::install_front`.
-use Rattle.std.proofs.Common.{◌≡◌, ℕ, suc, ◌<◌, [], ◌∷◌, List, length, All, ap, subst, sym, ◌∙◌, arith}
+use Rattle.std.proofs.Common.{◌≡◌, suc, ◌*◌, List, length, All, ap, subst, sym, ◌∙◌, arith}
 use Rattle.sv_world.specs.declared.action.Action.{Action}
 use Rattle.sv_world.specs.Sets.{write_set}
-use Rattle.sv_queue.specs.declared.waiting.Waiting.{Waiting}
 use Rattle.sv_queue.specs.Invariant.{HaveSources, HasRoom, slots_in}
 use Rattle.sv_queue.specs.Marks.{all_queued, marks_of, queued_of}
 use Rattle.sv_queue.specs.Queue.{entry_actions, first_installed}
 use Rattle.sv_queue.specs.Pairs.{pairs_of}
 use Rattle.sv_queue.specs.Slots.{SlotSet, no_slots}
+use Rattle.sv_queue.proofs.Blocks.{blocks-given, can_write-more}
 use Rattle.sv_queue.proofs.Kept.{agree_install, first_can_write, first_values}
 use Rattle.sv_queue.proofs.Installs.{pairs_of-give, first_installed_is}
 use Rattle.sv_queue.proofs.SourceLists.{sources-rest}
@@ -30,6 +30,20 @@ remove_first-requires c =
     let a = c.self.inside in
     let first = ap all_queued (rw c.unwrap-entry.ensures at c.pop_front.ensures.items) in
     rw c.self.invariant.agree.lists (first_can_write a.shape a.commit a.committed (all_queued a.entries.items) (all_queued c.pop_front.new.self.items) a.writers (slots_in a.given.items) (queued_of c.unwrap-entry.result) c.self.invariant.agree first)
+
+pub tell_blocks-requires : goal.tell_blocks-requires
+tell_blocks-requires c =
+    let a = c.self.inside in
+    let w = c.unwrap-entry.result in
+    let items = rw c.unwrap-entry.ensures at c.pop_front.ensures.items in
+    let first = ap all_queued items in
+    let has = subst (λ (rs : List SlotSet). All (HasRoom a.room) rs) (ap marks_of items) c.self.invariant.room.marks 0 no_slots (omega arith) in
+    record {
+      can = can_write-more a.shape.objects (64 * length a.blocks.items) w.action
+          (first_can_write a.shape a.commit a.committed (all_queued a.entries.items) (all_queued c.pop_front.new.self.items) a.writers (slots_in a.given.items) (queued_of w) c.self.invariant.agree first)
+          (omega (arith, rows_count a.given.items, c.self.invariant.agree.given, c.self.invariant.cover.count));
+      room = λ k d low s m. (let within = has.within s m in let enough = c.self.invariant.cover.enough k d low in omega (arith, within, enough));
+    }
 
 pub give_written-requires : goal.give_written-requires
 give_written-requires c =
@@ -64,6 +78,8 @@ invariant_of-self c =
         marks = λ k d low. marks (suc k) d (omega arith);
         given = rooms-given a.room (write_set w.action) a.given.items next w.marks c.give_written.ensures c.self.invariant.room.given (marks 0 no_slots (omega arith));
       };
+      cover = blocks-given a.room (write_set w.action) w.marks a.given.items next a.blocks.items c.tell_blocks.new.blocks.items c.self.invariant.cover c.self.invariant.room.given (marks 0 no_slots (omega arith)) c.self.invariant.room.limit
+          c.give_written.ensures c.tell_blocks.ensures;
     }
 
 pub returns : goal.returns

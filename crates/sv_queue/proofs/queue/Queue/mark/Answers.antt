@@ -1,5 +1,5 @@
 -- What the check leaves to prove of `Queue::mark`.
-use Rattle.std.proofs.Common.{◌≡◌, ◌+◌, ◌-◌, ◌<◌, ◌≤◌, ◌∙◌, List, length, get_or, set, sym, ap, subst, arith}
+use Rattle.std.proofs.Common.{◌≡◌, ◌-◌, ◌<◌, ◌∙◌, List, length, get_or, set, sym, ap, subst, arith}
 use Rattle.std.proofs.lemmas.List.{length-map}
 use Rattle.sv_world.specs.declared.action.Action.{Action}
 use Rattle.sv_eval.proofs.Lists.{all_set}
@@ -57,6 +57,7 @@ invariant_of-self c =
         marks = rw (marks-set ws i new') (all_set (HasRoom a.room) (marks_of ws) i c.add.new.self c.self.invariant.room.marks has);
         given = c.self.invariant.room.given;
       };
+      cover = c.self.invariant.cover;
     }
 
 pub returns : goal.returns

@@ -1,5 +1,6 @@
 -- What the check leaves to prove of `Queue::new`.
 use Rattle.std.proofs.Common.{refl, arith}
+use Rattle.sv_queue.proofs.Blocks.{blocks-none}
 use Rattle.sv_queue.proofs.Kept.{agree_opening}
 use Rattle.sv_queue.proofs.Installs.{pairs_of-none}
 use Rattle.sv_queue.proofs.SourceLists.{sources-none}
@@ -16,6 +17,7 @@ invariant_of-result c = record {
     marks = rw c.new-2.ensures.items (λ k d low. absurd (omega arith));
     given = rw c.in_ok-given.ensures (room_none 64 c.args.world.shape.objects (omega arith));
   };
+  cover = rw (c.in_ok-given.ensures, c.in_ok-blocks.ensures) (blocks-none 64 c.args.world.shape.objects c.div_ceil.result (omega arith) (omega (arith, c.div_ceil.ensures)));
 }
 
 pub returns : goal.returns

@@ -3,7 +3,7 @@ use Rattle.std.proofs.Common.{◌≡◌, [], ◌∷◌, ◌++◌, List, All, sym
 use Rattle.sv_world.specs.declared.action.Action.{Action}
 use Rattle.sv_queue.specs.Invariant.{HaveSources, HasRoom, model_of, slots_in}
 use Rattle.sv_queue.specs.Marks.{all_queued, marks_of, queued_of}
-use Rattle.sv_queue.specs.Queue.{Queued, QueueView, entry_actions, without_last}
+use Rattle.sv_queue.specs.Queue.{Queued, entry_actions, without_last}
 use Rattle.sv_queue.specs.Slots.{SlotSet}
 use Rattle.sv_queue.specs.Written.{front_of}
 use Rattle.sv_queue.proofs.SourceLists.{actions-push, sources-front}
@@ -39,6 +39,7 @@ invariant_of-self c =
         marks = All-front (HasRoom a.room) (marks_of front) (w.marks ∷ []) (subst (λ (rs : List SlotSet). All (HasRoom a.room) rs) (ap marks_of last ∙ marks-push front w) c.self.invariant.room.marks);
         given = c.self.invariant.room.given;
       };
+      cover = c.self.invariant.cover;
     }
 
 pub returns : goal.returns

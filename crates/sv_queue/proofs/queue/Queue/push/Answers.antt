@@ -44,4 +44,5 @@ invariant_of-self-2 c =
         marks = rw (added, marks-push ws w) (All-push (HasRoom a.room) (marks_of ws) w.marks c.self.invariant.room.marks (room_empty a.room w.marks c.in_ok-marks.ensures.slots c.in_ok-marks.ensures.room));
         given = c.self.invariant.room.given;
       };
+      cover = c.self.invariant.cover;
     }

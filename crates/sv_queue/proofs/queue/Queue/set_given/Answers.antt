@@ -1,11 +1,12 @@
 -- What the check leaves to prove of `Queue::set_given`.
-use Rattle.std.proofs.Common.{ℕ, ◌<◌, ◌≤◌, ◌∙◌, [], List, length, sym, ap, subst, arith}
+use Rattle.std.proofs.Common.{ℕ, ◌/◌, ◌<◌, ◌∙◌, List, length, sym, ap, subst, arith}
 use Rattle.std.proofs.lemmas.List.{get_or_read}
 use Rattle.sv_eval.proofs.Lists.{all_set}
 use Rattle.sv_queue.specs.Invariant.{HasRoom, model_of, slots_in}
 use Rattle.sv_queue.specs.Marks.{all_queued}
 use Rattle.sv_queue.specs.Queue.{QueueView, with_given}
-use Rattle.sv_queue.specs.Slots.{SlotSet, no_slots, with_slot}
+use Rattle.sv_queue.specs.Slots.{SlotSet, no_slots, set_with, with_slot}
+use Rattle.sv_queue.proofs.Blocks.{blocks-with}
 use Rattle.sv_queue.proofs.Installs.{pairs_of-add}
 use Rattle.sv_queue.proofs.Kept.{agree_with_row}
 use Rattle.sv_queue.proofs.Waits.{read_row, rows_count, rows-set, room_with, room_at}
@@ -22,6 +23,20 @@ add-requires c =
     let enough = has.enough in
     omega (arith, room, enough, c.requires.slot)
 
+pub add-requires-2 : goal.add-requires-2
+add-requires-2 c =
+    let a = c.self.inside in
+    let blocks = a.blocks.items in
+    let x = c.args.object.0 in
+    let low : x < a.shape.objects = omega (arith, ap (λ (v : QueueView). v.shape.objects) c.self.view_is) in
+    let within : x < length a.given.items = omega (arith, low, c.self.invariant.agree.given, rows_count a.given.items) in
+    let there : x / 64 < length blocks = omega (arith, within, c.self.invariant.cover.count) in
+    let room = ap (λ (v : QueueView). v.room) c.self.view_is in
+    let read = get_or_read blocks (x / 64) c.index_mut-block.result.now there c.index_mut-block.ensures.value no_slots in
+    let enough = c.self.invariant.cover.enough (x / 64) no_slots there in
+    let here = ap (λ (r : SlotSet). r.room) read in
+    omega (arith, room, enough, here, c.requires.slot)
+
 pub invariant_of-self : goal.invariant_of-self
 invariant_of-self c =
     let a = c.self.inside in
@@ -29,6 +44,8 @@ invariant_of-self c =
     let x = c.args.object.0 in
     let low : x < a.shape.objects = omega (arith, ap (λ (v : QueueView). v.shape.objects) c.self.view_is) in
     let within : x < length rows = omega (arith, low, c.self.invariant.agree.given, rows_count rows) in
+    let blocks = a.blocks.items in
+    let there : x / 64 < length blocks = omega (arith, within, c.self.invariant.cover.count) in
     let room = ap (λ (v : QueueView). v.room) c.self.view_is in
     let small : c.args.slot < a.room = omega (arith, room, c.requires.slot) in
     let has = subst (HasRoom a.room) (sym c.add.ensures) (room_with a.room c.args.slot c.index_mut-row.result.now (room_at a.room rows x c.index_mut-row.result.now c.self.invariant.room.given within c.index_mut-row.ensures.value) small) in
@@ -40,6 +57,9 @@ invariant_of-self c =
         marks = c.self.invariant.room.marks;
         given = all_set (HasRoom a.room) rows x c.add.new.self c.self.invariant.room.given has;
       };
+      cover = blocks-with a.room c.args.slot x rows blocks c.add.new.self c.add-2.new.self c.self.invariant.cover c.self.invariant.room.given c.self.invariant.room.limit within
+          (c.add.ensures ∙ ap (set_with c.args.slot) (get_or_read rows x c.index_mut-row.result.now within c.index_mut-row.ensures.value no_slots))
+          (c.add-2.ensures ∙ ap (set_with c.args.slot) (get_or_read blocks (x / 64) c.index_mut-block.result.now there c.index_mut-block.ensures.value no_slots));
     }
 
 pub returns : goal.returns

@@ -5,9 +5,8 @@ use Rattle.sv_world.specs.declared.action.Action.{Action}
 use Rattle.sv_world.specs.Worlds.{HaveAttrs}
 use Rattle.sv_queue.specs.declared.waiting.Waiting.{Waiting}
 use Rattle.sv_queue.specs.Invariant.{HaveSources, IsGoodEntry, model_of, slots_in}
-use Rattle.sv_queue.specs.Marks.{all_queued, marks_of, queued_of}
+use Rattle.sv_queue.specs.Marks.{all_queued, queued_of}
 use Rattle.sv_queue.specs.Queue.{Queued, QueueView, entry_at, no_entry, with_result}
-use Rattle.sv_queue.specs.Slots.{SlotSet}
 use Rattle.sv_queue.proofs.Kept.{agree_with_entry}
 use Rattle.sv_queue.proofs.SourceLists.{actions-set}
 use Rattle.sv_queue.proofs.Waits.{queued_count, read_queued, queued-set, marks-same}
@@ -41,6 +40,7 @@ invariant_of-self c =
         marks = rw (marks-same ws i w (Some values) within c.index_mut-entry.ensures.value) c.self.invariant.room.marks;
         given = c.self.invariant.room.given;
       };
+      cover = c.self.invariant.cover;
     }
 
 pub returns : goal.returns
