@@ -3,6 +3,7 @@ pub mod Sides
 pub mod Ends
 pub mod Nets
 pub mod Logs
+pub mod Unmatched
 pub mod Books
 pub mod Pipes
 pub mod Crews

@@ -35,6 +35,17 @@ transcript_of server server_faults client client_faults =
       server_faulty = nat_lt 0 server_faults;
     }
 
+-- Both ends of a pair as they are when it is settled: what each tells of itself, and its count of faults.
+pub record BothEnds : Type 0 where
+  pub server : Told
+  pub server_faults : ℕ
+  pub client : Told
+  pub client_faults : ℕ
+
+abbrev pub both_ends : Told → ℕ → Told → ℕ → BothEnds
+both_ends server server_faults client client_faults =
+    record { server = server; server_faults = server_faults; client = client; client_faults = client_faults }
+
 -- What was received is what the other side sent, or a beginning of it; all of it where a read answered Ended.
 pub record Arrived (sent received : List ℕ) (ended : Bool) : Type 0 where
   pub part : IsPrefix received sent
@@ -65,6 +76,11 @@ pub record IsMatched (server : Told) (server_faults : ℕ) (client : Told) (clie
 abbrev pub Settles : Told → ℕ → Told → ℕ → Bool → List Transcript → List Transcript → Settle → Type 0
 Settles server server_faults client client_faults cut old new settle.Matched = IsMatched server server_faults client client_faults cut old new
 Settles server server_faults client client_faults cut old new settle.Failed = new ≡ old
+
+-- a net lists the pairs that it told as not matched, each with its ends as they were then: here one more, or none
+abbrev pub ListsUnmatched : BothEnds → List BothEnds → List BothEnds → Settle → Type 0
+ListsUnmatched ends old new settle.Matched = new ≡ old
+ListsUnmatched ends old new settle.Failed = new ≡ old ++ ends ∷ []
 
 -- a net's count of faults at an answer of `settle`: the ends' faults count too, but not those of a session that was cut
 abbrev pub SettleCause : ℕ → ℕ → ℕ → Settle → Type 0

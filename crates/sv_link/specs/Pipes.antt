@@ -5,7 +5,8 @@ use Rattle.sv_bytes.specs.declared.plan.CallPlan.{CallPlan}
 use Rattle.sv_link.specs.Books.{IsNewBook}
 use Rattle.sv_link.specs.Ends.{Told}
 use Rattle.sv_link.specs.Logs.{told_of}
-use Rattle.sv_link.specs.Nets.{Transcript}
+use Rattle.sv_link.specs.Nets.{Transcript, BothEnds}
+use Rattle.sv_link.specs.Unmatched.{unmatched_in}
 use Rattle.sv_link.specs.declared.book.Book.{Book}
 use Rattle.sv_link.specs.declared.ends.EndRead.{EndRead}
 use Rattle.sv_link.specs.declared.ends.EndRead.TheVariants as read
@@ -83,9 +84,14 @@ module _ {R : Type 0} where
   abbrev pub book_of : PipeNet R → Book Transcript
   book_of net = net.book
 
+  -- the pairs that did not match
+  abbrev pub unmatched_of : PipeNet R → List BothEnds
+  unmatched_of net = unmatched_in net.unmatched.items
+
   -- no pair was made, no call was counted, nothing fails, and ends move as much as they can
   pub record IsNewNet (net : PipeNet R) : Type 0 where
     pub book : IsNewBook (book_of net)
+    pub unmatched : unmatched_of net ≡ []
     pub plans : HasNoPlan (plans_of net)
     pub counts : ((plans_of net).calls_made ≡ 0) × ((plans_of net).settlings_made ≡ 0)
     pub steps : ((plans_of net).server_step ≡ 2 ^ 64 - 1) × ((plans_of net).client_step ≡ 2 ^ 64 - 1)

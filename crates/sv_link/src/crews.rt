@@ -2,7 +2,7 @@
 ghost use Rattle.std.specs.Prelude.{◌≡◌, ℕ, ◌+◌, ◌<◌, List, [], ◌∷◌, ◌++◌, OnOk, vec_len};
 ghost use Rattle.std.specs.List.{AllByRecursion, AllZip};
 ghost use Rattle.sv_bytes.specs.Faults.{Rose};
-ghost use Rattle.sv_link.specs.Crews.{IfDone, RanMore, CrewCause};
+ghost use Rattle.sv_link.specs.Crews.{IfDone, RanMore, CrewCause, LeavesJobs};
 
 use crate::starting::run_each;
 use std::alloc::AllocError;
@@ -11,15 +11,15 @@ use std::thread::Threads;
 
 /// What `run_all` answers.
 #[derive(Debug, Drop)]
-pub enum Ran<T> {
+pub enum Ran<T, J> {
     /// Every job ran. Here is what they gave, in the order of the jobs.
     Done(Vec<T>),
 
     /// A thread could not be started. The jobs that had been started were waited for, and the others did not run.
     Failed,
 
-    /// There was no memory.
-    Memory,
+    /// There was no memory, and no job ran. Here are all of them, in order.
+    Memory(Vec<J>),
 }
 
 /// What one thread does, once.
@@ -100,19 +100,20 @@ pub trait Crew {
 
     /// Runs all jobs at once, each on a thread of its own, and waits for all of them.
     ///
-    /// Where a thread can't be started, the jobs that were not started are dropped.
+    /// Where a thread can't be started, it takes its job along, and those behind it are dropped.
     final fn run_all<J: Job, R: Threads + Wait + Sync>(
         &mut self,
         rt: &R,
         jobs: Vec<J>,
-    ) -> Ran<J::Out>
+    ) -> Ran<J::Out, J>
         requires ready { AllByRecursion J.ready jobs.items }
         ensures kept { IfDone result (λ outs. AllZip J.keeps jobs.items outs) }
         ensures ran { RanMore (ran self.old) (ran self.new) (vec_len jobs) result }
         ensures cause { CrewCause (faults self.old) (faults self.new) result }
+        ensures left { LeavesJobs jobs.items result }
     {
         if self.make_room().is_err() {
-            return Ran::Memory;
+            return Ran::Memory(jobs);
         }
         let jobs_given = jobs.len();
         let refused = self.refused();
@@ -120,7 +121,7 @@ pub trait Crew {
         match &ran {
             Ran::Done(_) => self.note(AllRan { jobs: jobs_given }),
             Ran::Failed => self.count_fault(StartRefused { jobs: jobs_given }),
-            Ran::Memory => {}
+            Ran::Memory(_) => {}
         }
         ran
     }

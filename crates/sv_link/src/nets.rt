@@ -1,6 +1,6 @@
 //! Where pairs of ends come from, and where they are settled.
 ghost use Rattle.std.specs.Prelude.{◌≡◌, ℕ, suc, ◌<◌, List};
-ghost use Rattle.sv_link.specs.Nets.{Transcript, BothArrived, AreTwoEnds, Settles, SettleCause, counted, MakesPair, OwesPair, PairCause, IsCalmPair};
+ghost use Rattle.sv_link.specs.Nets.{Transcript, BothEnds, both_ends, BothArrived, AreTwoEnds, Settles, ListsUnmatched, SettleCause, counted, MakesPair, OwesPair, PairCause, IsCalmPair};
 
 use crate::ends::End;
 
@@ -29,11 +29,15 @@ pub enum Settle {
 
 /// Makes connections, and compares what their two ends tell once both are done.
 ///
-/// Contracts see the transcripts of the pairs that were settled, how many pairs were made, and how many of these are still to be settled.
+/// Contracts see the transcripts of the pairs that matched, the pairs that did not, how many pairs were made, and how many of these are still
+/// to be settled.
 pub trait Net {
     type E: End + Send;
 
     ghost settled: { Self → List Transcript };
+
+    // The pairs that were told as not matched.
+    ghost unmatched: { Self → List BothEnds };
 
     // How many pairs were made. It is the number of the next one.
     ghost made: { Self → ℕ };
@@ -50,7 +54,7 @@ pub trait Net {
     fn pair(&mut self) -> Pair<Self::E>
         ensures made { MakesPair Self.E.told Self.E.faults (made self.old) (made self.new) result }
         ensures owed { OwesPair (owed self.old) (owed self.new) result }
-        ensures settled { settled self.new ≡ settled self.old }
+        ensures settled { (settled self.new ≡ settled self.old) × (unmatched self.new ≡ unmatched self.old) }
         ensures cause { PairCause (faults self.old) (faults self.new) result }
         ensures calm { calm self.old → IsCalmPair Self.E.calm result × calm self.new };
 
@@ -60,6 +64,7 @@ pub trait Net {
         requires pair { AreTwoEnds (made self.old) (Self.E.told server) (Self.E.told client) }
         requires owed { 0 < owed self.old }
         ensures settles { Settles (Self.E.told server) (Self.E.faults server) (Self.E.told client) (Self.E.faults client) cut (settled self.old) (settled self.new) result }
+        ensures unmatched { ListsUnmatched (both_ends (Self.E.told server) (Self.E.faults server) (Self.E.told client) (Self.E.faults client)) (unmatched self.old) (unmatched self.new) result }
         ensures made { made self.new ≡ made self.old }
         ensures owed { owed self.old ≡ suc (owed self.new) }
         ensures cause { SettleCause (faults self.old) (faults self.new) (counted cut (Self.E.faults server) (Self.E.faults client)) result }

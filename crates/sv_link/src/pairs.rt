@@ -3,13 +3,15 @@ ghost use Rattle.std.specs.Prelude.{◌≡◌, ℕ, suc, ◌+◌, ◌<◌, [], t
 ghost use Rattle.sv_link.specs.Books.{CanOpen};
 ghost use Rattle.sv_link.specs.Ends.{new_end};
 ghost use Rattle.sv_link.specs.Logs.{told_of};
-ghost use Rattle.sv_link.specs.Nets.{Arrived, BothArrived, Settles, SettleCause, counted};
+ghost use Rattle.sv_link.specs.Nets.{Arrived, BothArrived, Settles, ListsUnmatched, SettleCause, counted};
+ghost use Rattle.sv_link.specs.Unmatched.{ends_of, unmatched_in};
 ghost use Rattle.sv_link.specs.declared.side.Side.TheVariants.{Server, Client};
 
 use crate::book::Book;
 use crate::log::EndLog;
 use crate::nets::Settle;
 use crate::side::Side;
+use http_server::Log;
 use std::alloc::Global;
 use std::marker::Model;
 use sv_bytes::FaultCount;
@@ -45,9 +47,10 @@ pub(crate) fn open_pair(book: &mut Book<Settled>, alloc: Global) -> (EndLog, End
     )
 }
 
-/// Compares two ends. `refused` says that the net settles them as failed all the same.
+/// Compares two ends. `refused` says that the net settles them as failed all the same. Contracts alone see the list of those that failed.
 pub(crate) fn settle_pair(
     book: &mut Book<Settled>,
+    unmatched: &mut Log<EndLog, EndLog>,
     server: EndLog,
     client: EndLog,
     cut: bool,
@@ -55,6 +58,7 @@ pub(crate) fn settle_pair(
 ) -> Settle
     requires owed { 0 < book.old.owed }
     ensures settles { Settles (told_of server) server.faults (told_of client) client.faults cut book.old.kept.items book.new.kept.items result }
+    ensures unmatched { ListsUnmatched (ends_of server client) (unmatched_in unmatched.old.items) (unmatched_in unmatched.new.items) result }
     ensures made { book.new.made ≡ book.old.made }
     ensures owed { book.old.owed ≡ suc book.new.owed }
     ensures cause { SettleCause book.old.faults.value book.new.faults.value (counted cut server.faults client.faults) result }
@@ -67,6 +71,7 @@ pub(crate) fn settle_pair(
         book.keep(Settled { server, client });
         return Settle::Matched;
     }
+    *unmatched = unmatched.and(&server, &client);
     book.owed -= 1;
     book.faults.raise();
     if !cut {

@@ -1,7 +1,7 @@
 //! A net whose connections lie in memory.
 ghost use Rattle.std.specs.Prelude.{◌≡◌, ◌<◌, suc, [], ◌∷◌, ◌++◌, ◌↔◌, IfOk, OnOk, OnErr, IsTrue};
 ghost use Rattle.sv_link.specs.Logs.{told_of};
-ghost use Rattle.sv_link.specs.Nets.{BothArrived, Settles, SettleCause, counted, MakesPair, OwesPair, PairCause};
+ghost use Rattle.sv_link.specs.Nets.{both_ends, BothArrived, Settles, ListsUnmatched, SettleCause, counted, MakesPair, OwesPair, PairCause};
 ghost use Rattle.sv_link.specs.Pipes.{IsCopied, SomeReceived};
 
 use crate::book::Book;
@@ -10,6 +10,7 @@ use crate::nets::{Net, Pair, Settle};
 use crate::pairs::{Settled, open_pair, settle_pair};
 use crate::pipe::Pipe;
 use crate::pipe_end::PipeEnd;
+use http_server::Log;
 use std::alloc::{AllocError, Global};
 use std::sync::{Arc, Wait};
 use sv_bytes::CallPlan;
@@ -22,6 +23,7 @@ pub struct PipeNet<'r, R: Wait> {
     alloc: Global,
     rt: &'r R,
     book: Book<Settled>,
+    unmatched: Log<EndLog, EndLog>,
     calls: CallPlan,
     server: CallPlan,
     client: CallPlan,
@@ -29,7 +31,7 @@ pub struct PipeNet<'r, R: Wait> {
 }
 
 impl<'r, R: Wait> PipeNet<'r, R> {
-    ghost use Rattle.sv_link.specs.Pipes.{IsNewNet, book_of, plans_of, pipe_told, pipe_faults, CountsCall, IsListed, HavePlans, RefusesEnds};
+    ghost use Rattle.sv_link.specs.Pipes.{IsNewNet, book_of, unmatched_of, plans_of, pipe_told, pipe_faults, CountsCall, IsListed, HavePlans, RefusesEnds};
 
     /// No pair was made, and no call fails.
     pub fn new(alloc: Global, rt: &'r R) -> PipeNet<'r, R>
@@ -39,6 +41,7 @@ impl<'r, R: Wait> PipeNet<'r, R> {
             alloc,
             rt,
             book: Book::new(alloc),
+            unmatched: Log::new(),
             calls: CallPlan::new(alloc),
             server: CallPlan::new(alloc),
             client: CallPlan::new(alloc),
@@ -50,7 +53,7 @@ impl<'r, R: Wait> PipeNet<'r, R> {
     pub fn fail_at(&mut self, call: u64) -> Result<(), AllocError>
         ensures ok { OnOk result (plans_of self.new ≡ record (plans_of self.old) { calls = (plans_of self.old).calls ++ call ∷ [] }) }
         ensures err { OnErr result (plans_of self.new ≡ plans_of self.old) }
-        ensures pairs { book_of self.new ≡ book_of self.old }
+        ensures pairs { (book_of self.new ≡ book_of self.old) × (unmatched_of self.new ≡ unmatched_of self.old) }
     {
         self.calls.fail_at(call)
     }
@@ -59,7 +62,7 @@ impl<'r, R: Wait> PipeNet<'r, R> {
     pub fn fail_server_at(&mut self, call: u64) -> Result<(), AllocError>
         ensures ok { OnOk result (plans_of self.new ≡ record (plans_of self.old) { server = (plans_of self.old).server ++ call ∷ [] }) }
         ensures err { OnErr result (plans_of self.new ≡ plans_of self.old) }
-        ensures pairs { book_of self.new ≡ book_of self.old }
+        ensures pairs { (book_of self.new ≡ book_of self.old) × (unmatched_of self.new ≡ unmatched_of self.old) }
     {
         self.server.fail_at(call)
     }
@@ -68,7 +71,7 @@ impl<'r, R: Wait> PipeNet<'r, R> {
     pub fn fail_client_at(&mut self, call: u64) -> Result<(), AllocError>
         ensures ok { OnOk result (plans_of self.new ≡ record (plans_of self.old) { client = (plans_of self.old).client ++ call ∷ [] }) }
         ensures err { OnErr result (plans_of self.new ≡ plans_of self.old) }
-        ensures pairs { book_of self.new ≡ book_of self.old }
+        ensures pairs { (book_of self.new ≡ book_of self.old) × (unmatched_of self.new ≡ unmatched_of self.old) }
     {
         self.client.fail_at(call)
     }
@@ -77,7 +80,7 @@ impl<'r, R: Wait> PipeNet<'r, R> {
     pub fn change_at(&mut self, settling: u64) -> Result<(), AllocError>
         ensures ok { OnOk result (plans_of self.new ≡ record (plans_of self.old) { settlings = (plans_of self.old).settlings ++ settling ∷ [] }) }
         ensures err { OnErr result (plans_of self.new ≡ plans_of self.old) }
-        ensures pairs { book_of self.new ≡ book_of self.old }
+        ensures pairs { (book_of self.new ≡ book_of self.old) × (unmatched_of self.new ≡ unmatched_of self.old) }
     {
         self.settlings.fail_at(settling)
     }
@@ -86,7 +89,7 @@ impl<'r, R: Wait> PipeNet<'r, R> {
     pub fn move_at_most(&mut self, step: usize)
         requires { 0 < step }
         ensures plans { plans_of self.new ≡ record (plans_of self.old) { server_step = step; client_step = step } }
-        ensures pairs { book_of self.new ≡ book_of self.old }
+        ensures pairs { (book_of self.new ≡ book_of self.old) × (unmatched_of self.new ≡ unmatched_of self.old) }
     {
         self.server.step = step;
         self.client.step = step;
@@ -100,7 +103,7 @@ impl<'r, R: Wait> PipeNet<'r, R> {
         ensures plans { (self.new.server ≡ self.old.server) × (self.new.client ≡ self.old.client) × (self.new.settlings ≡ self.old.settlings) }
         ensures made { MakesPair pipe_told pipe_faults self.old.book.made self.new.book.made result }
         ensures owed { OwesPair self.old.book.owed self.new.book.owed result }
-        ensures settled { self.new.book.kept.items ≡ self.old.book.kept.items }
+        ensures settled { (self.new.book.kept.items ≡ self.old.book.kept.items) × (unmatched_of self.new ≡ unmatched_of self.old) }
         ensures cause { PairCause self.old.book.faults.value self.new.book.faults.value result }
     {
         if self.calls.next_fails() {
@@ -132,7 +135,7 @@ impl<'r, R: Wait> PipeNet<'r, R> {
     fn refuses(&mut self, server: &EndLog, client: &EndLog) -> bool
         ensures refused { IsTrue result ↔ RefusesEnds self.new (told_of server.now) (told_of client.now) }
         ensures calls { CountsCall self.old.calls self.new.calls × CountsCall self.old.settlings self.new.settlings }
-        ensures same { (self.new.server ≡ self.old.server) × (self.new.client ≡ self.old.client) × (self.new.book ≡ self.old.book) }
+        ensures same { (self.new.server ≡ self.old.server) × (self.new.client ≡ self.old.client) × (self.new.book ≡ self.old.book) × (self.new.unmatched ≡ self.old.unmatched) }
     {
         let is_changed = self.changes(server, client);
         self.calls.next_fails() || is_changed
@@ -142,7 +145,7 @@ impl<'r, R: Wait> PipeNet<'r, R> {
     fn changes(&mut self, server: &EndLog, client: &EndLog) -> bool
         ensures changed { IsTrue result ↔ (IsListed self.new.settlings × SomeReceived (told_of server.now) (told_of client.now)) }
         ensures settlings { CountsCall self.old.settlings self.new.settlings }
-        ensures same { (self.new.server ≡ self.old.server) × (self.new.client ≡ self.old.client) × (self.new.book ≡ self.old.book) × (self.new.calls ≡ self.old.calls) }
+        ensures same { (self.new.server ≡ self.old.server) × (self.new.client ≡ self.old.client) × (self.new.book ≡ self.old.book) × (self.new.unmatched ≡ self.old.unmatched) × (self.new.calls ≡ self.old.calls) }
     {
         self.settlings.next_fails() && some_received(server, client)
     }
@@ -160,6 +163,7 @@ impl<'r, R: Wait> PipeNet<'r, R> {
         ensures refused { RefusesEnds self.new (pipe_told server.entry) (pipe_told client.entry) → result ≡ Settle.Failed }
         ensures certain { ¬ RefusesEnds self.new (pipe_told server.entry) (pipe_told client.entry) → counted cut (pipe_faults server.entry) (pipe_faults client.entry) ≡ 0 → BothArrived (pipe_told server.entry) (pipe_told client.entry) → result ≡ Settle.Matched }
         ensures settles { Settles (pipe_told server.entry) (pipe_faults server.entry) (pipe_told client.entry) (pipe_faults client.entry) cut self.old.book.kept.items self.new.book.kept.items result }
+        ensures unmatched { ListsUnmatched (both_ends (pipe_told server.entry) (pipe_faults server.entry) (pipe_told client.entry) (pipe_faults client.entry)) (unmatched_of self.old) (unmatched_of self.new) result }
         ensures made { self.new.book.made ≡ self.old.book.made }
         ensures owed { self.old.book.owed ≡ suc self.new.book.owed }
         ensures cause { SettleCause self.old.book.faults.value self.new.book.faults.value (counted cut (pipe_faults server.entry) (pipe_faults client.entry)) result }
@@ -167,16 +171,25 @@ impl<'r, R: Wait> PipeNet<'r, R> {
         let server = server.into_log();
         let client = client.into_log();
         let refused = self.refuses(&server, &client);
-        settle_pair(&mut self.book, server, client, cut, refused)
+        settle_pair(
+            &mut self.book,
+            &mut self.unmatched,
+            server,
+            client,
+            cut,
+            refused,
+        )
     }
 }
 
 impl<'r, R: Wait + Sync> Net for PipeNet<'r, R> {
-    ghost use Rattle.sv_link.specs.Pipes.{plans_of, HasNoPlan};
+    ghost use Rattle.sv_link.specs.Pipes.{unmatched_of, plans_of, HasNoPlan};
 
     type E = PipeEnd<'r, R>;
 
     ghost settled = { λ n. n.book.kept.items };
+
+    ghost unmatched = { unmatched_of };
 
     ghost made = { λ n. n.book.made };
 

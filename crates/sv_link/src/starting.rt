@@ -2,7 +2,7 @@
 ghost use Rattle.std.specs.Prelude.{◌≡◌, ◌+◌, ◌<◌, ◌≤◌, [], IsTrue, vec_len, map};
 ghost use Rattle.std.specs.Vec.{vec_capacity};
 ghost use Rattle.std.specs.List.{AllByRecursion, AllZip};
-ghost use Rattle.sv_link.specs.Crews.{IfDone};
+ghost use Rattle.sv_link.specs.Crews.{IfDone, LeavesJobs};
 ghost use Rattle.sv_link.specs.Promises.{promised};
 
 use crate::crews::{Job, Ran};
@@ -24,16 +24,18 @@ pub(crate) fn run_each<J: Job, R: Threads + Wait + Sync>(
     rt: &R,
     jobs: Vec<J>,
     refused: Option<usize>,
-) -> Ran<J::Out>
+) -> Ran<J::Out, J>
     requires { AllByRecursion J.ready jobs.items }
-    ensures { IfDone result (λ outs. AllZip J.keeps jobs.items outs) }
+    ensures kept { IfDone result (λ outs. AllZip J.keeps jobs.items outs) }
+    ensures left { LeavesJobs jobs.items result }
 {
     thread::scope(
         thread::scope_env(),
         rt,
-        move |scope| -> Ran<J::Out>
+        move |scope| -> Ran<J::Out, J>
             requires { AllByRecursion J.ready jobs.items }
-            ensures { IfDone result (λ outs. AllZip J.keeps jobs.items outs) }
+            ensures kept { IfDone result (λ outs. AllZip J.keeps jobs.items outs) }
+            ensures left { LeavesJobs jobs.items result }
         { run_in(scope, rt, jobs, refused) },
     )
 }
@@ -43,16 +45,17 @@ fn run_in<'s, E: 's, J: Job + 's, R: Threads + Wait + Sync>(
     rt: &'s R,
     jobs: Vec<J>,
     refused: Option<usize>,
-) -> Ran<J::Out>
+) -> Ran<J::Out, J>
     requires { AllByRecursion J.ready jobs.items }
-    ensures { IfDone result (λ outs. AllZip J.keeps jobs.items outs) }
+    ensures kept { IfDone result (λ outs. AllZip J.keeps jobs.items outs) }
+    ensures left { LeavesJobs jobs.items result }
 {
     let alloc = *jobs.allocator();
     let Ok(mut handles) = Vec::with_capacity(alloc, jobs.len()) else {
-        return Ran::Memory;
+        return Ran::Memory(jobs);
     };
     let Ok(mut outs) = Vec::with_capacity(alloc, jobs.len()) else {
-        return Ran::Memory;
+        return Ran::Memory(jobs);
     };
     let all_started = start_each(scope, rt, jobs, refused, &mut handles);
     join_each(rt, handles, &mut outs);

@@ -1,5 +1,5 @@
 //! A net over TCP, between threads of one process.
-ghost use Rattle.std.specs.Prelude.{◌≡◌};
+ghost use Rattle.std.specs.Prelude.{◌≡◌, []};
 ghost use Rattle.sv_link.specs.Books.{IsNewBook};
 
 use crate::book::Book;
@@ -7,6 +7,7 @@ use crate::ends::{End, EndRead, EndWrote};
 use crate::log::{EndLog, MOST_READ};
 use crate::nets::{Net, Pair, Settle};
 use crate::pairs::{Settled, open_pair, settle_pair};
+use http_server::Log;
 use std::alloc::Global;
 use std::io;
 use std::io::ErrorKind;
@@ -93,23 +94,25 @@ pub struct TcpNet<'r, R: Sockets<Listener = TcpListener, Stream = TcpStream>> {
     rt: &'r R,
     listener: Option<TcpListener>,
     book: Book<Settled>,
+    unmatched: Log<EndLog, EndLog>,
 }
 
 impl<'r, R: Sockets<Listener = TcpListener, Stream = TcpStream>> TcpNet<'r, R> {
     /// No pair was made. The first one binds a port.
     pub fn new(alloc: Global, rt: &'r R) -> TcpNet<'r, R>
-        ensures { IsNewBook result.book }
+        ensures { IsNewBook result.book × (result.unmatched.items ≡ []) }
     {
         TcpNet {
             alloc,
             rt,
             listener: None,
             book: Book::new(alloc),
+            unmatched: Log::new(),
         }
     }
 
     fn connect(&mut self) -> io::Result<(TcpStream, TcpStream)>
-        ensures { self.new.book ≡ self.old.book }
+        ensures { (self.new.book ≡ self.old.book) × (self.new.unmatched ≡ self.old.unmatched) }
     {
         if self.listener.is_none() {
             self.listener = Some(TcpListener::bind(self.rt, "127.0.0.1:0")?);
@@ -122,9 +125,13 @@ impl<'r, R: Sockets<Listener = TcpListener, Stream = TcpStream>> TcpNet<'r, R> {
 }
 
 impl<'r, R: Sockets<Listener = TcpListener, Stream = TcpStream>> Net for TcpNet<'r, R> {
+    ghost use Rattle.sv_link.specs.Unmatched.{unmatched_in};
+
     type E = TcpEnd;
 
     ghost settled = { λ n. n.book.kept.items };
+
+    ghost unmatched = { λ n. unmatched_in n.unmatched.items };
 
     ghost made = { λ n. n.book.made };
 
@@ -156,7 +163,14 @@ impl<'r, R: Sockets<Listener = TcpListener, Stream = TcpStream>> Net for TcpNet<
     fn settle(&mut self, server: TcpEnd, client: TcpEnd, cut: bool) -> Settle {
         let server = server.into_log();
         let client = client.into_log();
-        settle_pair(&mut self.book, server, client, cut, false)
+        settle_pair(
+            &mut self.book,
+            &mut self.unmatched,
+            server,
+            client,
+            cut,
+            false,
+        )
     }
 }
 

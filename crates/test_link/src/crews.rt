@@ -7,8 +7,8 @@ use std::sync::Wait;
 use std::test::Fail;
 use std::thread::Threads;
 use sv_link::{
-    Crew, End, EndRead, EndWrote, FewCrew, Gate, HoldGate, Job, Net, OpenGate, Pair, PipeNet, Ran,
-    ThreadCrew,
+    Crew, End, EndRead, EndWrote, FewCrew, Gate, HoldGate, Job, Net, OpenGate, Pair, PipeEnd, PipeNet,
+    Ran, ThreadCrew,
 };
 
 /// Says one byte, and hears one.
@@ -44,12 +44,12 @@ impl<'g, E: End + Send, G: Gate + Sync> Job for Talk<'g, E, G> {
 }
 
 /// Two threads talk. What the first of them heard, and the second.
-fn two_talk<R: Threads + Wait + Abort + Sync, C: Crew, G: Gate + Sync>(
-    rt: &R,
+fn two_talk<'r, R: Threads + Wait + Abort + Sync, C: Crew, G: Gate + Sync>(
+    rt: &'r R,
     alloc: Global,
     crew: &mut C,
-    gate: &G,
-) -> Result<Ran<Option<u8>>, Fail> {
+    gate: &'r G,
+) -> Result<Ran<Option<u8>, Talk<'r, PipeEnd<'r, R>, G>>, Fail> {
     let mut net = PipeNet::new(alloc, rt);
     let Pair::Made(server, client) = net.pair() else {
         panic!(rt; "a pair is made");
