@@ -1,8 +1,8 @@
 //! How jobs are started on threads, and waited for.
-ghost use Rattle.std.specs.Prelude.{◌≡◌, ◌+◌, ◌<◌, ◌≤◌, [], IsTrue, vec_len, map};
+ghost use Rattle.std.specs.Prelude.{◌≡◌, ◌+◌, ◌<◌, ◌≤◌, [], IsTrue, IfSome, vec_len, map};
 ghost use Rattle.std.specs.Vec.{vec_capacity};
 ghost use Rattle.std.specs.List.{AllByRecursion, AllZip};
-ghost use Rattle.sv_link.specs.Crews.{IfDone};
+ghost use Rattle.sv_link.specs.Crews.{IfDone, RefusedNone};
 ghost use Rattle.sv_link.specs.Promises.{promised};
 
 use crate::crews::{Job, Ran};
@@ -26,14 +26,16 @@ pub(crate) fn run_each<J: Job, R: Threads + Wait + Sync>(
     refused: Option<usize>,
 ) -> Ran<J::Out>
     requires { AllByRecursion J.ready jobs.items }
-    ensures { IfDone result (λ outs. AllZip J.keeps jobs.items outs) }
+    ensures kept { IfDone result (λ outs. AllZip J.keeps jobs.items outs) }
+    ensures refused { RefusedNone refused (vec_len jobs) result }
 {
     thread::scope(
         thread::scope_env(),
         rt,
         move |scope| -> Ran<J::Out>
             requires { AllByRecursion J.ready jobs.items }
-            ensures { IfDone result (λ outs. AllZip J.keeps jobs.items outs) }
+            ensures kept { IfDone result (λ outs. AllZip J.keeps jobs.items outs) }
+            ensures refused { RefusedNone refused (vec_len jobs) result }
         { run_in(scope, rt, jobs, refused) },
     )
 }
@@ -45,7 +47,8 @@ fn run_in<'s, E: 's, J: Job + 's, R: Threads + Wait + Sync>(
     refused: Option<usize>,
 ) -> Ran<J::Out>
     requires { AllByRecursion J.ready jobs.items }
-    ensures { IfDone result (λ outs. AllZip J.keeps jobs.items outs) }
+    ensures kept { IfDone result (λ outs. AllZip J.keeps jobs.items outs) }
+    ensures refused { RefusedNone refused (vec_len jobs) result }
 {
     let alloc = *jobs.allocator();
     let Ok(mut handles) = Vec::with_capacity(alloc, jobs.len()) else {
@@ -76,6 +79,7 @@ fn start_each<'s, E: 's, J: Job + 's, R: Threads + Wait + Sync>(
     requires room { vec_len jobs ≤ vec_capacity handles.old }
     ensures started { IsTrue result → map promised handles.new.items ≡ jobs.items }
     ensures few { vec_len handles.new ≤ vec_len jobs }
+    ensures refused { IsTrue result → IfSome refused (λ place. vec_len jobs ≤ place) }
 {
     for job in jobs {
         if refused == Some(handles.len()) {
