@@ -147,6 +147,8 @@ const CONNECT_TRIES: u32 = 501;
 
 const PAUSE_MILLIS: u64 = 20;
 
+const _: () = prove!((CONNECT_TRIES as u64 - 1) * PAUSE_MILLIS == 10_000);
+
 // How long a client waits for bytes. A server answers nobody before all its connections are there, so it must be long.
 const READ_SECONDS: u64 = 600;
 

@@ -1,5 +1,5 @@
 //! A net over TCP, between threads of one process.
-ghost use Rattle.std.specs.Prelude.{◌≡◌};
+ghost use Rattle.std.specs.Prelude.{◌≡◌, ◌↔◌, IsTrue};
 ghost use Rattle.sv_link.specs.Books.{IsNewBook, CanOpen};
 ghost use Rattle.sv_link.specs.Nets.{MakesPair, OwesPair, PairCause};
 ghost use Rattle.sv_link.specs.Streams.{PairAnswer};
@@ -12,7 +12,7 @@ use crate::pairs::{Settled, open_pair, settle_pair};
 use std::alloc::Global;
 use std::io;
 use std::io::{ErrorKind, Read, Write};
-use std::net::{Net as Sockets, OpenStream, Shutdown, TcpListener, TcpStream};
+use std::net::{Net as Sockets, OpenStream, Shutdown, SocketAddr, TcpListener, TcpStream};
 use sv_bytes::{read_again, write_again};
 
 /// An end of a TCP connection. A test may stand in for its stream.
@@ -167,12 +167,32 @@ fn connected<R: Sockets<Listener = TcpListener, Stream = TcpStream>>(
 ) -> io::Result<(TcpStream, TcpStream)> {
     let client = TcpStream::connect(rt, listener.local_addr()?)?;
     let (server, _) = listener.accept()?;
-    let is_pair = server.peer_addr()? == client.local_addr()?
-        && client.peer_addr()? == server.local_addr()?;
-    if !is_pair {
+    if !name_each_other(Addresses::of(&server)?, Addresses::of(&client)?) {
         return Err(io::Error::from(ErrorKind::ConnectionRefused));
     }
     server.set_nodelay(true)?;
     client.set_nodelay(true)?;
     Ok((server, client))
+}
+
+// A stream's own address, and that of its other side.
+#[derive(Clone, Copy)]
+struct Addresses {
+    own: SocketAddr,
+    peer: SocketAddr,
+}
+
+impl Addresses {
+    fn of(stream: &TcpStream) -> io::Result<Addresses> {
+        Ok(Addresses {
+            own: stream.local_addr()?,
+            peer: stream.peer_addr()?,
+        })
+    }
+}
+
+fn name_each_other(server: Addresses, client: Addresses) -> bool
+    ensures { IsTrue result ↔ (server.peer ≡ client.own) × (client.peer ≡ server.own) }
+{
+    server.peer == client.own && client.peer == server.own
 }
