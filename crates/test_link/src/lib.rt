@@ -9,3 +9,7 @@ mod gates;
 mod mem_link;
 #[cfg(test)]
 mod nets;
+#[cfg(test)]
+mod streams;
+#[cfg(test)]
+mod tcp;
