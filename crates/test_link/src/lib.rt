@@ -13,3 +13,5 @@ mod nets;
 mod streams;
 #[cfg(test)]
 mod tcp;
+#[cfg(test)]
+mod waiting;
