@@ -1,12 +1,25 @@
--- Ends over TCP.
-use Rattle.std.specs.Prelude.{ℕ}
-use Rattle.sv_link.specs.Ends.{Told}
-use Rattle.sv_link.specs.Logs.{told_of}
-use Rattle.sv_link.specs.declared.tcp.TcpEnd.{TcpEnd}
+-- Doors over TCP.
+use Rattle.std.specs.Prelude.{◌≡◌, ◌≢◌, ℕ, Option, option_map, Result, Ok, Err, IsErrAnd}
+use Rattle.std.specs.IoError.{error_kind}
+use Rattle.std.specs.declared.io.Error.{Error}
+use Rattle.std.specs.declared.io.ErrorKind.{ErrorKind}
+use Rattle.std.specs.declared.io.ErrorKind.TheVariants.{OutOfMemory}
+use Rattle.sv_door.specs.declared.doors.EndMade.{EndMade}
+use Rattle.sv_door.specs.declared.doors.EndMade.TheVariants as made
+use Rattle.sv_door.specs.declared.tcp_door.TcpDoor.{TcpDoor}
 
--- what an end over TCP tells of itself, and its count of faults
-abbrev pub end_told : TcpEnd → Told
-end_told end = told_of end.log
+module _ {R : Type 0} where
+  -- the port at which a door listens, if it does
+  abbrev pub bound_port : TcpDoor R → Option ℕ
+  bound_port door = option_map (λ bound. bound.port) door.bound
 
-abbrev pub end_faults : TcpEnd → ℕ
-end_faults end = end.log.faults
+module _ {A : Type 0} where
+  -- the answer is an error of this kind
+  abbrev pub IsErrorOf : Result A Error → ErrorKind → Type 0
+  IsErrorOf answer kind = IsErrAnd answer (λ e. error_kind e ≡ kind)
+
+module _ {A E : Type 0} where
+  -- A stream makes an end. An error is a failure, but for want of memory.
+  abbrev pub EndAnswer : Result A Error → EndMade E → Type 0
+  EndAnswer (Ok stream) answer = (answer ≢ made.Failed) × (answer ≢ made.Memory)
+  EndAnswer (Err e) answer = (error_kind e ≡ OutOfMemory → answer ≡ made.Memory) × (error_kind e ≢ OutOfMemory → answer ≡ made.Failed)

@@ -1,5 +1,5 @@
 -- What running jobs means.
-use Rattle.std.specs.Prelude.{◌≡◌, ℕ, List, [], ◌∷◌, ◌++◌}
+use Rattle.std.specs.Prelude.{◌≡◌, ℕ, ◌≤◌, Option, IfSome, List, [], ◌∷◌, ◌++◌}
 use Rattle.sv_bytes.specs.Faults.{Rose}
 use Rattle.sv_link.specs.declared.crews.Ran.{Ran}
 use Rattle.sv_link.specs.declared.crews.Ran.TheVariants.{Done, Failed, Memory}
@@ -28,3 +28,9 @@ module _ {A J : Type 0} where
   LeavesJobs given (Done outs) = Unit {0}
   LeavesJobs given Failed = Unit {0}
   LeavesJobs given (Memory jobs) = jobs.items ≡ given
+
+  -- all of so many jobs run only where the crew itself refuses the start of none of them
+  abbrev pub RefusedNone : Option ℕ → ℕ → Ran A J → Type 0
+  RefusedNone refused count (Done outs) = IfSome refused (λ place. count ≤ place)
+  RefusedNone refused count Failed = Unit {0}
+  RefusedNone refused count (Memory jobs) = Unit {0}

@@ -9,3 +9,5 @@ pub mod Pipes
 pub mod Crews
 pub mod Promises
 pub mod ThreadCrews
+pub mod Streams
+pub mod TcpEnds

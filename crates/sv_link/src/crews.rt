@@ -1,8 +1,8 @@
 //! Crews, which run jobs on threads.
-ghost use Rattle.std.specs.Prelude.{◌≡◌, ℕ, ◌+◌, ◌<◌, List, [], ◌∷◌, ◌++◌, OnOk, vec_len};
+ghost use Rattle.std.specs.Prelude.{◌≡◌, ℕ, ◌+◌, ◌<◌, List, [], ◌∷◌, ◌++◌, OnOk, Option, vec_len};
 ghost use Rattle.std.specs.List.{AllByRecursion, AllZip};
 ghost use Rattle.sv_bytes.specs.Faults.{Rose};
-ghost use Rattle.sv_link.specs.Crews.{IfDone, RanMore, CrewCause, LeavesJobs};
+ghost use Rattle.sv_link.specs.Crews.{IfDone, RanMore, CrewCause, LeavesJobs, RefusedNone};
 
 use crate::starting::run_each;
 use std::alloc::AllocError;
@@ -79,24 +79,29 @@ pub trait Crew {
     // How many numbers can be noted without memory.
     ghost room: { Self → ℕ };
 
+    // The start that the crew refuses itself, if one: its place among the jobs, from 0.
+    ghost refuses: { Self → Option ℕ };
+
     /// Takes the room for one number more.
     fn make_room(&mut self) -> Result<(), AllocError>
         ensures ok { OnOk result (0 < room self.new) }
-        ensures same { (ran self.new ≡ ran self.old) × (faults self.new ≡ faults self.old) };
+        ensures same { (ran self.new ≡ ran self.old) × (faults self.new ≡ faults self.old) }
+        ensures refuses { refuses self.new ≡ refuses self.old };
 
     /// Notes that so many jobs ran.
     fn note(&mut self, all: AllRan)
         requires room { 0 < room self.old }
         ensures noted { ran self.new ≡ ran self.old ++ all.jobs ∷ [] }
-        ensures same { faults self.new ≡ faults self.old };
+        ensures same { (faults self.new ≡ faults self.old) × (refuses self.new ≡ refuses self.old) };
 
     /// Counts a start that was refused.
     fn count_fault(&mut self, refused: StartRefused)
         ensures counted { Rose (faults self.old) (faults self.new) }
-        ensures same { ran self.new ≡ ran self.old };
+        ensures same { (ran self.new ≡ ran self.old) × (refuses self.new ≡ refuses self.old) };
 
     /// The start that the crew refuses itself, if one: its place among the jobs, from 0.
-    fn refused(&self) -> Option<usize>;
+    fn refused(&self) -> Option<usize>
+        ensures { result ≡ refuses self.now };
 
     /// Runs all jobs at once, each on a thread of its own, and waits for all of them.
     ///
@@ -111,6 +116,8 @@ pub trait Crew {
         ensures ran { RanMore (ran self.old) (ran self.new) (vec_len jobs) result }
         ensures cause { CrewCause (faults self.old) (faults self.new) result }
         ensures left { LeavesJobs jobs.items result }
+        ensures refused { RefusedNone (refuses self.old) (vec_len jobs) result }
+        ensures refuses { refuses self.new ≡ refuses self.old }
     {
         if self.make_room().is_err() {
             return Ran::Memory(jobs);

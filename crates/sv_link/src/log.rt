@@ -1,11 +1,15 @@
 //! What an end tells of itself, kept beside whatever carries its bytes.
-ghost use Rattle.std.specs.Prelude.{◌≡◌, ◌+◌, if◌then◌else◌, IsTrue, ◌↔◌};
-ghost use Rattle.sv_link.specs.Ends.{new_end, EndReadCause, EndWriteCause};
+ghost use Rattle.std.specs.Prelude.{◌≡◌, ◌+◌, ◌≤◌, if◌then◌else◌, IsTrue, IfOk, ◌↔◌, length};
+ghost use Rattle.std.specs.Vec.{vec_len, vec_capacity};
+ghost use Rattle.sv_link.specs.Ends.{new_end, EndReads, EndWrites, EndReadCause, EndWriteCause};
 ghost use Rattle.sv_link.specs.Logs.{told_of, IsReadFault, IsWriteFault, CountsFault, faults_after};
+ghost use Rattle.sv_link.specs.Streams.{ReadAnswer, WroteAnswer};
 
 use crate::ends::{EndRead, EndWrote};
 use crate::side::Side;
 use std::alloc::Global;
+use std::io;
+use std::io::ErrorKind;
 
 /// How many bytes a read takes at most. The log makes room for so many before it is known how many will come.
 pub(crate) const MOST_READ: usize = 4_096;
@@ -80,6 +84,45 @@ impl EndLog {
             EndWrote::Failed
         } else {
             EndWrote::Memory
+        }
+    }
+
+    /// Notes what a stream answered to a read, and gives the end's answer. The room for the bytes is there.
+    pub(crate) fn read_answered(&mut self, answer: io::Result<usize>, into: &[u8]) -> EndRead
+        requires within { IfOk answer (λ n. (n ≤ length into.now) × (vec_len self.old.received + n ≤ vec_capacity self.old.received)) }
+        ensures answer { ReadAnswer self.old answer result }
+        ensures told { EndReads (told_of self.old) into.now result (told_of self.new) }
+        ensures cause { EndReadCause self.old.faults self.new.faults result }
+    {
+        match answer {
+            Ok(0) => {
+                self.ended = true;
+                EndRead::Ended
+            }
+            Ok(count) => {
+                self.received.extend_from_slice(&into[..count]).unwrap();
+                EndRead::Got(count)
+            }
+            Err(error) if error.kind() == ErrorKind::OutOfMemory => EndRead::Memory,
+            Err(_) => self.read_failed(),
+        }
+    }
+
+    /// Notes what a stream answered to a write, and gives the end's answer. The room for the bytes is there.
+    pub(crate) fn write_answered(&mut self, answer: io::Result<usize>, piece: &[u8]) -> EndWrote
+        requires within { IfOk answer (λ n. (n ≤ length piece.now) × (vec_len self.old.sent + n ≤ vec_capacity self.old.sent)) }
+        ensures answer { WroteAnswer self.old answer result }
+        ensures told { EndWrites (told_of self.old) piece.now result (told_of self.new) }
+        ensures cause { EndWriteCause self.old.faults self.new.faults result }
+    {
+        match answer {
+            Ok(0) => self.write_failed(),
+            Ok(count) => {
+                self.sent.extend_from_slice(&piece[..count]).unwrap();
+                EndWrote::Took(count)
+            }
+            Err(error) if error.kind() == ErrorKind::OutOfMemory => EndWrote::Memory,
+            Err(_) => self.write_failed(),
         }
     }
 }

@@ -1,8 +1,8 @@
 //! How jobs are started on threads, and waited for.
-ghost use Rattle.std.specs.Prelude.{◌≡◌, ◌+◌, ◌<◌, ◌≤◌, [], IsTrue, vec_len, map};
+ghost use Rattle.std.specs.Prelude.{◌≡◌, ◌+◌, ◌<◌, ◌≤◌, [], IsTrue, IfSome, vec_len, map};
 ghost use Rattle.std.specs.Vec.{vec_capacity};
 ghost use Rattle.std.specs.List.{AllByRecursion, AllZip};
-ghost use Rattle.sv_link.specs.Crews.{IfDone, LeavesJobs};
+ghost use Rattle.sv_link.specs.Crews.{IfDone, LeavesJobs, RefusedNone};
 ghost use Rattle.sv_link.specs.Promises.{promised};
 
 use crate::crews::{Job, Ran};
@@ -28,6 +28,7 @@ pub(crate) fn run_each<J: Job, R: Threads + Wait + Sync>(
     requires { AllByRecursion J.ready jobs.items }
     ensures kept { IfDone result (λ outs. AllZip J.keeps jobs.items outs) }
     ensures left { LeavesJobs jobs.items result }
+    ensures refused { RefusedNone refused (vec_len jobs) result }
 {
     thread::scope(
         thread::scope_env(),
@@ -36,6 +37,7 @@ pub(crate) fn run_each<J: Job, R: Threads + Wait + Sync>(
             requires { AllByRecursion J.ready jobs.items }
             ensures kept { IfDone result (λ outs. AllZip J.keeps jobs.items outs) }
             ensures left { LeavesJobs jobs.items result }
+            ensures refused { RefusedNone refused (vec_len jobs) result }
         { run_in(scope, rt, jobs, refused) },
     )
 }
@@ -49,6 +51,7 @@ fn run_in<'s, E: 's, J: Job + 's, R: Threads + Wait + Sync>(
     requires { AllByRecursion J.ready jobs.items }
     ensures kept { IfDone result (λ outs. AllZip J.keeps jobs.items outs) }
     ensures left { LeavesJobs jobs.items result }
+    ensures refused { RefusedNone refused (vec_len jobs) result }
 {
     let alloc = *jobs.allocator();
     let Ok(mut handles) = Vec::with_capacity(alloc, jobs.len()) else {
@@ -79,6 +82,7 @@ fn start_each<'s, E: 's, J: Job + 's, R: Threads + Wait + Sync>(
     requires room { vec_len jobs ≤ vec_capacity handles.old }
     ensures started { IsTrue result → map promised handles.new.items ≡ jobs.items }
     ensures few { vec_len handles.new ≤ vec_len jobs }
+    ensures refused { IsTrue result → IfSome refused (λ place. vec_len jobs ≤ place) }
 {
     for job in jobs {
         if refused == Some(handles.len()) {

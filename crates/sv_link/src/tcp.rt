@@ -1,6 +1,8 @@
 //! A net over TCP, between threads of one process.
-ghost use Rattle.std.specs.Prelude.{◌≡◌, []};
-ghost use Rattle.sv_link.specs.Books.{IsNewBook};
+ghost use Rattle.std.specs.Prelude.{◌≡◌, ◌↔◌, [], IsTrue};
+ghost use Rattle.sv_link.specs.Books.{IsNewBook, CanOpen};
+ghost use Rattle.sv_link.specs.Nets.{MakesPair, OwesPair, PairCause};
+ghost use Rattle.sv_link.specs.Streams.{PairAnswer};
 
 use crate::book::Book;
 use crate::ends::{End, EndRead, EndWrote};
@@ -10,20 +12,20 @@ use crate::pairs::{Settled, open_pair, settle_pair};
 use http_server::Log;
 use std::alloc::Global;
 use std::io;
-use std::io::ErrorKind;
-use std::net::{Net as Sockets, Shutdown, TcpListener, TcpStream};
+use std::io::{ErrorKind, Read, Write};
+use std::net::{Net as Sockets, OpenStream, Shutdown, SocketAddr, TcpListener, TcpStream};
 use sv_bytes::{read_again, write_again};
 
-/// An end of a TCP connection.
+/// An end of a TCP connection. A test may stand in for its stream.
 #[derive(Drop)]
-pub struct TcpEnd {
-    stream: TcpStream,
+pub struct TcpEnd<S: Read + Write + OpenStream + Drop = TcpStream> {
+    stream: S,
     log: EndLog,
 }
 
-impl TcpEnd {
+impl<S: Read + Write + OpenStream + Drop> TcpEnd<S> {
     /// The end that a stream is.
-    pub fn new(stream: TcpStream, log: EndLog) -> TcpEnd
+    pub fn new(stream: S, log: EndLog) -> TcpEnd<S>
         ensures { result.log ≡ log }
     {
         TcpEnd { stream, log }
@@ -38,7 +40,7 @@ impl TcpEnd {
     }
 }
 
-impl End for TcpEnd {
+impl<S: Read + Write + OpenStream + Drop> End for TcpEnd<S> {
     ghost use Rattle.sv_link.specs.Logs.{told_of};
 
     ghost told = { λ e. told_of e.log };
@@ -52,33 +54,16 @@ impl End for TcpEnd {
         if self.log.received.reserve(most).is_err() {
             return EndRead::Memory;
         }
-        match read_again(&mut self.stream, &mut into[..most]) {
-            Ok(0) => {
-                self.log.ended = true;
-                EndRead::Ended
-            }
-            Ok(count) => {
-                self.log.received.extend_from_slice(&into[..count]).unwrap();
-                EndRead::Got(count)
-            }
-            Err(error) if error.kind() == ErrorKind::OutOfMemory => EndRead::Memory,
-            Err(_) => self.log.read_failed(),
-        }
+        let answer = read_again(&mut self.stream, &mut into[..most]);
+        self.log.read_answered(answer, into)
     }
 
     fn write(&mut self, piece: &[u8]) -> EndWrote {
         if self.log.sent.reserve(piece.len()).is_err() {
             return EndWrote::Memory;
         }
-        match write_again(&mut self.stream, piece) {
-            Ok(0) => self.log.write_failed(),
-            Ok(count) => {
-                self.log.sent.extend_from_slice(&piece[..count]).unwrap();
-                EndWrote::Took(count)
-            }
-            Err(error) if error.kind() == ErrorKind::OutOfMemory => EndWrote::Memory,
-            Err(_) => self.log.write_failed(),
-        }
+        let answer = write_again(&mut self.stream, piece);
+        self.log.write_answered(answer, piece)
     }
 
     fn close(&mut self) {
@@ -98,6 +83,8 @@ pub struct TcpNet<'r, R: Sockets<Listener = TcpListener, Stream = TcpStream>> {
 }
 
 impl<'r, R: Sockets<Listener = TcpListener, Stream = TcpStream>> TcpNet<'r, R> {
+    ghost use Rattle.sv_link.specs.TcpEnds.{end_told, end_faults};
+
     /// No pair was made. The first one binds a port.
     pub fn new(alloc: Global, rt: &'r R) -> TcpNet<'r, R>
         ensures { IsNewBook result.book × (result.unmatched.items ≡ []) }
@@ -122,6 +109,31 @@ impl<'r, R: Sockets<Listener = TcpListener, Stream = TcpStream>> TcpNet<'r, R> {
         };
         connected(self.rt, listener)
     }
+
+    // The pair that two streams are, or why there is none.
+    fn answered(&mut self, streams: io::Result<(TcpStream, TcpStream)>) -> Pair<TcpEnd>
+        requires room { CanOpen self.old.book }
+        ensures answer { PairAnswer streams result }
+        ensures made { MakesPair end_told end_faults self.old.book.made self.new.book.made result }
+        ensures owed { OwesPair self.old.book.owed self.new.book.owed result }
+        ensures settled { self.new.book.kept.items ≡ self.old.book.kept.items }
+        ensures unmatched { self.new.unmatched ≡ self.old.unmatched }
+        ensures cause { PairCause self.old.book.faults.value self.new.book.faults.value result }
+    {
+        match streams {
+            Ok((at_server, at_client)) => {
+                let (server, client) = open_pair(&mut self.book, self.alloc);
+                let server = TcpEnd::new(at_server, server);
+                let client = TcpEnd::new(at_client, client);
+                Pair::Made(server, client)
+            }
+            Err(error) if error.kind() == ErrorKind::OutOfMemory => Pair::Memory,
+            Err(_) => {
+                self.book.count_fault();
+                Pair::Failed
+            }
+        }
+    }
 }
 
 impl<'r, R: Sockets<Listener = TcpListener, Stream = TcpStream>> Net for TcpNet<'r, R> {
@@ -145,19 +157,8 @@ impl<'r, R: Sockets<Listener = TcpListener, Stream = TcpStream>> Net for TcpNet<
         if !self.book.takes_room() {
             return Pair::Memory;
         }
-        match self.connect() {
-            Ok((at_server, at_client)) => {
-                let (server, client) = open_pair(&mut self.book, self.alloc);
-                let server = TcpEnd::new(at_server, server);
-                let client = TcpEnd::new(at_client, client);
-                Pair::Made(server, client)
-            }
-            Err(error) if error.kind() == ErrorKind::OutOfMemory => Pair::Memory,
-            Err(_) => {
-                self.book.count_fault();
-                Pair::Failed
-            }
-        }
+        let streams = self.connect();
+        self.answered(streams)
     }
 
     fn settle(&mut self, server: TcpEnd, client: TcpEnd, cut: bool) -> Settle {
@@ -181,12 +182,32 @@ fn connected<R: Sockets<Listener = TcpListener, Stream = TcpStream>>(
 ) -> io::Result<(TcpStream, TcpStream)> {
     let client = TcpStream::connect(rt, listener.local_addr()?)?;
     let (server, _) = listener.accept()?;
-    let is_pair = server.peer_addr()? == client.local_addr()?
-        && client.peer_addr()? == server.local_addr()?;
-    if !is_pair {
+    if !name_each_other(Addresses::of(&server)?, Addresses::of(&client)?) {
         return Err(io::Error::from(ErrorKind::ConnectionRefused));
     }
     server.set_nodelay(true)?;
     client.set_nodelay(true)?;
     Ok((server, client))
+}
+
+// A stream's own address, and that of its other side.
+#[derive(Clone, Copy)]
+struct Addresses {
+    own: SocketAddr,
+    peer: SocketAddr,
+}
+
+impl Addresses {
+    fn of(stream: &TcpStream) -> io::Result<Addresses> {
+        Ok(Addresses {
+            own: stream.local_addr()?,
+            peer: stream.peer_addr()?,
+        })
+    }
+}
+
+fn name_each_other(server: Addresses, client: Addresses) -> bool
+    ensures { IsTrue result ↔ (server.peer ≡ client.own) × (client.peer ≡ server.own) }
+{
+    server.peer == client.own && client.peer == server.own
 }

@@ -26,7 +26,7 @@ impl ThreadCrew {
 }
 
 impl Crew for ThreadCrew {
-    ghost use Rattle.std.specs.Prelude.{◌-◌};
+    ghost use Rattle.std.specs.Prelude.{◌-◌, None};
     ghost use Rattle.std.specs.Vec.{vec_len, vec_capacity};
 
     ghost ran = { λ c. c.ran.items };
@@ -34,6 +34,8 @@ impl Crew for ThreadCrew {
     ghost faults = { λ c. c.faults.value };
 
     ghost room = { λ c. vec_capacity c.ran - vec_len c.ran };
+
+    ghost refuses = { λ _. None };
 
     fn make_room(&mut self) -> Result<(), AllocError> {
         self.ran.reserve(1)
@@ -80,6 +82,8 @@ impl Crew for FewCrew {
     ghost faults = { λ c. c.crew.faults.value };
 
     ghost room = { λ c. vec_capacity c.crew.ran - vec_len c.crew.ran };
+
+    ghost refuses = { λ c. Some c.refused };
 
     fn make_room(&mut self) -> Result<(), AllocError> {
         self.crew.make_room()

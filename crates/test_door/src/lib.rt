@@ -4,6 +4,8 @@
 #[cfg(test)]
 mod pipes;
 #[cfg(test)]
+mod system;
+#[cfg(test)]
 mod talk;
 #[cfg(test)]
 mod tcp;

@@ -2,8 +2,10 @@
 ghost use Rattle.std.specs.Prelude.{◌≡◌, false};
 
 use std::alloc::AllocError;
+use std::process::Abort;
 use std::rt::Clock;
 use std::sync::Wait;
+use std::sync::atomic::{AtomicBool, Ordering};
 use std::thread;
 use std::thread::Threads;
 use std::time::Duration;
@@ -71,24 +73,48 @@ pub(crate) struct Delays {
     pub(crate) client: u64,
 }
 
+/// How often it is looked whether two threads are done, ten milliseconds after one another.
+const LOOKS: u32 = 1_000;
+
+/// Stops the test where the marks are not both set within ten seconds.
+fn wait_for(rt: &(impl Clock + Abort), marks: [&AtomicBool; 2]) {
+    for _ in 0..LOOKS {
+        if marks[0].load(Ordering::SeqCst) && marks[1].load(Ordering::SeqCst) {
+            return;
+        }
+        waits(rt, 10);
+    }
+    panic!(rt; "a server or a client was not woken");
+}
+
 /// Whether a server and a client, each on a thread of its own, meet twice and hear each other.
-pub(crate) fn meet_twice<R: Threads + Wait + Clock + Sync, D: Door + Send + Drop>(
+pub(crate) fn meet_twice<R: Threads + Wait + Clock + Abort + Sync, D: Door + Send + Drop>(
     rt: &R,
     server: D,
     client: D,
     port: u16,
     delays: Delays,
 ) -> Result<bool, AllocError> {
+    let marks = [AtomicBool::new(false), AtomicBool::new(false)];
+    let (at_server, at_client) = (&marks[0], &marks[1]);
     thread::scope(thread::scope_env(), rt, move |scope| {
         let serving = scope.spawn(move || {
             let mut door = server;
             waits(rt, delays.server);
-            [serves(&mut door, port, 11), serves(&mut door, port, 12)]
+            let heard = [serves(&mut door, port, 11), serves(&mut door, port, 12)];
+            at_server.store(true, Ordering::SeqCst);
+            heard
         })?;
-        let mut door = client;
-        waits(rt, delays.client);
-        let at_client = [visits(&mut door, port, 1), visits(&mut door, port, 2)];
-        let at_server = serving.join(rt);
-        Ok(at_server == [Some(1), Some(2)] && at_client == [Some(11), Some(12)])
+        let visiting = scope.spawn(move || {
+            let mut door = client;
+            waits(rt, delays.client);
+            let heard = [visits(&mut door, port, 1), visits(&mut door, port, 2)];
+            at_client.store(true, Ordering::SeqCst);
+            heard
+        })?;
+        wait_for(rt, [at_server, at_client]);
+        let served = serving.join(rt);
+        let visited = visiting.join(rt);
+        Ok(served == [Some(1), Some(2)] && visited == [Some(11), Some(12)])
     })
 }

@@ -9,3 +9,9 @@ mod gates;
 mod mem_link;
 #[cfg(test)]
 mod nets;
+#[cfg(test)]
+mod streams;
+#[cfg(test)]
+mod tcp;
+#[cfg(test)]
+mod waiting;
