@@ -3,7 +3,6 @@ ghost use Rattle.std.specs.Prelude.{◌≡◌, false};
 ghost use Rattle.sv_link.specs.TcpEnds.{end_told};
 
 use std::alloc::Global;
-use std::cell::Cell;
 use std::io;
 use std::io::ErrorKind;
 use std::net::{Net as Sockets, SocketAddr, TcpListener, TcpStream};
@@ -97,7 +96,7 @@ enum Does {
     /// It connects.
     Connects,
 
-    /// Somebody else connects to the listener just before.
+    /// Somebody else connects to the listener just before, and goes.
     LetsIn,
 
     /// It answers this error.
@@ -110,7 +109,6 @@ struct System<'r, R: Sockets<Listener = TcpListener, Stream = TcpStream>> {
     rt: &'r R,
     binding: Option<ErrorKind>,
     connecting: Does,
-    stranger: Cell<Option<TcpStream>>,
 }
 
 impl<'r, R: Sockets<Listener = TcpListener, Stream = TcpStream>> Sockets for System<'r, R> {
@@ -128,7 +126,7 @@ impl<'r, R: Sockets<Listener = TcpListener, Stream = TcpStream>> Sockets for Sys
     fn connect(&self, addr: SocketAddr) -> io::Result<TcpStream> {
         match self.connecting {
             Does::Connects => {}
-            Does::LetsIn => self.stranger.set(Some(self.rt.connect(addr)?)),
+            Does::LetsIn => drop(self.rt.connect(addr)?),
             Does::Fails(kind) => return Err(io::Error::from(kind)),
         }
         self.rt.connect(addr)
@@ -153,7 +151,6 @@ fn made<R: Sockets<Listener = TcpListener, Stream = TcpStream>>(
         rt,
         binding,
         connecting,
-        stranger: Cell::new(None),
     };
     let mut net = TcpNet::new(alloc, &system);
     match net.pair() {

@@ -5,10 +5,14 @@ ghost use Rattle.sv_lock.specs.Passes.{session_number};
 
 use crate::counter::{Added, Counter};
 use std::alloc::{AllocError, Global};
+use std::process::Abort;
+use std::rt::Clock;
+use std::sync::atomic::{AtomicBool, Ordering};
 use std::sync::{Arc, Wait};
 use std::test::Fail;
 use std::thread;
 use std::thread::Threads;
+use std::time::Duration;
 use sv_lock::{Pass, SeqLock};
 
 // Adds 0, 1, 2 and so on, and says how many of these calls were answered.
@@ -108,11 +112,59 @@ fn all_in_order(added: &[Added], threads: u16, count: u64) -> bool {
         .all(|made| *made == count)
 }
 
+// The same, on a thread of its own. Stops the test where it is not done within a while: then a thread sleeps that nobody wakes.
+fn add_in_time<R: Threads + Wait + Clock + Abort + Sync>(
+    rt: &R,
+    alloc: Global,
+    threads: u16,
+    count: u64,
+    pauses: u32,
+) -> Result<(Counter, u64), AllocError>
+    requires threads { (0 < threads) × (threads ≤ 64) }
+{
+    let mark = AtomicBool::new(false);
+    let done = &mark;
+    thread::scope(
+        thread::scope_env(),
+        rt,
+        move |scope| -> Result<(Counter, u64), AllocError>
+            requires handle { IsSync R.row }
+            requires threads { (0 < threads) × (threads ≤ 64) }
+        {
+            let adding = scope.spawn(
+                move || -> Result<(Counter, u64), AllocError>
+                    requires handle { IsSync R.row }
+                    requires threads { (0 < threads) × (threads ≤ 64) }
+                {
+                    let added = add_by(rt, alloc, threads, count, pauses);
+                    done.store(true, Ordering::SeqCst);
+                    added
+                },
+            )?;
+            wait_for(rt, done);
+            adding.join(rt)
+        },
+    )
+}
+
+// How often it is looked whether the threads are done, ten milliseconds after one another.
+const LOOKS: u32 = 1_500;
+
+fn wait_for(rt: &(impl Clock + Abort), done: &AtomicBool) {
+    for _ in 0..LOOKS {
+        if done.load(Ordering::SeqCst) {
+            return;
+        }
+        thread::sleep(rt, Duration::from_millis(10));
+    }
+    panic!(rt; "a thread sleeps that nobody wakes");
+}
+
 // In the last row a call takes longer than any thread looks before it sleeps.
 #[test]
 fn threads_make_their_calls_in_order(rt: HostRuntime) -> Result<(), Fail> {
     for (threads, count, pauses) in [(2u16, 1_000u64, 0u32), (6, 3, 400_000)] {
-        let (counter, answered) = add_by(&rt, rt.alloc(), threads, count, pauses)?;
+        let (counter, answered) = add_in_time(&rt, rt.alloc(), threads, count, pauses)?;
         let calls = count.wrapping_mul(u64::from(threads));
         assert_eq!(rt; answered, calls);
         assert_eq!(rt; counter.added.len() as u64, calls);
