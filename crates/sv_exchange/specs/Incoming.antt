@@ -1,5 +1,5 @@
 -- What the first frame of an inbox is read as, and what is left of it.
-use Rattle.std.specs.Prelude.{◌≡◌, ℕ, ◌<◌, List, length, Option, None, Some, option_map, Result, Ok, Err}
+use Rattle.std.specs.Prelude.{◌≡◌, ℕ, ◌<◌, List, length, Option, None, Some, option_map, IsSome, Result, Ok, Err}
 use Rattle.sv_frame.specs.Frames.{greatest_frame, first_frame, too_long}
 use Rattle.sv_frame.specs.Answers.{Skips}
 use Rattle.sv_frame.specs.declared.reader.Next.{Next}
@@ -19,13 +19,13 @@ module _ {M : Type 0} (read_at : List ℕ → Result M Malformed) where
     pub first : first_payload_of bytes ≡ Some payload
     pub is : read_at payload ≡ read
 
-  -- what each answer says of the bytes that came. There may be no memory whatever came
+  -- what each answer says of the bytes that came. Memory is wanted for the message of a whole frame alone
   abbrev pub ReadsFirst : Incoming M → List ℕ → Type 0
   ReadsFirst (incoming.Whole m) bytes = FirstReads bytes (Ok m)
   ReadsFirst incoming.NotYet bytes = (first_frame bytes ≡ None) × (too_long bytes ≡ None)
   ReadsFirst (incoming.Malformed fault) bytes = FirstReads bytes (Err fault)
   ReadsFirst (incoming.TooLong n) bytes = too_long bytes ≡ Some n
-  ReadsFirst incoming.Memory bytes = Unit {0}
+  ReadsFirst incoming.Memory bytes = IsSome (first_payload_of bytes)
 
   -- what an answer of a frame reader becomes
   abbrev pub IsReadAs : Next → Incoming M → Type 0

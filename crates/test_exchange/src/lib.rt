@@ -6,4 +6,6 @@ mod frames;
 #[cfg(test)]
 mod great;
 #[cfg(test)]
+mod outbox;
+#[cfg(test)]
 mod tests;
