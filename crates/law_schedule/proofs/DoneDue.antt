@@ -14,7 +14,6 @@ use Rattle.sv_wire.specs.declared.message.Reply.{Reply}
 use Rattle.sv_wire.specs.declared.message.Reply.TheVariants as replies
 use Rattle.sv_journal.specs.declared.entry.Entry.{Entry}
 use Rattle.sv_journal.specs.Sessions.{is_end, is_ended}
-use Rattle.sv_journal.specs.Answer.{Rules}
 use Rattle.sv_session.specs.Requests.{stop_of}
 use Rattle.sv_client.specs.declared.trace.Event.{Event}
 use Rattle.sv_client.specs.declared.trace.Event.TheVariants as events
@@ -22,8 +21,8 @@ use Rattle.sv_client.specs.Traces.{submit_of, pending_of, held_of, done_for, is_
 use Rattle.sv_system.specs.Fits.{requests_in}
 use Rattle.sv_system.proofs.Every.{each-append, each-if}
 use Rattle.law_schedule.specs.Players.{Player, asked_in_run, has_closed}
-use Rattle.law_schedule.specs.Serving.{is_stopped}
-use Rattle.law_schedule.specs.Schedule.{plainly_served, session_turn, session_turns, sessions_turned}
+use Rattle.law_schedule.specs.Serving.{Server, served, is_stopped, session_served, all_served, sessions_served}
+use Rattle.law_schedule.proofs.DoneGiven.{HearsEnds}
 use Rattle.law_schedule.proofs.DoneLists.{repeated-keeps}
 use Rattle.law_schedule.proofs.DoneSessions.{is_spent, IsTurn, over, stops, steps, closes, waits, turn-is, other-turn}
 
@@ -104,37 +103,37 @@ spent-first (e ∷ h) s n c =
     other-false true b x y = y
     other-false false b x y = absurd (true≢false (sym x))
 
-module _ (r : Rules) (ps : List Player) where
-  spent-more : (h : List Entry) (s : ℕ) (q : Request) → is_spent h s ≡ true → is_spent (plainly_served r h s q) s ≡ true
+module _ (server : Server) (ps : List Player) (hears : HearsEnds server) where
+  spent-more : (h : List Entry) (s : ℕ) (q : Request) → is_spent h s ≡ true → is_spent (served server h s q) s ≡ true
   spent-more h s q e = or_right _ (is_spent h s) e
 
-  due-turned : (s : ℕ) (h g : List Entry) → IsTurn r ps s h g → EndsAreDue ps h → is_ended g s ≡ true → (is_spent g s ≡ true) ⊎ (list_any (has_closed s) ps ≡ true)
+  due-turned : (s : ℕ) (h g : List Entry) → IsTurn server ps s h g → EndsAreDue ps h → is_ended g s ≡ true → (is_spent g s ≡ true) ⊎ (list_any (has_closed s) ps ≡ true)
   due-turned s h g (over e f) d x = subst (λ (j : List Entry). (is_spent j s ≡ true) ⊎ (list_any (has_closed s) ps ≡ true)) (sym f) (d s e)
   due-turned s h g (stops e c f) d x = inl (ap (λ (j : List Entry). is_spent j s) f ∙ spent-more h s requests.End (spent-first h s e c))
   due-turned s h g (closes e n c f) d x = inr c
   due-turned s h g (waits c n k f) d x =
       subst (λ (j : List Entry). (is_spent j s ≡ true) ⊎ (list_any (has_closed s) ps ≡ true)) (sym f) (d s (sym (ap (λ (j : List Entry). is_ended j s) f) ∙ x))
   due-turned s h g (steps e c q rest n f) d x =
-      (let now : ((s == s && is_end q) || is_ended h s) ≡ true = sym (ap (λ (j : List Entry). is_ended j s) f) ∙ x in
-      elim (or_cases (s == s && is_end q) (is_ended h s) now) [
-        | inl y ↦ absurd (true≢false (sym (and_parts (s == s) (is_end q) y).1 ∙ next-asked ps s (length (requests_in h s)) q rest n))
+      (let now : ((s == s && is_end (server.hears h s q)) || is_ended h s) ≡ true = sym (ap (λ (j : List Entry). is_ended j s) f) ∙ x in
+      elim (or_cases (s == s && is_end (server.hears h s q)) (is_ended h s) now) [
+        | inl y ↦ absurd (true≢false (sym (sym (hears h s q) ∙ (and_parts (s == s) (is_end (server.hears h s q)) y).1) ∙ next-asked ps s (length (requests_in h s)) q rest n))
         | inr y ↦ absurd (true≢false (sym y ∙ e))
       ])
 
   -- A session's turn keeps that.
-  pub due-turn : (t : ℕ) (h : List Entry) → EndsAreDue ps h → EndsAreDue ps (session_turn r ps h t)
+  pub due-turn : (t : ℕ) (h : List Entry) → EndsAreDue ps h → EndsAreDue ps (session_served server ps h t)
   due-turn t h d s x =
       elim (cases_Bool (t == s)) [
-        | inl y ↦ due-turned s h (session_turn r ps h t)
-            (subst (λ (n : ℕ). IsTurn r ps n h (session_turn r ps h t)) (eqb-true t s y) (turn-is r ps t h)) d x
+        | inl y ↦ due-turned s h (session_served server ps h t)
+            (subst (λ (n : ℕ). IsTurn server ps n h (session_served server ps h t)) (eqb-true t s y) (turn-is server ps t h)) d x
         | inr y ↦
-            (let same = other-turn r ps s t h y in
+            (let same = other-turn server ps s t h y in
             elim (d s (sym same.ended ∙ x)) [ inl z ↦ inl (same.spent ∙ z) | inr z ↦ inr z ])
       ]
 
   -- So do the sessions' turns of a round.
-  pub due-round : (ss : List ℕ) (h : List Entry) → EndsAreDue ps h → EndsAreDue ps (sessions_turned r ps h ss)
+  pub due-round : (ss : List ℕ) (h : List Entry) → EndsAreDue ps h → EndsAreDue ps (sessions_served server ps h ss)
   due-round [] h d = d
   due-round (t ∷ ss) h d =
-      due-round ss (session_turns r ps h t)
-      (repeated-keeps (EndsAreDue ps) (λ (g : List Entry). session_turn r ps g t) (due-turn t) (suc (length (asked_in_run ps t))) h d)
+      due-round ss (all_served server ps h t)
+      (repeated-keeps (EndsAreDue ps) (λ (g : List Entry). session_served server ps g t) (due-turn t) (suc (length (asked_in_run ps t))) h d)

@@ -16,15 +16,14 @@ use Rattle.sv_scenario.specs.Sessions.{sessions_of_plan, sessions_in, session_co
 use Rattle.sv_script.proofs.Ends.{none-left}
 use Rattle.sv_script.proofs.Places.{finished-first}
 use Rattle.sv_system.specs.Fits.{IsEndLast, is_join_of}
-use Rattle.sv_system.specs.Laws.{NeverRefusedInScenarios}
 use Rattle.law_schedule.specs.Players.{Player, open_session, has_closed, player_turn, take_turns, repeated}
-use Rattle.law_schedule.specs.Serving.{Run, after_clients}
-use Rattle.law_schedule.specs.Schedule.{rules_of, plain_server, round, after_sessions}
-use Rattle.law_schedule.specs.Sound.{IsPlaying, ArePlaying, IsSound}
+use Rattle.law_schedule.specs.Serving.{Run, Server, after_clients, after_served, round_served}
+use Rattle.law_schedule.specs.Served.{IsSoundOver}
+use Rattle.law_schedule.specs.Sound.{IsPlaying, ArePlaying}
 use Rattle.sv_system.specs.Records.{ends_in}
 use Rattle.sv_system.proofs.Places.{unmap_at}
 use Rattle.sv_system.proofs.Every.{each-at, each-place}
-use Rattle.law_schedule.specs.Done.{IsRunDone}
+use Rattle.law_schedule.specs.Done.{IsRunDone, NextRepliesAreTaken}
 use Rattle.law_schedule.proofs.DoneGiven.{StaySound}
 use Rattle.law_schedule.proofs.DoneLists.{repeated-sum, repeated-still, any-there}
 use Rattle.law_schedule.proofs.DoneSessions.{quiet-round}
@@ -85,11 +84,11 @@ pub record WasJoined (run : Run) (s : ℕ) : Type 0 where
   pub joined : list_any (is_join_of s) player.events ≡ true
 
 -- Each session was joined by a player.
-pub was-joined : (scenario : Scenario) → IsGoodScenario scenario → (run : Run) → IsSound scenario run → AreClosed run → (s : ℕ) → s < session_count scenario → WasJoined run s
-was-joined scenario good run sound closed s l =
+pub was-joined : (server : Server) (scenario : Scenario) → IsGoodScenario scenario → (run : Run) → IsSoundOver server scenario run → AreClosed run → (s : ℕ) → s < session_count scenario → WasJoined run s
+was-joined server scenario good run sound closed s l =
     let o = owner scenario.world.shape 0 0 scenario.clients run.players s sound.players (omega arith) (omega (arith, l)) in
     let p = o.player in
-    let f = following scenario good run sound o.place p o.at in
+    let f = following server scenario good run sound o.place p o.at in
     let plan = each-at (IsGoodPlan scenario.world.shape) scenario.clients o.place o.plan good.plans o.there in
     let finished = o.playing.closed (closed o.place p o.at) in
     let none = none-left p.who p.first o.plan.steps p.events o.playing.before f.proper plan.quit o.playing.follows finished in
@@ -103,9 +102,9 @@ closed-by : (p : Player) (s : ℕ) → p.closed ≡ true → list_any (is_join_o
 closed-by p s c j =
     and_from (list_any (is_join_of s) p.events) (not (is_session (open_session p) s)) j (ap (λ (o : Option ℕ). not (is_session o s)) (open-closed p c))
 
-round-closed : (scenario : Scenario) (run : Run) → AreClosed run → AreClosed (round scenario run)
-round-closed scenario run closed i q at =
-    let h = (after_sessions scenario (after_clients run)).history in
+round-closed : (server : Server) (scenario : Scenario) (run : Run) → AreClosed run → AreClosed (round_served server (session_count scenario) run)
+round-closed server scenario run closed i q at =
+    let h = (after_served server (session_count scenario) (after_clients run)).history in
     let m = unmap_at (take_turns h) (map player_turn run.players) i q at in
     let k = unmap_at player_turn run.players i m.0 m.1 in
     ap (λ (x : Player). x.closed) (sym m.2 ∙ ap (take_turns h) (sym k.2)) ∙ stays-closed h k.0 (closed i k.0 k.1)
@@ -116,16 +115,16 @@ clients-closed run closed i q at =
     ap (λ (x : Player). x.closed) (sym k.2 ∙ turn-closed k.0 (closed i k.0 k.1)) ∙ closed i k.0 k.1
 
 -- Then a round ends all sessions.
-pub closed-done : (scenario : Scenario) → IsGoodScenario scenario → StaySound scenario → (run : Run) → IsGoing scenario run → AreClosed run →
-    IsRunDone scenario (round scenario run)
-closed-done scenario good stay run g closed = record {
-  closed = All-from_recursion (λ (p : Player). p.closed ≡ true) (round scenario run).players
-      (each-place (λ (p : Player). p.closed ≡ true) (round scenario run).players (round-closed scenario run closed));
+pub closed-done : (server : Server) (scenario : Scenario) → IsGoodScenario scenario → StaySound server scenario → (run : Run) → IsGoing server scenario run → AreClosed run →
+    IsRunDone scenario (round_served server (session_count scenario) run)
+closed-done server scenario good stay run g closed = record {
+  closed = All-from_recursion (λ (p : Player). p.closed ≡ true) (round_served server (session_count scenario) run).players
+      (each-place (λ (p : Player). p.closed ≡ true) (round_served server (session_count scenario) run).players (round-closed server scenario run closed));
   ended = λ s l.
       let clients = after_clients run in
-      let w = was-joined scenario good clients (going-clients scenario good stay run g).sound (clients-closed run closed) s l in
+      let w = was-joined server scenario good clients (going-clients server scenario good stay run g).sound (clients-closed run closed) s l in
       let shut = any-there (has_closed s) clients.players w.place w.player w.at (closed-by w.player s (clients-closed run closed w.place w.player w.at) w.joined) in
-      elim (quiet-round (rules_of scenario) clients.players s (below (session_count scenario)) run.history (is_in-below (session_count scenario) s l)) [
+      elim (quiet-round server clients.players s stay.hears (below (session_count scenario)) run.history (is_in-below (session_count scenario) s l)) [
         | inl e ↦ e
         | inr x ↦ absurd (true≢false (sym shut ∙ x.1.1))
       ];
@@ -133,19 +132,19 @@ closed-done scenario good stay run g closed = record {
 
 -- ---- So many rounds are enough
 
-pub rounds-done : (scenario : Scenario) → IsGoodScenario scenario → NeverRefusedInScenarios → StaySound scenario → (run : Run) → IsGoing scenario run → (n : ℕ) → 777 ≤ n →
-    IsRunDone scenario (repeated n (round scenario) run)
-rounds-done scenario good honest stay run g n l =
-    let f : Run → Run = round scenario in
+pub rounds-done : (server : Server) (scenario : Scenario) → IsGoodScenario scenario → NextRepliesAreTaken server scenario → StaySound server scenario → (run : Run) → IsGoing server scenario run → (n : ℕ) → 777 ≤ n →
+    IsRunDone scenario (repeated n (round_served server (session_count scenario)) run)
+rounds-done server scenario good honest stay run g n l =
+    let f : Run → Run = round_served server (session_count scenario) in
     let first : Run = f run in
     let closing : Run = repeated 775 f first in
-    let g1 : IsGoing scenario first = going-round scenario good stay run g in
-    let g2 : IsGoing scenario closing = going-rounds scenario good honest stay 775 first g1 in
-    let closed : AreClosed closing = fallen-closed scenario good honest stay closing (falling-rounds scenario good honest stay 775 first g1 (falling-first scenario good honest stay run g)) in
-    let done : IsRunDone scenario (f closing) = closed-done scenario good stay closing g2 closed in
+    let g1 : IsGoing server scenario first = going-round server scenario good stay run g in
+    let g2 : IsGoing server scenario closing = going-rounds server scenario good honest stay 775 first g1 in
+    let closed : AreClosed closing = fallen-closed server scenario good honest stay closing (falling-rounds server scenario good honest stay 775 first g1 (falling-first server scenario good honest stay run g)) in
+    let done : IsRunDone scenario (f closing) = closed-done server scenario good stay closing g2 closed in
     let split : n ≡ suc (775 + suc (n - 777)) = omega (arith, l) in
     let there : repeated n f run ≡ f closing =
-    ap (λ (k : ℕ). repeated k f run) split ∙ repeated-sum 775 (suc (n - 777)) f first ∙ repeated-still (n - 777) f (f closing) (round-still (plain_server (rules_of scenario)) scenario (f closing) done) in
+    ap (λ (k : ℕ). repeated k f run) split ∙ repeated-sum 775 (suc (n - 777)) f first ∙ repeated-still (n - 777) f (f closing) (round-still server scenario (f closing) done) in
     subst (IsRunDone scenario) (sym there) done
 
 -- ---- Ends

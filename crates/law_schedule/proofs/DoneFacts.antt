@@ -5,13 +5,12 @@ use Rattle.std.proofs.lemmas.List.{reverse-reverse}
 use Rattle.std.proofs.lemmas.List.Elements.{recursion_from_All}
 use Rattle.std.proofs.lemmas.Option.{none-some, same_Some}
 use Rattle.sv_world.specs.declared.world.Shape.{Shape}
-use Rattle.sv_wire.specs.declared.message.Reply.{Reply}
 use Rattle.sv_journal.specs.declared.entry.Entry.{Entry}
 use Rattle.sv_journal.specs.History.{accepted}
 use Rattle.sv_client.specs.declared.trace.Event.{Event}
-use Rattle.sv_client.specs.Traces.{current_session, asked, got}
-use Rattle.sv_client.specs.Taking.{Identity, first_fault_of_reply}
-use Rattle.sv_client.specs.Proper.{AreProper, Proper, identity_of}
+use Rattle.sv_client.specs.Traces.{got}
+use Rattle.sv_client.specs.Taking.{Identity}
+use Rattle.sv_client.specs.Proper.{AreProper, identity_of}
 use Rattle.sv_scenario.specs.declared.scenario.Plan.{Plan}
 use Rattle.sv_scenario.specs.declared.scenario.Scenario.{Scenario}
 use Rattle.sv_scenario.specs.declared.scenario.Step.{Step}
@@ -19,16 +18,14 @@ use Rattle.sv_scenario.specs.Limits.{quits_last, IsGoodPlan, IsGoodScenario}
 use Rattle.sv_scenario.specs.Sessions.{sessions_of_plan, sessions_in, session_count}
 use Rattle.sv_script.specs.Following.{FollowsTo, is_finished}
 use Rattle.sv_system.specs.Fronts.{IsFront}
-use Rattle.sv_system.specs.Fits.{requests_in, replies_in, IsEndLast, is_join_of, FitsOne, AreApart, AreAllApart}
-use Rattle.sv_asked.proofs.Spent.{accepted-few}
+use Rattle.sv_system.specs.Fits.{replies_in, IsEndLast, is_join_of, AreApart, AreAllApart}
 use Rattle.sv_system.proofs.Asked.{any-reverse}
-use Rattle.sv_system.specs.Laws.{NeverRefusedInScenarios}
 use Rattle.sv_system.proofs.Places.{map_at}
 use Rattle.sv_system.proofs.Every.{each-at}
 use Rattle.law_schedule.specs.Players.{Player, trace_of_player}
-use Rattle.law_schedule.specs.Serving.{Run, traces_of}
-use Rattle.law_schedule.specs.Schedule.{rules_of}
-use Rattle.law_schedule.specs.Sound.{AreStepsLeft, IsPlaying, ArePlaying, IsSound}
+use Rattle.law_schedule.specs.Serving.{Run, Server, traces_of}
+use Rattle.law_schedule.specs.Served.{FitsServer, IsSoundOver}
+use Rattle.law_schedule.specs.Sound.{AreStepsLeft, IsPlaying, ArePlaying}
 
 -- ---- The player's plan
 
@@ -63,7 +60,6 @@ playing-there shape k s (plan ∷ plans) (q ∷ ps) a = ap suc (playing-there sh
 
 pub record IsFit (h : List Entry) (p : Player) (s : ℕ) : Type 0 where
   pub got : IsFront (got p.events s) (replies_in (accepted h) h s)
-  pub asked : IsFront (requests_in h s) (asked p.who.client p.who.interest p.events s)
   pub ended : IsEndLast h s
 
 -- A player of a sound run with the history h.
@@ -88,7 +84,7 @@ same-who shape p e = ap (λ (x : Shape). record { client = p.who.client; interes
 pub same-events : (p : Player) → reverse (trace_of_player p).events ≡ p.events
 same-events p = reverse-reverse p.events
 
-module _ (scenario : Scenario) (good : IsGoodScenario scenario) (run : Run) (sound : IsSound scenario run) (i : ℕ) (p : Player) (at : slice_get run.players i ≡ Some p) where
+module _ (server : Server) (scenario : Scenario) (good : IsGoodScenario scenario) (run : Run) (sound : IsSoundOver server scenario run) (i : ℕ) (p : Player) (at : slice_get run.players i ≡ Some p) where
   abbrev shape : Shape
   shape = scenario.world.shape
 
@@ -104,23 +100,20 @@ module _ (scenario : Scenario) (good : IsGoodScenario scenario) (run : Run) (sou
   pub trace-at : slice_get (traces_of run) i ≡ Some (trace_of_player p)
   trace-at = map_at trace_of_player run.players i p at
 
-  fit : FitsOne shape run.history (trace_of_player p)
-  fit = each-at (FitsOne shape run.history) (traces_of run) i (trace_of_player p) (recursion_from_All (FitsOne shape run.history) (traces_of run) sound.fits.each) trace-at
-
-  proper-trace : Proper shape (trace_of_player p)
-  proper-trace = each-at (Proper shape) (traces_of run) i (trace_of_player p) (recursion_from_All (Proper shape) (traces_of run) sound.proper) trace-at
+  fit : FitsServer server shape run.history (trace_of_player p)
+  fit =
+      each-at (FitsServer server shape run.history) (traces_of run) i (trace_of_player p) (recursion_from_All (FitsServer server shape run.history) (traces_of run) sound.fits) trace-at
 
   proper-now : AreProper p.who p.first p.events
   proper-now =
       subst (λ (t : List Event). AreProper p.who p.first t) (same-events p)
-      (subst (λ (w : Identity). AreProper w p.first (reverse (trace_of_player p).events)) who-is proper-trace.events)
+      (subst (λ (w : Identity). AreProper w p.first (reverse (trace_of_player p).events)) who-is fit.proper.events)
 
   fit-in : (s : ℕ) → list_any (is_join_of s) p.events ≡ true → IsFit run.history p s
   fit-in s joined =
       let f = fit.sessions s (any-turned (is_join_of s) p.events joined) in
       record {
         got = subst (λ (t : List Event). IsFront (got t s) (replies_in (accepted run.history) run.history s)) (same-events p) f.got;
-        asked = subst (λ (t : List Event). IsFront (requests_in run.history s) (asked p.who.client p.who.interest t s)) (same-events p) f.asked;
         ended = f.ended;
       }
 
@@ -142,25 +135,6 @@ module _ (scenario : Scenario) (good : IsGoodScenario scenario) (run : Run) (sou
         within = omega (arith, low, same);
         fits = fit-in;
       }
-
-  -- A position is left.
-  positions-few : length (accepted run.history) < 4294967294
-  positions-few = (let most = accepted-few (rules_of scenario) run.history (session_count scenario) 1024 refl sound.legal sound.sessions in let few = good.sessions in omega (arith, most, few))
-
-  -- The next reply of the player's latest session has no fault.
-  pub next-taken : NeverRefusedInScenarios → (s : ℕ) (reply : Reply) → current_session p.events ≡ Some s → length (asked p.who.client p.who.interest p.events s) ≤ 1024 →
-      slice_get (replies_in (accepted run.history) run.history s) (length (got p.events s)) ≡ Some reply → first_fault_of_reply p.who p.events reply ≡ None
-  next-taken honest s reply current few next =
-      let L = trace_of_player p in
-      let h = run.history in
-      let back = sym (same-events p) in
-      subst (λ (t : List Event). first_fault_of_reply p.who t reply ≡ None) (same-events p)
-      (subst (λ (w : Identity). first_fault_of_reply w (reverse L.events) reply ≡ None) who-is
-      (honest scenario.world scenario.bound scenario.reach (session_count scenario) h (traces_of run) i L s reply good.world.objects
-      good.world.attrs good.bound positions-few sound.legal sound.fits trace-at proper-trace
-      (subst (λ (t : List Event). current_session t ≡ Some s) back current)
-      (subst (λ (t : List Event). length (asked p.who.client p.who.interest t s) ≤ 1024) back few)
-      (subst (λ (t : List Event). slice_get (replies_in (accepted h) h s) (length (got t s)) ≡ Some reply) back next)))
 
 -- ---- No two players share a session
 

@@ -1,24 +1,26 @@
 -- The scheduled run is done, its journal and traces are its record, and each trace follows its script to the end.
-use Rattle.std.proofs.Common.{◌≡◌, ℕ, suc, ◌+◌, ◌≤◌, true, List, [], ◌∷◌, map, sym, ap, subst, arith, true≢false}
+use Rattle.std.proofs.Common.{◌≡◌, ℕ, suc, ◌+◌, ◌<◌, ◌≤◌, true, List, [], ◌∷◌, map, sym, ap, subst, arith, true≢false}
 use Rattle.std.specs.List.{AllByRecursion}
 use Rattle.std.proofs.lemmas.List.Elements.{recursion_from_All}
 use Rattle.sv_world.specs.declared.world.Shape.{Shape}
 use Rattle.sv_client.specs.declared.trace.Event.{Event}
 use Rattle.sv_client.specs.Taking.{Identity}
-use Rattle.sv_client.specs.Proper.{identity_of}
+use Rattle.sv_client.specs.Proper.{Proper, identity_of}
 use Rattle.sv_scenario.specs.declared.scenario.Plan.{Plan}
 use Rattle.sv_scenario.specs.declared.scenario.Scenario.{Scenario}
 use Rattle.sv_scenario.specs.Limits.{IsGoodScenario}
-use Rattle.sv_scenario.specs.Sessions.{sessions_of_plan}
+use Rattle.sv_scenario.specs.Sessions.{sessions_of_plan, session_count}
 use Rattle.sv_script.specs.Following.{FollowsTo, FollowsToEnd, is_finished}
-use Rattle.sv_system.specs.Records.{AreTracesOf, IsRecordOf, ScriptsAreFollowed}
-use Rattle.sv_system.specs.Laws.{NeverRefusedInScenarios}
+use Rattle.sv_script.specs.Laws.{EndsDoAllSteps}
+use Rattle.sv_system.specs.Records.{AreTracesOf, IsRecordOf, ScriptsAreFollowed, ScriptsAreDone, ends_in}
+use Rattle.sv_system.proofs.Full.{scripts-done}
 use Rattle.sv_system.proofs.Every.{each-at}
 use Rattle.law_schedule.specs.Players.{Player, repeated, trace_of_player}
-use Rattle.law_schedule.specs.Serving.{Run, opening_run, most_rounds, traces_of}
-use Rattle.law_schedule.specs.Schedule.{rules_of, all_turned, round, scheduled_run}
+use Rattle.law_schedule.specs.Serving.{Run, Server, opening_run, turns_served, round_served, run_served, most_rounds, traces_of}
+use Rattle.law_schedule.specs.Schedule.{rules_of, plain_server, scheduled_run}
+use Rattle.law_schedule.specs.Served.{IsSoundOver}
 use Rattle.law_schedule.specs.Sound.{IsPlaying, ArePlaying, IsSound}
-use Rattle.law_schedule.specs.Done.{IsRunDone}
+use Rattle.law_schedule.specs.Done.{IsRunDone, NextRepliesAreTaken}
 use Rattle.law_schedule.proofs.DoneGiven.{StaySound}
 use Rattle.law_schedule.proofs.DoneFacts.{following, same-who, same-events}
 use Rattle.law_schedule.proofs.DoneRounds.{IsGoing, going-turned, going-rounds}
@@ -54,51 +56,65 @@ scripts-followed shape k s (plan ∷ plans) [] a c = absurd a
 scripts-followed shape k s (plan ∷ plans) (p ∷ ps) a c =
     (follows-end shape k s plan p a.0 c.0, scripts-followed shape (suc k) (s + sessions_of_plan plan) plans ps a.1 c.1)
 
-record-of : (scenario : Scenario) → IsGoodScenario scenario → (run : Run) → IsSound scenario run → IsRunDone scenario run → IsRecordOf scenario run.history (traces_of run)
-record-of scenario good run sound done =
+-- Each session had just one End.
+ends-one : (server : Server) (scenario : Scenario) → IsGoodScenario scenario → (run : Run) → IsSoundOver server scenario run → IsRunDone scenario run →
+    (s : ℕ) → s < session_count scenario → ends_in run.history s ≡ 1
+ends-one server scenario good run sound done s l =
     let closed = recursion_from_All (λ (p : Player). p.closed ≡ true) run.players done.closed in
-    record {
-      legal = sound.legal;
-      fits = sound.fits;
-      proper = sound.proper;
-      sessions = sound.sessions;
-      ended = λ s l.
-          let w = was-joined scenario good run sound (λ i p at. each-at (λ (q : Player). q.closed ≡ true) run.players i p closed at) s l in
-          one-end run.history s ((following scenario good run sound w.place w.player w.at).fits s w.joined).ended (done.ended s l);
-      clients = traces-of scenario.world.shape 0 0 scenario.clients run.players sound.players;
-    }
+    let w = was-joined server scenario good run sound (λ i p at. each-at (λ (q : Player). q.closed ≡ true) run.players i p closed at) s l in
+    one-end run.history s ((following server scenario good run sound w.place w.player w.at).fits s w.joined).ended (done.ended s l)
 
--- ---- The scheduled run
+-- ---- The run over a server
 
-module _ (scenario : Scenario) (good : IsGoodScenario scenario) (honest : NeverRefusedInScenarios) (stay : StaySound scenario) where
-  going-schedule : IsGoing scenario (all_turned (rules_of scenario) (opening_run scenario) scenario.schedule)
+module _ (server : Server) (scenario : Scenario) (good : IsGoodScenario scenario) (honest : NextRepliesAreTaken server scenario) (stay : StaySound server scenario) where
+  going-schedule : IsGoing server scenario (turns_served server (opening_run scenario) scenario.schedule)
   going-schedule =
-      going-turned scenario good stay scenario.schedule (opening_run scenario) good.turns
+      going-turned server scenario good stay scenario.schedule (opening_run scenario) good.turns
       (record { sound = stay.opening; due = λ s e. absurd (true≢false (sym e)) })
 
   -- After at least 777 rounds.
-  rounds-going : (n : ℕ) → IsGoing scenario (repeated n (round scenario) (all_turned (rules_of scenario) (opening_run scenario) scenario.schedule))
-  rounds-going n = going-rounds scenario good honest stay n (all_turned (rules_of scenario) (opening_run scenario) scenario.schedule) going-schedule
+  rounds-going : (n : ℕ) → IsGoing server scenario (repeated n (round_served server (session_count scenario)) (turns_served server (opening_run scenario) scenario.schedule))
+  rounds-going n = going-rounds server scenario good honest stay n (turns_served server (opening_run scenario) scenario.schedule) going-schedule
 
-  rounds-enough : (n : ℕ) → 777 ≤ n → IsRunDone scenario (repeated n (round scenario) (all_turned (rules_of scenario) (opening_run scenario) scenario.schedule))
-  rounds-enough n l = rounds-done scenario good honest stay (all_turned (rules_of scenario) (opening_run scenario) scenario.schedule) going-schedule n l
+  rounds-enough : (n : ℕ) → 777 ≤ n → IsRunDone scenario (repeated n (round_served server (session_count scenario)) (turns_served server (opening_run scenario) scenario.schedule))
+  rounds-enough n l = rounds-done server scenario good honest stay (turns_served server (opening_run scenario) scenario.schedule) going-schedule n l
 
-  rounds-record : (n : ℕ) → 777 ≤ n →
-      (λ (run : Run). IsRecordOf scenario run.history (traces_of run)) (repeated n (round scenario) (all_turned (rules_of scenario) (opening_run scenario) scenario.schedule))
-  rounds-record n l = record-of scenario good _ (rounds-going n).sound (rounds-enough n l)
+  rounds-ended : (n : ℕ) → 777 ≤ n →
+      (λ (run : Run). (s : ℕ) → s < session_count scenario → ends_in run.history s ≡ 1)
+      (repeated n (round_served server (session_count scenario)) (turns_served server (opening_run scenario) scenario.schedule))
+  rounds-ended n l = ends-one server scenario good _ (rounds-going n).sound (rounds-enough n l)
 
   rounds-scripts : (n : ℕ) → 777 ≤ n →
       (λ (run : Run). ScriptsAreFollowed scenario.world.shape scenario.clients (traces_of run))
-      (repeated n (round scenario) (all_turned (rules_of scenario) (opening_run scenario) scenario.schedule))
+      (repeated n (round_served server (session_count scenario)) (turns_served server (opening_run scenario) scenario.schedule))
   rounds-scripts n l =
       scripts-followed scenario.world.shape 0 0 scenario.clients _ (rounds-going n).sound.players
       (recursion_from_All (λ (p : Player). p.closed ≡ true) _ (rounds-enough n l).closed)
 
-  pub scheduled-done : IsRunDone scenario (scheduled_run scenario)
-  scheduled-done = rounds-enough most_rounds (omega arith)
+  pub served-done : IsRunDone scenario (run_served server scenario)
+  served-done = rounds-enough most_rounds (omega arith)
 
-  pub scheduled-record : IsRecordOf scenario (scheduled_run scenario).history (traces_of (scheduled_run scenario))
-  scheduled-record = rounds-record most_rounds (omega arith)
+  pub served-ended : (s : ℕ) → s < session_count scenario → ends_in (run_served server scenario).history s ≡ 1
+  served-ended = rounds-ended most_rounds (omega arith)
 
-  pub scheduled-scripts : ScriptsAreFollowed scenario.world.shape scenario.clients (traces_of (scheduled_run scenario))
-  scheduled-scripts = rounds-scripts most_rounds (omega arith)
+  pub served-scripts : ScriptsAreFollowed scenario.world.shape scenario.clients (traces_of (run_served server scenario))
+  served-scripts = rounds-scripts most_rounds (omega arith)
+
+-- Each client did all of its script.
+pub scripts-whole : EndsDoAllSteps → (server : Server) (scenario : Scenario) → IsGoodScenario scenario → (run : Run) → IsSoundOver server scenario run →
+    ScriptsAreFollowed scenario.world.shape scenario.clients (traces_of run) → ScriptsAreDone scenario.world.shape scenario.clients (traces_of run)
+scripts-whole law server scenario good run sound followed =
+    scripts-done law scenario.world.shape scenario.clients (traces_of run) good.plans
+    (recursion_from_All (Proper scenario.world.shape) (traces_of run) (λ k d l. (sound.fits k d l).proper)) followed
+
+-- ---- The scheduled run
+
+pub record-of : (scenario : Scenario) (run : Run) → IsSound scenario run → ((s : ℕ) → s < session_count scenario → ends_in run.history s ≡ 1) → IsRecordOf scenario run.history (traces_of run)
+record-of scenario run sound ended = record {
+  legal = sound.legal;
+  fits = sound.fits;
+  proper = sound.proper;
+  sessions = sound.sessions;
+  ended = ended;
+  clients = traces-of scenario.world.shape 0 0 scenario.clients run.players sound.players;
+}

@@ -10,13 +10,12 @@ use Rattle.sv_wire.specs.declared.message.Request.{Request}
 use Rattle.sv_wire.specs.declared.message.Request.TheVariants as requests
 use Rattle.sv_journal.specs.declared.entry.Entry.{Entry}
 use Rattle.sv_journal.specs.Sessions.{is_end, is_ended}
-use Rattle.sv_journal.specs.Answer.{Rules}
 use Rattle.sv_session.specs.Requests.{stop_of}
 use Rattle.sv_system.specs.Fits.{requests_in}
 use Rattle.sv_system.proofs.Places.{drop-none}
 use Rattle.law_schedule.specs.Players.{Player, asked_in_run, has_closed, repeated}
-use Rattle.law_schedule.specs.Serving.{is_stopped}
-use Rattle.law_schedule.specs.Schedule.{plainly_served, steps_next, session_turn, session_turns, sessions_turned}
+use Rattle.law_schedule.specs.Serving.{Server, served, serves_next, is_stopped, session_served, all_served, sessions_served}
+use Rattle.law_schedule.proofs.DoneGiven.{HearsEnds}
 use Rattle.law_schedule.proofs.DoneLists.{repeated-keeps}
 
 -- The session was answered a reply that stops its loop, to a request that is no End.
@@ -51,36 +50,36 @@ same-other t s e h n = record {
 -- ---- A turn
 
 -- What a session's turn makes of the history, and why.
-pub data IsTurn (r : Rules) (ps : List Player) (s : ℕ) (h g : List Entry) : Type 0 where
-  over : is_ended h s ≡ true → g ≡ h → IsTurn r ps s h g
-  stops : is_ended h s ≡ false → is_stopped h s ≡ true → g ≡ plainly_served r h s requests.End → IsTurn r ps s h g
+pub data IsTurn (server : Server) (ps : List Player) (s : ℕ) (h g : List Entry) : Type 0 where
+  over : is_ended h s ≡ true → g ≡ h → IsTurn server ps s h g
+  stops : is_ended h s ≡ false → is_stopped h s ≡ true → g ≡ served server h s requests.End → IsTurn server ps s h g
   steps : is_ended h s ≡ false → is_stopped h s ≡ false → (q : Request) (rest : List Request) → drop (length (requests_in h s)) (asked_in_run ps s) ≡ q ∷ rest →
-      g ≡ plainly_served r h s q → IsTurn r ps s h g
+      g ≡ served server h s q → IsTurn server ps s h g
   closes : is_ended h s ≡ false → drop (length (requests_in h s)) (asked_in_run ps s) ≡ [] → list_any (has_closed s) ps ≡ true →
-      g ≡ plainly_served r h s requests.End → IsTurn r ps s h g
-  waits : is_stopped h s ≡ false → drop (length (requests_in h s)) (asked_in_run ps s) ≡ [] → list_any (has_closed s) ps ≡ false → g ≡ h → IsTurn r ps s h g
+      g ≡ served server h s requests.End → IsTurn server ps s h g
+  waits : is_stopped h s ≡ false → drop (length (requests_in h s)) (asked_in_run ps s) ≡ [] → list_any (has_closed s) ps ≡ false → g ≡ h → IsTurn server ps s h g
 
-turn-by : (r : Rules) (ps : List Player) (s : ℕ) (h : List Entry) (b c d : Bool) (w : List Request) → is_ended h s ≡ b → is_stopped h s ≡ c → list_any (has_closed s) ps ≡ d →
-    drop (length (requests_in h s)) (asked_in_run ps s) ≡ w → IsTurn r ps s h (if b then h else if c then plainly_served r h s requests.End else steps_next r h s d w)
-turn-by r ps s h true c d w e f g k = over e refl
-turn-by r ps s h false true d w e f g k = stops e f refl
-turn-by r ps s h false false d (q ∷ w) e f g k = steps e f q w k refl
-turn-by r ps s h false false true [] e f g k = closes e k g refl
-turn-by r ps s h false false false [] e f g k = waits f k g refl
+turn-by : (server : Server) (ps : List Player) (s : ℕ) (h : List Entry) (b c d : Bool) (w : List Request) → is_ended h s ≡ b → is_stopped h s ≡ c → list_any (has_closed s) ps ≡ d →
+    drop (length (requests_in h s)) (asked_in_run ps s) ≡ w → IsTurn server ps s h (if b then h else if c then served server h s requests.End else serves_next server h s d w)
+turn-by server ps s h true c d w e f g k = over e refl
+turn-by server ps s h false true d w e f g k = stops e f refl
+turn-by server ps s h false false d (q ∷ w) e f g k = steps e f q w k refl
+turn-by server ps s h false false true [] e f g k = closes e k g refl
+turn-by server ps s h false false false [] e f g k = waits f k g refl
 
-pub turn-is : (r : Rules) (ps : List Player) (s : ℕ) (h : List Entry) → IsTurn r ps s h (session_turn r ps h s)
-turn-is r ps s h =
-    turn-by r ps s h (is_ended h s) (is_stopped h s) (list_any (has_closed s) ps) (drop (length (requests_in h s)) (asked_in_run ps s)) refl refl refl refl
+pub turn-is : (server : Server) (ps : List Player) (s : ℕ) (h : List Entry) → IsTurn server ps s h (session_served server ps h s)
+turn-is server ps s h =
+    turn-by server ps s h (is_ended h s) (is_stopped h s) (list_any (has_closed s) ps) (drop (length (requests_in h s)) (asked_in_run ps s)) refl refl refl refl
 
-same-turned : (r : Rules) (ps : List Player) (s t : ℕ) (h g : List Entry) → (t == s) ≡ false → IsTurn r ps t h g → IsSameIn s h g
-same-turned r ps s t h g n (over e f) = same-all s h g f
-same-turned r ps s t h g n (stops e c f) = subst (IsSameIn s h) (sym f) (same-other t s _ h n)
-same-turned r ps s t h g n (steps e c q rest d f) = subst (IsSameIn s h) (sym f) (same-other t s _ h n)
-same-turned r ps s t h g n (closes e d c f) = subst (IsSameIn s h) (sym f) (same-other t s _ h n)
-same-turned r ps s t h g n (waits c d k f) = same-all s h g f
+same-turned : (server : Server) (ps : List Player) (s t : ℕ) (h g : List Entry) → (t == s) ≡ false → IsTurn server ps t h g → IsSameIn s h g
+same-turned server ps s t h g n (over e f) = same-all s h g f
+same-turned server ps s t h g n (stops e c f) = subst (IsSameIn s h) (sym f) (same-other t s _ h n)
+same-turned server ps s t h g n (steps e c q rest d f) = subst (IsSameIn s h) (sym f) (same-other t s _ h n)
+same-turned server ps s t h g n (closes e d c f) = subst (IsSameIn s h) (sym f) (same-other t s _ h n)
+same-turned server ps s t h g n (waits c d k f) = same-all s h g f
 
-pub other-turn : (r : Rules) (ps : List Player) (s t : ℕ) (h : List Entry) → (t == s) ≡ false → IsSameIn s h (session_turn r ps h t)
-other-turn r ps s t h n = same-turned r ps s t h (session_turn r ps h t) n (turn-is r ps t h)
+pub other-turn : (server : Server) (ps : List Player) (s t : ℕ) (h : List Entry) → (t == s) ≡ false → IsSameIn s h (session_served server ps h t)
+other-turn server ps s t h n = same-turned server ps s t h (session_served server ps h t) n (turn-is server ps t h)
 
 -- ---- Quiet sessions
 
@@ -92,8 +91,8 @@ IsQuiet ps h s = (is_ended h s ≡ true)
 drop-some : {X : Type 0} (n : ℕ) (xs : List X) (x : X) (ys : List X) → drop n xs ≡ x ∷ ys → n < length xs
 drop-some n xs x ys e = let l = length-drop n xs in let z = ap length e in omega (arith, l, z)
 
-module _ (r : Rules) (ps : List Player) (s : ℕ) where
-  quiet-turned : (h g : List Entry) → IsQuiet ps h s → IsTurn r ps s h g → g ≡ h
+module _ (server : Server) (ps : List Player) (s : ℕ) (hears : HearsEnds server) where
+  quiet-turned : (h g : List Entry) → IsQuiet ps h s → IsTurn server ps s h g → g ≡ h
   quiet-turned h g q (over e f) = f
   quiet-turned h g q (waits c d k f) = f
   quiet-turned h g (inl x) (stops e c f) = absurd (true≢false (sym x ∙ e))
@@ -105,8 +104,8 @@ module _ (r : Rules) (ps : List Player) (s : ℕ) where
   quiet-turned h g (inr x) (closes e d c f) = absurd (true≢false (sym c ∙ x.1.1))
 
   -- A session that is quiet does nothing at its turn.
-  pub quiet-still : (h : List Entry) → IsQuiet ps h s → session_turn r ps h s ≡ h
-  quiet-still h q = quiet-turned h (session_turn r ps h s) q (turn-is r ps s h)
+  pub quiet-still : (h : List Entry) → IsQuiet ps h s → session_served server ps h s ≡ h
+  quiet-still h q = quiet-turned h (session_served server ps h s) q (turn-is server ps s h)
 
   quiet-same : (h g : List Entry) → IsSameIn s h g → IsQuiet ps h s → IsQuiet ps g s
   quiet-same h g e (inl x) = inl (e.ended ∙ x)
@@ -114,32 +113,33 @@ module _ (r : Rules) (ps : List Player) (s : ℕ) where
       (let more = ap (λ (qs : List Request). length qs) e.asked in let l = x.1.0 in inr (e.stopped ∙ x.0, (omega (arith, more, l), x.1.1)))
 
   -- The turns of all sessions leave it quiet.
-  quiet-kept : (t : ℕ) (h : List Entry) → IsQuiet ps h s → IsQuiet ps (session_turn r ps h t) s
+  quiet-kept : (t : ℕ) (h : List Entry) → IsQuiet ps h s → IsQuiet ps (session_served server ps h t) s
   quiet-kept t h q =
       elim (cases_Bool (t == s)) [
-        | inr n ↦ quiet-same h (session_turn r ps h t) (other-turn r ps s t h n) q
-        | inl y ↦ subst (λ (n : ℕ). IsQuiet ps (session_turn r ps h n) s) (sym (eqb-true t s y)) (subst (λ (g : List Entry). IsQuiet ps g s) (sym (quiet-still h q)) q)
+        | inr n ↦ quiet-same h (session_served server ps h t) (other-turn server ps s t h n) q
+        | inl y ↦ subst (λ (n : ℕ). IsQuiet ps (session_served server ps h n) s) (sym (eqb-true t s y)) (subst (λ (g : List Entry). IsQuiet ps g s) (sym (quiet-still h q)) q)
       ]
 
-  pub quiet-all_kept : (ss : List ℕ) (h : List Entry) → IsQuiet ps h s → IsQuiet ps (sessions_turned r ps h ss) s
+  pub quiet-all_kept : (ss : List ℕ) (h : List Entry) → IsQuiet ps h s → IsQuiet ps (sessions_served server ps h ss) s
   quiet-all_kept [] h q = q
   quiet-all_kept (t ∷ ss) h q =
-      quiet-all_kept ss (session_turns r ps h t)
-      (repeated-keeps (λ (g : List Entry). IsQuiet ps g s) (λ (g : List Entry). session_turn r ps g t) (quiet-kept t) (suc (length (asked_in_run ps t))) h q)
+      quiet-all_kept ss (all_served server ps h t)
+      (repeated-keeps (λ (g : List Entry). IsQuiet ps g s) (λ (g : List Entry). session_served server ps g t) (quiet-kept t) (suc (length (asked_in_run ps t))) h q)
 
-  ended-now : (h : List Entry) (q : Request) → is_end q ≡ true → is_ended (plainly_served r h s q) s ≡ true
-  ended-now h q e = or_left (s == s && is_end q) (is_ended h s) (and_from (s == s) (is_end q) (eq-eqb s s refl) e)
+  ended-now : (h : List Entry) (q : Request) → is_end q ≡ true → is_ended (served server h s q) s ≡ true
+  ended-now h q e = or_left (s == s && is_end (server.hears h s q)) (is_ended h s) (and_from (s == s) (is_end (server.hears h s q)) (eq-eqb s s refl) (hears h s q ∙ e))
 
-  asked-now : (h : List Entry) (q : Request) → is_end q ≡ false → length (requests_in (plainly_served r h s q) s) ≡ length (requests_in h s) + 1
+  asked-now : (h : List Entry) (q : Request) → is_end q ≡ false → length (requests_in (served server h s q) s) ≡ length (requests_in h s) + 1
   asked-now h q e =
-      ap length (cond-true (s == s && not (is_end q)) (requests_in h s ++ q ∷ []) (requests_in h s) (and_from (s == s) (not (is_end q)) (eq-eqb s s refl) (not_from_false (is_end q) e)))
-      ∙ length-append (requests_in h s) (q ∷ [])
+      ap length (cond-true (s == s && not (is_end (server.hears h s q))) (requests_in h s ++ server.hears h s q ∷ []) (requests_in h s)
+      (and_from (s == s) (not (is_end (server.hears h s q))) (eq-eqb s s refl) (not_from_false (is_end (server.hears h s q)) (hears h s q ∙ e))))
+      ∙ length-append (requests_in h s) (server.hears h s q ∷ [])
 
   -- One more request is stepped, or the session is quiet.
   abbrev IsFurther : List Entry → List Entry → Type 0
   IsFurther h g = ((length (requests_in h s) < length (asked_in_run ps s)) × (length (requests_in g s) ≡ length (requests_in h s) + 1)) ⊎ IsQuiet ps g s
 
-  further-by : (h g : List Entry) → IsTurn r ps s h g → IsFurther h g
+  further-by : (h g : List Entry) → IsTurn server ps s h g → IsFurther h g
   further-by h g (over e f) = inr (inl (ap (λ (j : List Entry). is_ended j s) f ∙ e))
   further-by h g (stops e c f) = inr (inl (ap (λ (j : List Entry). is_ended j s) f ∙ ended-now h requests.End refl))
   further-by h g (closes e d c f) = inr (inl (ap (λ (j : List Entry). is_ended j s) f ∙ ended-now h requests.End refl))
@@ -152,25 +152,25 @@ module _ (r : Rules) (ps : List Player) (s : ℕ) where
       ]
 
   quiet-after : (n : ℕ) (h : List Entry) → 0 < n → length (asked_in_run ps s) < length (requests_in h s) + n →
-      IsQuiet ps (repeated n (λ (g : List Entry). session_turn r ps g s) h) s
+      IsQuiet ps (repeated n (λ (g : List Entry). session_served server ps g s) h) s
   quiet-after zero h p l = absurd (omega (arith, p))
   quiet-after (suc n) h p l =
-      let turn : List Entry → List Entry = λ (g : List Entry). session_turn r ps g s in
+      let turn : List Entry → List Entry = λ (g : List Entry). session_served server ps g s in
       let later = quiet-after n (turn h) in
-      elim (further-by h (turn h) (turn-is r ps s h)) [
+      elim (further-by h (turn h) (turn-is server ps s h)) [
         | inr q ↦ repeated-keeps (λ (g : List Entry). IsQuiet ps g s) turn (quiet-kept s) n (turn h) q
         | inl m ↦ (let a = m.0 in let b = m.1 in later (omega (arith, a, b, l)) (omega (arith, a, b, l)))
       ]
 
-  pub quiet-turns : (h : List Entry) → IsQuiet ps (session_turns r ps h s) s
+  pub quiet-turns : (h : List Entry) → IsQuiet ps (all_served server ps h s) s
   quiet-turns h = quiet-after (suc (length (asked_in_run ps s))) h (omega arith) (omega arith)
 
   -- After the sessions' turns of a round each of them is quiet.
-  pub quiet-round : (ss : List ℕ) (h : List Entry) → is_in s ss ≡ true → IsQuiet ps (sessions_turned r ps h ss) s
+  pub quiet-round : (ss : List ℕ) (h : List Entry) → is_in s ss ≡ true → IsQuiet ps (sessions_served server ps h ss) s
   quiet-round [] h m = cc
   quiet-round (t ∷ ss) h m =
-      let later = quiet-round ss (session_turns r ps h t) in
+      let later = quiet-round ss (all_served server ps h t) in
       elim (is_in-cons_cases s t ss m) [
-        | inl e ↦ quiet-all_kept ss (session_turns r ps h t) (subst (λ (n : ℕ). IsQuiet ps (session_turns r ps h n) s) e (quiet-turns h))
+        | inl e ↦ quiet-all_kept ss (all_served server ps h t) (subst (λ (n : ℕ). IsQuiet ps (all_served server ps h n) s) e (quiet-turns h))
         | inr n ↦ later n
       ]

@@ -27,15 +27,13 @@ use Rattle.sv_script.specs.Following.{must_join}
 use Rattle.sv_system.specs.Fits.{requests_in, replies_in}
 use Rattle.sv_system.proofs.Entered.{as-many}
 use Rattle.sv_system.proofs.Every.{each-append}
-use Rattle.sv_system.specs.Laws.{NeverRefusedInScenarios}
 use Rattle.law_schedule.specs.Players.{Player, does, open_session, takes, takes_if, take_in, take_turn, take_turns, repeated}
-use Rattle.law_schedule.specs.Serving.{Run}
-use Rattle.law_schedule.specs.Schedule.{turned, rules_of}
-use Rattle.law_schedule.specs.Sound.{IsSound}
+use Rattle.law_schedule.specs.Serving.{Run, Server, turn_served}
+use Rattle.law_schedule.specs.Served.{IsSoundOver}
+use Rattle.law_schedule.specs.Done.{NextRepliesAreTaken}
 use Rattle.law_schedule.proofs.DoneGiven.{StaySound}
 use Rattle.law_schedule.proofs.DoneLists.{repeated-still, at-here, open-by}
-use Rattle.law_schedule.proofs.DoneFacts.{following, next-taken, playing-there}
-use Rattle.law_schedule.proofs.DoneCounts.{asked-few}
+use Rattle.law_schedule.proofs.DoneFacts.{following, playing-there}
 
 -- ---- Dones
 
@@ -217,24 +215,18 @@ turn-takes h p s reply e f g = turn-some h p s (Some reply) e f ∙ ap (takes_if
 pub takes-none : (h : List Entry) (p : Player) → open_session p ≡ None → take_turns h p ≡ p
 takes-none h p e = repeated-still (length h) (take_turn h) p (turn-none h p e)
 
-module _ (scenario : Scenario) (good : IsGoodScenario scenario) (honest : NeverRefusedInScenarios) (stay : StaySound scenario) (i s : ℕ) where
-  few-asked : (run : Run) (sound : IsSound scenario run) (p : Player) → slice_get run.players i ≡ Some p → IsOpen p s → length (asks p p.events s) ≤ 1024
-  few-asked run sound p at o =
-      let f = following scenario good run sound i p at in
-      let few = asked-few p.who p.first f.plan.steps p.events f.before s f.few f.proper f.follows o.current in
-      omega (arith, few)
-
-  place-good : (run : Run) (sound : IsSound scenario run) (p : Player) → slice_get run.players i ≡ Some p → i < length scenario.clients
+module _ (server : Server) (scenario : Scenario) (good : IsGoodScenario scenario) (honest : NextRepliesAreTaken server scenario) (stay : StaySound server scenario) (i s : ℕ) where
+  place-good : (run : Run) (sound : IsSoundOver server scenario run) (p : Player) → slice_get run.players i ≡ Some p → i < length scenario.clients
   place-good run sound p at =
       let l = slice_get_within run.players i p at in
       let same = playing-there scenario.world.shape 0 0 scenario.clients run.players sound.players in
       omega (arith, l, same)
 
   abbrev Takes : ℕ → Type 0
-  Takes n = (run : Run) (sound : IsSound scenario run) (p : Player) → slice_get run.players i ≡ Some p → IsOpen p s →
+  Takes n = (run : Run) (sound : IsSoundOver server scenario run) (p : Player) → slice_get run.players i ≡ Some p → IsOpen p s →
       length (replies_in (accepted run.history) run.history s) ≤ length (got p.events s) + n → IsTaken run.history s p (repeated n (take_turn run.history) p)
 
-  takes-one : (n : ℕ) → Takes n → (run : Run) (sound : IsSound scenario run) (p : Player) → slice_get run.players i ≡ Some p → IsOpen p s →
+  takes-one : (n : ℕ) → Takes n → (run : Run) (sound : IsSoundOver server scenario run) (p : Player) → slice_get run.players i ≡ Some p → IsOpen p s →
       length (replies_in (accepted run.history) run.history s) ≤ length (got p.events s) + suc n →
       (o : Option Reply) → slice_get (replies_in (accepted run.history) run.history s) (length (got p.events s)) ≡ o →
       IsTaken run.history s p (repeated (suc n) (take_turn run.history) p)
@@ -245,10 +237,10 @@ module _ (scenario : Scenario) (good : IsGoodScenario scenario) (honest : NeverR
       subst (λ (q : Player). IsTaken h s p (repeated n (take_turn h) q)) (sym still) (later run sound p at o (omega (arith, most)))
   takes-one n later run sound p at o l (Some reply) e =
       let h = run.history in
-      let taken = next-taken scenario good run sound i p at honest s reply o.current (few-asked run sound p at o) e in
+      let taken = honest run i p s reply sound at o.current e in
       let turn : take_turn h p ≡ took p s reply = turn-takes h p s reply (open-from p s o) e taken in
-      let f = following scenario good run sound i p at in
-      let after : Run = turned (rules_of scenario) run (turns.Take i) in
+      let f = following server scenario good run sound i p at in
+      let after : Run = turn_served server run (turns.Take i) in
       let there : slice_get after.players i ≡ Some (took p s reply) = at-here run.players i (take_turn h) p at ∙ ap Some turn in
       let got_now : length (got (took p s reply).events s) ≡ length (got p.events s) + 1 =
       ap length (cond-true (s == s) (got p.events s ++ reply ∷ []) (got p.events s) (eq-eqb s s refl)) ∙ length-append (got p.events s) (reply ∷ []) in
@@ -262,7 +254,7 @@ module _ (scenario : Scenario) (good : IsGoodScenario scenario) (honest : NeverR
       takes-one n (takes-some n) run sound p at o l (slice_get (replies_in (accepted run.history) run.history s) (length (got p.events s))) refl
 
   -- At the end of a round a client takes all that wait for it.
-  pub takes-all : (run : Run) (sound : IsSound scenario run) (p : Player) → slice_get run.players i ≡ Some p → IsOpen p s → IsTaken run.history s p (take_turns run.history p)
+  pub takes-all : (run : Run) (sound : IsSoundOver server scenario run) (p : Player) → slice_get run.players i ≡ Some p → IsOpen p s → IsTaken run.history s p (take_turns run.history p)
   takes-all run sound p at o =
       let many = as-many (accepted run.history) run.history s in
       let short = requests-short run.history s in

@@ -14,7 +14,6 @@ use Rattle.sv_wire.specs.declared.message.Reply.TheVariants as replies
 use Rattle.sv_journal.specs.declared.entry.Entry.{Entry}
 use Rattle.sv_journal.specs.declared.entry.Logged.{Logged}
 use Rattle.sv_journal.specs.History.{accepted, full_reply}
-use Rattle.sv_journal.specs.Answer.{Rules}
 use Rattle.sv_sequencer.specs.Shared.{logged_of}
 use Rattle.sv_sequencer.proofs.Shared.{logged-back}
 use Rattle.sv_session.specs.Requests.{stop_of}
@@ -36,13 +35,12 @@ use Rattle.sv_system.proofs.Entered.{is_of, as-many, replies-earlier}
 use Rattle.sv_system.proofs.Asked.{part-rest, asked-part, got-when, got-answers, begun-or_not, current-joined}
 use Rattle.sv_system.proofs.Clients.{proper-events}
 use Rattle.sv_system.proofs.Leaving.{leave-last}
-use Rattle.sv_system.specs.Laws.{NeverRefusedInScenarios}
 use Rattle.sv_system.proofs.Order.{leave-only, never-refused}
 use Rattle.sv_system.proofs.Places.{map_at, at_place}
 use Rattle.law_schedule.specs.Players.{Player, open_session, has_closed, take_turns}
-use Rattle.law_schedule.specs.Serving.{Run, after_takes}
-use Rattle.law_schedule.specs.Schedule.{rules_of, after_sessions}
-use Rattle.law_schedule.specs.Sound.{IsSound}
+use Rattle.law_schedule.specs.Serving.{Run, Server, after_served, after_takes}
+use Rattle.law_schedule.specs.Served.{IsSoundOver}
+use Rattle.law_schedule.specs.Done.{NextRepliesAreTaken}
 use Rattle.law_schedule.proofs.DoneGiven.{StaySound}
 use Rattle.law_schedule.proofs.DoneLists.{any-found, piece-shorter}
 use Rattle.law_schedule.proofs.DoneSessions.{is_spent, IsQuiet, quiet-round}
@@ -132,19 +130,16 @@ pub record HasWaited (s : ℕ) (p q : Player) : Type 0 where
   pub dones : AreDones (outstanding p.who events)
   pub settled : AreDones (outstanding p.who p.events) → outstanding p.who events ≡ []
 
-module _ (scenario : Scenario) (good : IsGoodScenario scenario) (honest : NeverRefusedInScenarios) (stay : StaySound scenario) (run : Run) (sound : IsSound scenario run)
+module _ (server : Server) (scenario : Scenario) (good : IsGoodScenario scenario) (honest : NextRepliesAreTaken server scenario) (stay : StaySound server scenario) (run : Run) (sound : IsSoundOver server scenario run)
     (due : EndsAreDue run.players run.history) (i : ℕ) (p : Player) (at : slice_get run.players i ≡ Some p) (s : ℕ) (o : IsOpen p s) where
-  abbrev r : Rules
-  r = rules_of scenario
-
   abbrev stepped : Run
-  stepped = after_sessions scenario run
+  stepped = after_served server (session_count scenario) run
 
   abbrev h : List Entry
   h = stepped.history
 
   f : IsFollowing scenario run.history p
-  f = following scenario good run sound i p at
+  f = following server scenario good run sound i p at
 
   joined-s : list_any (is_join_of s) p.events ≡ true
   joined-s = current-joined p.events s o.current
@@ -157,16 +152,16 @@ module _ (scenario : Scenario) (good : IsGoodScenario scenario) (honest : NeverR
       omega (arith, a, b, c)
 
   quiet : IsQuiet run.players h s
-  quiet = quiet-round r run.players s (below (session_count scenario)) run.history (is_in-below (session_count scenario) s low)
+  quiet = quiet-round server run.players s stay.hears (below (session_count scenario)) run.history (is_in-below (session_count scenario) s low)
 
   due-after : EndsAreDue run.players h
-  due-after = due-round r run.players (below (session_count scenario)) run.history due
+  due-after = due-round server run.players stay.hears (below (session_count scenario)) run.history due
 
-  sound-after : IsSound scenario stepped
+  sound-after : IsSoundOver server scenario stepped
   sound-after = stay.sessions run sound
 
   taken : IsTaken h s p (take_turns h p)
-  taken = takes-all scenario good honest stay i s stepped sound-after p at o
+  taken = takes-all server scenario good honest stay i s stepped sound-after p at o
 
   abbrev now : Player
   now = record p { events = taken.events }
@@ -175,7 +170,7 @@ module _ (scenario : Scenario) (good : IsGoodScenario scenario) (honest : NeverR
   there = map_at (take_turns h) run.players i p at ∙ ap Some taken.same
 
   facts : IsFollowing scenario h now
-  facts = following scenario good (after_takes stepped) (stay.takes stepped sound-after) i now there
+  facts = following server scenario good (after_takes stepped) (stay.takes stepped sound-after) i now there
 
   fit : IsFit h now s
   fit = facts.fits s (current-joined taken.events s taken.current)
@@ -185,7 +180,7 @@ module _ (scenario : Scenario) (good : IsGoodScenario scenario) (honest : NeverR
       let g = any-found (has_closed s) run.players c in
       let q = g.1.0 in
       let parts = and_parts (list_any (is_join_of s) q.events) (not (is_session (open_session q) s)) g.1.1.1 in
-      let own : p ≡ q = one-owner run.players i g.0 p q s sound.fits.apart at g.1.1.0 joined-s parts.0 in
+      let own : p ≡ q = one-owner run.players i g.0 p q s sound.apart at g.1.1.0 joined-s parts.0 in
       let opened : is_session (open_session p) s ≡ true = ap (λ (x : Option ℕ). is_session x s) (open-from p s o) ∙ eq-eqb s s refl in
       true≢false (sym parts.1 ∙ ap (λ (x : Player). not (is_session (open_session x) s)) (sym own) ∙ ap not opened)
 

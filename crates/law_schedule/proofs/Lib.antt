@@ -7,6 +7,7 @@ pub mod DoneFacts
 pub mod DoneGiven
 pub mod DoneLists
 pub mod DoneMoves
+pub mod DonePlain
 pub mod DoneRecords
 pub mod DoneRounds
 pub mod DoneSessions

@@ -28,7 +28,7 @@ use Rattle.sv_play.specs.Settling.{AnyZip, Differ, ArePair, AreCalm, SomeDiffer}
 use Rattle.sv_play.specs.Playing.{IsThreadedRun, TookAllIn}
 use Rattle.sv_play.proofs.Places.{clients_count}
 use Rattle.sv_play.proofs.Leaving.{services_left, parts_left, served_count, task_count, all_of_lock, all_few, ends_are_all, as_many, all_pairs, all_calm, some_differ}
-use Rattle.sv_play.proofs.Whole.{overs, transcripts_are, is_run, all_end, lines_are}
+use Rattle.sv_play.proofs.Whole.{overs, transcripts_are, is_run, all_end, all_awaited, lines_are}
 use Rattle.sv_play.proofs.Keepers.{just_of, below_of, legal_of, all_taken_in}
 
 module _ {E G W : Type 0} (told : E → Told) (faults : E → ℕ) (calm : E → Type 0) (telling_of : W → Telling) (run : Setting)
@@ -142,6 +142,7 @@ module _ {E G W : Type 0} (told : E → Told) (faults : E → ℕ) (calm : E →
               added = settled;
               traffic = subst (TrafficIsRecorded run.scenario (reverse k.seen) Ls) recorded (traffic run.scenario k.seen Ls all_overs good threaded_run);
               ran = ran ∙ ap (λ n. ran_before ++ n ∷ []) jobs;
+              awaited = all_awaited told faults calm run k.seen ys ps served all_served played (gathered.served lacked) (gathered.played lacked) agree_is joined.seen just enough;
             })
 
         pub told_all : flat_map (λ v. v.items) left.lines.items ≡ flat_map (lines_told run.watched) left.traces.items

@@ -19,7 +19,8 @@ use Rattle.sv_scenario.specs.Sessions.{sessions_of_plan, session_count}
 use Rattle.sv_script.specs.Following.{Follows, FollowsToEnd}
 use Rattle.sv_session.specs.declared.outcome.SessionOut.{SessionOut}
 use Rattle.sv_session.specs.declared.outcome.SessionOut.TheVariants as session_outs
-use Rattle.sv_system.specs.Records.{rules_of, AreTracesOf}
+use Rattle.sv_system.specs.Records.{rules_of, AreTracesOf, EachTrace}
+use Rattle.sv_player.specs.Awaiting.{WaitsWhereNeeded}
 use Rattle.sv_player.specs.Stops.{is_cut}
 use Rattle.sv_player.specs.Played.{SentAll, IsCause, lines_told}
 use Rattle.sv_player.specs.declared.outcome.PlayerOut.{PlayerOut}
@@ -291,6 +292,11 @@ module _ {E : Type 0} (told : E → Told) (faults : E → ℕ) (calm : E → Typ
     all_end =
         each_client_trace HasDone (λ plan L. FollowsToEnd run.scenario.world.shape plan.steps L ⊎ IsStopped run.scenario.world.shape L overs) (λ (y : PlayerOut E). y.trace) 0 0 run.scenario.clients ps all_done
         (λ k s plan y h. client_ends k s plan y h y.cause refl h.played_is.cause)
+
+    pub all_awaited : EachTrace (λ plan L. WaitsWhereNeeded run.scenario.world.shape plan.steps L) run.scenario.clients Ls
+    all_awaited =
+        each_client_trace (HasPlayed told faults calm run) (λ plan L. WaitsWhereNeeded run.scenario.world.shape plan.steps L) (λ (y : PlayerOut E). y.trace) 0 0 run.scenario.clients ps played
+        (λ k s plan y h. h.follows.awaited)
 
     lines_of : (qs : List (PlayerOut E)) → AllByRecursion (λ (y : PlayerOut E). y.lines.items ≡ lines_told run.watched y.trace) qs →
         flat_map (λ (y : PlayerOut E). y.lines.items) qs ≡ flat_map (lines_told run.watched) (map (λ (y : PlayerOut E). y.trace) qs)

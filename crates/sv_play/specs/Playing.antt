@@ -11,7 +11,8 @@ use Rattle.sv_client.specs.declared.trace.Trace.{Trace}
 use Rattle.sv_scenario.specs.declared.scenario.Scenario.{Scenario}
 use Rattle.sv_scenario.specs.Sessions.{session_count}
 use Rattle.sv_session.specs.Serving.{SessionPass}
-use Rattle.sv_system.specs.Records.{rules_of, IsFullRecord}
+use Rattle.sv_system.specs.Records.{rules_of, EachTrace, IsFullRecord}
+use Rattle.sv_player.specs.Awaiting.{WaitsWhereNeeded}
 use Rattle.law_traffic.specs.Runs.{TrafficIsRecorded}
 use Rattle.sv_play.specs.declared.outcome.PlayFault.{PlayFault}
 use Rattle.sv_play.specs.declared.outcome.PlayFault.TheVariants as faults
@@ -30,13 +31,15 @@ pub record TookAllIn (scenario : Scenario) (old new : SessionPass) : Type 0 wher
   pub legal : Legal (rules_of scenario) (reverse new.seen)
 
 -- What a run on threads leaves, for a journal with the latest entry first: a full record; one transcript more for each session, in order,
--- with the traffic of the journal and of the session's trace; and all jobs in one run of the crew, one for each session and each client.
+-- with the traffic of the journal and of the session's trace; all jobs in one run of the crew, one for each session and each client; and each
+-- client waited for a reply only where its next step could not be done.
 pub record IsThreadedRun (scenario : Scenario) (h : List Entry) (Ls : List Trace) (settled_before settled_now : List Transcript) (ran_before ran_now : List ℕ) : Type 0 where
   pub full : IsFullRecord scenario h Ls
   pub transcripts : List Transcript
   pub added : settled_now ≡ settled_before ++ transcripts
   pub traffic : TrafficIsRecorded scenario h Ls transcripts
   pub ran : ran_now ≡ ran_before ++ (session_count scenario + length scenario.clients) ∷ []
+  pub awaited : EachTrace (λ plan L. WaitsWhereNeeded scenario.world.shape plan.steps L) scenario.clients Ls
 
 -- The counts of faults of the crew and of the net, at each answer: the crew's rises just at Start, the net's just at Link.
 abbrev pub PlayCause : {A : Type 0} → (crew_before crew_now net_before net_now : ℕ) → Result A PlayFault → Type 0

@@ -24,6 +24,7 @@ use Rattle.sv_script.proofs.Beginnings.{all-passed, all-step, passed-less, step-
 use Rattle.sv_script.proofs.Ends.{passed-none}
 use Rattle.sv_script.proofs.Cuts.{cuts-done}
 use Rattle.sv_player.specs.declared.playing.Player.{Player}
+use Rattle.sv_player.specs.Awaiting.{IsAwaited, GetsAreAwaited}
 use Rattle.sv_player.specs.Going.{one_more_if, AreTold, AreSeen, IsBudget, IsGoing, Did, IsHere, IsReady}
 use Rattle.sv_client.proofs.Wells.{is_well}
 
@@ -88,13 +89,23 @@ pub follows_as : (who w : Identity) (script s : List Step) (t u : List Event) (l
 follows_as who w script s t u left l a b c d f =
     subst (λ (x : Identity). FollowsTo x s u l) (sym a) (subst (λ (x : List Step). FollowsTo who x u l) (sym b) (subst (λ (x : List Event). FollowsTo who script x l) (sym c) (subst (λ (x : List Step). FollowsTo who script t x) (sym d) f)))
 
-pub going_on : (p q : Player) (e : Event) (left : List Step) → IsGoing p → MayFollow p.client.who 0 p.client.events e → MayCome p.client.who p.client.events p.left.now e left → Did e left p q → IsGoing q
-going_on p q e left g may come d =
+pub awaited_as : (who w : Identity) (script s : List Step) (t u : List Event) → w ≡ who → s ≡ script → u ≡ t → GetsAreAwaited who script t → GetsAreAwaited w s u
+awaited_as who w script s t u a b c g =
+    subst (λ (x : Identity). GetsAreAwaited x s u) (sym a) (subst (λ (x : List Step). GetsAreAwaited who x u) (sym b) (subst (GetsAreAwaited who script) (sym c) g))
+
+-- One event more came in time.
+pub awaited_on : (p : Player) (e : Event) → IsGoing p → IsAwaited p.client.who p.client.events p.left.now e → GetsAreAwaited p.client.who p.script.now (e ∷ p.client.events)
+awaited_on p e g awaited = (record { left = p.left.now; follows = g.follows; awaited = awaited }, g.awaited)
+
+pub going_on : (p q : Player) (e : Event) (left : List Step) → IsGoing p → MayFollow p.client.who 0 p.client.events e → MayCome p.client.who p.client.events p.left.now e left →
+    IsAwaited p.client.who p.client.events p.left.now e → Did e left p q → IsGoing q
+going_on p q e left g may come awaited d =
     record {
       may = rw (d.who, d.script) g.may;
       first = rw d.first g.first;
       proper = rw (d.who, d.events) (may, g.proper);
       follows = follows_as p.client.who q.client.who p.script.now q.script.now (e ∷ p.client.events) q.client.events left q.left.now d.who d.script d.events d.left_is (p.left.now, (g.follows, come));
+      awaited = awaited_as p.client.who q.client.who p.script.now q.script.now (e ∷ p.client.events) q.client.events d.who d.script d.events (awaited_on p e g awaited);
       budget = rw (d.who, d.events, d.script, d.left_is) (budget_on p.client.who p.script.now p.client.events p.left.now e left come g.budget);
       told = subst (λ (w : Bool). AreTold w q.client.who q.client.events q.lines.items) (sym d.watched) (rw (d.who, d.events) (d.told g.told));
       seen = subst (λ (w : Bool). AreSeen w q.client.who q.client.events q.seen.items) (sym d.watched) (rw (d.who, d.events) (d.seen g.seen));

@@ -1,5 +1,5 @@
 -- What a player's moves make of its session: it is ready for the next one, or the session ended.
-use Rattle.std.proofs.Common.{◌≡◌, inl, ℕ, ◌-◌, ◌<◌, Bool, true, false, List, [], ◌∷◌, ◌++◌, length, Option, Some, None, refl, sym, ap, subst, ◌∙◌, arith, append-nil}
+use Rattle.std.proofs.Common.{◌≡◌, inl, ℕ, ◌-◌, ◌<◌, Bool, true, false, ◌&&◌, List, [], ◌∷◌, ◌++◌, length, Option, Some, None, refl, sym, ap, subst, ◌∙◌, arith, append-nil}
 use Rattle.std.specs.Prelude.{Ok, unwrap_or, if◌then◌else◌}
 use Rattle.std.proofs.lemmas.List.Elements.{All-nil}
 use Rattle.sv_world.specs.declared.action.Action.{Action}
@@ -26,6 +26,7 @@ use Rattle.sv_player.specs.declared.outcome.Parting.TheVariants as partings
 use Rattle.sv_player.specs.declared.playing.Player.{Player}
 use Rattle.sv_player.specs.declared.outcome.PlayerCause.{PlayerCause}
 use Rattle.sv_player.specs.Carried.{request_frames, IsLinked}
+use Rattle.sv_player.specs.Awaiting.{IsAwaited, can_do_first, can_go_on}
 use Rattle.sv_player.specs.Going.{IsGoing, Did, IsHere, IsReady}
 use Rattle.sv_player.specs.Partings.{parting_step, parting_event, parting_ending}
 use Rattle.sv_player.specs.Sessions.{IsAt, Onward, HasEnded, Ended, Stopped, SessionGoesOn, Got, IsMoved}
@@ -87,12 +88,12 @@ all_sent who t s end reader outbox l none = sym (append-nil end.sent) ∙ ap (λ
 
 -- With all sent, an event that asks nothing ends it.
 ends_by : (s : ℕ) (ending : Ending) (e : Event) (left : List Step) (p q : Player) (b : Buffers) (end : Told) → IsAt s p b end → b.outbox ≡ [] → MayFollow p.client.who 0 p.client.events e →
-    MayCome p.client.who p.client.events p.left.now e left → IsOf s p.client.events e → current_session (e ∷ p.client.events) ≡ current_session p.client.events →
-    asked p.client.who.client p.client.who.interest (e ∷ p.client.events) s ≡ asked p.client.who.client p.client.who.interest p.client.events s → got (e ∷ p.client.events) s ≡ got p.client.events s →
+    MayCome p.client.who p.client.events p.left.now e left → IsAwaited p.client.who p.client.events p.left.now e → IsOf s p.client.events e →
+    current_session (e ∷ p.client.events) ≡ current_session p.client.events → asked p.client.who.client p.client.who.interest (e ∷ p.client.events) s ≡ asked p.client.who.client p.client.who.interest p.client.events s → got (e ∷ p.client.events) s ≡ got p.client.events s →
     HasEnded ending (e ∷ p.client.events) s → Did e left p q → Ended s p q end ending
-ends_by s ending e left p q b end at none may come of same asks gets how did =
+ends_by s ending e left p q b end at none may come awaited of same asks gets how did =
     record {
-      going = going_on p q e left at.going may come did;
+      going = going_on p q e left at.going may come awaited did;
       onward = onward_by s e p q of did.who did.script did.first did.watched did.events;
       current = rw did.events (same ∙ at.current);
       how = rw did.events how;
@@ -106,10 +107,10 @@ module _ (s : ℕ) (p q : Player) (b : Buffers) (end : Told) (at : IsAt s p b en
   pub part_ends : (parting : Parting) → unsynced p.client.who p.client.events p.left.now ≡ parting_step parting ∷ rest → Did (parting_event parting) rest p q →
       Ended s p q end (parting_ending parting)
   part_ends partings.Cut next did =
-      ends_by s endings.Cut events.Cut rest p q b end at none tt (does_step p.client.who p.client.events p.left.now steps.Cut rest events.Cut ready next refl) at.current refl
+      ends_by s endings.Cut events.Cut rest p q b end at none tt (does_step p.client.who p.client.events p.left.now steps.Cut rest events.Cut ready next refl) tt at.current refl
       (append-nil (asked p.client.who.client p.client.who.interest p.client.events s)) refl (p.client.events, refl) did
   part_ends partings.Quit next did =
-      ends_by s endings.Quit events.Quit rest p q b end at none tt (does_step p.client.who p.client.events p.left.now steps.Quit rest events.Quit ready next refl) at.current refl
+      ends_by s endings.Quit events.Quit rest p q b end at none tt (does_step p.client.who p.client.events p.left.now steps.Quit rest events.Quit ready next refl) tt at.current refl
       (append-nil (asked p.client.who.client p.client.who.interest p.client.events s)) refl (p.client.events, refl) did
 
 only_bye : (reply : Reply) → is_bye reply ≡ true → reply ≡ replies.Bye
@@ -159,6 +160,18 @@ pub joined_awaits : (p q : Player) (b : Buffers) (end : Told) → IsGoing p → 
 joined_awaits p q b end going turn =
     rw (turn.onward.who, turn.events, outstanding_joined p.client.who 0 p.client.events going.proper (joins p.client.events) (omega arith)) (omega arith)
 
+-- Its Welcome is due.
+pub joined_waits : (s : ℕ) (p q : Player) (b : Buffers) (end : Told) (left : List Step) → SessionGoesOn s (events.Join s) p q b end → can_go_on q.client.who q.client.events left ≡ false
+joined_waits s p q b end left turn = ap (λ (t : List Event). is_welcomed t && can_do_first q.client.who q.client.events (unsynced q.client.who q.client.events left)) turn.events
+
+none_and : (a b : Bool) → b ≡ false → (a && b) ≡ false
+none_and true b e = e
+none_and false b e = refl
+
+-- Where the next step can't be done, it waits.
+pub step_waits : (who : Identity) (t : List Event) (left : List Step) → can_do_first who t (unsynced who t left) ≡ false → can_go_on who t left ≡ false
+step_waits who t left e = none_and (is_welcomed t) (can_do_first who t (unsynced who t left)) e
+
 -- Its session is the latest one.
 pub latest_at : (s : ℕ) (p : Player) (b : Buffers) (end : Told) → IsAt s p b end → latest_session p.client.events ≡ s
 latest_at s p b end at = ap (λ (o : Option ℕ). unwrap_or o 0) at.current
@@ -173,6 +186,7 @@ stopped_after s p q r b old new cause at on stopped =
       proper = st.proper;
       left = st.left;
       follows = st.follows;
+      awaited = st.awaited;
       current = st.current;
       open_is = st.open_is;
       part = st.part;

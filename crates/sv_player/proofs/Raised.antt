@@ -1,9 +1,10 @@
 -- What a client did, where its first session has another number.
-use Rattle.std.proofs.Common.{◌≡◌, ℕ, suc, ◌+◌, Bool, ◌||◌, ℤ, List, [], ◌∷◌, ◌++◌, length, Option, Some, option_map, refl, sym, ap, ap₂, subst, ◌∙◌}
+use Rattle.std.proofs.Common.{◌≡◌, ℕ, suc, ◌+◌, Bool, ◌||◌, ◌&&◌, nat_lt, ℤ, List, [], ◌∷◌, ◌++◌, length, Option, Some, option_map, refl, sym, ap, ap₂, subst, ◌∙◌}
 use Rattle.std.specs.Prelude.{IfSome, if◌then◌else◌}
 use Rattle.std.specs.List.{flat_map}
 use mathlib.Core.Path.{fun_ext}
 use Rattle.std.proofs.lemmas.List.{length-map}
+use Rattle.sv_world.specs.Limits.{most_outstanding, most_pending}
 use Rattle.sv_world.specs.declared.world.ClientId.{ClientId}
 use Rattle.sv_world.specs.declared.world.ObjectId.{ObjectId}
 use Rattle.sv_watch.specs.declared.change.Change.{Change}
@@ -17,15 +18,17 @@ use Rattle.sv_client.specs.declared.fault.TakeFault.{TakeFault}
 use Rattle.sv_client.specs.declared.trace.Event.{Event}
 use Rattle.sv_client.specs.declared.trace.Event.TheVariants as events
 use Rattle.sv_client.specs.Traces.{view_of}
-use Rattle.sv_client.specs.Taking.{Identity, Fault}
+use Rattle.sv_client.specs.Taking.{Identity, Fault, outstanding}
 use Rattle.sv_client.specs.Answers.{IsTakeFault}
 use Rattle.sv_client.specs.Seen.{raised, fault_named}
 use Rattle.sv_client.proofs.Shifts.{Up, up_held, up_pending, up_current, up_got, up_asked, up_outstanding, up_fault, up_is}
 use Rattle.sv_scenario.specs.declared.scenario.Step.{Step}
+use Rattle.sv_scenario.specs.declared.scenario.Step.TheVariants as steps
 use Rattle.sv_script.specs.Following.{DoesStep, MayCome, FollowsTo, must_join, is_welcomed, is_finished, passed_syncs, is_bye}
 use Rattle.sv_script.specs.Telling.{same_view, change_of, changes_of}
 use Rattle.sv_player.specs.declared.outcome.ReplyFault.{ReplyFault}
 use Rattle.sv_player.specs.declared.outcome.ReplyFault.TheVariants as faults
+use Rattle.sv_player.specs.Awaiting.{may_ask, can_do, can_do_first, can_go_on, IsAwaited, GetsAreAwaited}
 use Rattle.sv_player.specs.Carried.{BeginsWithReplies}
 use Rattle.sv_player.specs.Stops.{IsBad, IsBadRest, IsShut, is_cut}
 use Rattle.sv_player.specs.Played.{has_quit, has_left}
@@ -156,6 +159,46 @@ module _ (first : ℕ) where
   pub up_follows : (who : Identity) (script : List Step) (t : List Event) (left : List Step) → FollowsTo who script t left → FollowsTo who script (Up first t) left
   up_follows who script [] left f = f
   up_follows who script (e ∷ t) left f = (f.0, (up_follows who script t f.0 f.1.0, up_come who t f.0 e left f.1.1))
+
+  up_ask : (who : Identity) (t : List Event) → may_ask who (Up first t) ≡ may_ask who t
+  up_ask who t = ap (λ (os : List Request). nat_lt (length os) most_outstanding) (up_outstanding first who t)
+
+  up_do : (who : Identity) (t : List Event) (step : Step) → can_do who (Up first t) step ≡ can_do who t step
+  up_do who t (steps.Act a) = ap₂ (λ (ps : List PendingAction) (b : Bool). nat_lt (length ps) most_pending && b) (up_pending first t) (up_ask who t)
+  up_do who t steps.Poll = up_ask who t
+  up_do who t (steps.Observe os) = up_ask who t
+  up_do who t steps.Sync = refl
+  up_do who t (steps.Show objects) = refl
+  up_do who t steps.Cut = refl
+  up_do who t steps.Quit = refl
+
+  up_first : (who : Identity) (t : List Event) (ss : List Step) → can_do_first who (Up first t) ss ≡ can_do_first who t ss
+  up_first who t [] = refl
+  up_first who t (step ∷ ss) = up_do who t step
+
+  up_go_on : (who : Identity) (t : List Event) (left : List Step) → can_go_on who (Up first t) left ≡ can_go_on who t left
+  up_go_on who t left =
+      ap₂ (λ (a b : Bool). a && b) (up_welcomed t)
+      (up_first who t (passed_syncs (outstanding who (Up first t)) left) ∙ ap (λ (os : List Request). can_do_first who t (passed_syncs os left)) (up_outstanding first who t))
+
+  up_time : (who : Identity) (t : List Event) (left : List Step) (e : Event) → IsAwaited who t left e → IsAwaited who (Up first t) left (raised first e)
+  up_time who t left (events.Join s) a = tt
+  up_time who t left (events.Make action) a = tt
+  up_time who t left events.Poll a = tt
+  up_time who t left (events.Observe os wait) a = tt
+  up_time who t left events.Leave a = tt
+  up_time who t left (events.Got s reply) a = up_go_on who t left ∙ a
+  up_time who t left events.Cut a = tt
+  up_time who t left events.Quit a = tt
+  up_time who t left (events.Show objects) a = tt
+
+  pub up_awaited : (who : Identity) (script : List Step) (t : List Event) → GetsAreAwaited who script t → GetsAreAwaited who script (Up first t)
+  up_awaited who script [] g = tt
+  up_awaited who script (e ∷ t) g =
+      (
+        record { left = g.0.left; follows = up_follows who script t g.0.left g.0.follows; awaited = up_time who t g.0.left e g.0.awaited },
+        up_awaited who script t g.1,
+      )
 
   -- ---- Telling
 

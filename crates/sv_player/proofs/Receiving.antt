@@ -88,6 +88,7 @@ stops_at s p b end cause at here none reason =
       proper = at.going.proper;
       left = p.left.now;
       follows = at.going.follows;
+      awaited = at.going.awaited;
       current = λ n. at.current;
       open_is = at.open_is;
       part = record { sent = ([], append-nil end.sent ∙ sent); rest = b.reader; received = at.linked.received };
@@ -109,6 +110,7 @@ stops_sending s p b end new cause at here why posted =
       proper = at.going.proper;
       left = p.left.now;
       follows = at.going.follows;
+      awaited = at.going.awaited;
       current = λ n. at.current;
       open_is = at.open_is;
       part =

@@ -26,6 +26,7 @@ use Rattle.sv_script.specs.Telling.{changes_of, told_lines}
 use Rattle.sv_player.specs.declared.outcome.PlayerCause.{PlayerCause}
 use Rattle.sv_player.specs.declared.outcome.PlayerCause.TheVariants as causes
 use Rattle.sv_player.specs.declared.playing.Player.{Player}
+use Rattle.sv_player.specs.Awaiting.{GetsAreAwaited, WaitsWhereNeeded}
 use Rattle.sv_player.specs.Carried.{request_frames, BeginsWithReplies}
 use Rattle.sv_player.specs.Going.{AreTold}
 use Rattle.sv_player.specs.Stops.{IsBad, IsShut}
@@ -34,7 +35,7 @@ use Rattle.sv_player.specs.Ends.{IsUncut, AreKept, IsClosedEnd, IsLeft, IsStuck,
 use Rattle.sv_player.proofs.Listed.{after, before}
 use Rattle.sv_player.proofs.Linking.{frames_none}
 use Rattle.sv_player.proofs.Stepping.{left_none}
-use Rattle.sv_player.proofs.Raised.{up_finished, up_quit, up_left, up_follows, up_changes, up_open, up_shut, up_bad}
+use Rattle.sv_player.proofs.Raised.{up_finished, up_quit, up_left, up_follows, up_awaited, up_changes, up_open, up_shut, up_bad}
 
 -- ---- The last event
 
@@ -273,10 +274,17 @@ module _ {E : Type 0} (told : E → Told) (faults : E → ℕ) (calm : E → Typ
   to_end : is_finished p.client.events ≡ true → FollowsToEnd p0.client.who.shape p0.script.now T
   to_end f = record { follows = follows_is; finished = ap is_finished events_are ∙ up_finished p0.first p.client.events ∙ f }
 
+  awaited_is : WaitsWhereNeeded p0.client.who.shape p0.script.now T
+  awaited_is =
+      subst (λ (w : Identity). GetsAreAwaited w p0.script.now (reverse T.events)) (sym identity_is)
+      (subst (λ (es : List Event). GetsAreAwaited p.client.who p0.script.now es) (sym events_are)
+      (up_awaited p0.first p.client.who p0.script.now p.client.events played.awaited))
+
   pub followed : HasFollowed p0.client.who.shape p0.script.now T cause
   followed =
       record {
         follows = follows_is;
+        awaited = awaited_is;
         finished = λ e. to_end (left_finishes p.client.events (subst (λ (c : PlayerCause). IsWhy told faults calm p.client.who p.client.events p0.first c old mid) e played.why));
         quit = λ e. to_end (quit_finishes p.client.events (subst (λ (c : PlayerCause). IsWhy told faults calm p.client.who p.client.events p0.first c old mid) e played.why));
       }

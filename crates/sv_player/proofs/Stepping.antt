@@ -28,6 +28,7 @@ use Rattle.sv_player.specs.declared.outcome.PlayerCause.{PlayerCause}
 use Rattle.sv_player.specs.declared.outcome.PlayerCause.TheVariants as causes
 use Rattle.sv_player.specs.declared.playing.Player.{Player}
 use Rattle.sv_player.specs.Carried.{request_frames, BeginsWithReplies}
+use Rattle.sv_player.specs.Awaiting.{GetsAreAwaited}
 use Rattle.sv_player.specs.Going.{one_more_if, AreTold, IsGoing, IsNew}
 use Rattle.sv_player.specs.Stops.{is_cut}
 use Rattle.sv_player.specs.Sessions.{IsFresh, IsSameEnd, IsReason, HasEnded, Ended, Stopped}
@@ -194,6 +195,7 @@ module _ {E : Type 0} (told : E → Told) (faults : E → ℕ) (calm : E → Typ
         proper = subst (AreProper p.client.who 0) (sym new.none) tt;
         left = p.left.now;
         follows = subst (λ (t : List Event). FollowsTo p.client.who p.script.now t p.left.now) (sym new.none) new.left;
+        awaited = subst (GetsAreAwaited p.client.who p.script.now) (sym new.none) tt;
         lines = λ some. absurd (some refl);
         ends =
             record {
@@ -270,6 +272,7 @@ module _ {E : Type 0} (told : E → Told) (faults : E → ℕ) (calm : E → Typ
           proper = d.going.proper;
           left = q.left.now;
           follows = subst (λ (s : List Step). FollowsTo q.client.who s q.client.events q.left.now) (d.onward.script ∙ playing.script) d.going.follows;
+          awaited = subst (λ (s : List Step). GetsAreAwaited q.client.who s q.client.events) (d.onward.script ∙ playing.script) d.going.awaited;
           lines = λ _. subst (λ (w : Bool). AreTold w q.client.who q.client.events q.lines.items) (d.onward.watched ∙ playing.watched) d.going.told;
           ends = left_ends cause d.onward.who d.onward.asks d.onward.gets (carried_ended (SentAll cause) k p q (told x) (told y) ending same d) (inl f);
           why = why;
@@ -299,6 +302,7 @@ module _ {E : Type 0} (told : E → Told) (faults : E → ℕ) (calm : E → Typ
           proper = d.proper;
           left = d.left;
           follows = subst (λ (s : List Step). FollowsTo q.client.who s q.client.events d.left) (d.onward.script ∙ playing.script) d.follows;
+          awaited = subst (λ (s : List Step). GetsAreAwaited q.client.who s q.client.events) (d.onward.script ∙ playing.script) d.awaited;
           lines = λ some. subst (λ (w : Bool). AreTold w q.client.who q.client.events q.lines.items) (d.onward.watched ∙ playing.watched) (d.told some);
           ends = left_ends cause d.onward.who d.onward.asks d.onward.gets (carried_stopped k p q (told x) (told y) cause same d)
               (count_at cause (faults x) (faults y) q.client.events k n d.current d.open_is);

@@ -22,10 +22,11 @@ use Rattle.sv_player.specs.declared.playing.Player.{Player}
 use Rattle.sv_player.specs.Carried.{request_frames, BeginsWithReplies, Posted, PostedPart}
 use Rattle.sv_script.specs.Following.{is_bye}
 use Rattle.sv_player.specs.Going.{IsGoing, Did, DidInPart, IsHere}
+use Rattle.sv_player.specs.Awaiting.{can_go_on}
 use Rattle.sv_player.specs.Sessions.{IsAt, IsFirst, Got, Stopped, IsReason}
 use Rattle.sv_player.proofs.Linking.{frames_append, begins_next, fits, sent_posted, sent_part, messages_more}
 use Rattle.sv_player.proofs.Onward.{asks_here}
-use Rattle.sv_player.proofs.Going.{follows_as, going_on, got_here, bye_finishes}
+use Rattle.sv_player.proofs.Going.{follows_as, awaited_as, awaited_on, going_on, got_here, bye_finishes}
 use Rattle.sv_player.proofs.Turns.{onward_by, onward_same, begun_idle}
 
 if_true : {X : Type 0} (b : Bool) (x y : X) → b ≡ true → (if b then x else y) ≡ x
@@ -46,7 +47,7 @@ skipped before after payload first skips = go (first_frame before) refl first sk
         subst (λ (w : List ℕ). TakesOff w before after × FitsFrame w) same (k, fits before p r e)
 
 module _ (s : ℕ) (reply : Reply) (p q : Player) (b : Buffers) (end : Told) (at : IsAt s p b end) (here : IsHere p.client.who p.client.events p.left.now)
-    (first : IsFirst b.reader reply) where
+    (waits : can_go_on p.client.who p.client.events p.left.now ≡ false) (first : IsFirst b.reader reply) where
   abbrev t : List Event
   t = p.client.events
 
@@ -60,7 +61,7 @@ module _ (s : ℕ) (reply : Reply) (p q : Player) (b : Buffers) (end : Told) (at
   IsFineHere = first_fault_of_reply p.client.who p.client.events reply ≡ None
 
   going : IsFineHere → Did e p.left.now p q → IsGoing q
-  going fine did = going_on p q e p.left.now at.going (record { current = at.current; taken = fine }) (record { joined = here.joined; here = here.here; same = refl }) did
+  going fine did = going_on p q e p.left.now at.going (record { current = at.current; taken = fine }) (record { joined = here.joined; here = here.here; same = refl }) waits did
 
   asks_are : asked p.client.who.client p.client.who.interest (e ∷ t) s ≡ asked p.client.who.client p.client.who.interest t s ++ asks
   asks_are = asks_here p.client.who s t e at.current
@@ -110,6 +111,7 @@ module _ (s : ℕ) (reply : Reply) (p q : Player) (b : Buffers) (end : Told) (at
         proper = (going fine did).proper;
         left = q.left.now;
         follows = (going fine did).follows;
+        awaited = (going fine did).awaited;
         current = λ n. rw did.events at.current;
         open_is = rw did.events at.open_is;
         part =
@@ -141,6 +143,7 @@ module _ (s : ℕ) (reply : Reply) (p q : Player) (b : Buffers) (end : Told) (at
             proper = rw (part.who, same) at.going.proper;
             left = p.left.now;
             follows = follows_as p.client.who q.client.who p.script.now q.script.now t q.client.events p.left.now p.left.now part.who part.script same refl at.going.follows;
+            awaited = awaited_as p.client.who q.client.who p.script.now q.script.now t q.client.events part.who part.script same at.going.awaited;
             current = λ n. absurd (n refl);
             open_is = rw same at.open_is;
             part = rw (part.who, same) (record { sent = (b.outbox, at.linked.sent); rest = b.reader; received = at.linked.received });
@@ -157,6 +160,7 @@ module _ (s : ℕ) (reply : Reply) (p q : Player) (b : Buffers) (end : Told) (at
             proper = rw (part.who, more) (record { current = at.current; taken = fine more }, at.going.proper);
             left = p.left.now;
             follows = follows_as p.client.who q.client.who p.script.now q.script.now (e ∷ t) q.client.events p.left.now p.left.now part.who part.script more refl (p.left.now, (at.going.follows, record { joined = here.joined; here = here.here; same = refl }));
+            awaited = awaited_as p.client.who q.client.who p.script.now q.script.now (e ∷ t) q.client.events part.who part.script more (awaited_on p e at.going waits);
             current = λ n. absurd (n refl);
             open_is = rw more at.open_is;
             part =

@@ -25,12 +25,13 @@ use Rattle.sv_player.specs.declared.outcome.PlayerCause.{PlayerCause}
 use Rattle.sv_player.specs.declared.outcome.PlayerCause.TheVariants as causes
 use Rattle.sv_player.specs.declared.playing.Player.{Player}
 use Rattle.sv_player.specs.Carried.{request_frames, Posted, PostedPart, IsLinked}
+use Rattle.sv_player.specs.Awaiting.{IsAwaited}
 use Rattle.sv_player.specs.Going.{IsGoing, Did, DidInPart, IsReady}
 use Rattle.sv_player.specs.Sessions.{IsAt, Onward, IsReason, Stopped, SessionGoesOn, IsTurn, IsSent, IsFresh, FaultCause}
 use Rattle.sv_player.specs.Waiting.{PutBehind}
 use Rattle.sv_player.proofs.Linking.{frames_none, begins_none, linked_posted, linked_part, linked_still}
 use Rattle.sv_player.proofs.Onward.{IsOf, asks_other, gets_other, cuts_other, asks_here}
-use Rattle.sv_player.proofs.Going.{follows_as, going_on, does_step, still_within, within_settled, may_make, may_observe}
+use Rattle.sv_player.proofs.Going.{follows_as, going_on, does_step, still_within, within_settled, may_make, may_observe, awaited_as, awaited_on}
 
 -- ---- Onward
 
@@ -84,6 +85,7 @@ begun_idle who t s received p c l = absurd (let below = current_below who 0 t p 
 pub record IsDue (s : ℕ) (e : Event) (left : List Step) (p : Player) : Type 0 where
   pub may : MayFollow p.client.who 0 p.client.events e
   pub come : MayCome p.client.who p.client.events p.left.now e left
+  pub awaited : IsAwaited p.client.who p.client.events p.left.now e
   pub of_it : IsOf s p.client.events e
   pub current : current_session (e ∷ p.client.events) ≡ Some s
   pub open_is : is_cut (e ∷ p.client.events) s ≡ false
@@ -109,7 +111,7 @@ module _ (s : ℕ) (e : Event) (left : List Step) (p q : Player) (end : Told) (r
       record {
         at =
             record {
-              going = going_on p q e left before.going due.may due.come did;
+              going = going_on p q e left before.going due.may due.come due.awaited did;
               current = rw did.events due.current;
               open_is = rw did.events due.open_is;
               linked = rw (did.who, did.events, same) (linked_posted p.client.who t (e ∷ t) s asks (asks_here p.client.who s t e due.current) end new reader outbox b.outbox due.gets before.linked posted fine);
@@ -121,12 +123,13 @@ module _ (s : ℕ) (e : Event) (left : List Step) (p q : Player) (end : Told) (r
   -- It was done, and sending ended early.
   pub stops_by : (new : Told) (cause : PlayerCause) → (cause ≡ causes.LinkFault) ⊎ (cause ≡ causes.Memory) → Did e left p q → PostedPart end outbox (request_frames asks) new → Stopped s p q new cause
   stops_by new cause why did posted =
-      let going = going_on p q e left before.going due.may due.come did in
+      let going = going_on p q e left before.going due.may due.come due.awaited did in
       record {
         onward = onward_by s e p q due.of_it did.who did.script did.first did.watched did.events;
         proper = going.proper;
         left = q.left.now;
         follows = going.follows;
+        awaited = going.awaited;
         current = λ n. rw did.events due.current;
         open_is = rw did.events due.open_is;
         part = rw (did.who, did.events) (linked_part p.client.who t (e ∷ t) s asks (asks_here p.client.who s t e due.current) end new reader outbox due.gets before.linked posted);
@@ -152,6 +155,7 @@ module _ (s : ℕ) (e : Event) (left : List Step) (p q : Player) (end : Told) (r
             proper = rw (did.who, same) before.going.proper;
             left = p.left.now;
             follows = follows_as p.client.who q.client.who p.script.now q.script.now t q.client.events p.left.now p.left.now did.who did.script same refl before.going.follows;
+            awaited = awaited_as p.client.who q.client.who p.script.now q.script.now t q.client.events did.who did.script same before.going.awaited;
             current = λ n. absurd (n refl);
             open_is = rw same uncut;
             part = rw (did.who, same) (linked_still p.client.who t t s [] (sym (append-nil (asked p.client.who.client p.client.who.interest t s))) end reader outbox refl before.linked);
@@ -168,6 +172,7 @@ module _ (s : ℕ) (e : Event) (left : List Step) (p q : Player) (end : Told) (r
             proper = rw (did.who, more) (due.may, before.going.proper);
             left = left;
             follows = follows_as p.client.who q.client.who p.script.now q.script.now (e ∷ t) q.client.events left left did.who did.script more refl (p.left.now, (before.going.follows, due.come));
+            awaited = awaited_as p.client.who q.client.who p.script.now q.script.now (e ∷ t) q.client.events did.who did.script more (awaited_on p e before.going due.awaited);
             current = λ n. absurd (n refl);
             open_is = rw more due.open_is;
             part = rw (did.who, more) (linked_still p.client.who t (e ∷ t) s asks (asks_here p.client.who s t e due.current) end reader outbox due.gets before.linked);
@@ -198,10 +203,10 @@ did_nothing e p q same = rw same (record { who = refl; script = refl; first = re
 
 -- An event of the session that is under way.
 pub due_in : (s : ℕ) (e : Event) (left : List Step) (p : Player) → current_session p.client.events ≡ Some s → is_cut p.client.events s ≡ false → MayFollow p.client.who 0 p.client.events e →
-    MayCome p.client.who p.client.events p.left.now e left → IsOf s p.client.events e → current_session (e ∷ p.client.events) ≡ current_session p.client.events →
-    is_cut (e ∷ p.client.events) s ≡ is_cut p.client.events s → is_finished (e ∷ p.client.events) ≡ false → got (e ∷ p.client.events) s ≡ got p.client.events s → IsDue s e left p
-due_in s e left p cur uncut may come of same cuts goes gets =
-    record { may = may; come = come; of_it = of; current = same ∙ cur; open_is = cuts ∙ uncut; goes_on = goes; gets = gets }
+    MayCome p.client.who p.client.events p.left.now e left → IsAwaited p.client.who p.client.events p.left.now e → IsOf s p.client.events e →
+    current_session (e ∷ p.client.events) ≡ current_session p.client.events → is_cut (e ∷ p.client.events) s ≡ is_cut p.client.events s → is_finished (e ∷ p.client.events) ≡ false → got (e ∷ p.client.events) s ≡ got p.client.events s → IsDue s e left p
+due_in s e left p cur uncut may come awaited of same cuts goes gets =
+    record { may = may; come = come; awaited = awaited; of_it = of; current = same ∙ cur; open_is = cuts ∙ uncut; goes_on = goes; gets = gets }
 
 cut_below : (who : Identity) (first : ℕ) (t : List Event) → AreProper who first t → (k : ℕ) → first + joins t ≤ k → is_cut t k ≡ false
 cut_below who first [] p k l = refl
@@ -242,6 +247,7 @@ join_due p going needed few =
     record {
       may = record { next = omega arith; few = few };
       come = record { needed = needed; same = refl };
+      awaited = tt;
       of_it = refl;
       current = refl;
       open_is = uncut_next p.client.who p.client.events going.proper;
@@ -260,25 +266,25 @@ module _ (s : ℕ) (p : Player) (b : Buffers) (end : Told) (at : IsAt s p b end)
   make_due action rest next room calm =
       let may = may_make p action rest at.going ready next room calm in
       due_in s (events.Make action) rest p at.current at.open_is may
-      (does_step p.client.who p.client.events p.left.now (steps.Act action) rest (events.Make action) ready next refl) at.current refl refl refl refl
+      (does_step p.client.who p.client.events p.left.now (steps.Act action) rest (events.Make action) ready next refl) tt at.current refl refl refl refl
 
   pub poll_due : (rest : List Step) → unsynced p.client.who p.client.events p.left.now ≡ steps.Poll ∷ rest → length (outstanding p.client.who p.client.events) < 16 → IsDue s events.Poll rest p
   poll_due rest next calm =
       due_in s events.Poll rest p at.current at.open_is (record { joined = still_within p.client.who p.client.events p.left.now steps.Poll rest ready next; calm = calm })
-      (does_step p.client.who p.client.events p.left.now steps.Poll rest events.Poll ready next refl) at.current refl refl refl refl
+      (does_step p.client.who p.client.events p.left.now steps.Poll rest events.Poll ready next refl) tt at.current refl refl refl refl
 
   pub observe_due : (objects : List ObjectId) (rest : List Step) → unsynced p.client.who p.client.events p.left.now ≡ steps.Observe objects ∷ rest → length (outstanding p.client.who p.client.events) < 16 →
       IsDue s (events.Observe objects 0) rest p
   observe_due objects rest next calm =
       due_in s (events.Observe objects 0) rest p at.current at.open_is (may_observe p objects rest at.going ready next calm)
-      (does_step p.client.who p.client.events p.left.now (steps.Observe objects) rest (events.Observe objects 0) ready next refl) at.current refl refl refl refl
+      (does_step p.client.who p.client.events p.left.now (steps.Observe objects) rest (events.Observe objects 0) ready next refl) tt at.current refl refl refl refl
 
   pub show_due : (objects : List ObjectId) (rest : List Step) → unsynced p.client.who p.client.events p.left.now ≡ steps.Show objects ∷ rest → IsDue s (events.Show objects) rest p
   show_due objects rest next =
       due_in s (events.Show objects) rest p at.current at.open_is tt
-      (does_step p.client.who p.client.events p.left.now (steps.Show objects) rest (events.Show objects) ready next refl) at.current refl refl refl refl
+      (does_step p.client.who p.client.events p.left.now (steps.Show objects) rest (events.Show objects) ready next refl) tt at.current refl refl refl refl
 
   pub leave_due : outstanding p.client.who p.client.events ≡ [] → after_syncs p.left.now ≡ [] → IsDue s events.Leave [] p
   leave_due settled done =
       due_in s events.Leave [] p at.current at.open_is (record { joined = within_settled p.client.who p.client.events p.left.now ready settled; settled = settled })
-      (record { joined = ready.here_is.joined; welcomed = ready.welcomed; here = ready.here_is.here; settled = settled; done = done; same = refl }) at.current refl refl refl refl
+      (record { joined = ready.here_is.joined; welcomed = ready.welcomed; here = ready.here_is.here; settled = settled; done = done; same = refl }) tt at.current refl refl refl refl

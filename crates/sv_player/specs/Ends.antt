@@ -16,6 +16,7 @@ use Rattle.sv_player.specs.declared.outcome.PlayerCause.{PlayerCause}
 use Rattle.sv_player.specs.declared.outcome.PlayerCause.TheVariants as causes
 use Rattle.sv_player.specs.declared.playing.Player.{Player}
 use Rattle.sv_player.specs.Carried.{request_frames, BeginsWithReplies}
+use Rattle.sv_player.specs.Awaiting.{GetsAreAwaited}
 use Rattle.sv_player.specs.Going.{AreTold, IsGoing}
 use Rattle.sv_player.specs.Stops.{is_cut}
 use Rattle.sv_player.specs.Sessions.{IsSameEnd, IsReason, Ended, Stopped}
@@ -118,6 +119,7 @@ module _ {E : Type 0} (told : E → Told) (faults : E → ℕ) (calm : E → Typ
     pub proper : AreProper new.client.who 0 new.client.events
     pub left : List Step
     pub follows : FollowsTo new.client.who old.script.now new.client.events left
+    pub awaited : GetsAreAwaited new.client.who old.script.now new.client.events
     pub lines : cause ≢ causes.Memory → AreTold old.watched new.client.who new.client.events new.lines.items
     pub ends : AreKept (IsLeft new.client.who new.client.events cause) before now
     pub why : IsWhy new.client.who new.client.events old.first cause before now

@@ -24,6 +24,7 @@ use Rattle.sv_player.specs.declared.playing.Player.{Player}
 use Rattle.sv_player.specs.declared.telling.Seen.{Seen}
 use Rattle.sv_player.specs.Seen.{seen_by}
 use Rattle.sv_player.specs.Partings.{parting_step}
+use Rattle.sv_player.specs.Awaiting.{can_do_first, GetsAreAwaited}
 
 abbrev pub scripted_plan : Identity → List Step → Plan
 scripted_plan who script = record { interest = who.interest; steps = script }
@@ -57,12 +58,14 @@ pub record IsBudget (who : Identity) (script : List Step) (t : List Event) (left
   pub few : makes t + length left ≤ most_steps
   pub sessions : joins t + cuts_in left ≤ cuts_in script + one_more_if (must_join t)
 
--- What the player did is proper, follows the script so far, with these steps left, and was told; and its views are those that it saw last.
+-- What the player did is proper, follows the script so far, with these steps left, waited only where it could not go on, and was told; and its
+-- views are those that it saw last.
 pub record IsGoing (p : Player) : Type 0 where
   pub may : MayPlay p.client.who p.script.now
   pub first : p.first < most_sessions
   pub proper : AreProper p.client.who 0 p.client.events
   pub follows : FollowsTo p.client.who p.script.now p.client.events p.left.now
+  pub awaited : GetsAreAwaited p.client.who p.script.now p.client.events
   pub budget : IsBudget p.client.who p.script.now p.client.events p.left.now
   pub told : AreTold p.watched p.client.who p.client.events p.lines.items
   pub seen : AreSeen p.watched p.client.who p.client.events p.seen.items
@@ -115,7 +118,7 @@ pub record IsReady (who : Identity) (t : List Event) (left : List Step) : Type 0
 
 -- what a player does next, in a session that has its Welcome
 abbrev pub IsMove : Move → Identity → List Event → List Step → Type 0
-IsMove moves.Wait who t left = 0 < length (outstanding who t)
+IsMove moves.Wait who t left = (0 < length (outstanding who t)) × (can_do_first who t (unsynced who t left) ≡ false)
 IsMove moves.Leave who t left = (outstanding who t ≡ []) × (after_syncs left ≡ [])
 IsMove (moves.Make making) who t left =
     (unsynced who t left ≡ steps.Act making.action.now ∷ making.rest.now) × (length (pending_of t) < most_pending) × (length (outstanding who t) < most_outstanding)

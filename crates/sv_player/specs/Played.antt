@@ -19,6 +19,7 @@ use Rattle.sv_script.specs.Telling.{told_lines}
 use Rattle.sv_player.specs.Stops.{IsBad, IsShut, is_cut}
 use Rattle.sv_player.specs.declared.outcome.PlayerCause.{PlayerCause}
 use Rattle.sv_player.specs.declared.outcome.PlayerCause.TheVariants as causes
+use Rattle.sv_player.specs.Awaiting.{WaitsWhereNeeded}
 use Rattle.sv_player.specs.Carried.{request_frames, BeginsWithReplies}
 
 -- the lines that a player tells: those of its trace where somebody watches, and else none
@@ -118,8 +119,9 @@ pub record IsExact (trace : Trace) (cause : PlayerCause) : Type 0 where
   pub quit : cause ≢ causes.Memory → has_quit (reverse trace.events) ≡ true → cause ≡ causes.Quit
   pub left : cause ≢ causes.Memory → has_left (reverse trace.events) ≡ true → cause ≡ causes.Finished
 
--- it follows the script as far as it goes, and to the end where it finished or quit
+-- It follows the script as far as it goes, and to the end where it finished or quit; and it waited only where it could not go on.
 pub record HasFollowed (shape : Shape) (script : List Step) (trace : Trace) (cause : PlayerCause) : Type 0 where
   pub follows : Follows shape script trace
   pub finished : cause ≡ causes.Finished → FollowsToEnd shape script trace
   pub quit : cause ≡ causes.Quit → FollowsToEnd shape script trace
+  pub awaited : WaitsWhereNeeded shape script trace

@@ -25,6 +25,7 @@ use Rattle.sv_player.specs.declared.playing.Player.{Player}
 use Rattle.sv_player.specs.declared.outcome.Ending.{Ending}
 use Rattle.sv_player.specs.declared.outcome.Ending.TheVariants as endings
 use Rattle.sv_player.specs.Carried.{request_frames, BeginsWithReplies, Posted, PostedPart, IsLinked, IsLinkedInPart}
+use Rattle.sv_player.specs.Awaiting.{GetsAreAwaited}
 use Rattle.sv_player.specs.Going.{AreTold, IsGoing, IsHere, IsReady}
 
 -- The player is in session s, over this end.
@@ -92,6 +93,7 @@ pub record Stopped (s : ℕ) (old new : Player) (end : Told) (cause : PlayerCaus
   pub proper : AreProper new.client.who 0 new.client.events
   pub left : List Step
   pub follows : FollowsTo new.client.who new.script.now new.client.events left
+  pub awaited : GetsAreAwaited new.client.who new.script.now new.client.events
   pub current : cause ≢ causes.Memory → current_session new.client.events ≡ Some s
   pub open_is : is_cut new.client.events s ≡ false
   pub part : IsLinkedInPart new.client.who new.client.events s end

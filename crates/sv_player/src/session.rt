@@ -14,6 +14,7 @@ ghost use Rattle.sv_client.specs.Seen.{latest_session};
 ghost use Rattle.sv_scenario.specs.declared.scenario.Step.TheVariants as steps;
 ghost use Rattle.sv_script.specs.Following.{must_join, unsynced, after_syncs, is_bye};
 ghost use Rattle.sv_player.specs.declared.outcome.PlayerCause.TheVariants as causes;
+ghost use Rattle.sv_player.specs.Awaiting.{can_go_on};
 ghost use Rattle.sv_player.specs.Carried.{request_frames, which_end};
 ghost use Rattle.sv_player.specs.Going.{IsGoing, IsHere, IsReady, Did};
 ghost use Rattle.sv_player.specs.Partings.{parting_step};
@@ -238,6 +239,7 @@ impl<'a> Player<'a> {
         requires watched { self.old.watched ≡ is_some watch }
         requires at { IsAt (latest_session self.old.client.events) self.old buffers.old (E.told end.old) }
         requires here { IsHere self.old.client.who self.old.client.events self.old.left.now }
+        requires waits { can_go_on self.old.client.who self.old.client.events self.old.left.now ≡ false }
         requires came { first_frame buffers.old.reader ≢ None }
         requires flushed { buffers.old.outbox ≡ [] }
         ensures received { IsReceived result (latest_session self.old.client.events) self.old self.new buffers.new (E.told end.new) }
@@ -287,6 +289,7 @@ impl<'a> Player<'a> {
         requires watched { self.old.watched ≡ is_some watch }
         requires at { IsAt (latest_session self.old.client.events) self.old buffers.old (E.told end.old) }
         requires here { IsHere self.old.client.who self.old.client.events self.old.left.now }
+        requires waits { can_go_on self.old.client.who self.old.client.events self.old.left.now ≡ false }
         requires came { first_frame buffers.old.reader ≢ None }
         requires first { IsFirst buffers.old.reader reply }
         requires flushed { is_bye reply ≡ true → buffers.old.outbox ≡ [] }
@@ -325,6 +328,7 @@ impl<'a> Player<'a> {
         requires watched { self.old.watched ≡ is_some watch }
         requires at { IsAt (latest_session self.old.client.events) self.old buffers.old (E.told end.old) }
         requires here { IsHere self.old.client.who self.old.client.events self.old.left.now }
+        requires waits { can_go_on self.old.client.who self.old.client.events self.old.left.now ≡ false }
         requires came { first_frame buffers.old.reader ≢ None }
         ensures received { IsReceived result (latest_session self.old.client.events) self.old self.new buffers.new (E.told end.new) }
         ensures same_end { which_end (E.told end.new) ≡ which_end (E.told end.old) }
@@ -362,6 +366,7 @@ impl<'a> Player<'a> {
         requires watched { self.old.watched ≡ is_some watch }
         requires at { IsAt (latest_session self.old.client.events) self.old buffers.old (E.told end.old) }
         requires here { IsHere self.old.client.who self.old.client.events self.old.left.now }
+        requires waits { can_go_on self.old.client.who self.old.client.events self.old.left.now ≡ false }
         requires came { first_frame buffers.old.reader ≢ None }
         ensures received { IsReceived result (latest_session self.old.client.events) self.old self.new buffers.new (E.told end.new) }
         ensures same_end { which_end (E.told end.new) ≡ which_end (E.told end.old) }
@@ -385,6 +390,7 @@ impl<'a> Player<'a> {
         requires watched { self.old.watched ≡ is_some watch }
         requires at { IsAt (latest_session self.old.client.events) self.old buffers.old (E.told end.old) }
         requires here { IsHere self.old.client.who self.old.client.events self.old.left.now }
+        requires waits { can_go_on self.old.client.who self.old.client.events self.old.left.now ≡ false }
         requires awaited { 0 < length (outstanding self.old.client.who self.old.client.events) }
         ensures received { IsReceived result (latest_session self.old.client.events) self.old self.new buffers.new (E.told end.new) }
         ensures same_end { which_end (E.told end.new) ≡ which_end (E.told end.old) }

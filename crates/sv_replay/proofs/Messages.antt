@@ -6,7 +6,6 @@ use Rattle.std.specs.List.{list_any, AllByRecursion}
 use Rattle.std.proofs.lemmas.Bool.{cases_Bool}
 use Rattle.std.proofs.lemmas.List.{reverse-reverse}
 use Rattle.std.proofs.lemmas.List.Elements.{recursion_from_All, All-from_recursion}
-use Rattle.sv_wire.specs.declared.message.Reply.{Reply}
 use Rattle.sv_wire.specs.Laws.{IsRequest, IsReply}
 use Rattle.sv_wire.specs.Ranges.{RequestFits}
 use Rattle.sv_journal.specs.declared.entry.Entry.{Entry}
@@ -15,13 +14,12 @@ use Rattle.sv_journal.specs.Sessions.{is_end}
 use Rattle.sv_journal.specs.Answer.{Rules}
 use Rattle.sv_client.specs.declared.trace.Event.{Event}
 use Rattle.sv_client.specs.declared.trace.Trace.{Trace}
-use Rattle.sv_client.specs.Traces.{current_session, asked, got}
-use Rattle.sv_client.specs.Taking.{first_fault_of_reply}
+use Rattle.sv_client.specs.Traces.{asked}
 use Rattle.sv_scenario.specs.declared.scenario.Scenario.{Scenario}
 use Rattle.sv_scenario.specs.Limits.{IsGoodScenario}
 use Rattle.sv_scenario.specs.Sessions.{session_count}
 use Rattle.sv_asked.specs.Numbers.{PlanFits, ScenarioFits}
-use Rattle.sv_system.specs.Fits.{requests_in, replies_in}
+use Rattle.sv_system.specs.Fits.{requests_in}
 use Rattle.sv_system.specs.Laws.{NeverRefusedInScenarios}
 use Rattle.sv_system.proofs.Histories.{IsEarlier, same, earlier-rest}
 use Rattle.sv_system.proofs.Entered.{of-from, request-there}
@@ -37,9 +35,7 @@ use Rattle.law_schedule.specs.Schedule.{rules_of, plain_server}
 use Rattle.law_schedule.specs.Sound.{IsSound, has_joined}
 use Rattle.law_schedule.specs.Served.{IsSoundOver}
 use Rattle.law_schedule.proofs.SoundPlain.{plain-keeps, sound-plain}
-use Rattle.law_schedule.proofs.DoneCounts.{asked-few}
-use Rattle.law_schedule.proofs.DoneFacts.{following, next-taken}
-use Rattle.law_schedule.proofs.SoundCalls.{player-at}
+use Rattle.law_schedule.proofs.DonePlain.{plain-taken, player-front}
 use Rattle.sv_replay.specs.Players.{asked_by_player}
 use Rattle.sv_replay.specs.Messages.{AsksMessages}
 use Rattle.sv_replay.specs.Playable.{IsPlayable}
@@ -78,8 +74,7 @@ module _ (scenario : Scenario) (run : Run) (good : IsGoodScenario scenario) (num
           | inr n ↦
               (let begun = entry-at (λ (d : Entry). list_any (λ (p : Player). has_joined p d.session) run.players ≡ true) e g H b (recursion_from_All _ H sound.begun) in
               let o = owner_of run.players e.session begun in
-              let f = following scenario good run sound o.0 o.1.0 o.1.1.0 in
-              let there = (f.fits e.session o.1.1.1).asked (length (requests_in g e.session)) e.request (request-there e g H e.session b (of-from e e.session refl n)) in
+              let there = player-front scenario run sound o.0 o.1.0 o.1.1.0 e.session o.1.1.1 (length (requests_in g e.session)) e.request (request-there e g H e.session b (of-from e e.session refl n)) in
               let messages = recursion_from_All IsRequest (asked_by_player o.1.0 e.session) (asks law few o.0 o.1.0 o.1.1.0 e.session) in
               (each-at IsRequest (asked_by_player o.1.0 e.session) (length (requests_in g e.session)) e.request messages there).fits)
         ]
@@ -100,17 +95,10 @@ module _ (law : RequestsAreMessages) (few : AcceptedAreFew) (replied : RepliesAr
       let asked = All-from_recursion (λ (e : Entry). RequestFits e.request) run.history (entries_fit scenario run good numbers sound law few run.history same) in
       replied (rules_of scenario) run.history (limits_of scenario good) (omega arith) (objects_few scenario good) numbers.values asked sound.legal
 
-  plain_taken : (run : Run) (k : ℕ) (p : Player) (s : ℕ) (reply : Reply) → IsSoundOver plain scenario run → slice_get run.players k ≡ Some p →
-      current_session p.events ≡ Some s → slice_get (replies_in (accepted run.history) run.history s) (length (got p.events s)) ≡ Some reply → first_fault_of_reply p.who p.events reply ≡ None
-  plain_taken run k p s reply over at current waits =
-      let a = player-at plain scenario run good over k p at in
-      let most = asked-few p.who p.first a.plan.steps p.events a.playing.before s a.good.few_steps a.fitting.proper a.playing.follows current in
-      next-taken scenario good run (sound-plain scenario run over) k p at honest s reply current (omega (arith, most)) waits
-
   pub plain_playable : IsPlayable scenario plain
   plain_playable = record {
     keeps = plain-keeps (rules_of scenario);
     asked = λ run k p over at. asks scenario run good numbers (sound-plain scenario run over) law few k p at;
     replied = plain_replied;
-    taken = plain_taken;
+    taken = plain-taken honest scenario good;
   }

@@ -45,9 +45,11 @@ use Rattle.sv_asked.proofs.Made.{Makes, Asks, asked-have}
 use Rattle.sv_asked.proofs.Owned.{entry-at, SubmitHas, submit-asked, end-submits, end-fits, event-makes, accepted-have}
 use Rattle.sv_asked.proofs.Spent.{served-few}
 use Rattle.law_schedule.specs.Players.{Player, trace_of_player}
-use Rattle.law_schedule.specs.Serving.{Run, Server, traces_of}
+use Rattle.law_schedule.specs.Serving.{Run, Server, run_served, traces_of}
 use Rattle.law_schedule.specs.Schedule.{rules_of}
-use Rattle.law_schedule.specs.Served.{IsHeard, AreHeard, FitsServer, IsSoundOver}
+use Rattle.law_schedule.specs.Served.{IsHeard, AreHeard, KeepsSound, FitsServer, IsSoundOver}
+use Rattle.law_schedule.specs.Done.{NextRepliesAreTaken}
+use Rattle.sv_system.specs.Records.{ScriptsAreDone, ends_in}
 use Rattle.law_schedule.specs.Sound.{has_joined}
 use Rattle.law_schedule.proofs.DoneCounts.{asked-few}
 use Rattle.law_schedule.proofs.DoneFacts.{any-turned, same-who, same-events}
@@ -153,14 +155,17 @@ module _ (scenario : Scenario) (liar : Option ℕ) (run : Run) (good : IsGoodSce
       none-disputed r H (filter (is_other no_client) (traces_of run)) good.world.objects (omega arith) legal
       (subst (λ (n : ℕ). FitsBut n shape H (filter (is_other n) (traces_of run))) (ap liar_of none) but)
 
-  pub as-said : run ≡ witnessed_run scenario liar → IsWitnessedRun scenario liar H (traces_of run)
-  as-said is = record {
+  pub as-said : run ≡ witnessed_run scenario liar → ((s : ℕ) → s < session_count scenario → ends_in H s ≡ 1) → ScriptsAreDone shape scenario.clients (traces_of run) →
+      IsWitnessedRun scenario liar H (traces_of run)
+  as-said is ended scripts = record {
     journal = ap (λ (x : Run). x.history) is;
     traces = ap traces_of is;
     legal = legal;
     world = honest.world;
     disputes = honest.disputes;
     calm = calm-where_none;
+    ended = ended;
+    scripts = scripts;
   }
 
   -- ---- No client refuses its next reply
@@ -289,7 +294,22 @@ runs-playable scripts names asked-fit replies scenario liar good numbers = recor
   taken = λ run k p s reply sound at current waits. taken scenario liar run good sound k p s reply at current waits;
 }
 
-pub runs-witnessed : ServedRelaysNameAccepted → RunsAreWitnessed
-runs-witnessed names scenario liar good =
-    as-said scenario liar (witnessed_run scenario liar) good
-    (run-sound (witness_of (rules_of scenario) liar) (witness-keeps names (rules_of scenario) liar) scenario good) refl
+-- No client refuses its next reply.
+all-taken : (scenario : Scenario) (liar : Option ℕ) → IsGoodScenario scenario → NextRepliesAreTaken (witness_of (rules_of scenario) liar) scenario
+all-taken scenario liar good run k p s reply sound at current waits = taken scenario liar run good sound k p s reply at current waits
+
+abbrev EndsServed : Type 0
+EndsServed = (server : Server) (scenario : Scenario) → KeepsSound server → NextRepliesAreTaken server scenario → IsGoodScenario scenario →
+    (s : ℕ) → s < session_count scenario → ends_in (run_served server scenario).history s ≡ 1
+
+abbrev DoesScripts : Type 0
+DoesScripts = (server : Server) (scenario : Scenario) → KeepsSound server → NextRepliesAreTaken server scenario → IsGoodScenario scenario →
+    ScriptsAreDone scenario.world.shape scenario.clients (traces_of (run_served server scenario))
+
+pub runs-witnessed : ServedRelaysNameAccepted → EndsServed → DoesScripts → RunsAreWitnessed
+runs-witnessed names ends scripts scenario liar good =
+    let server = witness_of (rules_of scenario) liar in
+    let keeps = witness-keeps names (rules_of scenario) liar in
+    let honest = all-taken scenario liar good in
+    as-said scenario liar (witnessed_run scenario liar) good (run-sound server keeps scenario good) refl (ends server scenario keeps honest good)
+    (scripts server scenario keeps honest good)

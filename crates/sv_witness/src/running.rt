@@ -10,6 +10,7 @@ ghost use Rattle.sv_witness.specs.Statuses.{IsRunText};
 use crate::liar::Lying;
 use crate::lines::run_lines;
 use crate::witness::Witness;
+use law_schedule::served_runs_end;
 use std::alloc::{AllocError, Global};
 use sv_asked::{read_scenario_numbers, served_replies_fit, served_requests_fit};
 use sv_journal::served_relays_name_accepted;
@@ -25,6 +26,7 @@ fn witnesses_are_playable()
     served_relays_name_accepted();
     served_requests_fit();
     served_replies_fit();
+    served_runs_end();
 }
 
 /// Opens a scenario's server, which no one has asked anything yet.

@@ -7,4 +7,4 @@ returns-clause-playable c =
     runs-playable c.made_actions_fit.ensures c.served_relays_name_accepted.ensures c.served_requests_fit.ensures c.served_replies_fit.ensures
 
 pub returns-clause-runs : goal.returns-clause-runs
-returns-clause-runs c = runs-witnessed c.served_relays_name_accepted.ensures
+returns-clause-runs c = runs-witnessed c.served_relays_name_accepted.ensures c.served_runs_end.ensures.ended c.served_runs_end.ensures.scripts

@@ -3,7 +3,7 @@ use Rattle.std.proofs.lemmas.Result.{err_from_is_err_and}
 use Rattle.sv_client.specs.declared.trace.Event.TheVariants as events
 use Rattle.sv_client.specs.Seen.{latest_session}
 use Rattle.sv_player.proofs.Turns.{before_move, show_due, did_nothing, stops_early}
-use Rattle.sv_player.proofs.Moving.{got_moves, left_on, shown_on}
+use Rattle.sv_player.proofs.Moving.{got_moves, left_on, shown_on, step_waits}
 use Rattle.sv_player.proofs.playing.Player.go_on.Goals as goal
 
 pub returns-in_err-do_show-in-Show-clause-moved : goal.returns-in_err-do_show-in-Show-clause-moved
@@ -17,6 +17,9 @@ returns-in_err-do_show-in-Show-clause-moved g c =
     (stops_early s (events.Show c.in-Show.objects.now) c.in-Show.rest.now p c.do_show.new.self end b.reader b.outbox (before_move s p b end c.requires.at c.requires.ready)
     (show_due s p b end c.requires.at c.requires.ready c.in-Show.objects.now c.in-Show.rest.now c.in-Show.ensures)
     (did_nothing (events.Show c.in-Show.objects.now) p c.do_show.new.self c.in_err-do_show-in-Show.ensures.err) c.requires.at.open_is)
+
+pub receive-in-Wait-requires-clause-waits : goal.receive-in-Wait-requires-clause-waits
+receive-in-Wait-requires-clause-waits g c = step_waits c.args.self.now.client.who c.args.self.now.client.events c.args.self.now.left.now c.in-Wait.ensures.1
 
 pub returns-in_ok-receive-in-Wait-clause-moved : goal.returns-in_ok-receive-in-Wait-clause-moved
 returns-in_ok-receive-in-Wait-clause-moved g c =

@@ -7,7 +7,7 @@ use Rattle.sv_client.specs.Seen.{latest_session}
 use Rattle.sv_player.specs.declared.outcome.Ending.TheVariants as endings
 use Rattle.sv_player.specs.Sessions.{Got}
 use Rattle.sv_player.proofs.Turns.{before_join, join_due, did_nothing, stops_early, uncut_next}
-use Rattle.sv_player.proofs.Moving.{bye_ends, joined_awaits, stopped_after, ended_after, moved_fewer}
+use Rattle.sv_player.proofs.Moving.{bye_ends, joined_awaits, joined_waits, stopped_after, ended_after, moved_fewer}
 use Rattle.sv_player.proofs.playing.Player.play_session.Goals as goal
 
 pub returns-in_err-buffers-clause-played : goal.returns-in_err-buffers-clause-played
@@ -23,6 +23,10 @@ returns-in_err-buffers-clause-played g c =
 pub receive-requires-clause-awaited : goal.receive-requires-clause-awaited
 receive-requires-clause-awaited g c =
     joined_awaits c.args.self.now c.begin.new.self c.begin.new.buffers (g.E.End.told c.begin.new.end) c.requires.going c.in_ok-begin.ensures.turn
+
+pub receive-requires-clause-waits : goal.receive-requires-clause-waits
+receive-requires-clause-waits g c =
+    joined_waits (joins c.args.self.now.client.events) c.args.self.now c.begin.new.self c.begin.new.buffers (g.E.End.told c.begin.new.end) c.begin.new.self.left.now c.in_ok-begin.ensures.turn
 
 pub returns-in_err-receive-clause-played : goal.returns-in_err-receive-clause-played
 returns-in_err-receive-clause-played g c =

@@ -33,7 +33,7 @@ returns-in_err-answer-in-Ok-clause-received g c =
     let mid : Buffers = record { reader = c.skip.new.self; outbox = b.outbox } in
     let failed = err_from_is_err_and c.from_residual.result c.from_residual.ensures.1 in
     rw (failed.1, failed.2)
-    (answer_stops s c.args.reply p c.take.new.self b end c.requires.at c.requires.here c.requires.first c.requires.flushed c.in-Ok.ensures.fine
+    (answer_stops s c.args.reply p c.take.new.self b end c.requires.at c.requires.here c.requires.waits c.requires.first c.requires.flushed c.in-Ok.ensures.fine
     c.in-Ok.ensures.ok c.in-Ok.done c.in-Ok.ensures.done mid c.answer.new.buffers (g.E.End.told c.answer.new.end) c.skip.ensures refl c.in_err-answer-in-Ok.field-0.0
     c.in_err-answer-in-Ok.ensures.posted c.in_err-answer-in-Ok.ensures.some)
 
@@ -44,7 +44,7 @@ returns-in_ok-answer-in-Ok-clause-received g c =
     let end = g.E.End.told c.args.end.now in
     let s = latest_session p.client.events in
     let mid : Buffers = record { reader = c.skip.new.self; outbox = b.outbox } in
-    answer_goes s c.args.reply p c.take.new.self b end c.requires.at c.requires.here c.requires.first c.requires.flushed c.in-Ok.ensures.fine
+    answer_goes s c.args.reply p c.take.new.self b end c.requires.at c.requires.here c.requires.waits c.requires.first c.requires.flushed c.in-Ok.ensures.fine
     c.in-Ok.ensures.ok c.in-Ok.done c.in-Ok.ensures.done mid c.answer.new.buffers (g.E.End.told c.answer.new.end) c.skip.ensures refl c.is_bye-bye.result c.is_bye-bye.ensures c.answer.ensures.reader
     c.in_ok-answer-in-Ok.ensures.posted c.in_ok-answer-in-Ok.ensures.are_messages c.answer.ensures.quiet
 
@@ -54,7 +54,7 @@ returns-in-Err-Memory-clause-received g c =
     let b = c.args.buffers.now in
     let end = g.E.End.told c.args.end.now in
     let s = latest_session p.client.events in
-    got_early s c.args.reply p c.take.new.self b end c.requires.at c.requires.here c.requires.first c.skip-in-Err-Memory.new.self c.in-Err-Memory.ensures.known
+    got_early s c.args.reply p c.take.new.self b end c.requires.at c.requires.here c.requires.waits c.requires.first c.skip-in-Err-Memory.new.self c.in-Err-Memory.ensures.known
     c.in-Err-Memory.ensures.part c.skip-in-Err-Memory.ensures
 
 pub returns-in_err-sent_whole-in-Err-clause-received : goal.returns-in_err-sent_whole-in-Err-clause-received
