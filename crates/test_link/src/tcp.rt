@@ -4,7 +4,7 @@ ghost use Rattle.sv_link.specs.TcpEnds.{end_told};
 
 use std::alloc::Global;
 use std::io;
-use std::io::ErrorKind;
+use std::io::{ErrorKind, Read};
 use std::net::{Net as Sockets, SocketAddr, TcpListener, TcpStream};
 use std::test::Fail;
 use sv_link::{End, EndLog, EndRead, EndWrote, Net, Pair, Side, TcpEnd, TcpNet};
@@ -26,20 +26,16 @@ fn end_of(alloc: Global, stream: TcpStream, side: Side) -> TcpEnd
 }
 
 /// How many bytes come until the end.
-fn count_to_end(end: &mut TcpEnd) -> Option<usize>
-    requires { (end_told end.old).closed ≡ false }
-{
+fn count_to_end(mut stream: TcpStream) -> io::Result<usize> {
     let mut into = [0; 4096];
     let mut all = 0usize;
     for _ in 0..u64::MAX {
-        match end.read(&mut into) {
-            EndRead::Got(count) => all = all.wrapping_add(count),
-            EndRead::Ended => return Some(all),
-            EndRead::Failed => return None,
-            EndRead::Memory => return None,
+        match stream.read(&mut into)? {
+            0 => return Ok(all),
+            count => all = all.wrapping_add(count),
         }
     }
-    None
+    Ok(all)
 }
 
 /// More than a connection holds.
@@ -50,7 +46,6 @@ const MUCH: usize = 1 << 25;
 fn short_writes_are_told_as_short(rt: HostRuntime) -> Result<(), Fail> {
     let (server, client) = two_streams(&rt)?;
     client.set_nonblocking(true)?;
-    let mut server = end_of(rt.alloc(), server, Side::Server);
     let mut client = end_of(rt.alloc(), client, Side::Client);
     let much = vec![in rt.alloc(); 7; MUCH]?;
     let EndWrote::Took(count) = client.write(&much) else {
@@ -58,7 +53,7 @@ fn short_writes_are_told_as_short(rt: HostRuntime) -> Result<(), Fail> {
     };
     assert!(rt; 0 < count && count < MUCH, "{count}");
     drop(client);
-    assert!(rt; count_to_end(&mut server) == Some(count), "{count}");
+    assert!(rt; count_to_end(server)? == count, "{count}");
     Ok(())
 }
 
