@@ -1,6 +1,7 @@
 -- What becomes of messages that are to be sent together.
-use Rattle.std.specs.Prelude.{◌≡◌, ◌≢◌, ℕ, List, [], ◌++◌}
+use Rattle.std.specs.Prelude.{◌≡◌, ◌≢◌, ℕ, ◌+◌, ◌≤◌, List, [], ◌++◌, length}
 use mathlib.Core.List.{IsPrefix}
+use Rattle.sv_frame.specs.Frames.{greatest_frame}
 use Rattle.sv_link.specs.Ends.{Told, sending}
 use Rattle.sv_link.specs.declared.ends.Sent.{Sent}
 use Rattle.sv_link.specs.declared.ends.Sent.TheVariants as answers
@@ -19,3 +20,7 @@ abbrev pub LeavesUnsent : Sent → List ℕ → List ℕ → Type 0
 LeavesUnsent answers.Whole old new = new ≡ []
 LeavesUnsent answers.Failed old new = new ≡ old
 LeavesUnsent answers.Memory old new = new ≡ old
+
+-- Nothing is sent where so many bytes more fit behind those that wait.
+abbrev pub KeepsBack : List ℕ → ℕ → Told → Told → Type 0
+KeepsBack waiting more old new = length waiting + more ≤ greatest_frame → new ≡ old

@@ -2,7 +2,7 @@
 ghost use Rattle.std.specs.Prelude.{◌≡◌, ◌≢◌, ◌+◌, ◌≤◌, [], false, IfOk, length, vec_len, vec_capacity};
 ghost use Rattle.sv_link.specs.Ends.{Sends, SentCause};
 ghost use Rattle.sv_frame.specs.Frames.{greatest_frame, frame};
-ghost use Rattle.sv_exchange.specs.Outgoing.{Posts, LeavesUnsent};
+ghost use Rattle.sv_exchange.specs.Outgoing.{KeepsBack, LeavesUnsent, Posts};
 
 use crate::message::Message;
 use std::alloc::{AllocError, Global};
@@ -47,6 +47,7 @@ impl Outbox {
         requires open { (E.told end.old).closed ≡ false }
         requires message { M.is_message message.now }
         ensures posts { Posts (E.told end.old) self.old (frame (M.spelled message.now)) result (E.told end.new) self.new }
+        ensures kept { KeepsBack self.old (length (frame (M.spelled message.now))) (E.told end.old) (E.told end.new) }
         ensures cause { SentCause (E.faults end.old) (E.faults end.new) result }
         ensures calm { E.calm end.old → (result ≢ Sent.Failed) × E.calm end.new }
     {
@@ -81,6 +82,7 @@ fn make_room<E: End>(bytes: &mut Vec<u8>, size: usize, end: &mut E) -> Sent
     requires size { size ≤ greatest_frame }
     requires waiting { vec_len bytes.old ≤ greatest_frame }
     ensures posts { Posts (E.told end.old) bytes.old.items [] result (E.told end.new) bytes.new.items }
+    ensures kept { KeepsBack bytes.old.items size (E.told end.old) (E.told end.new) }
     ensures room { result ≡ Sent.Whole → length bytes.new.items + size ≤ greatest_frame }
     ensures capacity { vec_capacity bytes.new ≡ vec_capacity bytes.old }
     ensures cause { SentCause (E.faults end.old) (E.faults end.new) result }

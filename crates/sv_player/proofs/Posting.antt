@@ -1,5 +1,5 @@
 -- What a try to send makes of what waits.
-use Rattle.std.proofs.Common.{◌≡◌, ◌≢◌, ℕ, ◌+◌, ◌<◌, arith, List, [], ◌∷◌, ◌++◌, map, take, drop, length, get_or, refl, sym, ap, subst, ◌∙◌, append-nil}
+use Rattle.std.proofs.Common.{◌≡◌, ◌≢◌, ℕ, ◌+◌, ◌<◌, arith, List, [], ◌∷◌, ◌++◌, map, take, drop, length, get_or, refl, sym, ap, subst, ◌∙◌, append-nil, length-append}
 use Rattle.std.proofs.lemmas.List.{take-append-drop, take_all, map_more}
 use Rattle.std.proofs.lemmas.Grind.{flat_map-append}
 use Rattle.sv_frame.specs.Frames.{frame, frames_of}
@@ -8,7 +8,7 @@ use Rattle.sv_link.specs.declared.ends.Sent.{Sent}
 use Rattle.sv_link.specs.declared.ends.Sent.TheVariants as answers
 use Rattle.sv_wire.specs.declared.message.Request.{Request}
 use Rattle.sv_wire.specs.Spelling.{request_bytes}
-use Rattle.sv_exchange.specs.Outgoing.{Posts, LeavesUnsent}
+use Rattle.sv_exchange.specs.Outgoing.{Posts, LeavesUnsent, KeepsBack}
 use Rattle.sv_player.specs.Carried.{request_frames, Posted, PostedPart}
 use Rattle.sv_player.specs.Waiting.{PutBehind, IsFlushed}
 use Rattle.sv_player.proofs.Linking.{frames_append, frames_none, frames_one, prefix_more, posted_more, posted_part, part_more, posted_none}
@@ -63,3 +63,34 @@ ended_at old mid new waiting left rs i x l e p q =
 
 pub none_posted : (told : Told) (waiting : List ℕ) → Posted told waiting (request_frames []) told waiting
 none_posted told waiting = subst (λ (bytes : List ℕ). Posted told waiting bytes told waiting) (sym frames_none) (posted_none told waiting)
+
+-- ---- What is kept back
+
+pub kept_one : (waiting : List ℕ) (request : Request) (old new : Told) → KeepsBack waiting (length (frame (request_bytes request))) old new → KeepsBack waiting (length (request_frames (request ∷ []))) old new
+kept_one waiting request old new kept = subst (λ (bytes : List ℕ). KeepsBack waiting (length bytes) old new) (sym (frames_one request)) kept
+
+pub kept_none : (waiting : List ℕ) (n : ℕ) (told : Told) → KeepsBack waiting n told told
+kept_none waiting n told = λ fits. refl
+
+-- Some was kept back, and what came behind it too.
+kept_more : (old mid new : Told) (waiting first second left : List ℕ) → Posted old waiting first mid left → KeepsBack waiting (length first) old mid → KeepsBack left (length second) mid new →
+    KeepsBack waiting (length (first ++ second)) old new
+kept_more old mid new waiting first second left p k q = λ fits.
+    let parts = length-append first second in
+    let sum = length-append p.sent left in
+    let all = length-append waiting first in
+    let same = ap (λ (w : List ℕ). length w) p.all in
+    q (omega (arith, fits, parts, sum, all, same)) ∙ k (omega (arith, fits, parts))
+
+-- One request more of a list.
+pub kept_next : (old mid new : Told) (waiting left : List ℕ) (rs : List Request) (i : ℕ) (x : Request) → i < length rs → get_or rs i x ≡ x → Posted old waiting (request_frames (take i rs)) mid left →
+    KeepsBack waiting (length (request_frames (take i rs))) old mid → KeepsBack left (length (request_frames (x ∷ []))) mid new → KeepsBack waiting (length (request_frames (take (i + 1) rs))) old new
+kept_next old mid new waiting left rs i x l e p k q =
+    subst (λ (bytes : List ℕ). KeepsBack waiting (length bytes) old new) (sym (frames_take rs i x l e)) (kept_more old mid new waiting (request_frames (take i rs)) (request_frames (x ∷ [])) left p k q)
+
+-- What is kept back of a front part is where all fits.
+pub kept_part : (old new : Told) (waiting : List ℕ) (rs : List Request) (i : ℕ) → KeepsBack waiting (length (request_frames (take i rs))) old new → KeepsBack waiting (length (request_frames rs)) old new
+kept_part old new waiting rs i k = λ fits.
+    let split = ap (λ (w : List ℕ). length w) (frames_split rs i) in
+    let parts = length-append (request_frames (take i rs)) (request_frames (drop i rs)) in
+    k (omega (arith, fits, split, parts))

@@ -1,6 +1,7 @@
 //! What a player sends and receives over the end of one session.
 ghost use Rattle.std.specs.Prelude.{◌≡◌, ◌≢◌, ◌<◌, ◌∷◌, [], None, false, true, length, All, IfOk};
 ghost use Rattle.sv_frame.specs.Frames.{first_frame};
+ghost use Rattle.sv_exchange.specs.Outgoing.{KeepsBack};
 ghost use Rattle.sv_link.specs.Ends.{SentCause, EndReadCause};
 ghost use Rattle.sv_wire.specs.Grammar.{IsWireRequest};
 ghost use Rattle.sv_wire.specs.Laws.{IsRequest};
@@ -52,6 +53,7 @@ impl Buffers {
         requires open { (E.told end.old).closed ≡ false }
         requires message { IsWireRequest request.now }
         ensures posts { PutBehind result (E.told end.old) self.old.outbox (request_frames (request.now ∷ [])) (E.told end.new) self.new.outbox }
+        ensures kept { KeepsBack self.old.outbox (length (request_frames (request.now ∷ []))) (E.told end.old) (E.told end.new) }
         ensures is_message { IsRequest request.now }
         ensures reader { self.new.reader ≡ self.old.reader }
         ensures same_end { which_end (E.told end.new) ≡ which_end (E.told end.old) }
@@ -67,6 +69,7 @@ impl Buffers {
         requires open { (E.told end.old).closed ≡ false }
         requires messages { All IsWireRequest requests.now }
         ensures posts { PutBehind result (E.told end.old) self.old.outbox (request_frames requests.now) (E.told end.new) self.new.outbox }
+        ensures kept { KeepsBack self.old.outbox (length (request_frames requests.now)) (E.told end.old) (E.told end.new) }
         ensures are_messages { result ≡ Sent.Whole → All IsRequest requests.now }
         ensures reader { self.new.reader ≡ self.old.reader }
         ensures same_end { which_end (E.told end.new) ≡ which_end (E.told end.old) }
@@ -116,6 +119,7 @@ impl Buffers {
     /// Waits for more bytes.
     fn read_on<E: End>(&mut self, end: &mut E) -> Option<Waited>
         requires open { (E.told end.old).closed ≡ false }
+        requires flushed { self.old.outbox ≡ [] }
         requires room { length self.old.reader < 65540 }
         ensures reads { IsReadOn result (E.told end.old) self.old.reader (E.told end.new) self.new.reader }
         ensures outbox { self.new.outbox ≡ self.old.outbox }
@@ -131,9 +135,10 @@ impl Buffers {
         }
     }
 
-    /// Waits until a whole frame has come.
+    /// Waits until a whole frame has come. Whoever waits has sent all that is to be answered.
     pub(crate) fn wait<E: End>(&mut self, end: &mut E) -> Waited
         requires open { (E.told end.old).closed ≡ false }
+        requires flushed { self.old.outbox ≡ [] }
         ensures waited { IsWaited result (E.told end.old) self.old.reader (E.told end.new) self.new.reader }
         ensures outbox { self.new.outbox ≡ self.old.outbox }
         ensures same_end { which_end (E.told end.new) ≡ which_end (E.told end.old) }

@@ -10,10 +10,11 @@ ghost use Rattle.sv_client.specs.declared.trace.Event.TheVariants as events;
 ghost use Rattle.sv_client.specs.Answers.{IsTakeFault};
 ghost use Rattle.sv_client.specs.Traces.{joins, pending_of};
 ghost use Rattle.sv_client.specs.Taking.{outstanding};
-ghost use Rattle.sv_client.specs.Seen.{latest_session};
+ghost use Rattle.sv_client.specs.Seen.{latest_session, newly_asked};
 ghost use Rattle.sv_scenario.specs.declared.scenario.Step.TheVariants as steps;
 ghost use Rattle.sv_script.specs.Following.{must_join, unsynced, after_syncs, is_bye};
 ghost use Rattle.sv_player.specs.declared.outcome.PlayerCause.TheVariants as causes;
+ghost use Rattle.sv_exchange.specs.Outgoing.{KeepsBack};
 ghost use Rattle.sv_player.specs.Awaiting.{can_go_on};
 ghost use Rattle.sv_player.specs.Carried.{request_frames, which_end};
 ghost use Rattle.sv_player.specs.Going.{IsGoing, IsHere, IsReady, Did};
@@ -53,6 +54,7 @@ impl<'a> Player<'a> {
         requires fresh { IsFresh (E.told end.old) }
         requires empty { (buffers.old.reader ≡ []) × (buffers.old.outbox ≡ []) }
         ensures turn { IsTurn result (joins self.old.client.events) (events.Join (joins self.old.client.events)) self.old self.new buffers.new (E.told end.new) }
+        ensures kept { KeepsBack buffers.old.outbox (length (request_frames (newly_asked self.old.client.who self.old.client.events (events.Join (joins self.old.client.events))))) (E.told end.old) (E.told end.new) }
         ensures same_end { which_end (E.told end.new) ≡ which_end (E.told end.old) }
         ensures cause { FaultCause (E.faults end.old) (E.faults end.new) result }
         ensures calm { E.calm end.old → E.calm end.new }
@@ -76,6 +78,7 @@ impl<'a> Player<'a> {
         requires next { unsynced self.old.client.who self.old.client.events self.old.left.now ≡ steps.Act making.now.action.now ∷ making.now.rest.now }
         requires room { (length (pending_of self.old.client.events) < most_pending) × (length (outstanding self.old.client.who self.old.client.events) < most_outstanding) }
         ensures turn { IsTurn result (latest_session self.old.client.events) (events.Make making.now.action.now) self.old self.new buffers.new (E.told end.new) }
+        ensures kept { KeepsBack buffers.old.outbox (length (request_frames (newly_asked self.old.client.who self.old.client.events (events.Make making.now.action.now)))) (E.told end.old) (E.told end.new) }
         ensures same_end { which_end (E.told end.new) ≡ which_end (E.told end.old) }
         ensures cause { FaultCause (E.faults end.old) (E.faults end.new) result }
         ensures calm { E.calm end.old → E.calm end.new }
@@ -96,6 +99,7 @@ impl<'a> Player<'a> {
         requires next { unsynced self.old.client.who self.old.client.events self.old.left.now ≡ steps.Poll ∷ rest.now }
         requires room { length (outstanding self.old.client.who self.old.client.events) < most_outstanding }
         ensures turn { IsTurn result (latest_session self.old.client.events) events.Poll self.old self.new buffers.new (E.told end.new) }
+        ensures kept { KeepsBack buffers.old.outbox (length (request_frames (newly_asked self.old.client.who self.old.client.events events.Poll))) (E.told end.old) (E.told end.new) }
         ensures same_end { which_end (E.told end.new) ≡ which_end (E.told end.old) }
         ensures cause { FaultCause (E.faults end.old) (E.faults end.new) result }
         ensures calm { E.calm end.old → E.calm end.new }
@@ -117,6 +121,7 @@ impl<'a> Player<'a> {
         requires next { unsynced self.old.client.who self.old.client.events self.old.left.now ≡ steps.Observe objects.now ∷ rest.now }
         requires room { length (outstanding self.old.client.who self.old.client.events) < most_outstanding }
         ensures turn { IsTurn result (latest_session self.old.client.events) (events.Observe objects.now 0) self.old self.new buffers.new (E.told end.new) }
+        ensures kept { KeepsBack buffers.old.outbox (length (request_frames (newly_asked self.old.client.who self.old.client.events (events.Observe objects.now 0)))) (E.told end.old) (E.told end.new) }
         ensures same_end { which_end (E.told end.new) ≡ which_end (E.told end.old) }
         ensures cause { FaultCause (E.faults end.old) (E.faults end.new) result }
         ensures calm { E.calm end.old → E.calm end.new }
@@ -132,6 +137,7 @@ impl<'a> Player<'a> {
         requires settled { outstanding self.old.client.who self.old.client.events ≡ [] }
         requires done { after_syncs self.old.left.now ≡ [] }
         ensures turn { IsTurn result (latest_session self.old.client.events) events.Leave self.old self.new buffers.new (E.told end.new) }
+        ensures kept { KeepsBack buffers.old.outbox (length (request_frames (newly_asked self.old.client.who self.old.client.events events.Leave))) (E.told end.old) (E.told end.new) }
         ensures left { IfOk result (λ _. self.new.left.now ≡ []) }
         ensures same_end { which_end (E.told end.new) ≡ which_end (E.told end.old) }
         ensures cause { FaultCause (E.faults end.old) (E.faults end.new) result }
@@ -261,6 +267,7 @@ impl<'a> Player<'a> {
         requires open { (E.told end.old).closed ≡ false }
         requires messages { All IsWireRequest (option_to_list done) }
         ensures posted { IsAnswered result (E.told end.old) buffers.old.outbox (request_frames (option_to_list done)) (E.told end.new) buffers.new.outbox }
+        ensures kept { KeepsBack buffers.old.outbox (length (request_frames (option_to_list done))) (E.told end.old) (E.told end.new) }
         ensures are_messages { IfOk result (λ _. All IsRequest (option_to_list done)) }
         ensures quiet { option_to_list done ≡ [] → buffers.new ≡ buffers.old }
         ensures some { OnErr result (option_to_list done ≢ []) }
@@ -294,6 +301,7 @@ impl<'a> Player<'a> {
         requires first { IsFirst buffers.old.reader reply }
         requires flushed { is_bye reply ≡ true → buffers.old.outbox ≡ [] }
         ensures received { IsReceived result (latest_session self.old.client.events) self.old self.new buffers.new (E.told end.new) }
+        ensures kept { IfOk result (λ _. KeepsBack buffers.old.outbox (length (request_frames (newly_asked self.old.client.who self.old.client.events (events.Got (latest_session self.old.client.events) reply)))) (E.told end.old) (E.told end.new)) }
         ensures same_end { which_end (E.told end.new) ≡ which_end (E.told end.old) }
         ensures cause { FaultCause (E.faults end.old) (E.faults end.new) result }
         ensures calm { E.calm end.old → E.calm end.new }

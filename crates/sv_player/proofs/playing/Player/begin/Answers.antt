@@ -1,5 +1,5 @@
 -- What is proved by hand of `Player::begin`.
-use Rattle.std.proofs.Common.{List, sym, subst, ◌∙◌}
+use Rattle.std.proofs.Common.{List, length, sym, subst, ◌∙◌}
 use Rattle.std.specs.Prelude.{All}
 use Rattle.std.proofs.lemmas.Result.{err_from_is_err_and}
 use Rattle.sv_wire.specs.declared.message.Request.{Request}
@@ -7,6 +7,7 @@ use Rattle.sv_wire.specs.Grammar.{IsWireRequest}
 use Rattle.sv_wire.specs.Laws.{IsRequest}
 use Rattle.sv_client.specs.declared.trace.Event.TheVariants as events
 use Rattle.sv_client.specs.Traces.{joins}
+use Rattle.sv_exchange.specs.Outgoing.{KeepsBack}
 use Rattle.sv_player.specs.Carried.{request_frames}
 use Rattle.sv_player.specs.Waiting.{PutBehind}
 use Rattle.sv_player.proofs.Going.{few_counted}
@@ -46,3 +47,8 @@ returns-clause-turn g c =
     (join_due p c.requires.going c.requires.needed c.requires.few)
     c.post_all.result c.sent_whole.result c.post_all.new.self new c.sent_whole.ensures c.post_all.ensures.reader c.in_ok-requests.ensures.ok sent
     (λ whole. subst (All IsRequest) same (c.post_all.ensures.are_messages whole))
+
+pub returns-clause-kept : goal.returns-clause-kept
+returns-clause-kept g c =
+    subst (λ (rs : List Request). KeepsBack c.args.buffers.now.outbox (length (request_frames rs)) (g.E.End.told c.args.end.now) (g.E.End.told c.post_all.new.end))
+    (c.deref.ensures.value ∙ c.in_ok-requests.ensures.requests) c.post_all.ensures.kept

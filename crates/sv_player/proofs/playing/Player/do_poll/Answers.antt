@@ -3,10 +3,11 @@ use Rattle.std.specs.Prelude.{All}
 use Rattle.std.proofs.lemmas.List.Elements.{All-nil, All-cons}
 use Rattle.std.proofs.lemmas.Result.{err_from_is_err_and}
 use Rattle.sv_wire.specs.Laws.{IsRequest}
-use Rattle.std.proofs.Common.{List, [], subst}
+use Rattle.std.proofs.Common.{List, [], subst, length}
 use Rattle.sv_wire.specs.declared.message.Request.{Request}
 use Rattle.sv_client.specs.declared.trace.Event.TheVariants as events
 use Rattle.sv_client.specs.Seen.{latest_session}
+use Rattle.sv_exchange.specs.Outgoing.{KeepsBack}
 use Rattle.sv_player.specs.Carried.{request_frames}
 use Rattle.sv_player.specs.Waiting.{PutBehind}
 use Rattle.sv_player.proofs.Going.{few_counted}
@@ -39,3 +40,8 @@ returns-in_err-request-clause-turn g c =
     rw (failed.1, failed.2)
     (stops_early s events.Poll c.args.rest.now p c.poll.new.self end b.reader b.outbox (before_move s p b end c.requires.at c.requires.ready)
     (poll_due s p b end c.requires.at c.requires.ready c.args.rest.now c.requires.next c.requires.room) (did_nothing events.Poll p c.poll.new.self c.in_err-request.ensures.err) c.requires.at.open_is)
+
+pub returns-clause-kept : goal.returns-clause-kept
+returns-clause-kept g c =
+    subst (λ (rs : List Request). KeepsBack c.args.buffers.now.outbox (length (request_frames rs)) (g.E.End.told c.args.end.now) (g.E.End.told c.post.new.end)) c.in_ok-request.ensures.request
+    c.post.ensures.kept

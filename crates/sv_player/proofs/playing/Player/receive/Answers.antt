@@ -16,6 +16,14 @@ returns-in_err-sent_whole-clause-received g c =
     (flush_stops s p b end (g.E.End.told c.flush.new.end) c.flush.new.self.outbox c.flush.result c.in_err-sent_whole.field-0.0 c.requires.at c.requires.here c.flush.ensures.sends
     c.in_err-sent_whole.ensures)
 
+pub wait-requires-clause-flushed : goal.wait-requires-clause-flushed
+wait-requires-clause-flushed g c =
+    let p = c.args.self.now in
+    let b = c.args.buffers.now in
+    let end = g.E.End.told c.args.end.now in
+    let s = latest_session p.client.events in
+    (flush_sends s p b c.flush.new.self end (g.E.End.told c.flush.new.end) c.flush.result c.requires.at c.flush.ensures.sends c.in_ok-sent_whole.ensures c.flush.ensures.reader).1
+
 pub returns-in-TooLong-clause-received : goal.returns-in-TooLong-clause-received
 returns-in-TooLong-clause-received g c =
     let p = c.args.self.now in

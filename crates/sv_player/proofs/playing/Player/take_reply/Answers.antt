@@ -1,8 +1,11 @@
 -- What is proved by hand of `Player::take_reply`.
-use Rattle.std.proofs.Common.{◌≢◌, ◌+◌, refl, sym, subst, rules}
+use Rattle.std.proofs.Common.{◌≢◌, ◌+◌, List, length, refl, sym, subst, rules}
 use Rattle.std.specs.Prelude.{All}
 use Rattle.std.proofs.lemmas.Result.{err_from_is_err_and}
+use Rattle.sv_exchange.specs.Outgoing.{KeepsBack}
+use Rattle.sv_wire.specs.declared.message.Request.{Request}
 use Rattle.sv_wire.specs.Grammar.{IsWireRequest}
+use Rattle.sv_player.specs.Carried.{request_frames}
 use Rattle.sv_client.specs.Seen.{latest_session}
 use Rattle.sv_client.specs.declared.fault.TakeFault.TheVariants as faults
 use Rattle.sv_player.specs.declared.playing.Player.{Player}
@@ -47,6 +50,11 @@ returns-in_ok-answer-in-Ok-clause-received g c =
     answer_goes s c.args.reply p c.take.new.self b end c.requires.at c.requires.here c.requires.waits c.requires.first c.requires.flushed c.in-Ok.ensures.fine
     c.in-Ok.ensures.ok c.in-Ok.done c.in-Ok.ensures.done mid c.answer.new.buffers (g.E.End.told c.answer.new.end) c.skip.ensures refl c.is_bye-bye.result c.is_bye-bye.ensures c.answer.ensures.reader
     c.in_ok-answer-in-Ok.ensures.posted c.in_ok-answer-in-Ok.ensures.are_messages c.answer.ensures.quiet
+
+pub returns-in_ok-answer-in-Ok-clause-kept : goal.returns-in_ok-answer-in-Ok-clause-kept
+returns-in_ok-answer-in-Ok-clause-kept g c =
+    subst (λ (rs : List Request). KeepsBack c.args.buffers.now.outbox (length (request_frames rs)) (g.E.End.told c.args.end.now) (g.E.End.told c.answer.new.end)) c.in-Ok.ensures.done
+    c.answer.ensures.kept
 
 pub returns-in-Err-Memory-clause-received : goal.returns-in-Err-Memory-clause-received
 returns-in-Err-Memory-clause-received g c =
