@@ -194,11 +194,10 @@ module _ (first : ℕ) where
 
   pub up_awaited : (who : Identity) (script : List Step) (t : List Event) → GetsAreAwaited who script t → GetsAreAwaited who script (Up first t)
   up_awaited who script [] g = tt
-  up_awaited who script (e ∷ t) g =
-      (
-        record { left = g.0.left; follows = up_follows who script t g.0.left g.0.follows; awaited = up_time who t g.0.left e g.0.awaited },
-        up_awaited who script t g.1,
-      )
+  up_awaited who script (e ∷ t) g = (
+    record { left = g.0.left; follows = up_follows who script t g.0.left g.0.follows; awaited = up_time who t g.0.left e g.0.awaited },
+    up_awaited who script t g.1,
+  )
 
   -- ---- Telling
 
