@@ -1,5 +1,5 @@
 -- Sets of slots by their bits.
-use Rattle.std.proofs.Common.{◌≡◌, ℕ, zero, suc, ◌+◌, ◌-◌, ◌*◌, ◌/◌, ◌%◌, ◌^◌, ◌<◌, ◌≤◌, inl, inr, Bool, true, false, ◌&&◌, ◌||◌, not, nat_eq, max, cond, filter, List, [], ◌∷◌, ◌++◌, length, slice_index, slice_index_or, slice_set, bit_and, bit_or, IsTrue, IsFalse, refl, sym, ◌∙◌, ap, ap₂, arith, eq-eqb, ne_eqb, get_or-set_same, get_or-set_other}
+use Rattle.std.proofs.Common.{◌≡◌, ℕ, zero, suc, ◌+◌, ◌-◌, ◌*◌, ◌/◌, ◌%◌, ◌^◌, ◌<◌, ◌≤◌, inl, inr, Bool, true, false, ◌&&◌, ◌||◌, not, nat_eq, max, cond, filter, List, [], ◌∷◌, ◌++◌, length, take, replicate, slice_index, slice_index_or, slice_set, bit_and, bit_or, IsTrue, IsFalse, refl, sym, ◌∙◌, ap, ap₂, arith, eq-eqb, ne_eqb, get_or-set_same, get_or-set_other}
 use Rattle.std.proofs.lemmas.Bool.{cases_eq, cases_lt, eqb-true}
 use Rattle.std.proofs.lemmas.List.{take_at, get_or_past, get_or_append_left, get_or-append_right}
 use Rattle.std.proofs.lemmas.Nat.{and_le_l}
@@ -47,6 +47,16 @@ one_zero = 0 ∷ []
 zero_at : (n : ℕ) → slice_index_or one_zero n 0 ≡ 0
 zero_at zero = refl
 zero_at (suc n) = refl
+
+zero_among : (n m k : ℕ) → slice_index_or (take n (replicate m zero)) k zero ≡ zero
+zero_among zero m k = refl
+zero_among (suc n) zero k = refl
+zero_among (suc n) (suc m) zero = refl
+zero_among (suc n) (suc m) (suc k) = zero_among n m k
+
+-- Words without a bit.
+pub has_bit-zeros : (n m s : ℕ) → has_bit (take n (replicate m zero)) s ≡ false
+has_bit-zeros n m s = ap (λ (w : ℕ). nat_eq (bit_at w (s % 64)) 1) (zero_among n m (s / 64)) ∙ ap (λ (b : ℕ). nat_eq b 1) (bit_at-zero (s % 64))
 
 -- One more word without a bit.
 pub has_bit-grown : (words : List ℕ) (s : ℕ) → has_bit (words ++ 0 ∷ []) s ≡ has_bit words s

@@ -12,12 +12,15 @@ use std::marker::Model;
 /// How many slots a word has.
 const WORD: u16 = 64;
 
+/// How many words stand in place.
+const IN_PLACE: usize = 8;
+
 /// A set of slots. A slot is the place of an open session, and stands for it.
 ///
 /// A set has room for 64 slots at first. For more than 512 it takes memory.
 #[derive(Debug, Drop)]
 pub struct Slots {
-    words: SmallVec<u64, 8>,
+    words: SmallVec<u64, IN_PLACE>,
 }
 
 impl Model for Slots {
@@ -48,9 +51,24 @@ impl Slots {
         ensures slots { IfOk result (λ set. set.slots ≡ []) }
         ensures room { IfOk result (λ set. room ≤ set.room) }
     {
+        let words = room.div_ceil(WORD) as usize;
+        if 0 < words && words <= IN_PLACE {
+            return Ok(Slots::in_place(alloc, words));
+        }
         let mut set = Slots::new(alloc);
         set.make_room(room)?;
         Ok(set)
+    }
+
+    /// No slot, with so many words, which stand in place.
+    fn in_place(alloc: Global, words: usize) -> Slots
+        requires { words ≤ 8 }
+        ensures slots { result.slots ≡ [] }
+        ensures room { result.room ≡ 64 * words }
+    {
+        Slots {
+            words: SmallVec::from_buf_and_len(alloc, [0; IN_PLACE], words),
+        }
     }
 
     pub fn has(&self, slot: u16) -> bool

@@ -23,7 +23,7 @@ ghost use Rattle.sv_sequencer.specs.Relays.{held_in, item_in, marked_all, given_
 use crate::answer::Answer;
 use crate::decision::ActionId;
 use crate::relays::{Relayed, base_values, give_all, mark_all, relay_in};
-use crate::reports::{copy_missing, set_reports};
+use crate::reports::take_reports;
 use crate::seats::Seat;
 use crate::server_core::Core;
 use crate::sessions::note;
@@ -332,8 +332,7 @@ impl Core {
         ensures ok { IfOk result (CarriedOut self.old self.new h seat.session request.now decisions.Note) }
         ensures err { OnErr result (Remained self.old self.new h) }
     {
-        let results = copy_missing(self.alloc, &self.queue, reported_by(request))?;
-        set_reports(&mut self.queue, results);
+        take_reports(self.alloc, &mut self.queue, reported_by(request))?;
         self.queue.install();
         let commit = self.queue.commit();
         let logged = Logged::Noted { commit };

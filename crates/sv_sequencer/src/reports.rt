@@ -1,5 +1,5 @@
 //! What is done with reported results.
-ghost use Rattle.std.specs.Prelude.{◌≡◌, ℕ, ◌<◌, ◌≤◌, ◌==◌, not, ◌||◌, ◌&&◌, nat_lt, nat_le, false, is_some, [], ◌∷◌, map, filter, length, All, IfOk};
+ghost use Rattle.std.specs.Prelude.{◌≡◌, ℕ, ◌<◌, ◌≤◌, ◌==◌, not, ◌||◌, ◌&&◌, nat_lt, nat_le, false, is_some, [], ◌∷◌, map, filter, length, All, IfOk, OnOk, OnErr};
 ghost use Rattle.std.specs.List.{list_any, list_all};
 ghost use Rattle.sv_world.specs.Control.{is_in, action_at};
 ghost use Rattle.sv_world.specs.Faults.{is_ascending, IsGoodAction};
@@ -104,12 +104,36 @@ fn count_written(action: &Action) -> usize
     count
 }
 
+/// Keeps equal copies of reported results in the queue, where their positions are not committed and have none yet. After running out of
+/// memory the queue is the same.
+pub fn take_reports(alloc: Global, queue: &mut Queue, results: &[Done1]) -> Result<(), AllocError>
+    requires { All (CanReport queue.old) results.now }
+    ensures ok { OnOk result (queue.new ≡ with_reports queue.old results.now) }
+    ensures err { OnErr result (queue.new ≡ queue.old) }
+{
+    // Mostly there is one, and no list of copies is needed.
+    if let [found] = results {
+        return take_report(alloc, queue, found);
+    }
+    let copies = copy_missing(alloc, queue, results)?;
+    set_reports(queue, copies);
+    Ok(())
+}
+
+fn take_report(alloc: Global, queue: &mut Queue, found: &Done1) -> Result<(), AllocError>
+    requires { CanReport queue.old found.now }
+    ensures ok { OnOk result (queue.new ≡ with_report queue.old found.now) }
+    ensures err { OnErr result (queue.new ≡ queue.old) }
+{
+    if is_missing::<Brand>(queue, found.pos, Blank::new(1)) {
+        let copy = copy_result(alloc, found)?;
+        set_report::<Brand>(queue, copy, Blank::new(1));
+    }
+    Ok(())
+}
+
 /// Equal copies of those reported results whose positions are not committed and have none yet: the others change nothing.
-pub fn copy_missing(
-    alloc: Global,
-    queue: &Queue,
-    results: &[Done1],
-) -> Result<Vec<Done1>, AllocError>
+fn copy_missing(alloc: Global, queue: &Queue, results: &[Done1]) -> Result<Vec<Done1>, AllocError>
     requires { All (CanReport queue.now) results.now }
     ensures { IfOk result (λ copies. copies.items ≡ filter (λ (d : Done1). is_missing queue.now d.pos) results.now) }
 {
@@ -138,7 +162,7 @@ pub fn is_missing<L: Ledger>(queue: &Queue, pos: u32, blank: Blank) -> bool
 }
 
 /// Keeps reported results in the queue, where their positions are not committed and have none yet.
-pub fn set_reports(queue: &mut Queue, results: Vec<Done1>)
+fn set_reports(queue: &mut Queue, results: Vec<Done1>)
     requires { All (CanReport queue.old) results.items }
     ensures { queue.new ≡ with_reports queue.old results.items }
 {

@@ -1,6 +1,5 @@
 -- What the check leaves to prove of `Core::note_results`.
 use Rattle.std.proofs.Common.{◌≡◌, ◌≤◌, ◌<◌, ◌∷◌, All, refl, sym, ◌∙◌, ap, subst, arith}
-use Rattle.std.proofs.lemmas.List.Elements.{All-filter}
 use Rattle.sv_wire.specs.declared.message.Done1.{Done1}
 use Rattle.sv_wire.specs.declared.message.Request.TheVariants as requests
 use Rattle.sv_journal.specs.declared.entry.Logged.TheVariants as logged
@@ -10,7 +9,7 @@ use Rattle.sv_sequencer.specs.declared.decision.Decision.TheVariants as decision
 use Rattle.sv_sequencer.specs.Agreement.{Agrees}
 use Rattle.sv_sequencer.specs.Cores.{core_rules}
 use Rattle.sv_sequencer.specs.Decisions.{results_in}
-use Rattle.sv_sequencer.specs.Relays.{is_missing, with_reports, CanReport}
+use Rattle.sv_sequencer.specs.Relays.{with_reports, CanReport}
 use Rattle.sv_sequencer.specs.Step.{entry_of}
 use Rattle.sv_sequencer.specs.Agreement.{sent_at}
 use Rattle.sv_sequencer.proofs.AgreeNoted.{noted, named-seats-low, agree-noted}
@@ -18,11 +17,10 @@ use Rattle.sv_sequencer.proofs.AgreeSteps.{sent_seats, named_seats, sent-within}
 use Rattle.sv_sequencer.proofs.Seating.{seat-low}
 use Rattle.sv_sequencer.proofs.Dones.{can_report_done}
 use Rattle.sv_sequencer.proofs.Entered.{carried}
-use Rattle.sv_sequencer.proofs.FitMissing.{reports-missing}
 use Rattle.sv_sequencer.proofs.server_core.Core.note_results.Goals as goal
 
-pub copy_missing-requires : goal.copy_missing-requires
-copy_missing-requires g c =
+pub take_reports-requires : goal.take_reports-requires
+take_reports-requires g c =
     let a = c.args.self.now in
     let k = c.requires.0 in
     let slot = c.args.seat.slot in
@@ -30,18 +28,6 @@ copy_missing-requires g c =
     subst (All (CanReport a.queue)) (sym c.reported_by.ensures)
     (can_report_done (core_rules a) g.h a.queue (sent_seats g.h a.sessions.items) (named_seats g.h a.sessions.items) slot c.args.seat.session (results_in c.args.request.now)
     (ap (sent_at g.h) c.requires.1.0) small k.commit (sent-within (core_rules a) g.h a.sessions.items k.sound) k.fits c.requires.1.1.1)
-
-pub set_reports-requires : goal.set_reports-requires
-set_reports-requires g c =
-    let a = c.args.self.now in
-    let k = c.requires.0 in
-    let slot = c.args.seat.slot in
-    let small : slot < 1024 = omega (arith, seat-low a.sessions.items slot c.args.seat.session c.requires.1.0, k.few) in
-    let can : All (CanReport a.queue) c.reported_by.result.now =
-    subst (All (CanReport a.queue)) (sym c.reported_by.ensures)
-    (can_report_done (core_rules a) g.h a.queue (sent_seats g.h a.sessions.items) (named_seats g.h a.sessions.items) slot c.args.seat.session (results_in c.args.request.now)
-    (ap (sent_at g.h) c.requires.1.0) small k.commit (sent-within (core_rules a) g.h a.sessions.items k.sound) k.fits c.requires.1.1.1) in
-    subst (All (CanReport a.queue)) (sym c.in_ok-results.ensures) (All-filter (λ (d : Done1). is_missing a.queue d.pos) (CanReport a.queue) c.reported_by.result.now can)
 
 pub returns-clause-ok : goal.returns-clause-ok
 returns-clause-ok g c =
@@ -65,7 +51,7 @@ returns-clause-ok g c =
     let within : All (λ (d : Done1). d.pos ≤ last_position v) ds = λ i d l. (can i d l).last in
     let queue : c.install.new.self ≡ ready_installed (with_reports v ds) =
     c.install.ensures.installed
-    ∙ ap ready_installed (c.set_reports.ensures ∙ ap (with_reports v) c.in_ok-results.ensures ∙ reports-missing v c.reported_by.result.now ∙ ap (with_reports v) c.reported_by.ensures) in
+    ∙ ap ready_installed (c.in_ok-take_reports.ensures.ok ∙ ap (with_reports v) c.reported_by.ensures) in
     let there : n ≡ (ready_installed (with_reports v ds)).commit = c.commit-commit.ensures ∙ ap (λ (w : QueueView). w.commit) queue in
     let told = noted (core_rules a) h v S N slot (entry_of s (requests.Done ds) (logged.Noted 0)) 0 ds refl refl within k.commit named k.fits in
     let said : logged.Noted n ≡ logged.Noted (commit_with h s ds) = ap logged.Noted (there ∙ told.1.0) in
