@@ -1,5 +1,5 @@
 -- What a player's moves make of its session: it is ready for the next one, or the session ended.
-use Rattle.std.proofs.Common.{◌≡◌, inl, ℕ, ◌-◌, ◌<◌, Bool, true, false, ◌&&◌, List, [], ◌∷◌, ◌++◌, length, Option, Some, None, refl, sym, ap, subst, ◌∙◌, arith, append-nil}
+use Rattle.std.proofs.Common.{◌≡◌, inl, ℕ, ◌-◌, ◌<◌, Bool, true, false, ◌&&◌, List, [], ◌∷◌, ◌++◌, length, Option, Some, None, refl, sym, ap, subst, ◌∙◌, arith, append-nil, true≢false}
 use Rattle.std.specs.Prelude.{Ok, unwrap_or, if◌then◌else◌}
 use Rattle.std.proofs.lemmas.List.Elements.{All-nil}
 use Rattle.sv_world.specs.declared.action.Action.{Action}
@@ -13,10 +13,12 @@ use Rattle.sv_client.specs.declared.trace.Event.TheVariants as events
 use Rattle.sv_client.specs.Traces.{current_session, joins, asked, got}
 use Rattle.sv_client.specs.Taking.{Identity, outstanding}
 use Rattle.sv_client.specs.Proper.{MayFollow, in_session}
-use Rattle.sv_client.specs.Seen.{latest_session}
+use Rattle.sv_client.specs.Seen.{latest_session, newly_asked}
 use Rattle.sv_client.proofs.Outstanding.{outstanding_joined}
 use Rattle.sv_scenario.specs.declared.scenario.Step.{Step}
 use Rattle.sv_scenario.specs.declared.scenario.Step.TheVariants as steps
+use Rattle.sv_script.specs.Laws.{is_got}
+use Rattle.sv_exchange.specs.Outgoing.{KeepsBack}
 use Rattle.sv_script.specs.Following.{MayCome, must_join, is_welcomed, is_finished, unsynced, is_bye}
 use Rattle.sv_player.specs.declared.buffers.Buffers.{Buffers}
 use Rattle.sv_player.specs.declared.outcome.Ending.{Ending}
@@ -29,7 +31,7 @@ use Rattle.sv_player.specs.Carried.{request_frames, IsLinked}
 use Rattle.sv_player.specs.Awaiting.{IsAwaited, can_do_first, can_go_on}
 use Rattle.sv_player.specs.Going.{IsGoing, Did, IsHere, IsReady}
 use Rattle.sv_player.specs.Partings.{parting_step, parting_event, parting_ending}
-use Rattle.sv_player.specs.Sessions.{IsAt, Onward, HasEnded, Ended, Stopped, SessionGoesOn, Got, IsMoved}
+use Rattle.sv_player.specs.Sessions.{IsAt, Onward, HasEnded, Ended, Stopped, SessionGoesOn, Got, IsMoved, IsKeptBack}
 use Rattle.sv_player.proofs.Posting.{none_posted}
 use Rattle.sv_player.proofs.Onward.{IsOf}
 use Rattle.sv_player.proofs.Going.{few_events, going_on, does_step, still_within, within_settled, bye_finishes, left_here}
@@ -149,6 +151,25 @@ pub got_moves : (s : ℕ) (bye : Bool) (ending : Option Ending) (p q : Player) (
 got_moves s true ending p q b end e g = subst (λ (o : Option Ending). IsMoved (Ok o) s p q b end) (sym e) (bye_ends s p q b end g)
 got_moves s false ending p q b end e g =
     subst (λ (o : Option Ending). IsMoved (Ok o) s p q b end) (sym e) (moved_on s (events.Got s g.reply) p q b end g.turn (got_ready s p q b end g))
+
+-- ---- What is kept back
+
+first_event : (a b : Event) (t u : List Event) → a ∷ t ≡ b ∷ u → a ≡ b
+first_event a b t u e = cc
+
+-- A move by an event kept back what that asks.
+pub turn_kept : (s : ℕ) (e : Event) (p q : Player) (b : Buffers) (waiting : List ℕ) (old new : Told) → SessionGoesOn s e p q b new →
+    KeepsBack waiting (length (request_frames (newly_asked p.client.who p.client.events e))) old new → IsKeptBack (Ok None) p q waiting old new
+turn_kept s e p q b waiting old new turn kept = λ d other is.
+    subst (λ (x : Event). KeepsBack waiting (length (request_frames (newly_asked p.client.who p.client.events x))) old new)
+    (first_event e d p.client.events p.client.events (sym turn.events ∙ is)) kept
+
+-- A wait ends with a reply.
+pub wait_kept : (s : ℕ) (bye : Bool) (ending : Option Ending) (p q : Player) (b : Buffers) (waiting : List ℕ) (old new : Told) → ending ≡ (if bye then Some endings.Left else None) → Got s bye p q b new →
+    IsKeptBack (Ok ending) p q waiting old new
+wait_kept s true ending p q b waiting old new e g = rw e tt
+wait_kept s false ending p q b waiting old new e g = rw e (λ d other is.
+    absurd (true≢false (ap is_got (first_event (events.Got s g.reply) d p.client.events p.client.events (sym g.turn.events ∙ is)) ∙ other)))
 
 -- ---- The session begins
 

@@ -17,6 +17,9 @@ use Rattle.sv_client.specs.Taking.{Identity}
 use Rattle.sv_client.specs.Proper.{AreProper}
 use Rattle.sv_scenario.specs.declared.scenario.Step.{Step}
 use Rattle.sv_script.specs.Following.{FollowsTo, is_finished}
+use Rattle.sv_script.specs.Laws.{is_got}
+use Rattle.sv_client.specs.Seen.{newly_asked}
+use Rattle.sv_exchange.specs.Outgoing.{KeepsBack}
 use Rattle.sv_player.specs.Stops.{IsBad, IsBadRest, IsShut, first_payload, is_cut}
 use Rattle.sv_player.specs.declared.buffers.Buffers.{Buffers}
 use Rattle.sv_player.specs.declared.outcome.PlayerCause.{PlayerCause}
@@ -133,6 +136,12 @@ abbrev pub IsMoved : Result (Option Ending) PlayerCause → ℕ → Player → P
 IsMoved (Ok None) s old new b end = IsAt s new b end × Onward s old new × IsReady new.client.who new.client.events new.left.now × (length old.client.events < length new.client.events)
 IsMoved (Ok (Some ending)) s old new b end = Ended s old new end ending
 IsMoved (Err cause) s old new b end = Stopped s old new end cause
+
+-- A move that goes on by an event that is no reply sends nothing where what the event asks fits behind what waits.
+abbrev pub IsKeptBack : Result (Option Ending) PlayerCause → Player → Player → List ℕ → Told → Told → Type 0
+IsKeptBack (Ok None) old new waiting before now = (e : Event) → is_got e ≡ false → new.client.events ≡ e ∷ old.client.events →
+    KeepsBack waiting (length (request_frames (newly_asked old.client.who old.client.events e))) before now
+IsKeptBack _ old new waiting before now = Unit {0}
 
 -- what a session answers
 abbrev pub IsSessionPlayed : Result Ending PlayerCause → ℕ → Player → Player → Told → Type 0

@@ -19,7 +19,7 @@ ghost use Rattle.sv_player.specs.Awaiting.{can_go_on};
 ghost use Rattle.sv_player.specs.Carried.{request_frames, which_end};
 ghost use Rattle.sv_player.specs.Going.{IsGoing, IsHere, IsReady, Did};
 ghost use Rattle.sv_player.specs.Partings.{parting_step};
-ghost use Rattle.sv_player.specs.Sessions.{IsAt, IsFresh, IsSameEnd, IsTurn, IsReceived, IsMoved, IsSessionPlayed, IsSent, IsAnswered, FaultCause, IsFirst, IsFrameFault};
+ghost use Rattle.sv_player.specs.Sessions.{IsAt, IsFresh, IsSameEnd, IsTurn, IsReceived, IsKeptBack, IsMoved, IsSessionPlayed, IsSent, IsAnswered, FaultCause, IsFirst, IsFrameFault};
 
 use crate::buffers::{Buffers, Waited};
 use crate::moves::{Making, Move};
@@ -434,6 +434,7 @@ impl<'a> Player<'a> {
         requires at { IsAt (latest_session self.old.client.events) self.old buffers.old (E.told end.old) }
         requires ready { IsReady self.old.client.who self.old.client.events self.old.left.now }
         ensures moved { IsMoved result (latest_session self.old.client.events) self.old self.new buffers.new (E.told end.new) }
+        ensures kept { IsKeptBack result self.old self.new buffers.old.outbox (E.told end.old) (E.told end.new) }
         ensures same_end { which_end (E.told end.new) ≡ which_end (E.told end.old) }
         ensures cause { FaultCause (E.faults end.old) (E.faults end.new) result }
         ensures calm { E.calm end.old → E.calm end.new }
