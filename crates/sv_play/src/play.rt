@@ -51,6 +51,7 @@ pub fn play_all<N: Net, C: Crew, G: Gate + Sync, R: Threads + Wait + Sync>(
     ensures keeper { IfOk result (λ p. TookAllIn scenario.now keeper.old keeper.new) }
     ensures cause { PlayCause (C.faults crew.old) (C.faults crew.new) (N.faults net.old) (N.faults net.new) result }
     ensures calm { N.calm net.old → N.calm net.new }
+    ensures made { IfOk result (λ _. N.made net.new ≡ N.made net.old + session_count scenario.now) }
     ensures pairs { LeavesPairs (pairing (N.settled net.old) (N.unmatched net.old) (N.made net.old) (N.owed net.old)) (pairing (N.settled net.new) (N.unmatched net.new) (N.made net.new) (N.owed net.new)) result }
     ensures certain { N.calm net.old → result ≡ Err PlayFault.Link → SomeDiffered (pairing (N.settled net.old) (N.unmatched net.old) (N.made net.old) (N.owed net.old)) (pairing (N.settled net.new) (N.unmatched net.new) (N.made net.new) (N.owed net.new)) }
 {
@@ -94,6 +95,7 @@ impl<'a, G: Gate + Sync, W: Teller + Sync> Hall<'a, G, W> {
         ensures keeper { IfOk result (λ p. TookAllIn self.now.scenario.now keeper.old keeper.new) }
         ensures cause { PlayCause (C.faults crew.old) (C.faults crew.new) (N.faults net.old) (N.faults net.new) result }
         ensures calm { N.calm net.old → N.calm net.new }
+        ensures made { IfOk result (λ _. N.made net.new ≡ N.made net.old + session_count self.now.scenario.now) }
         ensures pairs { LeavesPairs (pairing (N.settled net.old) (N.unmatched net.old) (N.made net.old) (N.owed net.old)) (pairing (N.settled net.new) (N.unmatched net.new) (N.made net.new) (N.owed net.new)) result }
         ensures certain { N.calm net.old → result ≡ Err PlayFault.Link → SomeDiffered (pairing (N.settled net.old) (N.unmatched net.old) (N.made net.old) (N.owed net.old)) (pairing (N.settled net.new) (N.unmatched net.new) (N.made net.new) (N.owed net.new)) }
     {
