@@ -2,3 +2,4 @@
 pub mod Endings
 pub mod Making
 pub mod Threads
+pub mod Pairs

@@ -1,6 +1,7 @@
 -- How a call of `run` ends.
-use Rattle.std.specs.Prelude.{◌≡◌, ◌≢◌, ℕ, List, Option, Some, None, codes, string_bytes}
+use Rattle.std.specs.Prelude.{◌≡◌, ◌≢◌, ◌⊎◌, ℕ, List, Option, Some, None, codes, string_bytes}
 use Rattle.sv_scenario.specs.declared.scenario.Scenario.{Scenario}
+use Rattle.sv_play.specs.Pairs.{Pairing, SettledAll, MatchedAll, OwesAll}
 use Rattle.sv_command.specs.declared.ending.Ending.{Ending}
 use Rattle.sv_command.specs.declared.ending.Ending.TheVariants as endings
 use Rattle.sv_command.specs.Reading.{IsRefused, HoldsScenario}
@@ -16,6 +17,11 @@ LeavesAlone None status f0 f1 n0 n1 c0 c1 = (f1 ≡ f0) × (n1 ≡ n0) × (c1 �
 LeavesAlone (Some (Play file form)) status f0 f1 n0 n1 c0 c1 = Unit {0}
 LeavesAlone (Some (Replay file)) status f0 f1 n0 n1 c0 c1 = (n1 ≡ n0) × (c1 ≡ c0) × (status ≢ 6) × (status ≢ 7)
 LeavesAlone (Some (Load size)) status f0 f1 n0 n1 c0 c1 = (f1 ≡ f0) × (status ≢ 3) × (status ≢ 4)
+
+-- What became of the pairs of the net: each that was made was settled and matched; or some did not match, at 6; or a thread could not be
+-- started, at 7.
+abbrev pub SettlesPairs : ℕ → Pairing → Pairing → Type 0
+SettlesPairs status old new = MatchedAll old new ⊎ ((status ≡ 6) × SettledAll old new) ⊎ ((status ≡ 7) × OwesAll old new)
 
 -- ---- Before anything is printed
 

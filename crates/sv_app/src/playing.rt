@@ -4,7 +4,7 @@ ghost use Rattle.std.specs.Fmt.{decimal};
 ghost use Rattle.sv_scenario.specs.Limits.{IsGoodScenario};
 ghost use Rattle.sv_play.specs.Moved.{moved};
 ghost use Rattle.sv_play.specs.Playing.{PlayCause};
-ghost use Rattle.sv_play.specs.Settling.{SomeDiffer};
+ghost use Rattle.sv_play.specs.Pairs.{pairing, LeavesPairs, SomeDiffered};
 ghost use Rattle.sv_app.specs.Runs.{IsThreaded, form_text, is_watched};
 ghost use Rattle.sv_world.specs.declared.world.Shape.{Shape};
 
@@ -51,7 +51,8 @@ pub(crate) fn run_on_threads<N: Net, C: Crew, G: Gate + Sync, R: Threads + Wait 
     requires { IsGoodScenario scenario.now }
     ensures threaded { IfOk result (λ threaded. IsThreaded scenario.now form (moved (N.settled net.old) (N.settled net.new) (C.ran crew.old) (C.ran crew.new)) threaded) }
     ensures cause { PlayCause (C.faults crew.old) (C.faults crew.new) (N.faults net.old) (N.faults net.new) result }
-    ensures calm { N.calm net.old → result ≡ Err PlayFault.Link → SomeDiffer N.E.told N.E.calm (N.made net.old) (N.made net.new) }
+    ensures pairs { LeavesPairs (pairing (N.settled net.old) (N.unmatched net.old) (N.made net.old) (N.owed net.old)) (pairing (N.settled net.new) (N.unmatched net.new) (N.made net.new) (N.owed net.new)) result }
+    ensures calm { N.calm net.old → result ≡ Err PlayFault.Link → SomeDiffered (pairing (N.settled net.old) (N.unmatched net.old) (N.made net.old) (N.owed net.old)) (pairing (N.settled net.new) (N.unmatched net.new) (N.made net.new) (N.owed net.new)) }
 {
     let alloc = stage.alloc;
     let shape = scenario.world.shape;

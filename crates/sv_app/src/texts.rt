@@ -5,10 +5,10 @@ ghost use Rattle.sv_command.specs.Reading.{held_by_file};
 ghost use Rattle.sv_command.specs.Statuses.{Counts, counts, Raises, ending_of, status_of};
 ghost use Rattle.sv_link.specs.Nets.{Transcript};
 ghost use Rattle.sv_play.specs.Moved.{Moved, moved};
-ghost use Rattle.sv_play.specs.Settling.{SomeDiffer};
+ghost use Rattle.sv_play.specs.Pairs.{pairing, SomeDiffered};
 ghost use Rattle.sv_app.specs.Words.{Play, Replay, Load, IsSize, IsSized, asked_by, file_of};
 ghost use Rattle.sv_app.specs.Runs.{IsText};
-ghost use Rattle.sv_app.specs.Statuses.{EndsEarly, LeavesAlone};
+ghost use Rattle.sv_app.specs.Statuses.{EndsEarly, LeavesAlone, SettlesPairs};
 
 use crate::playing::{form_text, load_text, run_on_threads};
 use crate::words::{Command, Form};
@@ -58,7 +58,8 @@ fn play<F: Files, N: Net, C: Crew, G: Gate + Sync, R: Threads + Wait + Sync>(
         (EndsEarly (Some (Play file.now form)) (F.contents files.old file.now)) result }
     ensures raises { (k : ℕ) → Raises (counts (F.faults files.old) (C.faults crew.old) (N.faults net.old) k) (counts (F.faults files.new) (C.faults crew.new) (N.faults net.new) k) (ending_of result) }
     ensures sure { F.sure files.old file.now → result ≢ Err Ending.File }
-    ensures calm { N.calm net.old → result ≡ Err Ending.Link → SomeDiffer N.E.told N.E.calm (N.made net.old) (N.made net.new) }
+    ensures pairs { SettlesPairs (status_of (ending_of result)) (pairing (N.settled net.old) (N.unmatched net.old) (N.made net.old) (N.owed net.old)) (pairing (N.settled net.new) (N.unmatched net.new) (N.made net.new) (N.owed net.new)) }
+    ensures calm { N.calm net.old → result ≡ Err Ending.Link → SomeDiffered (pairing (N.settled net.old) (N.unmatched net.old) (N.made net.old) (N.owed net.old)) (pairing (N.settled net.new) (N.unmatched net.new) (N.made net.new) (N.owed net.new)) }
 {
     let scenario = scenario_in(stage.alloc, file, files)?;
     let threaded = match run_on_threads(stage, &scenario, form, net, crew) {
@@ -81,7 +82,8 @@ fn load<N: Net, C: Crew, G: Gate + Sync, R: Threads + Wait + Sync>(
     ensures made { IsMade (IsText (Load size) None (moved (N.settled net.old) (N.settled net.new) (C.ran crew.old) (C.ran crew.new))) (EndsEarly (Some (Load size)) None) result }
     ensures raises { (f k : ℕ) → Raises (counts f (C.faults crew.old) (N.faults net.old) k) (counts f (C.faults crew.new) (N.faults net.new) k) (ending_of result) }
     ensures never { (status_of (ending_of result) ≢ 3) × (status_of (ending_of result) ≢ 4) }
-    ensures calm { N.calm net.old → result ≡ Err Ending.Link → SomeDiffer N.E.told N.E.calm (N.made net.old) (N.made net.new) }
+    ensures pairs { SettlesPairs (status_of (ending_of result)) (pairing (N.settled net.old) (N.unmatched net.old) (N.made net.old) (N.owed net.old)) (pairing (N.settled net.new) (N.unmatched net.new) (N.made net.new) (N.owed net.new)) }
+    ensures calm { N.calm net.old → result ≡ Err Ending.Link → SomeDiffered (pairing (N.settled net.old) (N.unmatched net.old) (N.made net.old) (N.owed net.old)) (pairing (N.settled net.new) (N.unmatched net.new) (N.made net.new) (N.owed net.new)) }
 {
     let scenario = generate(stage.alloc, size)?;
     let threaded = match run_on_threads(stage, &scenario, Form::Brief, net, crew) {
@@ -108,7 +110,8 @@ pub(crate) fn text_for<F: Files, N: Net, C: Crew, G: Gate + Sync, R: Threads + W
     ensures raises { (k : ℕ) → Raises (counts (F.faults files.old) (C.faults crew.old) (N.faults net.old) k) (counts (F.faults files.new) (C.faults crew.new) (N.faults net.new) k) (ending_of result) }
     ensures sure { IfSome (file_of (asked_by command.entry)) (λ name. F.sure files.old name → result ≢ Err Ending.File) }
     ensures apart { LeavesAlone (Some (asked_by command.entry)) (status_of (ending_of result)) files.old files.new net.old net.new crew.old crew.new }
-    ensures calm { N.calm net.old → result ≡ Err Ending.Link → SomeDiffer N.E.told N.E.calm (N.made net.old) (N.made net.new) }
+    ensures pairs { SettlesPairs (status_of (ending_of result)) (pairing (N.settled net.old) (N.unmatched net.old) (N.made net.old) (N.owed net.old)) (pairing (N.settled net.new) (N.unmatched net.new) (N.made net.new) (N.owed net.new)) }
+    ensures calm { N.calm net.old → result ≡ Err Ending.Link → SomeDiffered (pairing (N.settled net.old) (N.unmatched net.old) (N.made net.old) (N.owed net.old)) (pairing (N.settled net.new) (N.unmatched net.new) (N.made net.new) (N.owed net.new)) }
 {
     match command {
         Command::Play { file, form } => play(stage, file, form, files, net, crew),

@@ -1,13 +1,13 @@
 //! The top call of runs: played, replayed or made up.
 ghost use Rattle.std.specs.Prelude.{◌≡◌, ◌≢◌, ◌↔◌, ◌⊎◌, ◌≤◌, ℕ, take, map, option_map, string_bytes, None, IfSome};
 ghost use Rattle.sv_play.specs.Moved.{moved};
-ghost use Rattle.sv_play.specs.Settling.{SomeDiffer};
+ghost use Rattle.sv_play.specs.Pairs.{pairing, SomeDiffered};
 ghost use Rattle.sv_app.specs.Words.{IsSized, asked_by, command_of, named_by};
 ghost use Rattle.sv_command.specs.Endings.{Ends, IsCutShort, IsPrinted, OrWords};
 ghost use Rattle.sv_command.specs.Reading.{read_limit, held_by_file, IsNoScenario};
 ghost use Rattle.sv_command.specs.Statuses.{counts, NoneRose, Raises, TellsFaults, TellsStatus, status_of};
 ghost use Rattle.sv_app.specs.Runs.{IsTextFor};
-ghost use Rattle.sv_app.specs.Statuses.{CanRun, EndsEarly, LeavesAlone, words_line};
+ghost use Rattle.sv_app.specs.Statuses.{CanRun, EndsEarly, LeavesAlone, SettlesPairs, words_line};
 
 use crate::texts::text_for;
 use crate::words::{Command, command_of, file_of};
@@ -39,7 +39,8 @@ fn decide<F: Files, N: Net, C: Crew, G: Gate + Sync, K: Sink, R: Threads + Wait 
         (counts (F.faults files.new) (C.faults crew.new) (N.faults net.new) (K.faults out.new)) result }
     ensures sure { IfSome (named_by (option_map asked_by command.entry)) (λ name. F.sure files.old name → result ≢ Ending.File) }
     ensures apart { LeavesAlone (option_map asked_by command.entry) (status_of result) files.old files.new net.old net.new crew.old crew.new }
-    ensures calm { N.calm net.old → result ≡ Ending.Link → SomeDiffer N.E.told N.E.calm (N.made net.old) (N.made net.new) }
+    ensures pairs { SettlesPairs (status_of result) (pairing (N.settled net.old) (N.unmatched net.old) (N.made net.old) (N.owed net.old)) (pairing (N.settled net.new) (N.unmatched net.new) (N.made net.new) (N.owed net.new)) }
+    ensures calm { N.calm net.old → result ≡ Ending.Link → SomeDiffered (pairing (N.settled net.old) (N.unmatched net.old) (N.made net.old) (N.owed net.old)) (pairing (N.settled net.new) (N.unmatched net.new) (N.made net.new) (N.owed net.new)) }
 {
     let Some(command) = command else {
         return Ending::Words;
@@ -76,7 +77,8 @@ pub fn run<F: Files, N: Net, C: Crew, G: Gate + Sync, K: Sink, E: Sink, R: Threa
         (counts (F.faults files.new) (C.faults crew.new) (N.faults net.new) (K.faults out.new)) }
     ensures sure { IfSome (named_by (command_of (map string_bytes words.now))) (λ name. F.sure files.old name → result ≢ 4) }
     ensures apart { LeavesAlone (command_of (map string_bytes words.now)) result files.old files.new net.old net.new crew.old crew.new }
-    ensures calm { N.calm net.old → result ≡ 6 → SomeDiffer N.E.told N.E.calm (N.made net.old) (N.made net.new) }
+    ensures pairs { SettlesPairs result (pairing (N.settled net.old) (N.unmatched net.old) (N.made net.old) (N.owed net.old)) (pairing (N.settled net.new) (N.unmatched net.new) (N.made net.new) (N.owed net.new)) }
+    ensures calm { N.calm net.old → result ≡ 6 → SomeDiffered (pairing (N.settled net.old) (N.unmatched net.old) (N.made net.old) (N.owed net.old)) (pairing (N.settled net.new) (N.unmatched net.new) (N.made net.new) (N.owed net.new)) }
     ensures faulty { IfSome (held_by_file (F.contents files.old) (named_by (command_of (map string_bytes words.now))))
         (λ all. IsNoScenario (take read_limit all) → (result ≡ 3) ⊎ (result ≡ 4) ⊎ (result ≡ 8)) }
     ensures printed { result ≡ 0 → IsPrinted (IsTextFor (command_of (map string_bytes words.now)) (held_by_file (F.contents files.old) (named_by (command_of (map string_bytes words.now))))

@@ -6,9 +6,10 @@ use Rattle.sv_link.specs.declared.side.Side.{Side}
 use Rattle.sv_door.specs.declared.doors.EndMade.{EndMade}
 use Rattle.sv_door.specs.declared.doors.EndMade.TheVariants as made
 
--- What is kept of an end that was given back: the bytes that it sent and received, whether a read of it answered Ended, and whether it had
--- a fault.
+-- What is kept of an end that was given back: its number, the bytes that it sent and received, whether a read of it answered Ended, and
+-- whether it had a fault.
 pub record Passage : Type 0 where
+  pub number : ℕ
   pub sent : List ℕ
   pub received : List ℕ
   pub ended : Bool
@@ -16,7 +17,7 @@ pub record Passage : Type 0 where
 
 -- what is kept of an end with this count of faults
 abbrev pub passage_of : Told → ℕ → Passage
-passage_of end faults = record { sent = end.sent; received = end.received; ended = end.ended; faulty = nat_lt 0 faults }
+passage_of end faults = record { number = end.pair; sent = end.sent; received = end.received; ended = end.ended; faulty = nat_lt 0 faults }
 
 module _ {E : Type 0} (told : E → Told) (faults : E → ℕ) where
   -- a new end of this side, under the next number

@@ -24,10 +24,10 @@ use Rattle.sv_play.specs.Places.{EachClient}
 use Rattle.sv_play.specs.Tasks.{services_of, parts_of, serviced_of, played_of, KeepsTask}
 use Rattle.sv_play.specs.Given.{Setting, keeper_after, IsPart, IsService}
 use Rattle.sv_play.specs.Left.{own_of, ends_of, transcripts_of, EndsAgree, HasRoom, HasFewSessions, Gathered, JoinedPasses, IsOfLock, IsServiced, HasPlayed}
-use Rattle.sv_play.specs.Settling.{AnyZip, Differ, ArePair, AreCalm, SomeDiffer}
+use Rattle.sv_play.specs.Settling.{ArePair, AreCalm, IsSince}
 use Rattle.sv_play.specs.Playing.{IsThreadedRun, TookAllIn}
 use Rattle.sv_play.proofs.Places.{clients_count}
-use Rattle.sv_play.proofs.Leaving.{services_left, parts_left, served_count, task_count, all_of_lock, all_few, ends_are_all, as_many, all_pairs, all_calm, some_differ}
+use Rattle.sv_play.proofs.Leaving.{services_left, parts_left, served_count, task_count, all_of_lock, all_few, ends_are_all, as_many, all_pairs, all_calm, all_since}
 use Rattle.sv_play.proofs.Whole.{overs, transcripts_are, is_run, all_end, all_awaited, lines_are}
 use Rattle.sv_play.proofs.Keepers.{just_of, below_of, legal_of, all_taken_in}
 
@@ -81,10 +81,10 @@ module _ {E G W : Type 0} (told : E → Told) (faults : E → ℕ) (calm : E →
         subst (λ servers. AllZip (AreCalm calm) servers left.clients.items) (sym gathered.servers)
         (subst (AllZip (AreCalm calm) (map (λ (y : Serviced E). y.end) ys)) (sym gathered.clients) (all_calm told faults calm run ys ps all_served served played q))
 
-    pub two_differ : (made : ℕ) → made ≡ run.pairs + session_count run.scenario → run.calm → AnyZip (Differ told) left.servers.items left.clients.items → SomeDiffer told calm run.pairs made
-    two_differ made is q some =
-        some_differ told faults calm run ys ps all_served served played made is q
-        (subst (λ servers. AnyZip (Differ told) servers (flat_map ends_of ps)) gathered.servers (subst (AnyZip (Differ told) left.servers.items) gathered.clients some))
+    pub are_since : AllZip (IsSince told run.pairs) left.servers.items left.clients.items
+    are_since =
+        subst (λ servers. AllZip (IsSince told run.pairs) servers left.clients.items) (sym gathered.servers)
+        (subst (AllZip (IsSince told run.pairs) (map (λ (y : Serviced E). y.end) ys)) (sym gathered.clients) (all_since told faults calm run ys ps all_served served played))
 
     pub owed_enough : length left.servers.items ≡ session_count run.scenario
     owed_enough = ap length gathered.servers ∙ (lengths ys ∙ all_served)

@@ -31,7 +31,7 @@ use Rattle.sv_play.specs.Places.{EachClient}
 use Rattle.sv_play.specs.Tasks.{services_of, parts_of, serviced_of, played_of, TookPart, WasServed, KeepsTask}
 use Rattle.sv_play.specs.Given.{Setting, IsPart, IsService, pass_of}
 use Rattle.sv_play.specs.Left.{ends_from, ends_of, HasFewSessions, IsOfLock, IsServiced, HasPlayed}
-use Rattle.sv_play.specs.Settling.{AnyZip, Differ, ArePair, AreCalm, SomeDiffer}
+use Rattle.sv_play.specs.Settling.{ArePair, AreCalm, IsSince}
 use Rattle.sv_play.proofs.Places.{each_zip, each_client_zip, each_client_all, each_client_map, zip_from, flat_length, flat_each}
 
 -- ---- Each kind by itself
@@ -224,19 +224,11 @@ module _ {E : Type 0} (told : E → Told) (faults : E → ℕ) (calm : E → Typ
         let y = unmap_at (λ (w : Serviced E). w.end) ys s server es in
         (subst calm y.2 ((served s y.0 y.1).calm_is q), (client_ends ps played s z ez).calm_is q))
 
-    -- two ends of one session that differ
-    pub some_differ : (made : ℕ) → made ≡ run.pairs + session_count run.scenario → run.calm → AnyZip (Differ told) servers clients → SomeDiffer told calm run.pairs made
-    some_differ made made_is q some =
-        find 0 ys clients (λ j x e. subst (λ n. IsServiced told faults calm run n x) (sym (zero-add j)) (served j x e)) (all_pairs made made_is) (all_calm q) some
-      where
-        find : (s : ℕ) (ys : List (Serviced E)) (zs : List (ClientEnd E)) → EachPlace (λ j y. IsServiced told faults calm run (s + j) y) ys →
-            AllZip (ArePair told made) (map (λ (y : Serviced E). y.end) ys) zs → AllZip (AreCalm calm) (map (λ (y : Serviced E). y.end) ys) zs →
-            AnyZip (Differ told) (map (λ (y : Serviced E). y.end) ys) zs → SomeDiffer told calm run.pairs made
-        find s [] zs each pairs calms any = absurd any
-        find s (y ∷ ys) [] each pairs calms any = absurd any
-        find s (y ∷ ys) (z ∷ zs) each pairs calms (inl differ) =
-            let both = calms.0 in
-            let own = (server_end (s + 0) y (each 0 y refl)).0 in
-            record { server = y.end; client = z.end; server_calm = both.0; client_calm = both.1; pair = pairs.0; since = omega (arith, own); differ = differ }
-        find s (y ∷ ys) (z ∷ zs) each pairs calms (inr any) =
-            find (suc s) ys zs (λ j x e. subst (λ n. IsServiced told faults calm run n x) (omega arith) (each (suc j) x e)) pairs.1 calms.1 any
+    -- all pairs were made in this run
+    pub all_since : AllZip (IsSince told run.pairs) servers clients
+    all_since =
+        zip_from (IsSince told run.pairs) servers clients same_count
+        (λ s server z es ez.
+        let y = unmap_at (λ (w : Serviced E). w.end) ys s server es in
+        let own = (server_end s y.0 (served s y.0 y.1)).0 in
+        subst (λ e. IsSince told run.pairs e z) y.2 (omega (arith, own)))

@@ -4,8 +4,9 @@ pub mod Places
 pub mod Tasks
 pub mod Given
 pub mod Left
-pub mod Opening
+pub mod Pairs
 pub mod Settling
+pub mod Opening
 pub mod Playing
 pub mod Endings
 pub mod Moved

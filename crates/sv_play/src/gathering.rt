@@ -1,15 +1,17 @@
 //! Gathering what the threads of a run leave.
-ghost use Rattle.std.specs.Prelude.{◌≡◌, ◌+◌, ◌<◌, ◌≤◌, ◌++◌, ◌||◌, List, [], ◌∷◌, length, reverse, IfOk, vec_len};
+ghost use Rattle.std.specs.Prelude.{◌≡◌, ◌+◌, ◌<◌, ◌≤◌, ◌++◌, ◌||◌, List, [], ◌∷◌, length, map, reverse, IfOk, vec_len};
 ghost use Rattle.std.specs.List.{AllByRecursion, flat_map};
 ghost use Rattle.std.specs.Vec.{vec_capacity};
 ghost use Rattle.sv_world.specs.Limits.{most_sessions};
 ghost use Rattle.sv_client.specs.declared.trace.Event.{Event};
 ghost use Rattle.sv_client.specs.Traces.{current_session};
 ghost use Rattle.sv_player.specs.Stops.{is_cut};
-ghost use Rattle.sv_play.specs.Tasks.{serviced_of, played_of};
+ghost use Rattle.sv_play.specs.Given.{ends_given};
+ghost use Rattle.sv_play.specs.Opening.{server_end, uncut};
+ghost use Rattle.sv_play.specs.Tasks.{services_of, parts_of, serviced_of, played_of};
 ghost use Rattle.sv_play.specs.Left.{ends_from, ends_of, is_memory, is_unplayed, HasRoom, HasFewSessions, Gathered, JoinedPasses, IsOfLock};
 
-use crate::tasks::{Serviced, TaskOut};
+use crate::tasks::{Part, Service, Serviced, Task, TaskOut};
 use std::alloc::{AllocError, Global};
 use sv_client::{Event, Trace};
 use sv_link::End;
@@ -98,6 +100,31 @@ impl<E: Drop> Left<E> {
         }
     }
 
+    /// Takes the ends of sessions back that nobody serves, in order.
+    pub(crate) fn take_services<G>(&mut self, services: Vec<Service<'_, E, G>>)
+        requires room { vec_len self.old.servers + length services.items ≤ vec_capacity self.old.servers }
+        ensures servers { self.new.servers.items ≡ self.old.servers.items ++ map server_end services.entry.items }
+        ensures same { self.new.clients ≡ self.old.clients }
+    {
+        for service in services {
+            let Service { end, .. } = service;
+            self.servers.push_reserved(end);
+        }
+    }
+
+    /// Takes ends back with which no client plays, in order.
+    pub(crate) fn take_unplayed(&mut self, ends: Vec<E>)
+        requires room { vec_len self.old.clients + length ends.items ≤ vec_capacity self.old.clients }
+        ensures clients { self.new.clients.items ≡ self.old.clients.items ++ map uncut ends.items }
+        ensures size { vec_len self.new.clients ≡ vec_len self.old.clients + length ends.items }
+        ensures room { vec_capacity self.new.clients ≡ vec_capacity self.old.clients }
+        ensures same { self.new.servers ≡ self.old.servers }
+    {
+        for end in ends {
+            self.clients.push_reserved(ClientEnd { end, cut: false });
+        }
+    }
+
     /// Takes a client's ends in.
     fn take_ends(&mut self, trace: &Trace, ends: Vec<E>)
         requires numbers { trace.now.first + length ends.items ≤ most_sessions }
@@ -168,6 +195,27 @@ pub(crate) fn gather<E: End>(
                 left.take_server(end, out);
             }
             TaskOut::Played(player) => left.take_client(player),
+        }
+    }
+}
+
+/// Takes the ends of tasks back that were not done. It takes no memory.
+pub(crate) fn take_back<E: Drop, G, W>(tasks: Vec<Task<'_, E, G, W>>, left: &mut Left<E>)
+    requires servers { vec_len left.old.servers + length (services_of tasks.items) ≤ vec_capacity left.old.servers }
+    requires clients { vec_len left.old.clients + length (flat_map ends_given (parts_of tasks.items)) ≤ vec_capacity left.old.clients }
+    ensures servers { left.new.servers.items ≡ left.old.servers.items ++ map server_end (services_of tasks.entry.items) }
+    ensures clients { left.new.clients.items ≡ left.old.clients.items ++ map uncut (flat_map ends_given (parts_of tasks.entry.items)) }
+{
+    for task in tasks {
+        match task {
+            Task::Serve(service) => {
+                let Service { end, .. } = service;
+                left.servers.push_reserved(end);
+            }
+            Task::Play(part) => {
+                let Part { ends, .. } = part;
+                left.take_unplayed(ends);
+            }
         }
     }
 }

@@ -5,13 +5,13 @@ ghost use Rattle.sv_scenario.specs.Limits.{IsGoodScenario};
 ghost use Rattle.sv_scenario.specs.Sessions.{session_count};
 ghost use Rattle.sv_player.specs.Played.{lines_told};
 ghost use Rattle.sv_play.specs.Given.{keeper_after};
-ghost use Rattle.sv_play.specs.Settling.{SomeDiffer};
+ghost use Rattle.sv_play.specs.Pairs.{pairing, LeavesPairs, SomeDiffered};
 ghost use Rattle.sv_play.specs.Playing.{IsThreadedRun, TookAllIn, PlayCause};
 
-use crate::gathering::{Left, gather};
+use crate::gathering::{Left, gather, take_back};
 use crate::opening::Hall;
 use crate::outcome::{PlayFault, Playing};
-use crate::settling::settle_all;
+use crate::settling::{settle_after, settle_all};
 use crate::tasks::{Silence, Teller};
 use law_traffic::threaded_runs_leave_records;
 use std::alloc::{AllocError, Global};
@@ -28,8 +28,8 @@ use sv_world::List;
 /// Runs a scenario on threads: one job for each session, over the locked sequencer, and one for each client.
 ///
 /// Each session has a pair of ends and a pass, made in the order of the sessions' numbers. Once all jobs are done, the keeper takes all passes
-/// in, and all pairs are settled. Where a thread can't be started the answer is Start, where a pair can't be made or does not match it is
-/// Link, and else where anything had no memory it is Memory. Where a watch is given, it makes the line of each change of a client's view; else
+/// in, and all pairs are settled; so they are too where the run could not begin, but where a thread could not be started. Then the answer is
+/// Start; where a pair can't be made or does not match it is Link, and else where anything had no memory it is Memory. Where a watch is given, it makes the line of each change of a client's view; else
 /// there are no lines.
 pub fn play_all<N: Net, C: Crew, G: Gate + Sync, R: Threads + Wait + Sync>(
     rt: &R,
@@ -51,7 +51,9 @@ pub fn play_all<N: Net, C: Crew, G: Gate + Sync, R: Threads + Wait + Sync>(
     ensures keeper { IfOk result (λ p. TookAllIn scenario.now keeper.old keeper.new) }
     ensures cause { PlayCause (C.faults crew.old) (C.faults crew.new) (N.faults net.old) (N.faults net.new) result }
     ensures calm { N.calm net.old → N.calm net.new }
-    ensures certain { N.calm net.old → result ≡ Err PlayFault.Link → SomeDiffer N.E.told N.E.calm (N.made net.old) (N.made net.new) }
+    ensures made { IfOk result (λ _. N.made net.new ≡ N.made net.old + session_count scenario.now) }
+    ensures pairs { LeavesPairs (pairing (N.settled net.old) (N.unmatched net.old) (N.made net.old) (N.owed net.old)) (pairing (N.settled net.new) (N.unmatched net.new) (N.made net.new) (N.owed net.new)) result }
+    ensures certain { N.calm net.old → result ≡ Err PlayFault.Link → SomeDiffered (pairing (N.settled net.old) (N.unmatched net.old) (N.made net.old) (N.owed net.old)) (pairing (N.settled net.new) (N.unmatched net.new) (N.made net.new) (N.owed net.new)) }
 {
     match watch {
         Some(watch) => Hall {
@@ -93,20 +95,28 @@ impl<'a, G: Gate + Sync, W: Teller + Sync> Hall<'a, G, W> {
         ensures keeper { IfOk result (λ p. TookAllIn self.now.scenario.now keeper.old keeper.new) }
         ensures cause { PlayCause (C.faults crew.old) (C.faults crew.new) (N.faults net.old) (N.faults net.new) result }
         ensures calm { N.calm net.old → N.calm net.new }
-        ensures certain { N.calm net.old → result ≡ Err PlayFault.Link → SomeDiffer N.E.told N.E.calm (N.made net.old) (N.made net.new) }
+        ensures made { IfOk result (λ _. N.made net.new ≡ N.made net.old + session_count self.now.scenario.now) }
+        ensures pairs { LeavesPairs (pairing (N.settled net.old) (N.unmatched net.old) (N.made net.old) (N.owed net.old)) (pairing (N.settled net.new) (N.unmatched net.new) (N.made net.new) (N.owed net.new)) result }
+        ensures certain { N.calm net.old → result ≡ Err PlayFault.Link → SomeDiffered (pairing (N.settled net.old) (N.unmatched net.old) (N.made net.old) (N.owed net.old)) (pairing (N.settled net.new) (N.unmatched net.new) (N.made net.new) (N.owed net.new)) }
     {
         read_scenario_numbers(self.scenario);
         threaded_runs_leave_records();
-        let tasks = self.open(net, keeper)?;
         let mut left = Left::new(
             self.alloc,
             sessions_of(self.scenario),
             self.scenario.clients.len(),
         )?;
+        let tasks = match self.open(net, keeper, &mut left) {
+            Ok(tasks) => tasks,
+            Err(fault) => return Err(settle_after(net, left, fault)),
+        };
         let outs = match crew.run_all(rt, tasks) {
             Ran::Done(outs) => outs,
             Ran::Failed => return Err(PlayFault::Start),
-            Ran::Memory => return Err(PlayFault::Memory),
+            Ran::Memory(tasks) => {
+                take_back(tasks, &mut left);
+                return Err(settle_after(net, left, PlayFault::Memory));
+            }
         };
         gather(self.lock, keeper, outs, &mut left);
         let Left {

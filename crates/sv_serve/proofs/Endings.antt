@@ -2,6 +2,7 @@
 use Rattle.std.proofs.Common.{◌≡◌, ◌≢◌, ◌↔◌, ◌⊎◌, inl, inr, refl, arith, ℕ, ◌≤◌, List, [], take, append-nil, subst, sym, ap, Option, Some, None}
 use Rattle.std.specs.Prelude.{string_bytes, option_map, IfSome, OnErr, Result, Ok, Err, String}
 use Rattle.std.specs.declared.alloc.Global.{Global}
+use Rattle.std.proofs.lemmas.Option.{none-some}
 use Rattle.sv_bytes.specs.Writing.{Grew, GrewByPart}
 use Rattle.sv_command.specs.declared.ending.Ending.{Ending}
 use Rattle.sv_command.specs.declared.ending.Ending.TheVariants as endings
@@ -29,17 +30,16 @@ on_err (Ok a) P p = tt
 on_err (Err e) P p = p
 
 pub none_made : (d : Doorway) → GaveAllBack d d
-none_made d = record { passages = []; given = sym (append-nil d.given); made = omega arith; owed = refl }
+none_made d = record { passages = []; given = sym (append-nil d.given); numbers = λ k x e. absurd (none-some x e); made = omega arith; owed = refl }
 
 pub untouched_back : (status : ℕ) (ran_before ran_now : List ℕ) (old new : Doorway) → new ≡ old → GivesBackBut status ran_before ran_now old new
 untouched_back status ran_before ran_now old new same = inl (rw same (none_made old))
 
 pub fault_back : (fault : PlayFault) (ran_before ran_now : List ℕ) (old new : Doorway) → GivesBack {A = SequencerView} ran_before ran_now old new (Err fault) →
     GivesBackBut (status_of (ending_of_fault fault)) ran_before ran_now old new
-fault_back faults.Start ran_before ran_now old new h = inr (inl refl, h)
+fault_back faults.Start ran_before ran_now old new h = inr (refl, h)
 fault_back faults.Link ran_before ran_now old new h = inl h
-fault_back faults.Memory ran_before ran_now old new (inl h) = inl h
-fault_back faults.Memory ran_before ran_now old new (inr h) = inr (inr refl, h)
+fault_back faults.Memory ran_before ran_now old new h = inl h
 
 -- ---- What a status excludes
 

@@ -1,5 +1,5 @@
 -- All sessions of a scenario that were served.
-use Rattle.std.proofs.Common.{◌≡◌, ℕ, ◌+◌, ◌<◌, ◌≤◌, false, List, [], ◌∷◌, ◌++◌, length, reverse, slice_get, Some, ap, subst, ◌∙◌, arith}
+use Rattle.std.proofs.Common.{◌≡◌, ℕ, ◌+◌, ◌<◌, ◌≤◌, false, List, [], ◌∷◌, ◌++◌, length, reverse, slice_get, Some, sym, ap, subst, ◌∙◌, arith}
 use Rattle.std.specs.List.{AllByRecursion, AllZip}
 use Rattle.std.proofs.lemmas.List.{length-map}
 use Rattle.std.proofs.lemmas.List.Elements.{All-from_recursion, recursion_from_All}
@@ -27,7 +27,7 @@ use Rattle.sv_play.proofs.Keepers.{just_of, below_of, legal_of, all_taken_in}
 use Rattle.sv_door.specs.Doors.{Passage}
 use Rattle.law_traffic.specs.Sessions.{IsSessionServed}
 use Rattle.law_traffic.proofs.Loops.{ends_are}
-use Rattle.sv_serve.specs.Giving.{passage_kept, kept_served, IsUnservedOf, IsServedOf}
+use Rattle.sv_serve.specs.Giving.{passage_kept, kept_unserved, kept_served, IsUnservedOf, IsServedOf}
 use Rattle.sv_serve.specs.Passages.{IsPassageOf}
 use Rattle.sv_serve.specs.Hosting.{IsHosted}
 use Rattle.sv_serve.proofs.Passages.{passage_is}
@@ -44,6 +44,12 @@ module _ {E G : Type 0} (told : E → Told) (faults : E → ℕ) (calm : E → T
       each_within (IsService told faults calm run) (IsUnservedOf told made) xs services
       (λ k x low service. let pair = ap (λ (t : Told). t.pair) service.end.told_is in omega (arith, most, low, pair))
 
+  -- They are numbered in the order of their sessions.
+  pub unserved_numbers : (xs : List (Service E G)) → EachPlace (IsService told faults calm run) xs → EachPlace (λ k x. x.number ≡ run.pairs + k) (kept_unserved told faults xs)
+  unserved_numbers xs services k p e =
+      let x = unmap_at (λ (x : Service E _). passage_kept told faults x.end) xs k p e in
+      ap (λ (q : Passage). q.number) (sym x.2) ∙ ap (λ (t : Told). t.pair) (services k x.0 x.1).end.told_is
+
 module _ {E G : Type 0} (told : E → Told) (faults : E → ℕ) (calm : E → Type 0) (run : Setting) (xs : List (Service E G)) (ys : List (Serviced E))
     (count : length xs ≡ session_count run.scenario) (services : EachPlace (IsService told faults calm run) xs) (kept : AllZip (WasServed told faults calm) xs ys) where
   served : EachPlace (IsServiced told faults calm run) ys
@@ -59,6 +65,11 @@ module _ {E G : Type 0} (told : E → Told) (faults : E → ℕ) (calm : E → T
   served_own made is =
       each_within (IsServiced told faults calm run) (IsServedOf told made) ys served
       (λ s y low service. let pair = ap (λ (t : Told). t.pair) service.served.told in omega (arith, is, low, pair, all_served))
+
+  pub served_numbers : EachPlace (λ k x. x.number ≡ run.pairs + k) (kept_served told faults ys)
+  served_numbers s p e =
+      let y = unmap_at (λ (y : Serviced E). passage_kept told faults y.end) ys s p e in
+      ap (λ (q : Passage). q.number) (sym y.2) ∙ ap (λ (t : Told). t.pair) (served s y.0 y.1).served.told
 
   module _ (k : SessionPass) (joined : JoinedPasses ys (keeper_after (session_count run.scenario) run.lock run.scenario) k) (good : IsGoodRun run.scenario) where
     pub took_all : TookAllIn run.scenario (keeper_after 0 run.lock run.scenario) k

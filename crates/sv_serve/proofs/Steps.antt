@@ -6,6 +6,7 @@ use Rattle.sv_journal.specs.declared.entry.Entry.{Entry}
 use Rattle.sv_journal.specs.Answer.{Rules, Legal}
 use Rattle.sv_journal.specs.Laws.{LegalRelaysNameAccepted}
 use Rattle.sv_journal.specs.Text.{RelaysNameAccepted}
+use Rattle.sv_system.specs.Places.{EachPlace}
 use Rattle.sv_play.specs.declared.tasks.Service.{Service}
 use Rattle.sv_play.specs.declared.tasks.Serviced.{Serviced}
 use Rattle.sv_door.specs.Doors.{Passage}
@@ -16,14 +17,14 @@ pub named : LegalRelaysNameAccepted → (r : Rules) (entries : List Entry) → L
 named law r entries legal = subst RelaysNameAccepted (reverse-reverse entries) (law r (reverse entries) legal)
 
 module _ {E : Type 0} (told : E → Told) (faults : E → ℕ) (given0 given1 : List Passage) (made0 made1 owed0 owed1 : ℕ) where
-  pub unserved_back : {G : Type 0} (xs : List (Service E G)) → given1 ≡ given0 ++ kept_unserved told faults xs → made1 ≡ made0 + length xs → owed1 ≡ owed0 →
+  pub unserved_back : {G : Type 0} (xs : List (Service E G)) → given1 ≡ given0 ++ kept_unserved told faults xs → EachPlace (λ k x. x.number ≡ made0 + k) (kept_unserved told faults xs) → made1 ≡ made0 + length xs → owed1 ≡ owed0 →
       GaveAllBack (doorway given0 made0 owed0) (doorway given1 made1 owed1)
-  unserved_back xs given made owed =
+  unserved_back xs given numbers made owed =
       let same = length-map xs (λ (x : Service E _). passage_kept told faults x.end) in
-      record { passages = kept_unserved told faults xs; given = given; made = made ∙ ap (λ (n : ℕ). made0 + n) (sym same); owed = owed }
+      record { passages = kept_unserved told faults xs; given = given; numbers = numbers; made = made ∙ ap (λ (n : ℕ). made0 + n) (sym same); owed = owed }
 
-  pub served_back : (ys : List (Serviced E)) → given1 ≡ given0 ++ kept_served told faults ys → made1 ≡ made0 + length ys → owed1 ≡ owed0 →
+  pub served_back : (ys : List (Serviced E)) → given1 ≡ given0 ++ kept_served told faults ys → EachPlace (λ k x. x.number ≡ made0 + k) (kept_served told faults ys) → made1 ≡ made0 + length ys → owed1 ≡ owed0 →
       GaveAllBack (doorway given0 made0 owed0) (doorway given1 made1 owed1)
-  served_back ys given made owed =
+  served_back ys given numbers made owed =
       let same = length-map ys (λ (y : Serviced E). passage_kept told faults y.end) in
-      record { passages = kept_served told faults ys; given = given; made = made ∙ ap (λ (n : ℕ). made0 + n) (sym same); owed = owed }
+      record { passages = kept_served told faults ys; given = given; numbers = numbers; made = made ∙ ap (λ (n : ℕ). made0 + n) (sym same); owed = owed }

@@ -1,6 +1,7 @@
 -- Giving the ends of connections back.
-use Rattle.std.specs.Prelude.{◌≡◌, ◌⊎◌, ℕ, ◌+◌, ◌<◌, List, ◌++◌, map, length, Result, Ok, Err}
+use Rattle.std.specs.Prelude.{◌≡◌, ℕ, ◌+◌, ◌<◌, List, ◌++◌, map, length, Result, Ok, Err}
 use Rattle.sv_link.specs.Ends.{Told}
+use Rattle.sv_system.specs.Places.{EachPlace}
 use Rattle.sv_play.specs.declared.outcome.PlayFault.{PlayFault}
 use Rattle.sv_play.specs.declared.outcome.PlayFault.TheVariants as faults
 use Rattle.sv_play.specs.declared.tasks.Service.{Service}
@@ -16,19 +17,28 @@ pub record Doorway : Type 0 where
 abbrev pub doorway : List Passage → ℕ → ℕ → Doorway
 doorway given made owed = record { given = given; made = made; owed = owed }
 
--- Each end that was made was given back.
+-- Each end that was made was given back, in the order in which they were made.
 pub record GaveAllBack (old new : Doorway) : Type 0 where
   pub passages : List Passage
   pub given : new.given ≡ old.given ++ passages
+  pub numbers : EachPlace (λ k x. x.number ≡ old.made + k) passages
   pub made : new.made ≡ old.made + length passages
   pub owed : new.owed ≡ old.owed
 
--- Each end that was made was given back; or jobs were not done, for a start that was refused or since there was no memory.
+-- None was given back, and no run of jobs is noted: threads that could not be started took the ends along.
+pub record LostAll (ran_before ran_now : List ℕ) (old new : Doorway) : Type 0 where
+  pub ends : ℕ
+  pub given : new.given ≡ old.given
+  pub made : new.made ≡ old.made + ends
+  pub owed : new.owed ≡ old.owed + ends
+  pub ran : ran_now ≡ ran_before
+
+-- Each end that was made was given back, but where a thread could not be started.
 abbrev pub GivesBack : {A : Type 0} → List ℕ → List ℕ → Doorway → Doorway → Result A PlayFault → Type 0
 GivesBack ran_before ran_now old new (Ok made) = GaveAllBack old new
 GivesBack ran_before ran_now old new (Err faults.Link) = GaveAllBack old new
-GivesBack ran_before ran_now old new (Err faults.Start) = ran_now ≡ ran_before
-GivesBack ran_before ran_now old new (Err faults.Memory) = GaveAllBack old new ⊎ (ran_now ≡ ran_before)
+GivesBack ran_before ran_now old new (Err faults.Start) = LostAll ran_before ran_now old new
+GivesBack ran_before ran_now old new (Err faults.Memory) = GaveAllBack old new
 
 module _ {E : Type 0} (told : E → Told) (faults : E → ℕ) where
   abbrev pub passage_kept : E → Passage

@@ -96,7 +96,7 @@ impl<'a, G: Gate> Host<'a, G> {
 }
 
 /// Gives the ends of sessions back that are not served after all, in order.
-fn give_back_all<D: Door, G>(door: &mut D, services: Vec<Service<'_, D::E, G>>)
+pub(crate) fn give_back_all<D: Door, G>(door: &mut D, services: Vec<Service<'_, D::E, G>>)
     requires own { AllByRecursion (IsUnservedOf D.E.told (D.made door.old)) services.items }
     requires owed { length services.items ≤ D.owed door.old }
     ensures given { D.given door.new ≡ D.given door.old ++ kept_unserved D.E.told D.E.faults services.entry.items }

@@ -9,7 +9,7 @@ ghost use Rattle.sv_play.specs.Playing.{PlayCause, TookAllIn};
 ghost use Rattle.sv_serve.specs.Giving.{doorway, GivesBack};
 ghost use Rattle.sv_serve.specs.Hosting.{IsHosted};
 
-use crate::accepting::Host;
+use crate::accepting::{Host, give_back_all};
 use crate::taking::take_in;
 use std::alloc::Global;
 use std::sync::Wait;
@@ -48,7 +48,10 @@ fn serve_sessions<D: Door, C: Crew, G: Gate + Sync, R: Threads + Wait + Sync>(
     let served = match crew.run_all(rt, services) {
         Ran::Done(served) => served,
         Ran::Failed => return Err(PlayFault::Start),
-        Ran::Memory => return Err(PlayFault::Memory),
+        Ran::Memory(services) => {
+            give_back_all(door, services);
+            return Err(PlayFault::Memory);
+        }
     };
     if take_in(host.lock, keeper, served, door) {
         return Err(PlayFault::Memory);
@@ -59,8 +62,8 @@ fn serve_sessions<D: Door, C: Crew, G: Gate + Sync, R: Threads + Wait + Sync>(
 /// Serves the sessions of a scenario to whoever connects at the port, and hands the sequencer out that answered them.
 ///
 /// It accepts one connection for each session, in the order of their numbers, before it serves any of them. A peer may send anything, close
-/// at any time or fall silent: its session alone ends by it. Once all sessions are over their ends are given back, in the same order. The
-/// answer is Link where a connection could not be made, Start where a thread could not be started, and Memory where there or in a session
+/// at any time or fall silent: its session alone ends by it. Once all sessions are over their ends are given back, in the same order; so are
+/// those that were accepted where no session is served, but where a thread could not be started. The answer is Link where a connection could not be made, Start where a thread could not be started, and Memory where there or in a session
 /// there was no memory.
 pub fn serve_scenario<D: Door, C: Crew, G: Gate + Sync, R: Threads + Wait + Sync>(
     rt: &R,

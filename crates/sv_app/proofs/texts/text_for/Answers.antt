@@ -3,6 +3,7 @@ use Rattle.std.proofs.Common.{refl}
 use Rattle.sv_command.specs.Statuses.{counts}
 use Rattle.sv_command.proofs.Counts.{unthreaded, link_status}
 use Rattle.sv_play.specs.Moved.{moved}
+use Rattle.sv_app.proofs.Pairs.{untouched_pairs}
 use Rattle.sv_app.proofs.texts.text_for.Goals as goal
 
 pub returns-in-Replay-clause-made : goal.returns-in-Replay-clause-made
@@ -25,3 +26,6 @@ returns-in-Replay-clause-calm g c =
 
 pub returns-in-Load-clause-raises : goal.returns-in-Load-clause-raises
 returns-in-Load-clause-raises g c = λ k. c.load.ensures.raises _ k
+
+pub returns-in-Replay-clause-pairs : goal.returns-in-Replay-clause-pairs
+returns-in-Replay-clause-pairs g c = untouched_pairs _ _ _ refl

@@ -2,6 +2,7 @@
 use Rattle.std.proofs.Common.{string_bytes}
 use Rattle.sv_command.proofs.Counts.{wrote, broke}
 use Rattle.sv_app.proofs.Endings.{printed_given, cut_given, early_given}
+use Rattle.sv_app.proofs.Pairs.{untouched_pairs}
 use Rattle.sv_app.proofs.top.decide.Goals as goal
 
 pub returns-in-Ok-clause-raises : goal.returns-in-Ok-clause-raises
@@ -26,3 +27,6 @@ returns-in-Ok-2-clause-ends g c =
 pub returns-in-Err-clause-ends : goal.returns-in-Err-clause-ends
 returns-in-Err-clause-ends g c =
     early_given (g.F.Files.contents c.args.files.now) _ _ c.in-Some.command c.in-Some.is _ c.in-Err.ending c.in-Err.ensures.made
+
+pub returns-else-command-clause-pairs : goal.returns-else-command-clause-pairs
+returns-else-command-clause-pairs g c = untouched_pairs _ _ _ refl

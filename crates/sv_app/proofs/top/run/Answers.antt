@@ -21,6 +21,9 @@ returns-clause-apart g c = rw c.status_of.ensures (rw c.command_of-command.ensur
 pub returns-clause-calm : goal.returns-clause-calm
 returns-clause-calm g c = rw c.status_of.ensures (λ calm six. c.decide-ending.ensures.calm calm (link_is _ six))
 
+pub returns-clause-pairs : goal.returns-clause-pairs
+returns-clause-pairs g c = rw c.status_of.ensures c.decide-ending.ensures.pairs
+
 pub returns-clause-faulty : goal.returns-clause-faulty
 returns-clause-faulty g c =
     rw c.status_of.ensures (faulty_is _ _ _ _ _ _ (rw c.command_of-command.ensures.asked at c.decide-ending.ensures.words) (rw c.command_of-command.ensures.asked at c.decide-ending.ensures.ends))

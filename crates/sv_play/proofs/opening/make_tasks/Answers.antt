@@ -13,10 +13,11 @@ loop-service-preserved g c =
     let rest = c.next.new.self.rest.items in
     record {
       services =
-          ap (λ l. services_of l ++ rest) c.in_ok-push.ensures.items
+          ap (λ l. services_of l ++ rest) c.push_reserved.ensures.items
           ∙ (ap (λ l. l ++ rest) (services_more ts x)
           ∙ (append_assoc (services_of ts) (x ∷ []) rest ∙ (ap (λ l. services_of ts ++ l) (sym c.in-Some.ensures.steps.0) ∙ i.services)));
-      parts = ap parts_of c.in_ok-push.ensures.items ∙ (parts_same ts x ∙ i.parts);
+      parts = ap parts_of c.push_reserved.ensures.items ∙ (parts_same ts x ∙ i.parts);
+      room = search rules;
     }
 
 pub loop-part-init : goal.loop-part-init
@@ -26,6 +27,7 @@ loop-part-init g c =
     record {
       services = sym (append-nil (services_of c.loop-service.tasks.items)) ∙ (ap (λ l. services_of c.loop-service.tasks.items ++ l) (sym none) ∙ i.services);
       parts = ap (λ l. l ++ c.into_iter-part-iterator.result.rest.items) i.parts ∙ search rules;
+      room = search rules;
     }
 
 pub loop-part-preserved : goal.loop-part-preserved
@@ -35,11 +37,12 @@ loop-part-preserved g c =
     let x = c.in-Some-part.part in
     let rest = c.next-in-loop-part.new.self.rest.items in
     record {
-      services = ap services_of c.in_ok-push-2.ensures.items ∙ (services_same ts x ∙ i.services);
+      services = ap services_of c.push_reserved-2.ensures.items ∙ (services_same ts x ∙ i.services);
       parts =
-          ap (λ l. parts_of l ++ rest) c.in_ok-push-2.ensures.items
+          ap (λ l. parts_of l ++ rest) c.push_reserved-2.ensures.items
           ∙ (ap (λ l. l ++ rest) (parts_more ts x)
           ∙ (append_assoc (parts_of ts) (x ∷ []) rest ∙ (ap (λ l. parts_of ts ++ l) (sym c.in-Some-part.ensures.steps.0) ∙ i.parts)));
+      room = search rules;
     }
 
 pub returns-clause-parts : goal.returns-clause-parts

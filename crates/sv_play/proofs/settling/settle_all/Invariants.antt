@@ -3,6 +3,8 @@ use Rattle.std.proofs.Common.{◌≡◌, ◌≤◌, true, false, length, ◌++�
 use Rattle.std.specs.List.{AllZip}
 use Rattle.std.specs.Vec.Iter.{into_iter_items}
 use Rattle.sv_play.specs.Left.{transcripts_of, EndsAgree}
+use Rattle.sv_play.specs.Pairs.{pairing}
+use Rattle.sv_play.proofs.Settled.{SettledSoFar}
 use Rattle.sv_play.specs.Settling.{SettledCause, ArePair, AreCalm, AnyZip, Differ}
 use Rattle.sv_play.proofs.settling.settle_all.Given as goal
 
@@ -16,6 +18,7 @@ invariant-loop-server g l =
       pairs : AllZip (ArePair told (g.N.Net.made l.fn.net)) servers clients;
       owed : length servers ≤ g.N.Net.owed l.net;
       made : g.N.Net.made l.net ≡ g.N.Net.made l.fn.net;
+      so_far : SettledSoFar told g.N.E.End.calm (g.N.Net.calm l.fn.net) l.fn.servers.items l.fn.clients.items servers clients l.matched (pairing (g.N.Net.settled l.fn.net) (g.N.Net.unmatched l.fn.net) (g.N.Net.made l.fn.net) (g.N.Net.owed l.fn.net)) (pairing (g.N.Net.settled l.net) (g.N.Net.unmatched l.net) (g.N.Net.made l.net) (g.N.Net.owed l.net));
       settled : l.matched ≡ true → g.N.Net.settled l.net ++ transcripts_of told faults servers clients ≡ g.N.Net.settled l.fn.net ++ transcripts_of told faults l.fn.servers.items l.fn.clients.items;
       agree : l.matched ≡ true → AllZip (EndsAgree told faults) servers clients → AllZip (EndsAgree told faults) l.fn.servers.items l.fn.clients.items;
       cause : SettledCause (g.N.Net.faults l.fn.net) (g.N.Net.faults l.net) l.matched;

@@ -1,17 +1,20 @@
 -- What is left of sessions that were served, from what each of them left.
-use Rattle.std.proofs.Common.{rules, ◌+◌, ◌++◌, [], ◌∷◌, inl, sym, ap, subst, ◌∙◌, arith, false}
+use Rattle.std.proofs.Common.{rules, ◌+◌, ◌++◌, [], ◌∷◌, length, refl, sym, ap, subst, ◌∙◌, arith, false}
+use Rattle.std.specs.List.{AllByRecursion}
+use Rattle.sv_system.specs.Places.{EachPlace}
 use denote.Param.Send.{sendable}
 use Rattle.std.proofs.Crossing.{crosses}
 use Rattle.sv_sequencer.proofs.Sent.{lock-syncs, pass-sends}
 use Rattle.law_traffic.specs.Runs.{IsGoodRun}
+use Rattle.sv_scenario.specs.Sessions.{session_count}
 use Rattle.sv_play.specs.Given.{setting}
 use Rattle.sv_play.specs.Left.{JoinedPasses}
 use Rattle.sv_play.specs.Moved.{moved}
 use Rattle.sv_play.specs.Playing.{TookAllIn}
 use Rattle.sv_play.proofs.Ready.{services_ready}
-use Rattle.sv_serve.specs.Giving.{kept_served}
-use Rattle.sv_serve.proofs.Steps.{served_back}
-use Rattle.sv_serve.proofs.Hosted.{all_served, passes, served_own, took_all, hosted}
+use Rattle.sv_serve.specs.Giving.{kept_served, kept_unserved, IsUnservedOf}
+use Rattle.sv_serve.proofs.Steps.{served_back, unserved_back}
+use Rattle.sv_serve.proofs.Hosted.{all_served, passes, unserved_own, unserved_numbers, served_own, served_numbers, took_all, hosted}
 use Rattle.sv_serve.proofs.hosting.serve_sessions.Goals as goal
 
 pub run_all-requires-clause-ready : goal.run_all-requires-clause-ready
@@ -75,10 +78,10 @@ returns-then-take_in-clause-back g c =
     let count = all_served g.D.E.End.told g.D.E.End.faults g.D.E.End.calm run c.in_ok-services.services.items ys t.count t.services c.in-Done.ensures.kept in
     let more = t.owed in
     let less = left.owed in
-    inl
     (served_back g.D.E.End.told g.D.E.End.faults (g.D.Door.given c.args.door.now) (g.D.Door.given c.take_in.new.door) (g.D.Door.made c.args.door.now) (g.D.Door.made c.take_in.new.door)
     (g.D.Door.owed c.args.door.now) (g.D.Door.owed c.take_in.new.door) ys
     (left.given ∙ ap (λ l. l ++ kept_served g.D.E.End.told g.D.E.End.faults ys) t.given)
+    (served_numbers g.D.E.End.told g.D.E.End.faults g.D.E.End.calm run c.in_ok-services.services.items ys t.count t.services c.in-Done.ensures.kept)
     (left.made ∙ (t.made ∙ ap (λ n. g.D.Door.made c.args.door.now + n) (sym count))) (omega (arith, count, more, less)))
 
 pub returns-clause-back : goal.returns-clause-back
@@ -93,7 +96,51 @@ returns-clause-back g c =
     served_back g.D.E.End.told g.D.E.End.faults (g.D.Door.given c.args.door.now) (g.D.Door.given c.take_in.new.door) (g.D.Door.made c.args.door.now) (g.D.Door.made c.take_in.new.door)
     (g.D.Door.owed c.args.door.now) (g.D.Door.owed c.take_in.new.door) ys
     (left.given ∙ ap (λ l. l ++ kept_served g.D.E.End.told g.D.E.End.faults ys) t.given)
+    (served_numbers g.D.E.End.told g.D.E.End.faults g.D.E.End.calm run c.in_ok-services.services.items ys t.count t.services c.in-Done.ensures.kept)
     (left.made ∙ (t.made ∙ ap (λ n. g.D.Door.made c.args.door.now + n) (sym count))) (omega (arith, count, more, less))
+
+pub give_back_all-requires-clause-own : goal.give_back_all-requires-clause-own
+give_back_all-requires-clause-own g c κs within =
+    let run = setting c.args.host.now.lock.now c.args.host.now.scenario.now (g.D.Door.made c.args.door.now) (g.D.Door.sure c.args.door.now c.args.host.now.port) false in
+    let t = c.in_ok-services.ensures in
+    let most = t.made in
+    let count = t.count in
+    subst (AllByRecursion (IsUnservedOf g.D.E.End.told (g.D.Door.made c.accept_all.new.door))) (sym c.in-Memory.ensures.left)
+    (unserved_own g.D.E.End.told g.D.E.End.faults g.D.E.End.calm run c.in_ok-services.services.items t.services (g.D.Door.made c.accept_all.new.door) (omega (arith, most, count)))
+
+pub give_back_all-requires-clause-owed : goal.give_back_all-requires-clause-owed
+give_back_all-requires-clause-owed g c κs within =
+    let t = c.in_ok-services.ensures in
+    let size = ap (λ l. length l) c.in-Memory.ensures.left in
+    let count = t.count in
+    let owed = t.owed in
+    omega (arith, size, count, owed)
+
+pub returns-in-Failed-clause-back : goal.returns-in-Failed-clause-back
+returns-in-Failed-clause-back g c =
+    let t = c.in_ok-services.ensures in
+    record { ends = session_count c.args.host.now.scenario.now; given = t.given; made = t.made; owed = t.owed; ran = c.in-Failed.ensures.ran }
+
+pub returns-in-Memory-clause-back : goal.returns-in-Memory-clause-back
+returns-in-Memory-clause-back g c =
+    let run = setting c.args.host.now.lock.now c.args.host.now.scenario.now (g.D.Door.made c.args.door.now) (g.D.Door.sure c.args.door.now c.args.host.now.port) false in
+    let t = c.in_ok-services.ensures in
+    let told = g.D.E.End.told in
+    let faults = g.D.E.End.faults in
+    let xs = c.in_ok-services.services.items in
+    let same = c.in-Memory.ensures.left in
+    let back = c.give_back_all.ensures in
+    let size = ap (λ l. length l) same in
+    let count = t.count in
+    let more = t.owed in
+    let less = back.owed in
+    let made = t.made in
+    let kept = back.made in
+    unserved_back told faults (g.D.Door.given c.args.door.now) (g.D.Door.given c.give_back_all.new.door) (g.D.Door.made c.args.door.now) (g.D.Door.made c.give_back_all.new.door)
+    (g.D.Door.owed c.args.door.now) (g.D.Door.owed c.give_back_all.new.door) xs
+    (back.given ∙ (ap (λ l. l ++ kept_unserved told faults c.in-Memory.services.items) t.given ∙ ap (λ l. g.D.Door.given c.args.door.now ++ kept_unserved told faults l) same))
+    (unserved_numbers told faults g.D.E.End.calm run xs t.services)
+    (omega (arith, kept, made, count)) (omega (arith, size, count, more, less))
 
 pub run_all-requires-send-J : goal.run_all-requires-send-J
 run_all-requires-send-J g c κs within = let y = c.type_bounds.sync-G in let e = c.type_bounds.send-D-E in search (lock-syncs, pass-sends, sendable, crosses) depth 40 fits 10000

@@ -1,19 +1,35 @@
--- The tasks are those of all sessions and all clients.
-use Rattle.std.proofs.Common.{slice_get, sym, ap, subst, ◌∙◌}
+-- The tasks are those of all sessions and all clients; where not all were opened, the ends that were are left.
+use Rattle.std.proofs.Common.{slice_get, refl, sym, ap, subst, ◌∙◌, ◌++◌, map}
 use Rattle.sv_play.specs.Places.{EachClient}
 use Rattle.sv_play.specs.Given.{setting, IsPart}
-use Rattle.sv_play.proofs.Opened.{parts_over}
+use Rattle.sv_play.specs.Opening.{server_end, uncut}
+use Rattle.sv_play.specs.Pairs.{pairing}
+use Rattle.sv_play.proofs.Opened.{parts_over, unused_held}
 use Rattle.sv_play.proofs.opening.Hall.open.Goals as goal
 
-pub returns-clause-services : goal.returns-clause-services
-returns-clause-services g c =
-    let made = c.in_ok-make_tasks.ensures.services in
-    let opened = c.in_ok-services.ensures.services in
+pub returns-in-Ok-clause-services : goal.returns-in-Ok-clause-services
+returns-in-Ok-clause-services g c =
+    let made = c.make_tasks.ensures.services in
+    let opened = c.in-Ok.ensures.services in
     λ k x e. opened k x (ap (λ l. slice_get l k) (sym made) ∙ e)
 
-pub returns-clause-parts : goal.returns-clause-parts
-returns-clause-parts g c =
+pub returns-in-Ok-clause-parts : goal.returns-in-Ok-clause-parts
+returns-in-Ok-clause-parts g c =
     let run = setting c.args.self.now.lock.now c.args.self.now.scenario.now (g.N.Net.made c.args.net.now) (g.N.Net.calm c.args.net.now) (g.W.Teller.telling c.args.self.now.teller.now).watched in
-    let parts = c.in_ok-parts.ensures in
-    subst (λ xs. EachClient (IsPart g.N.E.End.told g.N.E.End.faults g.N.E.End.calm g.W.Teller.telling run) 0 0 c.args.self.now.scenario.now.clients xs) (sym c.in_ok-make_tasks.ensures.parts)
-    (parts_over g.N.E.End.told g.N.E.End.faults g.N.E.End.calm run g.W.Teller.telling c.in_ok-services.ends.items c.in_ok-parts.parts.items parts.ends c.in_ok-services.ensures.clients parts.parts)
+    let parts = c.open_parts.ensures in
+    subst (λ xs. EachClient (IsPart g.N.E.End.told g.N.E.End.faults g.N.E.End.calm g.W.Teller.telling run) 0 0 c.args.self.now.scenario.now.clients xs) (sym c.make_tasks.ensures.parts)
+    (parts_over g.N.E.End.told g.N.E.End.faults g.N.E.End.calm run g.W.Teller.telling c.open_sessions.new.ends.items c.open_parts.result.items parts.ends c.in-Ok.ensures.clients parts.parts)
+
+pub returns-in-Err-clause-unused : goal.returns-in-Err-clause-unused
+returns-in-Err-clause-unused g c =
+    let run = setting c.args.self.now.lock.now c.args.self.now.scenario.now (g.N.Net.made c.args.net.now) (g.N.Net.calm c.args.net.now) (g.W.Teller.telling c.args.self.now.teller.now).watched in
+    let services = c.open_sessions.new.services.items in
+    let ends = c.open_sessions.new.ends.items in
+    let opened = c.in-Err.ensures in
+    unused_held g.N.E.End.told g.N.E.End.faults g.N.E.End.calm run services ends
+    (pairing (g.N.Net.settled c.args.net.now) (g.N.Net.unmatched c.args.net.now) (g.N.Net.made c.args.net.now) (g.N.Net.owed c.args.net.now))
+    (pairing (g.N.Net.settled c.open_sessions.new.net) (g.N.Net.unmatched c.open_sessions.new.net) (g.N.Net.made c.open_sessions.new.net) (g.N.Net.owed c.open_sessions.new.net))
+    _ _ opened.services opened.clients opened.as_many
+    (ap (λ v. v.items) c.take_unplayed.ensures.same ∙ (c.take_services.ensures.servers ∙ ap (λ l. l ++ map server_end services) c.requires.empty.0))
+    (c.take_unplayed.ensures.clients ∙ ap (λ l. l ++ map uncut ends) (ap (λ v. v.items) c.take_services.ensures.same ∙ c.requires.empty.1))
+    refl opened.settled.0 opened.settled.1 opened.pairs.0 opened.pairs.1

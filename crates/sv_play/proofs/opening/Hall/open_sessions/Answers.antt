@@ -37,15 +37,17 @@ loop-preserved g c =
                 new_end_as told faults calm run (g.N.Net.calm c.loop.net) (g.N.Net.calm c.args.net.now) Server (g.N.Net.made c.loop.net) (pairs + length c.loop.services.items) c.in_ok-service.service.end i.calm
                 (i.made ∙ ap (λ n. pairs + n) service_at) opened.server;
           })
-          k x (sym (ap (λ l. slice_get l k) c.in_ok-push.ensures.items) ∙ e);
+          k x (sym (ap (λ l. slice_get l k) c.push_reserved.ensures.items) ∙ e);
       ends = λ k x e.
           each_push (IsEndOf told faults calm run Client) c.loop.ends.items c.in_ok-service.end i.ends
           (new_end_as told faults calm run (g.N.Net.calm c.loop.net) (g.N.Net.calm c.args.net.now) Client (g.N.Net.made c.loop.net) (pairs + length c.loop.ends.items) c.in_ok-service.end i.calm
           (i.made ∙ ap (λ n. pairs + n) end_at) opened.client)
-          k x (sym (ap (λ l. slice_get l k) c.in_ok-push-2.ensures.items) ∙ e);
+          k x (sym (ap (λ l. slice_get l k) c.push_reserved-2.ensures.items) ∙ e);
       made = search rules;
       owed = search rules;
       settled = search rules;
       faults = search rules;
+      service_room = search rules;
+      end_room = search rules;
       calm = search rules;
     }

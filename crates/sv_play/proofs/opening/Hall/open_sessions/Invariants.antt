@@ -1,5 +1,6 @@
 -- The sessions so far were opened, each with its pair and its pass.
-use Rattle.std.proofs.Common.{◌≡◌, ◌+◌, length}
+use Rattle.std.proofs.Common.{◌≡◌, ◌+◌, ◌≤◌, length}
+use Rattle.std.specs.Vec.{vec_capacity}
 use Rattle.sv_link.specs.declared.side.Side.TheVariants.{Client}
 use Rattle.sv_system.specs.Places.{EachPlace}
 use Rattle.sv_play.specs.Given.{keeper_after, setting, IsEndOf, IsService}
@@ -19,7 +20,9 @@ invariant-loop g l =
       ends : EachPlace (IsEndOf told faults calm run Client) l.ends.items;
       made : g.N.Net.made l.net ≡ g.N.Net.made l.initial.net + l.counter;
       owed : g.N.Net.owed l.net ≡ g.N.Net.owed l.initial.net + l.counter;
-      settled : g.N.Net.settled l.net ≡ g.N.Net.settled l.initial.net;
+      settled : (g.N.Net.settled l.net ≡ g.N.Net.settled l.initial.net) × (g.N.Net.unmatched l.net ≡ g.N.Net.unmatched l.initial.net);
+      service_room : vec_capacity l.services ≡ vec_capacity l.initial.services;
+      end_room : vec_capacity l.ends ≡ vec_capacity l.initial.ends;
       faults : g.N.Net.faults l.net ≡ g.N.Net.faults l.initial.net;
       calm : g.N.Net.calm l.initial.net → g.N.Net.calm l.net;
     }

@@ -1,6 +1,8 @@
 -- What a run on threads leaves is what its tasks left.
 use Rattle.std.proofs.Common.{rules, ◌++◌, [], ◌∷◌, length, reverse, sym, ap, subst, ◌∙◌, arith}
+use Rattle.std.specs.Prelude.{Err}
 use Rattle.std.specs.List.{flat_map}
+use Rattle.sv_scenario.specs.Sessions.{session_count}
 use denote.Param.Send.{sendable}
 use Rattle.std.proofs.Crossing.{crosses}
 use Rattle.sv_sequencer.proofs.Sent.{lock-syncs, pass-sends}
@@ -12,7 +14,10 @@ use Rattle.sv_play.specs.Left.{transcripts_of, HasRoom, JoinedPasses}
 use Rattle.sv_play.specs.Playing.{IsThreadedRun, TookAllIn}
 use Rattle.sv_play.proofs.Ready.{tasks_ready}
 use Rattle.sv_play.proofs.Sent.{client-field-sends, trace-field-sends, step-syncs}
-use Rattle.sv_play.proofs.Done.{passes, numbers, room, are_pairs, are_calm, two_differ, owed_enough, took_all, threaded, told_all}
+use Rattle.sv_play.specs.Pairs.{pairing}
+use Rattle.sv_play.proofs.Opened.{given_count, given_each, unused_held}
+use Rattle.sv_play.proofs.Unused.{settled_all, matched_all, some_differed, unused_pairs, unused_owed, unused_leaves, unused_cause, unused_matches, not_start, unerr}
+use Rattle.sv_play.proofs.Done.{passes, numbers, room, are_pairs, are_calm, are_since, owed_enough, took_all, threaded, told_all}
 use Rattle.sv_play.proofs.opening.Hall.play.Goals as goal
 
 pub run_all-requires-clause-ready : goal.run_all-requires-clause-ready
@@ -21,8 +26,8 @@ run_all-requires-clause-ready g c κs within =
     let faults = g.N.E.End.faults in
     let calm = g.N.E.End.calm in
     let run = setting c.args.self.now.lock.now c.args.self.now.scenario.now (g.N.Net.made c.args.net.now) (g.N.Net.calm c.args.net.now) (g.W.Teller.telling c.args.self.now.teller.now).watched in
-    let t = c.in_ok-tasks.ensures in
-    let ts = c.in_ok-tasks.tasks.items in
+    let t = c.in-Ok.ensures in
+    let ts = c.in-Ok.tasks.items in
     tasks_ready told faults calm _ run c.requires.good ts t.services t.parts
 
 pub gather-requires-clause-passes : goal.gather-requires-clause-passes
@@ -31,8 +36,8 @@ gather-requires-clause-passes g c =
     let faults = g.N.E.End.faults in
     let calm = g.N.E.End.calm in
     let run = setting c.args.self.now.lock.now c.args.self.now.scenario.now (g.N.Net.made c.args.net.now) (g.N.Net.calm c.args.net.now) (g.W.Teller.telling c.args.self.now.teller.now).watched in
-    let t = c.in_ok-tasks.ensures in
-    let ts = c.in_ok-tasks.tasks.items in
+    let t = c.in-Ok.ensures in
+    let ts = c.in-Ok.tasks.items in
     let os = c.in-Done.outs.items in
     let kept = c.in-Done.ensures.kept in
     passes told faults calm _ run ts os t.count t.services t.parts kept
@@ -43,8 +48,8 @@ gather-requires-clause-numbers g c =
     let faults = g.N.E.End.faults in
     let calm = g.N.E.End.calm in
     let run = setting c.args.self.now.lock.now c.args.self.now.scenario.now (g.N.Net.made c.args.net.now) (g.N.Net.calm c.args.net.now) (g.W.Teller.telling c.args.self.now.teller.now).watched in
-    let t = c.in_ok-tasks.ensures in
-    let ts = c.in_ok-tasks.tasks.items in
+    let t = c.in-Ok.ensures in
+    let ts = c.in-Ok.tasks.items in
     let os = c.in-Done.outs.items in
     let kept = c.in-Done.ensures.kept in
     numbers told faults calm _ run ts os t.count t.services t.parts kept
@@ -55,8 +60,8 @@ gather-requires-clause-room g c =
     let faults = g.N.E.End.faults in
     let calm = g.N.E.End.calm in
     let run = setting c.args.self.now.lock.now c.args.self.now.scenario.now (g.N.Net.made c.args.net.now) (g.N.Net.calm c.args.net.now) (g.W.Teller.telling c.args.self.now.teller.now).watched in
-    let t = c.in_ok-tasks.ensures in
-    let ts = c.in_ok-tasks.tasks.items in
+    let t = c.in-Ok.ensures in
+    let ts = c.in-Ok.tasks.items in
     let os = c.in-Done.outs.items in
     let kept = c.in-Done.ensures.kept in
     room told faults calm _ run ts os t.count t.services t.parts kept c.in_ok-left.left
@@ -69,8 +74,8 @@ settle_all-requires-clause-pairs g c κs within =
     let faults = g.N.E.End.faults in
     let calm = g.N.E.End.calm in
     let run = setting c.args.self.now.lock.now c.args.self.now.scenario.now (g.N.Net.made c.args.net.now) (g.N.Net.calm c.args.net.now) (g.W.Teller.telling c.args.self.now.teller.now).watched in
-    let t = c.in_ok-tasks.ensures in
-    let ts = c.in_ok-tasks.tasks.items in
+    let t = c.in-Ok.ensures in
+    let ts = c.in-Ok.tasks.items in
     let os = c.in-Done.outs.items in
     let kept = c.in-Done.ensures.kept in
     let left = c.gather.new.left in
@@ -84,8 +89,8 @@ settle_all-requires-clause-owed g c κs within =
     let faults = g.N.E.End.faults in
     let calm = g.N.E.End.calm in
     let run = setting c.args.self.now.lock.now c.args.self.now.scenario.now (g.N.Net.made c.args.net.now) (g.N.Net.calm c.args.net.now) (g.W.Teller.telling c.args.self.now.teller.now).watched in
-    let t = c.in_ok-tasks.ensures in
-    let ts = c.in_ok-tasks.tasks.items in
+    let t = c.in-Ok.ensures in
+    let ts = c.in-Ok.tasks.items in
     let os = c.in-Done.outs.items in
     let kept = c.in-Done.ensures.kept in
     let left = c.gather.new.left in
@@ -96,10 +101,10 @@ settle_all-requires-clause-owed g c κs within =
     omega (arith, enough, owed)
 
 pub returns-then-not-settle_all-clause-calm : goal.returns-then-not-settle_all-clause-calm
-returns-then-not-settle_all-clause-calm g c = λ q. c.settle_all.ensures.calm (c.in_ok-tasks.ensures.calm q).1
+returns-then-not-settle_all-clause-calm g c = λ q. c.settle_all.ensures.calm (c.in-Ok.ensures.calm q).1
 
 pub returns-then-lacked-clause-calm : goal.returns-then-lacked-clause-calm
-returns-then-lacked-clause-calm g c = λ q. c.settle_all.ensures.calm (c.in_ok-tasks.ensures.calm q).1
+returns-then-lacked-clause-calm g c = λ q. c.settle_all.ensures.calm (c.in-Ok.ensures.calm q).1
 
 pub returns-then-not-settle_all-clause-certain : goal.returns-then-not-settle_all-clause-certain
 returns-then-not-settle_all-clause-certain g c =
@@ -107,16 +112,82 @@ returns-then-not-settle_all-clause-certain g c =
     let faults = g.N.E.End.faults in
     let calm = g.N.E.End.calm in
     let run = setting c.args.self.now.lock.now c.args.self.now.scenario.now (g.N.Net.made c.args.net.now) (g.N.Net.calm c.args.net.now) (g.W.Teller.telling c.args.self.now.teller.now).watched in
-    let t = c.in_ok-tasks.ensures in
-    let ts = c.in_ok-tasks.tasks.items in
+    let t = c.in-Ok.ensures in
+    let ts = c.in-Ok.tasks.items in
     let os = c.in-Done.outs.items in
     let kept = c.in-Done.ensures.kept in
     let left = c.gather.new.left in
     let k = c.gather.new.keeper in
     let joined = subst (λ b. JoinedPasses (serviced_of os) b k) t.keeper c.gather.ensures.joined in
+    let count = owed_enough told faults calm _ run ts os t.count t.services t.parts kept left k c.gather.ensures.gathered joined in
     λ q e.
-    two_differ told faults calm _ run ts os t.count t.services t.parts kept left k c.gather.ensures.gathered joined (g.N.Net.made c.settle_all.new.net) (c.settle_all.ensures.made ∙ t.pairs.0) q
-    (c.settle_all.ensures.certain (search rules) (t.calm q).1 (are_calm told faults calm _ run ts os t.count t.services t.parts kept left k c.gather.ensures.gathered joined q))
+    some_differed told calm (g.N.Net.calm c.open.new.net) left.servers.items left.clients.items c.settle_all.result (session_count c.args.self.now.scenario.now)
+    (pairing (g.N.Net.settled c.args.net.now) (g.N.Net.unmatched c.args.net.now) (g.N.Net.made c.args.net.now) (g.N.Net.owed c.args.net.now))
+    (pairing (g.N.Net.settled c.open.new.net) (g.N.Net.unmatched c.open.new.net) (g.N.Net.made c.open.new.net) (g.N.Net.owed c.open.new.net))
+    (pairing (g.N.Net.settled c.settle_all.new.net) (g.N.Net.unmatched c.settle_all.new.net) (g.N.Net.made c.settle_all.new.net) (g.N.Net.owed c.settle_all.new.net))
+    t.settled.0 t.settled.1 t.pairs.0 t.pairs.1 count c.settle_all.ensures.each (search rules) (t.calm q).1
+    (are_calm told faults calm _ run ts os t.count t.services t.parts kept left k c.gather.ensures.gathered joined q)
+    (are_since told faults calm _ run ts os t.count t.services t.parts kept left k c.gather.ensures.gathered joined)
+
+pub returns-then-not-settle_all-clause-pairs : goal.returns-then-not-settle_all-clause-pairs
+returns-then-not-settle_all-clause-pairs g c =
+    let told = g.N.E.End.told in
+    let faults = g.N.E.End.faults in
+    let calm = g.N.E.End.calm in
+    let run = setting c.args.self.now.lock.now c.args.self.now.scenario.now (g.N.Net.made c.args.net.now) (g.N.Net.calm c.args.net.now) (g.W.Teller.telling c.args.self.now.teller.now).watched in
+    let t = c.in-Ok.ensures in
+    let ts = c.in-Ok.tasks.items in
+    let os = c.in-Done.outs.items in
+    let kept = c.in-Done.ensures.kept in
+    let left = c.gather.new.left in
+    let k = c.gather.new.keeper in
+    let joined = subst (λ b. JoinedPasses (serviced_of os) b k) t.keeper c.gather.ensures.joined in
+    let count = owed_enough told faults calm _ run ts os t.count t.services t.parts kept left k c.gather.ensures.gathered joined in
+    settled_all told calm (g.N.Net.calm c.open.new.net) left.servers.items left.clients.items c.settle_all.result (session_count c.args.self.now.scenario.now)
+    (pairing (g.N.Net.settled c.args.net.now) (g.N.Net.unmatched c.args.net.now) (g.N.Net.made c.args.net.now) (g.N.Net.owed c.args.net.now))
+    (pairing (g.N.Net.settled c.open.new.net) (g.N.Net.unmatched c.open.new.net) (g.N.Net.made c.open.new.net) (g.N.Net.owed c.open.new.net))
+    (pairing (g.N.Net.settled c.settle_all.new.net) (g.N.Net.unmatched c.settle_all.new.net) (g.N.Net.made c.settle_all.new.net) (g.N.Net.owed c.settle_all.new.net))
+    t.settled.0 t.settled.1 t.pairs.0 t.pairs.1 count c.settle_all.ensures.each
+
+pub returns-then-lacked-clause-pairs : goal.returns-then-lacked-clause-pairs
+returns-then-lacked-clause-pairs g c =
+    let told = g.N.E.End.told in
+    let faults = g.N.E.End.faults in
+    let calm = g.N.E.End.calm in
+    let run = setting c.args.self.now.lock.now c.args.self.now.scenario.now (g.N.Net.made c.args.net.now) (g.N.Net.calm c.args.net.now) (g.W.Teller.telling c.args.self.now.teller.now).watched in
+    let t = c.in-Ok.ensures in
+    let ts = c.in-Ok.tasks.items in
+    let os = c.in-Done.outs.items in
+    let kept = c.in-Done.ensures.kept in
+    let left = c.gather.new.left in
+    let k = c.gather.new.keeper in
+    let joined = subst (λ b. JoinedPasses (serviced_of os) b k) t.keeper c.gather.ensures.joined in
+    let count = owed_enough told faults calm _ run ts os t.count t.services t.parts kept left k c.gather.ensures.gathered joined in
+    matched_all told calm (g.N.Net.calm c.open.new.net) left.servers.items left.clients.items c.settle_all.result (session_count c.args.self.now.scenario.now)
+    (pairing (g.N.Net.settled c.args.net.now) (g.N.Net.unmatched c.args.net.now) (g.N.Net.made c.args.net.now) (g.N.Net.owed c.args.net.now))
+    (pairing (g.N.Net.settled c.open.new.net) (g.N.Net.unmatched c.open.new.net) (g.N.Net.made c.open.new.net) (g.N.Net.owed c.open.new.net))
+    (pairing (g.N.Net.settled c.settle_all.new.net) (g.N.Net.unmatched c.settle_all.new.net) (g.N.Net.made c.settle_all.new.net) (g.N.Net.owed c.settle_all.new.net))
+    t.settled.0 t.settled.1 t.pairs.0 t.pairs.1 count c.settle_all.ensures.each (search rules)
+
+pub returns-clause-pairs : goal.returns-clause-pairs
+returns-clause-pairs g c =
+    let told = g.N.E.End.told in
+    let faults = g.N.E.End.faults in
+    let calm = g.N.E.End.calm in
+    let run = setting c.args.self.now.lock.now c.args.self.now.scenario.now (g.N.Net.made c.args.net.now) (g.N.Net.calm c.args.net.now) (g.W.Teller.telling c.args.self.now.teller.now).watched in
+    let t = c.in-Ok.ensures in
+    let ts = c.in-Ok.tasks.items in
+    let os = c.in-Done.outs.items in
+    let kept = c.in-Done.ensures.kept in
+    let left = c.gather.new.left in
+    let k = c.gather.new.keeper in
+    let joined = subst (λ b. JoinedPasses (serviced_of os) b k) t.keeper c.gather.ensures.joined in
+    let count = owed_enough told faults calm _ run ts os t.count t.services t.parts kept left k c.gather.ensures.gathered joined in
+    matched_all told calm (g.N.Net.calm c.open.new.net) left.servers.items left.clients.items c.settle_all.result (session_count c.args.self.now.scenario.now)
+    (pairing (g.N.Net.settled c.args.net.now) (g.N.Net.unmatched c.args.net.now) (g.N.Net.made c.args.net.now) (g.N.Net.owed c.args.net.now))
+    (pairing (g.N.Net.settled c.open.new.net) (g.N.Net.unmatched c.open.new.net) (g.N.Net.made c.open.new.net) (g.N.Net.owed c.open.new.net))
+    (pairing (g.N.Net.settled c.settle_all.new.net) (g.N.Net.unmatched c.settle_all.new.net) (g.N.Net.made c.settle_all.new.net) (g.N.Net.owed c.settle_all.new.net))
+    t.settled.0 t.settled.1 t.pairs.0 t.pairs.1 count c.settle_all.ensures.each (search rules)
 
 pub returns-clause-run : goal.returns-clause-run
 returns-clause-run g c =
@@ -124,8 +195,8 @@ returns-clause-run g c =
     let faults = g.N.E.End.faults in
     let calm = g.N.E.End.calm in
     let run = setting c.args.self.now.lock.now c.args.self.now.scenario.now (g.N.Net.made c.args.net.now) (g.N.Net.calm c.args.net.now) (g.W.Teller.telling c.args.self.now.teller.now).watched in
-    let t = c.in_ok-tasks.ensures in
-    let ts = c.in_ok-tasks.tasks.items in
+    let t = c.in-Ok.ensures in
+    let ts = c.in-Ok.tasks.items in
     let os = c.in-Done.outs.items in
     let kept = c.in-Done.ensures.kept in
     let left = c.gather.new.left in
@@ -136,7 +207,7 @@ returns-clause-run g c =
     subst (λ traces. IsThreadedRun c.args.self.now.scenario.now (reverse k.seen) traces (g.N.Net.settled c.args.net.now) (g.N.Net.settled c.settle_all.new.net) (g.C.Crew.ran c.args.crew.now) (g.C.Crew.ran c.run_all.new.self)) (sym c.from_vec.ensures)
     (threaded told faults calm _ run ts os t.count t.services t.parts kept left k c.gather.ensures.gathered joined good c.if-lacked.false (c.settle_all.ensures.agree (search rules)) c.threaded_runs_leave_records.ensures.full c.threaded_runs_leave_records.ensures.traffic
     (g.N.Net.settled c.args.net.now) (g.N.Net.settled c.settle_all.new.net) (g.C.Crew.ran c.args.crew.now) (g.C.Crew.ran c.run_all.new.self)
-    (settled ∙ ap (λ l. l ++ transcripts_of told faults left.servers.items left.clients.items) t.settled) (c.in-Done.ensures.ran ∙ ap (λ n. g.C.Crew.ran c.args.crew.now ++ n ∷ []) c.in_ok-tasks.tasks.ok.0))
+    (settled ∙ ap (λ l. l ++ transcripts_of told faults left.servers.items left.clients.items) t.settled.0) (c.in-Done.ensures.ran ∙ ap (λ n. g.C.Crew.ran c.args.crew.now ++ n ∷ []) c.in-Ok.tasks.ok.0))
 
 pub returns-clause-lines : goal.returns-clause-lines
 returns-clause-lines g c =
@@ -144,8 +215,8 @@ returns-clause-lines g c =
     let faults = g.N.E.End.faults in
     let calm = g.N.E.End.calm in
     let run = setting c.args.self.now.lock.now c.args.self.now.scenario.now (g.N.Net.made c.args.net.now) (g.N.Net.calm c.args.net.now) (g.W.Teller.telling c.args.self.now.teller.now).watched in
-    let t = c.in_ok-tasks.ensures in
-    let ts = c.in_ok-tasks.tasks.items in
+    let t = c.in-Ok.ensures in
+    let ts = c.in-Ok.tasks.items in
     let os = c.in-Done.outs.items in
     let kept = c.in-Done.ensures.kept in
     let left = c.gather.new.left in
@@ -161,8 +232,8 @@ returns-clause-keeper g c =
     let faults = g.N.E.End.faults in
     let calm = g.N.E.End.calm in
     let run = setting c.args.self.now.lock.now c.args.self.now.scenario.now (g.N.Net.made c.args.net.now) (g.N.Net.calm c.args.net.now) (g.W.Teller.telling c.args.self.now.teller.now).watched in
-    let t = c.in_ok-tasks.ensures in
-    let ts = c.in_ok-tasks.tasks.items in
+    let t = c.in-Ok.ensures in
+    let ts = c.in-Ok.tasks.items in
     let os = c.in-Done.outs.items in
     let kept = c.in-Done.ensures.kept in
     let left = c.gather.new.left in
@@ -171,6 +242,29 @@ returns-clause-keeper g c =
     let good : IsGoodRun c.args.self.now.scenario.now = record { good = c.requires.good; opening = c.read_scenario_numbers.ensures.values } in
     subst (λ b. TookAllIn c.args.self.now.scenario.now b k) (sym c.requires.keeper)
     (took_all told faults calm _ run ts os t.count t.services t.parts kept left k c.gather.ensures.gathered joined good)
+
+pub settle_after-requires-clause-pairs : goal.settle_after-requires-clause-pairs
+settle_after-requires-clause-pairs g c = unused_pairs g.N.E.End.told g.N.E.End.faults g.N.E.End.calm (g.N.Net.calm c.args.net.now) _ _ _ _ c.in-Err.ensures.unused
+
+pub settle_after-requires-clause-owed : goal.settle_after-requires-clause-owed
+settle_after-requires-clause-owed g c = unused_owed g.N.E.End.told g.N.E.End.faults g.N.E.End.calm (g.N.Net.calm c.args.net.now) _ _ _ _ c.in-Err.ensures.unused
+
+pub returns-in-Err-clause-pairs : goal.returns-in-Err-clause-pairs
+returns-in-Err-clause-pairs g c =
+    unused_leaves g.N.E.End.told g.N.E.End.faults g.N.E.End.calm (g.N.Net.calm c.args.net.now) _ _ _ _ c.in-Err.ensures.unused _ _ _ _ c.in-Err.fault _ c.settle_after.ensures.settled _
+    (not_start _ _ _ _ c.in-Err.ensures.cause)
+
+pub returns-in-Err-clause-cause : goal.returns-in-Err-clause-cause
+returns-in-Err-clause-cause g c =
+    unused_cause g.N.E.End.told g.N.E.End.faults g.N.E.End.calm (g.N.Net.calm c.args.net.now) _ _ _ _ c.in-Err.ensures.unused _ _ _ _ c.in-Err.fault _ c.settle_after.ensures.settled _ _ _ _ c.in-Err.ensures.cause
+
+pub returns-in-Err-clause-calm : goal.returns-in-Err-clause-calm
+returns-in-Err-clause-calm g c = λ q. c.settle_after.ensures.calm (c.in-Err.ensures.calm q).1
+
+pub returns-in-Err-clause-certain : goal.returns-in-Err-clause-certain
+returns-in-Err-clause-certain g c = λ q e.
+    unused_matches g.N.E.End.told g.N.E.End.faults g.N.E.End.calm (g.N.Net.calm c.args.net.now) _ _ _ _ c.in-Err.ensures.unused _ _ _ _ c.in-Err.fault _ c.settle_after.ensures.settled
+    (λ is. (c.in-Err.ensures.calm q).0 (ap Err is)) q (c.in-Err.ensures.calm q).1 (ap unerr e)
 
 pub run_all-requires-send-J : goal.run_all-requires-send-J
 run_all-requires-send-J g c κs within = let y = c.type_bounds.sync-G in let w = c.type_bounds.sync-W in let e = c.type_bounds.send-N-E in search (lock-syncs, pass-sends, client-field-sends, step-syncs, sendable, crosses) depth 40 fits 10000

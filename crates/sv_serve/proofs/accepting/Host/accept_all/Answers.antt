@@ -1,12 +1,14 @@
 -- One session more, and giving all back where there is none.
-use Rattle.std.proofs.Common.{rules, ◌≡◌, ◌+◌, length, slice_get, sym, ap, ◌∙◌, arith, false}
+use Rattle.std.proofs.Common.{rules, ◌≡◌, ◌+◌, ◌++◌, length, slice_get, sym, ap, ◌∙◌, arith, false}
 use Rattle.sv_link.specs.declared.side.Side.TheVariants.{Server}
 use Rattle.sv_session.specs.Serving.{SessionPass}
 use Rattle.sv_play.specs.Given.{keeper_after, pass_of, setting, IsService}
 use Rattle.sv_system.proofs.Places.{each_push}
 use Rattle.sv_play.proofs.Opened.{new_end_as}
 use Rattle.sv_serve.proofs.Endings.{on_err, none_made}
-use Rattle.sv_serve.proofs.Hosted.{unserved_own}
+use Rattle.sv_serve.specs.Giving.{kept_unserved}
+use Rattle.sv_serve.proofs.Steps.{unserved_back}
+use Rattle.sv_serve.proofs.Hosted.{unserved_own, unserved_numbers}
 use Rattle.sv_serve.proofs.accepting.Host.accept_all.Goals as goal
 
 pub returns-in_err-services-clause-back : goal.returns-in_err-services-clause-back
@@ -20,6 +22,27 @@ give_back_all-requires-clause-own g c κs within =
     let count = i.count in
     let same = c.in-Err.ensures.none.0 in
     unserved_own g.D.E.End.told g.D.E.End.faults g.D.E.End.calm run c.loop.services.items i.services (g.D.Door.made c.accept_next.new.door) (omega (arith, made, count, same))
+
+pub returns-in-Err-clause-back : goal.returns-in-Err-clause-back
+returns-in-Err-clause-back g c =
+    let i = c.loop.invariant in
+    let run = setting c.args.self.now.lock.now c.args.self.now.scenario.now (g.D.Door.made c.args.door.now) (g.D.Door.sure c.args.door.now c.args.self.now.port) false in
+    let told = g.D.E.End.told in
+    let faults = g.D.E.End.faults in
+    let xs = c.loop.services.items in
+    let back = c.give_back_all.ensures in
+    let none = c.in-Err.ensures.none in
+    let none_made = none.0 in
+    let none_owed = none.1 in
+    let count = i.count in
+    let made = i.made in
+    let owed = i.owed in
+    let kept = back.made in
+    let less = back.owed in
+    unserved_back told faults (g.D.Door.given c.args.door.now) (g.D.Door.given c.give_back_all.new.door) (g.D.Door.made c.args.door.now) (g.D.Door.made c.give_back_all.new.door)
+    (g.D.Door.owed c.args.door.now) (g.D.Door.owed c.give_back_all.new.door) xs
+    (back.given ∙ ap (λ l. l ++ kept_unserved told faults xs) (c.in-Err.ensures.given ∙ i.given)) (unserved_numbers told faults g.D.E.End.calm run xs i.services)
+    (omega (arith, kept, none_made, made, count)) (omega (arith, less, none_owed, owed, count))
 
 pub loop-preserved : goal.loop-preserved
 loop-preserved g c =
