@@ -48,7 +48,7 @@ pub ended_none : {v w : WorldView} → AreEnded v w → open_sessions w.history 
 ended_none (AreEnded.none none) = none
 ended_none (AreEnded.some first rest) = ended_none rest
 
-none_open : (h : List Entry) (s : ℕ) → AreInOrder h → open_sessions h ≡ [] → is_open h s ≡ true → ⊥
+pub none_open : (h : List Entry) (s : ℕ) → AreInOrder h → open_sessions h ≡ [] → is_open h s ≡ true → ⊥
 none_open h s order none lives = let clash : false ≡ true = sym (ap (is_in s) none) ∙ here in cc
   where
     low : (s < next_session h) ⊎ (next_session h ≤ s) → s < next_session h

@@ -8,6 +8,7 @@ pub mod Ends
 pub mod Top2
 pub mod Loop1
 pub mod Written
+pub mod Joined
 pub mod Boxes
 pub mod Through
 pub mod Staff

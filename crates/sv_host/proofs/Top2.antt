@@ -17,7 +17,8 @@ use Rattle.sv_office.specs.declared.guest.Guest.{Guest}
 use Rattle.sv_worldfile.specs.declared.world_file.WorldFile.{WorldFile}
 use Rattle.sv_worldfile.specs.WorldFiles.{world_file_of}
 use Rattle.sv_host.specs.Causes.{file_place, is_authority, line_place, IsFileFront, IsPrepared, IsWrongLine, WhyBefore, WhyFaulty, WhyNoKeys, WhyUnread}
-use Rattle.sv_host.specs.Causes.{start_in, HasOpened, HasStopped, IsEndOf, IsHalted, IsOfDisk, WasServed, WasServedFirst, WhyBehind, WhyNoFolder, WhyStopped, WhyUnopened, WroteFirst}
+use Rattle.sv_host.specs.Causes.{start_in, EndsUnopened, HasOpened, HasStopped, IsHalted, IsOfDisk, WasServed, WasServedFirst, WhyBehind, WhyNoFolder, WhyStopped, WhyUnopened, WroteFirst}
+use Rattle.sv_host.specs.Joining.{MayJoin}
 use Rattle.sv_host.specs.Rooms.{AreServed}
 use Rattle.sv_host.specs.Served.{BreaksOff}
 use Rattle.sv_host.specs.Statuses.{IsEarly}
@@ -139,7 +140,7 @@ module _ {F : Type 0} (disk : F → Disk) (is_honest : F → Type 0) where
   disk_rose before now faults.Memory own cause = absurd own
 
   pub unopened_why : (count : F → ℕ) (folder now : F) (file : WorldFile) (bytes name : List ℕ) (fault : OpenFault) (e : HostEnd)
-      → (is_honest now → WhyNotOpened (disk folder) (disk now) bytes (start_in file) fault) → OpenCause (count folder) (count now) fault → IsEndOf name fault e
+      → (is_honest now → WhyNotOpened (disk folder) (disk now) bytes (start_in file) fault) → OpenCause (count folder) (count now) fault → EndsUnopened name fault e
       → WhyUnopened disk is_honest count folder file bytes name e
   unopened_why count folder now file bytes name fault (endings.Log line) why cause is =
       record { now = now; fault = fault; own = is.0; why = why; told = is.1 }
@@ -165,15 +166,15 @@ module _ {F : Type 0} (disk : F → Disk) (is_honest : F → Type 0) where
 
     module _ (before after : Told) (file : WorldFile) (bytes : List ℕ) (folder : F) (first : KeeperView F) (read : IsPrepared (contents asked.world) asked file bytes)
         (opened : opens asked.folder folder) (begun : IsOpened disk is_honest (disk folder) bytes (start_in file) first) where
-      pub served_as : (stopped : Stopped) → HasStopped disk is_honest first before after asked.folder stopped
+      pub served_as : (stopped : Stopped) → HasStopped disk is_honest (MayJoin contents asked.keys) first before after asked.folder stopped
           → WasServed disk is_honest opens contents before after asked stopped
       served_as stopped last = record { log = log_opened file bytes folder first read opened begun; last = last }
 
       -- What was written until it broke off.
-      broke_first : BreaksOff before after first.world → WasServedFirst disk is_honest opens contents before after asked
+      broke_first : BreaksOff (MayJoin contents asked.keys) before after first.world → WasServedFirst disk is_honest opens contents before after asked
       broke_first broke = record { log = log_opened file bytes folder first read opened begun; broke = broke }
 
-      pub broke_as : BreaksOff before after first.world → WroteFirst disk is_honest opens contents before after asked
+      pub broke_as : BreaksOff (MayJoin contents asked.keys) before after first.world → WroteFirst disk is_honest opens contents before after asked
       broke_as broke = inr (broke_first broke)
 
     module _ (before after : Told) (count : F → ℕ) (closed_by : List ℕ → FolderFault → Type 0) (barred_by : List ℕ → DoorFault → Type 0) where
@@ -208,7 +209,7 @@ module _ {F : Type 0} (disk : F → Disk) (is_honest : F → Type 0) where
 
       -- It was served first.
       pub stopped_behind : (file : WorldFile) (bytes : List ℕ) (folder : F) (first : KeeperView F) → IsPrepared (contents asked.world) asked file bytes
-          → opens asked.folder folder → IsOpened disk is_honest (disk folder) bytes (start_in file) first → BreaksOff before after first.world
+          → opens asked.folder folder → IsOpened disk is_honest (disk folder) bytes (start_in file) first → BreaksOff (MayJoin contents asked.keys) before after first.world
           → (e : HostEnd) → WhyStopped (barred_by asked.at) asked.at e → WhyBehind disk is_honest opens contents before after count closed_by barred_by asked e
       stopped_behind file bytes folder first read opened begun broke (endings.Busy which) why =
           inr (why, broke_first before after file bytes folder first read opened begun broke)

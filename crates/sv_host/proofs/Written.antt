@@ -397,33 +397,49 @@ unpushed n guest ps qs (Err e) went is = is
 
 module _ {v : WorldView} {told : Told} {steward : Option ℕ} (guests : List (Place Guest)) (served : AreServed v steward guests) (are : AreWritten v told guests) where
   pub all_written : AllWereWritten v told
-  all_written = record { each = λ n low. go n low (item_of n guests) refl; unused = are.unused }
+  all_written = record {
+    each = λ n low. go n low (item_of n guests) refl;
+    distinct = λ n m s low also has same. one_has n m s (at_own n s low (item_of n guests) refl has) (at_own m s also (item_of m guests) refl same);
+    unused = are.unused;
+  }
     where
       go : (n : ℕ) → n < told.next → (o : Option Guest) → item_of n guests ≡ o → WasWritten v told n
       go n low (Some guest) at = record { guest = guest; served = served.served n guest at; in_step = are.in_step n guest at; sent = are.sent n guest at }
       go n low None at = (are.gone n (no_left n) low at).was
 
-  pub were_written : {may : Entry → Type 0} → WereWritten may told v
-  were_written = record { before = v; written = all_written; goes = goes_nowhere refl }
+      at_own : (n s : ℕ) (low : n < told.next) (o : Option Guest) (at : item_of n guests ≡ o) → (go n low o at).guest.session ≡ Some s
+          → (guest : Guest) × (item_of n guests ≡ Some guest) × (guest.session ≡ Some s)
+      at_own n s low (Some guest) at has = (guest, at, has)
+      at_own n s low None at has = never (sym (are.gone n (no_left n) low at).over ∙ has)
+
+      one_has : (n m s : ℕ) → ((a : Guest) × (item_of n guests ≡ Some a) × (a.session ≡ Some s)) → ((b : Guest) × (item_of m guests ≡ Some b) × (b.session ≡ Some s)) → n ≡ m
+      one_has n m s (a, at, has) (b, to, same) = served.distinct n m s a b at to has same
+
+  pub were_written : {may : Entry → Type 0} → WereWritten may told v v
+  were_written = record { before = v; since = goes_nowhere refl; written = all_written; goes = goes_nowhere refl }
 
 pub all_still : {v : WorldView} {before now : Told} → WroteNothing before now → AllWereWritten v before → AllWereWritten v now
 all_still {v} {before} {now} still all = record {
   each = λ n low. as_was n (all.each n (subst (λ (k : ℕ). n < k) still.next low));
+  distinct = λ n m s low also has same. all.distinct n m s (subst (λ (k : ℕ). n < k) still.next low) (subst (λ (k : ℕ). m < k) still.next also) has same;
   unused = λ n le. ap (bytes_of n) still.written ∙ all.unused n (subst (λ (k : ℕ). k ≤ n) still.next le);
 }
   where
     as_was : (n : ℕ) → WasWritten v before n → WasWritten v now n
     as_was n w = record { guest = w.guest; served = w.served; in_step = w.in_step; sent = ap (bytes_of n) still.written ∙ w.sent }
 
-pub were_still : {may : Entry → Type 0} {before now : Told} {w : WorldView} → WroteNothing before now → WereWritten may before w → WereWritten may now w
-were_still still were = record { before = were.before; written = all_still still were.written; goes = were.goes }
+pub were_still : {may : Entry → Type 0} {before now : Told} {v w : WorldView} → WroteNothing before now → WereWritten may before v w → WereWritten may now v w
+were_still still were = record { before = were.before; since = were.since; written = all_still still were.written; goes = were.goes }
 
-pub were_later : {may : Entry → Type 0} {told : Told} {v w : WorldView} → GoesOn may v w → WereWritten may told v → WereWritten may told w
-were_later on were = record { before = were.before; written = were.written; goes = goes_then were.goes on }
+pub were_later : {may : Entry → Type 0} {told : Told} {u v w : WorldView} → GoesOn may v w → WereWritten may told u v → WereWritten may told u w
+were_later on were = record { before = were.before; since = were.since; written = were.written; goes = goes_then were.goes on }
+
+pub were_since : {may : Entry → Type 0} {told : Told} {u v w : WorldView} → Continues u v → WereWritten may told v w → WereWritten may told u w
+were_since on were = record { before = were.before; since = goes_then on were.since; written = were.written; goes = were.goes }
 
 -- It broke off: from here on nothing was written.
 pub broke_off : {v w : WorldView} {steward : Option ℕ} {before now : Told} (guests : List (Place Guest)) → AreServed v steward guests → AreWritten v before guests
-    → WroteNothing before now → Continues v w → WereWritten AnyEntry now w
+    → WroteNothing before now → Continues v w → WereWritten AnyEntry now v w
 broke_off guests served are still on = were_later on (were_still still (were_written guests served are))
 
 -- ---- A world that goes on

@@ -4,6 +4,7 @@ use Rattle.std.specs.Prelude.{◌≡◌, ◌≢◌, ◌⊎◌, ℕ, ◌+◌, ◌
 use Rattle.std.specs.Fmt.{decimal}
 use Rattle.sv_scenario.specs.declared.fault.ScenarioFault.{ScenarioFault}
 use Rattle.sv_scenario.specs.Lines.{fault_line}
+use Rattle.sv_journal.specs.declared.entry.Entry.{Entry}
 use Rattle.sv_journal.specs.History.{commit_of}
 use Rattle.sv_journal.specs.Living.{living, living_rules}
 use Rattle.sv_journal.specs.Serving.{LegalFor}
@@ -30,8 +31,11 @@ use Rattle.sv_worldfile.specs.declared.world_file.Results.TheVariants as results
 use Rattle.sv_worldfile.specs.declared.world_file.WorldFile.{WorldFile}
 use Rattle.sv_worldfile.specs.WorldFiles.{most_bytes, world_file_of}
 use Rattle.sv_ports.specs.Told.{Told, nothing_told}
+use Rattle.sv_office.specs.Admitting.{steward_number}
+use Rattle.sv_office.specs.Entering.{AreAdded}
 use Rattle.sv_host.specs.Inputs.{WasToldToStop}
-use Rattle.sv_host.specs.Rooms.{Continues, IsAnEnd}
+use Rattle.sv_host.specs.Joining.{MayJoin}
+use Rattle.sv_host.specs.Rooms.{Continues, HaveBegun, IsAnEnd}
 use Rattle.sv_host.specs.Served.{BreaksOff, OnlyWrote}
 use Rattle.sv_host.specs.Words.{Asked, Ask, AsksNothing}
 use Rattle.sv_host.specs.declared.ending.HostEnd.{HostEnd}
@@ -124,10 +128,6 @@ WhyBefore contents rose asked _ = ⊥
 
 -- ---- Why a log is refused
 
--- The steward's number.
-abbrev pub steward_number : ℕ
-steward_number = 65535
-
 -- By whose reports the world of a file goes.
 abbrev pub stewards_in : WorldFile → Stewards
 stewards_in file = record { steward = Some steward_number; authority = is_authority file.results }
@@ -188,11 +188,11 @@ disk_place folder (faults.Refused refusal) = named_or folder (string_bytes refus
 disk_place folder _ = folder
 
 -- How it ends where a log is not opened; for private clauses.
-abbrev pub IsEndOf : List ℕ → OpenFault → HostEnd → Type 0
-IsEndOf folder fault (endings.Log place) = IsOfLog fault × (string_bytes place ≡ fault_place folder fault)
-IsEndOf folder fault (endings.Disk name) = IsOfDisk fault × (string_bytes name ≡ disk_place folder fault)
-IsEndOf folder fault endings.Memory = Unit {0}
-IsEndOf folder fault _ = ⊥
+abbrev pub EndsUnopened : List ℕ → OpenFault → HostEnd → Type 0
+EndsUnopened folder fault (endings.Log place) = IsOfLog fault × (string_bytes place ≡ fault_place folder fault)
+EndsUnopened folder fault (endings.Disk name) = IsOfDisk fault × (string_bytes name ≡ disk_place folder fault)
+EndsUnopened folder fault endings.Memory = Unit {0}
+EndsUnopened folder fault _ = ⊥
 
 -- Why there is no folder; for private clauses.
 abbrev pub WhyNoFolder : (FolderFault → Type 0) → List ℕ → HostEnd → Type 0
@@ -251,13 +251,15 @@ module _ {F : Type 0} (disk : F → Disk) (is_honest : F → Type 0) where
         → LeavesOnly (disk keeper.log.segment.folder) (disk keeper.log.segment.folder)
         (HoldsFirst keeper.world.rules.world.shape world (newest disk keeper.log) keeper.world.history (length keeper.world.history))
 
-  -- The world was served until the input told to stop: it went on, and what was written is what connections were told before the last Ends. This is told of it:
-  -- the folder's name, how many entries there are, and the commit.
-  pub record HasStopped (first : KeeperView F) (before after : Told) (name : List ℕ) (stopped : Stopped) : Type 0 where
+  -- The world was served until the input told to stop: it went on, who joined might, and what was written is what connections were told before the last
+  -- Ends. This is told of it: the folder's name, how many entries there are, and the commit.
+  pub record HasStopped (may_join : Entry → Type 0) (first : KeeperView F) (before after : Told) (name : List ℕ) (stopped : Stopped) : Type 0 where
     pub keeper : KeeperView F
     pub goes : Continues first.world keeper.world
+    pub joins : AreAdded may_join first.world.history keeper.world.history
     pub done : IsAtEnd keeper
-    pub sent : OnlyWrote IsAnEnd before after keeper.world
+    pub sent : OnlyWrote IsAnEnd before after first.world keeper.world
+    pub begun : (fresh : before ≡ nothing_told) → HaveBegun (sent fresh)
     pub asked : before ≡ nothing_told → WasToldToStop after
     pub folder : string_bytes stopped.folder ≡ name
     pub entries : stopped.entries ≡ length keeper.world.history
@@ -292,12 +294,12 @@ module _ {F : Type 0} (disk : F → Disk) (is_honest : F → Type 0) where
       -- The log of the folder was opened, and its world served until it was to stop.
       pub record WasServed (asked : Asked) (stopped : Stopped) : Type 0 where
         pub log : HasOpened asked
-        pub last : HasStopped log.first before after asked.folder stopped
+        pub last : HasStopped (MayJoin contents asked.keys) log.first before after asked.folder stopped
 
       -- The log of the folder was opened, and its world served until it broke off.
       pub record WasServedFirst (asked : Asked) : Type 0 where
         pub log : HasOpened asked
-        pub broke : BreaksOff before after log.first.world
+        pub broke : BreaksOff (MayJoin contents asked.keys) before after log.first.world
 
       -- What was written where it was not told to stop: nothing through any door, or what connections of the folder's world were told.
       abbrev pub WroteFirst : Asked → Type 0

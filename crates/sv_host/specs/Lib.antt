@@ -4,6 +4,7 @@ pub mod Lines
 pub mod Inputs
 pub mod Rooms
 pub mod Served
+pub mod Joining
 pub mod Staffing
 pub mod Statuses
 pub mod Causes

@@ -1,7 +1,8 @@
 -- The connections of a world: each is served, and each has a session of its own.
-use Rattle.std.specs.Prelude.{◌≡◌, ◌≢◌, ◌⊎◌, ℕ, ◌<◌, ◌≤◌, true, List, [], ◌++◌, Option, None, Some}
+use Rattle.std.specs.Prelude.{◌≡◌, ◌≢◌, ◌⊎◌, ℕ, ◌<◌, ◌≤◌, true, false, List, [], ◌++◌, Option, None, Some}
 use Rattle.sv_journal.specs.declared.entry.Entry.{Entry}
 use Rattle.sv_journal.specs.Sessions.{is_end, is_ended}
+use Rattle.sv_sequencer.specs.Rows.{has_entry}
 use Rattle.sv_living.specs.World.{WorldView}
 use Rattle.sv_ports.specs.declared.numbered.Place.{Place}
 use Rattle.sv_ports.specs.Numbered.{item_of, has_number}
@@ -62,16 +63,23 @@ pub record WasWritten (v : WorldView) (told : Told) (n : ℕ) : Type 0 where
   pub in_step : IsInStep guest.peer
   pub sent : bytes_of n told.written ≡ guest.peer.sent
 
--- So it is of each connection that there ever was. Nothing was written to another one.
+-- So it is of each connection that there ever was, and no two have one session. Nothing was written to another one.
 pub record AllWereWritten (v : WorldView) (told : Told) : Type 0 where
   pub each : (n : ℕ) → n < told.next → WasWritten v told n
+  pub distinct : (n m s : ℕ) (low : n < told.next) (also : m < told.next) → (each n low).guest.session ≡ Some s → (each m also).guest.session ≡ Some s → n ≡ m
   pub unused : (n : ℕ) → told.next ≤ n → bytes_of n told.written ≡ []
 
--- So it was in a world from which this one goes on by such entries, and nothing was written since.
-pub record WereWritten (may : Entry → Type 0) (told : Told) (w : WorldView) : Type 0 where
+-- So it was in a world that came of the first one, and from which the last one goes on by such entries. Nothing was written since.
+pub record WereWritten (may : Entry → Type 0) (told : Told) (first last : WorldView) : Type 0 where
   pub before : WorldView
+  pub since : Continues first before
   pub written : AllWereWritten before told
-  pub goes : GoesOn may before w
+  pub goes : GoesOn may before last
+
+-- The sessions that connections have were begun behind the first world.
+abbrev pub HaveBegun : {may : Entry → Type 0} {told : Told} {first last : WorldView} → WereWritten may told first last → Type 0
+HaveBegun {told = told} {first = first} were =
+    (n s : ℕ) (low : n < told.next) → (were.written.each n low).guest.session ≡ Some s → has_entry first.history s ≡ false
 
 -- No input was read.
 pub record LeftInput (old new : Told) : Type 0 where

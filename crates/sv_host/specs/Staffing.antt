@@ -7,6 +7,7 @@ use Rattle.sv_keys.specs.Keeping.{KeysView, IsAllOf}
 use Rattle.sv_living.specs.World.{WorldView}
 use Rattle.sv_office.specs.Knowing.{IsUpToDate}
 use Rattle.sv_office.specs.Offices.{session_of}
+use Rattle.sv_office.specs.Renewing.{AreHeldFor}
 use Rattle.sv_office.specs.declared.office.Manners.{Manners}
 use Rattle.sv_office.specs.declared.office.Office.{Office}
 use Rattle.sv_host.specs.Words.{Asked}
@@ -24,6 +25,11 @@ AreKeysFor contents None None = Unit {0}
 AreKeysFor contents None (Some keys) = ⊥
 AreKeysFor contents (Some name) None = ⊥
 AreKeysFor contents (Some name) (Some keys) = AreKeysOf contents name keys
+
+-- The keys are those of the file that is named, and each file has what it had.
+pub record AreRead (contents now : List ℕ → Option (List ℕ)) (named : Option (List ℕ)) (keys : Option KeysView) : Type 0 where
+  pub files : (name : List ℕ) → now name ≡ contents name
+  pub held : AreHeldFor contents named keys
 
 -- There are keys, a steward, a site and origins just as they were asked for. The steward is in no session, and lacks nothing that
 -- it was told.

@@ -1,6 +1,7 @@
 //! The turn of one connection of the room.
 ghost use Rattle.std.specs.Prelude.{◌≡◌, OnOk};
 ghost use Rattle.sv_office.specs.Offices.{session_of};
+ghost use Rattle.sv_host.specs.Joining.{LetsIn};
 ghost use Rattle.sv_host.specs.Rooms.{AreServed, AreWritten, Continues, WroteNothing};
 
 use crate::host::Host;
@@ -18,7 +19,7 @@ impl<F: Folder> Host<F> {
     }
 
     // Reads what has come of a connection.
-    #[tactic(auto, using(crate::proofs::Written::continues_then, crate::proofs::Written::continues_same, crate::proofs::Written::wrote_then, crate::proofs::Written::wrote_same))]
+    #[tactic(auto, using(crate::proofs::Written::continues_then, crate::proofs::Written::continues_same, crate::proofs::Written::wrote_then, crate::proofs::Written::wrote_same, crate::proofs::Joined::lets_then, crate::proofs::Joined::lets_same))]
     fn read<P: Ports, L: Files, E: Sink>(
         &mut self,
         outside: &mut Outside<'_, '_, '_, P, L, E>,
@@ -29,6 +30,7 @@ impl<F: Folder> Host<F> {
         ensures served { OnOk result (AreServed self.new.office.keeper.world (session_of self.new.office.steward) self.new.room.guests) }
         ensures written { OnOk result (AreWritten self.old.office.keeper.world (P.told outside.old.ports.now) self.old.room.guests → AreWritten self.new.office.keeper.world (P.told outside.new.ports.now) self.new.room.guests) }
         ensures goes { Continues self.old.office.keeper.world self.new.office.keeper.world }
+        ensures joins { LetsIn (L.contents outside.old.files.now) (L.contents outside.new.files.now) self.old.office.keys self.new.office.keys self.old.office.keeper.world self.new.office.keeper.world }
         ensures still { WroteNothing (P.told outside.old.ports.now) (P.told outside.new.ports.now) }
         ensures lent { outside.new.ports.ghost_name ≡ outside.old.ports.ghost_name }
     {
@@ -41,7 +43,7 @@ impl<F: Folder> Host<F> {
     }
 
     // A connection's turn.
-    #[tactic(auto, using(crate::proofs::Written::continues_then, crate::proofs::Written::continues_same, crate::proofs::Written::wrote_then, crate::proofs::Written::wrote_same))]
+    #[tactic(auto, using(crate::proofs::Written::continues_then, crate::proofs::Written::continues_same, crate::proofs::Written::wrote_then, crate::proofs::Written::wrote_same, crate::proofs::Joined::lets_then, crate::proofs::Joined::lets_same))]
     fn hear<P: Ports, L: Files, E: Sink>(
         &mut self,
         outside: &mut Outside<'_, '_, '_, P, L, E>,
@@ -52,6 +54,7 @@ impl<F: Folder> Host<F> {
         ensures served { OnOk result (AreServed self.new.office.keeper.world (session_of self.new.office.steward) self.new.room.guests) }
         ensures written { OnOk result (AreWritten self.old.office.keeper.world (P.told outside.old.ports.now) self.old.room.guests → AreWritten self.new.office.keeper.world (P.told outside.new.ports.now) self.new.room.guests) }
         ensures goes { Continues self.old.office.keeper.world self.new.office.keeper.world }
+        ensures joins { LetsIn (L.contents outside.old.files.now) (L.contents outside.new.files.now) self.old.office.keys self.new.office.keys self.old.office.keeper.world self.new.office.keeper.world }
         ensures still { WroteNothing (P.told outside.old.ports.now) (P.told outside.new.ports.now) }
         ensures lent { outside.new.ports.ghost_name ≡ outside.old.ports.ghost_name }
     {
@@ -64,7 +67,7 @@ impl<F: Folder> Host<F> {
     }
 
     // A half of a connection's turn. It is answered where it had no turn yet: one that had more may be ready besides.
-    #[tactic(auto, using(crate::proofs::Written::continues_then, crate::proofs::Written::continues_same, crate::proofs::Written::wrote_then, crate::proofs::Written::wrote_same))]
+    #[tactic(auto, using(crate::proofs::Written::continues_then, crate::proofs::Written::continues_same, crate::proofs::Written::wrote_then, crate::proofs::Written::wrote_same, crate::proofs::Joined::lets_then, crate::proofs::Joined::lets_same))]
     fn hear_once<P: Ports, L: Files, E: Sink>(
         &mut self,
         outside: &mut Outside<'_, '_, '_, P, L, E>,
@@ -76,6 +79,7 @@ impl<F: Folder> Host<F> {
         ensures served { OnOk result (AreServed self.new.office.keeper.world (session_of self.new.office.steward) self.new.room.guests) }
         ensures written { OnOk result (AreWritten self.old.office.keeper.world (P.told outside.old.ports.now) self.old.room.guests → AreWritten self.new.office.keeper.world (P.told outside.new.ports.now) self.new.room.guests) }
         ensures goes { Continues self.old.office.keeper.world self.new.office.keeper.world }
+        ensures joins { LetsIn (L.contents outside.old.files.now) (L.contents outside.new.files.now) self.old.office.keys self.new.office.keys self.old.office.keeper.world self.new.office.keeper.world }
         ensures still { WroteNothing (P.told outside.old.ports.now) (P.told outside.new.ports.now) }
         ensures lent { outside.new.ports.ghost_name ≡ outside.old.ports.ghost_name }
     {
@@ -89,7 +93,7 @@ impl<F: Folder> Host<F> {
     }
 
     /// Gives each of these connections a half of its turn.
-    #[tactic(auto, using(crate::proofs::Written::continues_then, crate::proofs::Written::continues_same, crate::proofs::Written::wrote_then, crate::proofs::Written::wrote_same))]
+    #[tactic(auto, using(crate::proofs::Written::continues_then, crate::proofs::Written::continues_same, crate::proofs::Written::wrote_then, crate::proofs::Written::wrote_same, crate::proofs::Joined::lets_then, crate::proofs::Joined::lets_same))]
     pub fn hear_each<P: Ports, L: Files, E: Sink>(
         &mut self,
         outside: &mut Outside<'_, '_, '_, P, L, E>,
@@ -101,6 +105,7 @@ impl<F: Folder> Host<F> {
         ensures served { OnOk result (AreServed self.new.office.keeper.world (session_of self.new.office.steward) self.new.room.guests) }
         ensures written { OnOk result (AreWritten self.old.office.keeper.world (P.told outside.old.ports.now) self.old.room.guests → AreWritten self.new.office.keeper.world (P.told outside.new.ports.now) self.new.room.guests) }
         ensures goes { Continues self.old.office.keeper.world self.new.office.keeper.world }
+        ensures joins { LetsIn (L.contents outside.old.files.now) (L.contents outside.new.files.now) self.old.office.keys self.new.office.keys self.old.office.keeper.world self.new.office.keeper.world }
         ensures still { WroteNothing (P.told outside.old.ports.now) (P.told outside.new.ports.now) }
         ensures lent { outside.new.ports.ghost_name ≡ outside.old.ports.ghost_name }
     {

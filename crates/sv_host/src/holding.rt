@@ -1,6 +1,7 @@
 //! Observes that wait for news.
 ghost use Rattle.std.specs.Prelude.{OnOk};
 ghost use Rattle.sv_office.specs.Offices.{session_of};
+ghost use Rattle.sv_host.specs.Joining.{LetsNobodyIn};
 ghost use Rattle.sv_host.specs.Rooms.{AreServed, Continues, KeepsWritten};
 
 use crate::host::Host;
@@ -18,12 +19,13 @@ impl<F: Folder> Host<F> {
 
     // Takes a connection off the list, and answers its held Observe, where it has one.
     #[inline(never)]
-    #[tactic(auto, using(crate::proofs::Written::continues_then, crate::proofs::Written::continues_same))]
+    #[tactic(auto, using(crate::proofs::Written::continues_then, crate::proofs::Written::continues_same, crate::proofs::Joined::nobody_then, crate::proofs::Joined::nobody_same))]
     fn take_off(&mut self, number: u64) -> Result<(), Halt>
         requires served { AreServed self.old.office.keeper.world (session_of self.old.office.steward) self.old.room.guests }
         ensures served { OnOk result (AreServed self.new.office.keeper.world (session_of self.new.office.steward) self.new.room.guests) }
         ensures written { OnOk result (KeepsWritten self.old.office.keeper.world self.old.room.guests self.new.office.keeper.world self.new.room.guests) }
         ensures goes { Continues self.old.office.keeper.world self.new.office.keeper.world }
+        ensures nobody { LetsNobodyIn self.old.office.keys self.new.office.keys self.old.office.keeper.world self.new.office.keeper.world }
     {
         let Some(mut guest) = self.take_out(number) else {
             return Ok(());
@@ -35,12 +37,13 @@ impl<F: Folder> Host<F> {
 
     // Looks at a connection of the list, and keeps it there where it waits on.
     #[inline(never)]
-    #[tactic(auto, using(crate::proofs::Written::continues_then, crate::proofs::Written::continues_same))]
+    #[tactic(auto, using(crate::proofs::Written::continues_then, crate::proofs::Written::continues_same, crate::proofs::Joined::nobody_then, crate::proofs::Joined::nobody_same))]
     fn look_at(&mut self, number: u64) -> Result<(), Halt>
         requires served { AreServed self.old.office.keeper.world (session_of self.old.office.steward) self.old.room.guests }
         ensures served { OnOk result (AreServed self.new.office.keeper.world (session_of self.new.office.steward) self.new.room.guests) }
         ensures written { OnOk result (KeepsWritten self.old.office.keeper.world self.old.room.guests self.new.office.keeper.world self.new.room.guests) }
         ensures goes { Continues self.old.office.keeper.world self.new.office.keeper.world }
+        ensures nobody { LetsNobodyIn self.old.office.keys self.new.office.keys self.old.office.keeper.world self.new.office.keeper.world }
     {
         match self.standing_of(number) {
             Waiting::Until(time) => {
@@ -53,12 +56,13 @@ impl<F: Folder> Host<F> {
     }
 
     // Looks at each of these.
-    #[tactic(auto, using(crate::proofs::Written::continues_then, crate::proofs::Written::continues_same))]
+    #[tactic(auto, using(crate::proofs::Written::continues_then, crate::proofs::Written::continues_same, crate::proofs::Joined::nobody_then, crate::proofs::Joined::nobody_same))]
     fn look_at_each(&mut self, numbers: &[u64]) -> Result<(), Halt>
         requires served { AreServed self.old.office.keeper.world (session_of self.old.office.steward) self.old.room.guests }
         ensures served { OnOk result (AreServed self.new.office.keeper.world (session_of self.new.office.steward) self.new.room.guests) }
         ensures written { OnOk result (KeepsWritten self.old.office.keeper.world self.old.room.guests self.new.office.keeper.world self.new.room.guests) }
         ensures goes { Continues self.old.office.keeper.world self.new.office.keeper.world }
+        ensures nobody { LetsNobodyIn self.old.office.keys self.new.office.keys self.old.office.keeper.world self.new.office.keeper.world }
     {
         for number in numbers {
             self.look_at(*number)?;
@@ -67,12 +71,13 @@ impl<F: Folder> Host<F> {
     }
 
     /// Answers the held Observes for which there is news, or whose time has passed.
-    #[tactic(auto, using(crate::proofs::Written::continues_then, crate::proofs::Written::continues_same))]
+    #[tactic(auto, using(crate::proofs::Written::continues_then, crate::proofs::Written::continues_same, crate::proofs::Joined::nobody_then, crate::proofs::Joined::nobody_same))]
     pub fn look_at_held(&mut self) -> Result<(), Halt>
         requires served { AreServed self.old.office.keeper.world (session_of self.old.office.steward) self.old.room.guests }
         ensures served { OnOk result (AreServed self.new.office.keeper.world (session_of self.new.office.steward) self.new.room.guests) }
         ensures written { OnOk result (KeepsWritten self.old.office.keeper.world self.old.room.guests self.new.office.keeper.world self.new.room.guests) }
         ensures goes { Continues self.old.office.keeper.world self.new.office.keeper.world }
+        ensures nobody { LetsNobodyIn self.old.office.keys self.new.office.keys self.old.office.keeper.world self.new.office.keeper.world }
     {
         // A Join may end another session, so that each entry may be news.
         let entries = self.office.keeper.entries();

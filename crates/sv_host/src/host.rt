@@ -2,6 +2,7 @@
 ghost use Rattle.std.specs.Prelude.{◌≡◌, IfSome, IfNone, None, OnOk, MatchOption};
 ghost use Rattle.sv_ports.specs.Told.{Told};
 ghost use Rattle.sv_office.specs.Offices.{session_of};
+ghost use Rattle.sv_host.specs.Joining.{LetsIn, LetsNobodyIn};
 ghost use Rattle.sv_host.specs.Rooms.{AreServed, AreWritten, Continues, IsOut, IsWritten, KeepsOut, KeepsWritten, WroteNothing};
 
 use crate::boxed::BoxedGuest;
@@ -114,6 +115,7 @@ impl<F: Folder> Host<F> {
         ensures written { OnOk result (IsWritten self.old.office.keeper.world (P.told outside.old.ports.now) self.old.room.guests number guest.old
             → IsWritten self.new.office.keeper.world (P.told outside.new.ports.now) self.new.room.guests number guest.new) }
         ensures goes { Continues self.old.office.keeper.world self.new.office.keeper.world }
+        ensures joins { LetsIn (L.contents outside.old.files.now) (L.contents outside.new.files.now) self.old.office.keys self.new.office.keys self.old.office.keeper.world self.new.office.keeper.world }
         ensures still { WroteNothing (P.told outside.old.ports.now) (P.told outside.new.ports.now) }
         ensures lent { outside.new.ports.ghost_name ≡ outside.old.ports.ghost_name }
     {
@@ -129,6 +131,7 @@ impl<F: Folder> Host<F> {
         ensures taken { OnOk result (IsOut self.new.office.keeper.world (session_of self.new.office.steward) self.new.room.guests guest.new) }
         ensures written { OnOk result (KeepsOut self.old.office.keeper.world self.old.room.guests guest.old self.new.office.keeper.world self.new.room.guests guest.new) }
         ensures goes { Continues self.old.office.keeper.world self.new.office.keeper.world }
+        ensures nobody { LetsNobodyIn self.old.office.keys self.new.office.keys self.old.office.keeper.world self.new.office.keeper.world }
     {
         if !guest.is_open() {
             return Ok(());
@@ -146,6 +149,7 @@ impl<F: Folder> Host<F> {
         ensures written { OnOk result (KeepsOut self.old.office.keeper.world self.old.room.guests guest.old self.new.office.keeper.world self.new.room.guests guest.new) }
         ensures over { OnOk result (guest.new.session ≡ None) }
         ensures goes { Continues self.old.office.keeper.world self.new.office.keeper.world }
+        ensures nobody { LetsNobodyIn self.old.office.keys self.new.office.keys self.old.office.keeper.world self.new.office.keeper.world }
     {
         self.office.end(guest)?;
         self.office.keeper.is_lawful();
@@ -159,6 +163,7 @@ impl<F: Folder> Host<F> {
         ensures served { OnOk result (AreServed self.new.office.keeper.world (session_of self.new.office.steward) self.new.room.guests) }
         ensures written { OnOk result (KeepsWritten self.old.office.keeper.world self.old.room.guests self.new.office.keeper.world self.new.room.guests) }
         ensures goes { Continues self.old.office.keeper.world self.new.office.keeper.world }
+        ensures nobody { LetsNobodyIn self.old.office.keys self.new.office.keys self.old.office.keeper.world self.new.office.keeper.world }
     {
         self.office.report_old()?;
         self.office.keeper.is_lawful();

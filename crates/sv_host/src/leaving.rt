@@ -1,6 +1,7 @@
 //! Connections that come and go.
 ghost use Rattle.std.specs.Prelude.{◌≡◌, OnOk};
 ghost use Rattle.sv_office.specs.Offices.{session_of};
+ghost use Rattle.sv_host.specs.Joining.{LetsNobodyIn};
 ghost use Rattle.sv_host.specs.Rooms.{AreServed, AreWritten, Continues, IsNew, LeftInput, WroteNothing};
 
 use crate::boxed::BoxedGuest;
@@ -23,6 +24,7 @@ impl<F: Folder> Host<F> {
         ensures served { AreServed self.new.office.keeper.world (session_of self.new.office.steward) self.new.room.guests }
         ensures written { IsNew self.old.office.keeper.world (P.told ports.old) self.old.room.guests number → AreWritten self.new.office.keeper.world (P.told ports.new) self.new.room.guests }
         ensures world { self.new.office.keeper ≡ self.old.office.keeper }
+        ensures keys { self.new.office.keys ≡ self.old.office.keys }
         ensures input { LeftInput (P.told ports.old) (P.told ports.new) }
     {
         if self.room.guests.len() >= MOST_GUESTS {
@@ -48,6 +50,7 @@ impl<F: Folder> Host<F> {
         ensures served { AreServed self.new.office.keeper.world (session_of self.new.office.steward) self.new.room.guests }
         ensures written { AreWritten self.old.office.keeper.world (P.told ports.old) self.old.room.guests → AreWritten self.new.office.keeper.world (P.told ports.new) self.new.room.guests }
         ensures world { self.new.office.keeper ≡ self.old.office.keeper }
+        ensures keys { self.new.office.keys ≡ self.old.office.keys }
         ensures input { LeftInput (P.told ports.old) (P.told ports.new) }
     {
         if !self.room.ready.door {
@@ -72,12 +75,13 @@ impl<F: Folder> Host<F> {
 
     /// Closes a connection, whose session has its End.
     #[inline(never)]
-    #[tactic(auto, using(crate::proofs::Written::continues_then, crate::proofs::Written::continues_same, crate::proofs::Written::wrote_then, crate::proofs::Written::wrote_same))]
+    #[tactic(auto, using(crate::proofs::Written::continues_then, crate::proofs::Written::continues_same, crate::proofs::Written::wrote_then, crate::proofs::Written::wrote_same, crate::proofs::Joined::nobody_then, crate::proofs::Joined::nobody_same))]
     pub fn depart<P: Ports>(&mut self, ports: &mut P, number: u64) -> Result<(), Halt>
         requires served { AreServed self.old.office.keeper.world (session_of self.old.office.steward) self.old.room.guests }
         ensures served { OnOk result (AreServed self.new.office.keeper.world (session_of self.new.office.steward) self.new.room.guests) }
         ensures written { OnOk result (AreWritten self.old.office.keeper.world (P.told ports.old) self.old.room.guests → AreWritten self.new.office.keeper.world (P.told ports.new) self.new.room.guests) }
         ensures goes { Continues self.old.office.keeper.world self.new.office.keeper.world }
+        ensures nobody { LetsNobodyIn self.old.office.keys self.new.office.keys self.old.office.keeper.world self.new.office.keeper.world }
         ensures still { WroteNothing (P.told ports.old) (P.told ports.new) }
     {
         let Some(mut guest) = self.take_out(number) else {

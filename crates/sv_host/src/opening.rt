@@ -13,7 +13,7 @@ ghost use Rattle.sv_scenario.specs.Lines.{fault_line};
 ghost use Rattle.sv_worldfile.specs.Limits.{IsGoodWorldFile};
 ghost use Rattle.sv_worldfile.specs.WorldFiles.{world_file_of};
 ghost use Rattle.sv_host.specs.Causes.{cause_word, file_place, is_authority, line_place, line_word, named_or, start_in};
-ghost use Rattle.sv_host.specs.Causes.{IsEndOf, IsFileFront, IsPrepared, WhyBefore, WhyFaulty, WhyNoFolder, WhyNoKeys, WhyUnopened, WhyUnread};
+ghost use Rattle.sv_host.specs.Causes.{EndsUnopened, IsFileFront, IsPrepared, WhyBefore, WhyFaulty, WhyNoFolder, WhyNoKeys, WhyUnopened, WhyUnread};
 ghost use Rattle.sv_host.specs.Lines.{open_line};
 ghost use Rattle.sv_host.specs.Staffing.{AreKeysFor, IsStaffFor, manners_for};
 ghost use Rattle.sv_host.specs.Words.{IsLocal, asked_by};
@@ -137,7 +137,7 @@ fn file_place(alloc: Global, file: &str, line: u64, word: &str) -> Result<String
 }
 
 fn refused(alloc: Global, folder: &str, refusal: &Refusal) -> Result<HostEnd, AllocError>
-    ensures { IfOk result (IsEndOf folder.now (OpenFault.Refused refusal.now)) }
+    ensures { IfOk result (EndsUnopened folder.now (OpenFault.Refused refusal.now)) }
 {
     match refusal.cause {
         Cause::Failed => {
@@ -156,7 +156,7 @@ fn refused(alloc: Global, folder: &str, refusal: &Refusal) -> Result<HostEnd, Al
 
 /// How it ends where the log is not opened.
 fn unopened(alloc: Global, folder: &str, fault: &OpenFault) -> Result<HostEnd, AllocError>
-    ensures { IfOk result (IsEndOf folder.now fault.now) }
+    ensures { IfOk result (EndsUnopened folder.now fault.now) }
 {
     match fault {
         OpenFault::Refused(refusal) => refused(alloc, folder, refusal),
@@ -243,6 +243,7 @@ pub fn keys_of<L: Files, E: Sink>(
     err: &mut E,
 ) -> Result<Option<Keys>, HostEnd>
     ensures keys { IfOk result (AreKeysFor (L.contents files.old) (option_copied options.now.keys)) }
+    ensures same { (n : List ℕ) → L.contents files.new n ≡ L.contents files.old n }
     ensures why { IfErr result (WhyNoKeys (L.contents files.old) (option_copied options.now.keys)) }
     ensures quiet { (IsErr result ⊎ IsLocal options.now.at.now) → err.new ≡ err.old }
     ensures named { option_copied options.now.keys ≢ None → err.new ≡ err.old }

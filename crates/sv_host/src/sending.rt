@@ -2,6 +2,7 @@
 ghost use Rattle.std.specs.Prelude.{◌≡◌, ℕ, Option, OnOk};
 ghost use Rattle.sv_living.specs.World.{WorldView};
 ghost use Rattle.sv_office.specs.Offices.{session_of};
+ghost use Rattle.sv_host.specs.Joining.{LetsNobodyIn};
 ghost use Rattle.sv_host.specs.Rooms.{AnyEntry, AreServed, AreWritten, Continues, KeepsWritten, LeftInput, Sends, WasSent, WereWritten, WroteNothing};
 
 use crate::boxed::BoxedGuest;
@@ -137,6 +138,7 @@ impl<F: Folder> Host<F> {
         ensures served { AreServed self.new.office.keeper.world (session_of self.new.office.steward) self.new.room.guests }
         ensures written { KeepsWritten self.old.office.keeper.world self.old.room.guests self.new.office.keeper.world self.new.room.guests }
         ensures world { self.new.office.keeper.world ≡ self.old.office.keeper.world }
+        ensures keys { self.new.office.keys ≡ self.old.office.keys }
     {
         let office = &mut self.office;
         match office.keeper.settle() {
@@ -151,6 +153,7 @@ impl<F: Folder> Host<F> {
         ensures served { AreServed self.new.office.keeper.world (session_of self.new.office.steward) self.new.room.guests }
         ensures written { AreWritten self.old.office.keeper.world (P.told ports.old) self.old.room.guests → AreWritten self.new.office.keeper.world (P.told ports.new) self.new.room.guests }
         ensures world { self.new.office.keeper ≡ self.old.office.keeper }
+        ensures keys { self.new.office.keys ≡ self.old.office.keys }
         ensures input { LeftInput (P.told ports.old) (P.told ports.new) }
     {
         let mut counts = self.office.counts;
@@ -172,12 +175,13 @@ impl<F: Folder> Host<F> {
     }
 
     // Closes each of these.
-    #[tactic(auto, using(crate::proofs::Written::continues_then, crate::proofs::Written::continues_same, crate::proofs::Written::wrote_then, crate::proofs::Written::wrote_same))]
+    #[tactic(auto, using(crate::proofs::Written::continues_then, crate::proofs::Written::continues_same, crate::proofs::Written::wrote_then, crate::proofs::Written::wrote_same, crate::proofs::Joined::nobody_then, crate::proofs::Joined::nobody_same))]
     fn depart_each<P: Ports>(&mut self, ports: &mut P, numbers: &[u64]) -> Result<(), Halt>
         requires served { AreServed self.old.office.keeper.world (session_of self.old.office.steward) self.old.room.guests }
         ensures served { OnOk result (AreServed self.new.office.keeper.world (session_of self.new.office.steward) self.new.room.guests) }
         ensures written { OnOk result (AreWritten self.old.office.keeper.world (P.told ports.old) self.old.room.guests → AreWritten self.new.office.keeper.world (P.told ports.new) self.new.room.guests) }
         ensures goes { Continues self.old.office.keeper.world self.new.office.keeper.world }
+        ensures nobody { LetsNobodyIn self.old.office.keys self.new.office.keys self.old.office.keeper.world self.new.office.keeper.world }
         ensures still { WroteNothing (P.told ports.old) (P.told ports.new) }
     {
         for number in numbers {
@@ -192,7 +196,8 @@ impl<F: Folder> Host<F> {
         ensures served { OnOk result (AreServed self.new.office.keeper.world (session_of self.new.office.steward) self.new.room.guests) }
         ensures written { OnOk result (AreWritten self.old.office.keeper.world (P.told ports.old) self.old.room.guests → AreWritten self.new.office.keeper.world (P.told ports.new) self.new.room.guests) }
         ensures goes { Continues self.old.office.keeper.world self.new.office.keeper.world }
-        ensures past { AreWritten self.old.office.keeper.world (P.told ports.old) self.old.room.guests → WereWritten AnyEntry (P.told ports.new) self.new.office.keeper.world }
+        ensures nobody { LetsNobodyIn self.old.office.keys self.new.office.keys self.old.office.keeper.world self.new.office.keeper.world }
+        ensures past { AreWritten self.old.office.keeper.world (P.told ports.old) self.old.room.guests → WereWritten AnyEntry (P.told ports.new) self.old.office.keeper.world self.new.office.keeper.world }
         ensures input { OnOk result (LeftInput (P.told ports.old) (P.told ports.new)) }
     {
         self.settle()?;

@@ -9,6 +9,7 @@ ghost use Rattle.sv_office.specs.Offices.{session_of};
 ghost use Rattle.sv_office.specs.declared.steward.Steward.{Steward};
 ghost use Rattle.sv_ports.specs.Told.{nothing_told};
 ghost use Rattle.sv_host.specs.Inputs.{WasToldToStop};
+ghost use Rattle.sv_host.specs.Joining.{JoinByKeys, LetsNobodyIn};
 ghost use Rattle.sv_host.specs.Rooms.{AnyEntry, AreServed, AreTold, AreWritten, Continues, IsAnEnd, KeepsWritten, LeftInput, WereWritten};
 
 use crate::host::Host;
@@ -79,11 +80,12 @@ impl<F: Folder> Host<F> {
         ensures told { OnOk result (AreTold self.new.office.keeper.world self.new.room.guests) }
         ensures written { OnOk result (AreWritten self.old.office.keeper.world (P.told outside.old.ports.now) self.old.room.guests → AreWritten self.new.office.keeper.world (P.told outside.new.ports.now) self.new.room.guests) }
         ensures goes { Continues self.old.office.keeper.world self.new.office.keeper.world }
+        ensures joins { JoinByKeys (L.contents outside.old.files.now) self.old.office.keys self.old.office.keeper.world self.new.office.keeper.world }
         ensures lent { outside.new.ports.ghost_name ≡ outside.old.ports.ghost_name }
         ensures past { AreWritten self.old.office.keeper.world (P.told outside.old.ports.now) self.old.room.guests
-            → WereWritten AnyEntry (P.told outside.new.ports.now) self.new.office.keeper.world }
+            → WereWritten AnyEntry (P.told outside.new.ports.now) self.old.office.keeper.world self.new.office.keeper.world }
         ensures last { OnOk result (AreWritten self.old.office.keeper.world (P.told outside.old.ports.now) self.old.room.guests
-            → WereWritten IsAnEnd (P.told outside.new.ports.now) self.new.office.keeper.world) }
+            → WereWritten IsAnEnd (P.told outside.new.ports.now) self.old.office.keeper.world self.new.office.keeper.world) }
         ensures asked { OnOk result (P.told outside.old.ports.now ≡ nothing_told → WasToldToStop (P.told outside.new.ports.now)) }
     {
         let mut input = InputLines::new();
@@ -102,6 +104,7 @@ impl<F: Folder> Host<F> {
         ensures served { AreServed self.new.office.keeper.world (session_of self.new.office.steward) self.new.room.guests }
         ensures written { KeepsWritten self.old.office.keeper.world self.old.room.guests self.new.office.keeper.world self.new.room.guests }
         ensures world { self.new.office.keeper ≡ self.old.office.keeper }
+        ensures keys { self.new.office.keys ≡ self.old.office.keys }
     {
         let mut waits = false;
         for place in 0..self.room.guests.len() {
@@ -122,7 +125,8 @@ impl<F: Folder> Host<F> {
         ensures served { OnOk result (AreServed self.new.office.keeper.world (session_of self.new.office.steward) self.new.room.guests) }
         ensures written { OnOk result (AreWritten self.old.office.keeper.world (P.told ports.old) self.old.room.guests → AreWritten self.new.office.keeper.world (P.told ports.new) self.new.room.guests) }
         ensures goes { Continues self.old.office.keeper.world self.new.office.keeper.world }
-        ensures past { AreWritten self.old.office.keeper.world (P.told ports.old) self.old.room.guests → WereWritten AnyEntry (P.told ports.new) self.new.office.keeper.world }
+        ensures nobody { LetsNobodyIn self.old.office.keys self.new.office.keys self.old.office.keeper.world self.new.office.keeper.world }
+        ensures past { AreWritten self.old.office.keeper.world (P.told ports.old) self.old.room.guests → WereWritten AnyEntry (P.told ports.new) self.old.office.keeper.world self.new.office.keeper.world }
         ensures input { OnOk result (LeftInput (P.told ports.old) (P.told ports.new)) }
     {
         for _ in 0..LAST_TURNS {
@@ -145,8 +149,9 @@ impl<F: Folder> Host<F> {
         ensures told { OnOk result (AreTold self.new.office.keeper.world self.new.room.guests) }
         ensures written { OnOk result (AreWritten self.old.office.keeper.world (P.told ports.old) self.old.room.guests → AreWritten self.new.office.keeper.world (P.told ports.new) self.new.room.guests) }
         ensures goes { Continues self.old.office.keeper.world self.new.office.keeper.world }
-        ensures past { AreWritten self.old.office.keeper.world (P.told ports.old) self.old.room.guests → WereWritten AnyEntry (P.told ports.new) self.new.office.keeper.world }
-        ensures last { OnOk result (AreWritten self.old.office.keeper.world (P.told ports.old) self.old.room.guests → WereWritten IsAnEnd (P.told ports.new) self.new.office.keeper.world) }
+        ensures nobody { LetsNobodyIn self.old.office.keys self.new.office.keys self.old.office.keeper.world self.new.office.keeper.world }
+        ensures past { AreWritten self.old.office.keeper.world (P.told ports.old) self.old.room.guests → WereWritten AnyEntry (P.told ports.new) self.old.office.keeper.world self.new.office.keeper.world }
+        ensures last { OnOk result (AreWritten self.old.office.keeper.world (P.told ports.old) self.old.room.guests → WereWritten IsAnEnd (P.told ports.new) self.old.office.keeper.world self.new.office.keeper.world) }
         ensures input { OnOk result (LeftInput (P.told ports.old) (P.told ports.new)) }
     {
         self.send_rest(ports)?;

@@ -1,6 +1,7 @@
 //! What is done because time has passed.
 ghost use Rattle.std.specs.Prelude.{◌≡◌, OnOk};
 ghost use Rattle.sv_office.specs.Offices.{session_of};
+ghost use Rattle.sv_host.specs.Joining.{LetsNobodyIn};
 ghost use Rattle.sv_host.specs.Rooms.{AreServed, Continues, KeepsWritten};
 
 use crate::host::Host;
@@ -28,12 +29,13 @@ impl<F: Folder> Host<F> {
 
     // Ends a connection that is idle.
     #[inline(never)]
-    #[tactic(auto, using(crate::proofs::Written::continues_then, crate::proofs::Written::continues_same))]
+    #[tactic(auto, using(crate::proofs::Written::continues_then, crate::proofs::Written::continues_same, crate::proofs::Joined::nobody_then, crate::proofs::Joined::nobody_same))]
     fn dismiss(&mut self, number: u64) -> Result<(), Halt>
         requires served { AreServed self.old.office.keeper.world (session_of self.old.office.steward) self.old.room.guests }
         ensures served { OnOk result (AreServed self.new.office.keeper.world (session_of self.new.office.steward) self.new.room.guests) }
         ensures written { OnOk result (KeepsWritten self.old.office.keeper.world self.old.room.guests self.new.office.keeper.world self.new.room.guests) }
         ensures goes { Continues self.old.office.keeper.world self.new.office.keeper.world }
+        ensures nobody { LetsNobodyIn self.old.office.keys self.new.office.keys self.old.office.keeper.world self.new.office.keeper.world }
     {
         let Some(mut guest) = self.take_out(number) else {
             return Ok(());
@@ -45,12 +47,13 @@ impl<F: Folder> Host<F> {
 
     // Looks at all connections.
     #[inline(never)]
-    #[tactic(auto, using(crate::proofs::Written::continues_then, crate::proofs::Written::continues_same))]
+    #[tactic(auto, using(crate::proofs::Written::continues_then, crate::proofs::Written::continues_same, crate::proofs::Joined::nobody_then, crate::proofs::Joined::nobody_same))]
     fn look_at_all(&mut self) -> Result<(), Halt>
         requires served { AreServed self.old.office.keeper.world (session_of self.old.office.steward) self.old.room.guests }
         ensures served { OnOk result (AreServed self.new.office.keeper.world (session_of self.new.office.steward) self.new.room.guests) }
         ensures written { OnOk result (KeepsWritten self.old.office.keeper.world self.old.room.guests self.new.office.keeper.world self.new.room.guests) }
         ensures goes { Continues self.old.office.keeper.world self.new.office.keeper.world }
+        ensures nobody { LetsNobodyIn self.old.office.keys self.new.office.keys self.old.office.keeper.world self.new.office.keeper.world }
     {
         for place in 0..self.room.guests.len() {
             let Some(number) = self.room.guests.number_at(place) else {
@@ -64,12 +67,13 @@ impl<F: Folder> Host<F> {
     }
 
     /// Ends the connections that are idle.
-    #[tactic(auto, using(crate::proofs::Written::continues_then, crate::proofs::Written::continues_same))]
+    #[tactic(auto, using(crate::proofs::Written::continues_then, crate::proofs::Written::continues_same, crate::proofs::Joined::nobody_then, crate::proofs::Joined::nobody_same))]
     pub fn look_for_idle(&mut self) -> Result<(), Halt>
         requires served { AreServed self.old.office.keeper.world (session_of self.old.office.steward) self.old.room.guests }
         ensures served { OnOk result (AreServed self.new.office.keeper.world (session_of self.new.office.steward) self.new.room.guests) }
         ensures written { OnOk result (KeepsWritten self.old.office.keeper.world self.old.room.guests self.new.office.keeper.world self.new.room.guests) }
         ensures goes { Continues self.old.office.keeper.world self.new.office.keeper.world }
+        ensures nobody { LetsNobodyIn self.old.office.keys self.new.office.keys self.old.office.keeper.world self.new.office.keeper.world }
     {
         if self.office.time < self.room.next_look {
             return Ok(());
@@ -91,6 +95,7 @@ impl<F: Folder> Host<F> {
         ensures served { AreServed self.new.office.keeper.world (session_of self.new.office.steward) self.new.room.guests }
         ensures written { KeepsWritten self.old.office.keeper.world self.old.room.guests self.new.office.keeper.world self.new.room.guests }
         ensures world { self.new.office.keeper ≡ self.old.office.keeper }
+        ensures keys { self.new.office.keys ≡ self.old.office.keys }
     {
         if self.is_pressed() {
             return 0;

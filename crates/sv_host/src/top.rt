@@ -4,17 +4,19 @@ ghost use Rattle.sv_bytes.specs.Faults.{Rose};
 ghost use Rattle.sv_bytes.specs.Writing.{GrewOrRose};
 ghost use Rattle.sv_journal.specs.History.{commit_of};
 ghost use Rattle.sv_journal.specs.Laws.{AreWithinLimits};
-ghost use Rattle.sv_living.specs.Sessions.{open_sessions};
+ghost use Rattle.sv_living.specs.Sessions.{open_sessions, AreInOrder};
 ghost use Rattle.sv_living.specs.World.{heeded_in};
 ghost use Rattle.sv_worldfile.specs.Limits.{IsGoodWorldFile};
 ghost use Rattle.sv_ports.specs.Told.{nothing_told};
 ghost use Rattle.sv_office.specs.Offices.{session_of};
+ghost use Rattle.sv_office.specs.Renewing.{AreHeldFor};
 ghost use Rattle.sv_host.specs.Causes.{EndsFor, HasStopped, IsAtEnd, IsHalted, IsPrepared, WasServed, WhyBehind, WhyEnds, WhyStopped, WroteFirst};
 ghost use Rattle.sv_host.specs.Inputs.{WasToldToStop};
+ghost use Rattle.sv_host.specs.Joining.{JoinByKeys, LetsStewardIn, MayJoin};
 ghost use Rattle.sv_host.specs.Lines.{standing_line};
 ghost use Rattle.sv_host.specs.Rooms.{AnyEntry, AreServed, Continues, IsAnEnd};
 ghost use Rattle.sv_host.specs.Served.{BreaksOff, OnlyWrote};
-ghost use Rattle.sv_host.specs.Staffing.{IsOfficeFor, IsStaffFor};
+ghost use Rattle.sv_host.specs.Staffing.{AreRead, IsOfficeFor, IsStaffFor};
 ghost use Rattle.sv_host.specs.Statuses.{EndsBy, IsEarly, IsStatus, IsToldLast};
 ghost use Rattle.sv_host.specs.Words.{AsksNothing, asked_by};
 ghost use Rattle.sv_host.specs.declared.ending.HostEnd.TheVariants as endings;
@@ -89,6 +91,8 @@ fn begin<F: Folder>(host: &mut Host<F>) -> Result<(), Halt>
     requires nobody { host.old.room.guests ≡ [] }
     ensures nobody { host.new.room.guests ≡ [] }
     ensures goes { Continues host.old.office.keeper.world host.new.office.keeper.world }
+    ensures keys { host.new.office.keys ≡ host.old.office.keys }
+    ensures joins { LetsStewardIn host.old.office.keeper.world host.new.office.keeper.world }
     ensures served { OnOk result (AreServed host.new.office.keeper.world (session_of host.new.office.steward) host.new.room.guests) }
 {
     host.office.begin()
@@ -108,9 +112,10 @@ fn serve_over<R: Wait, P: Ports, C: Clock, L: Files, E: Sink, F: Folder>(
     requires nobody { host.old.room.guests ≡ [] }
     ensures done { OnOk result (IsAtEnd F.disk F.is_honest host.new.office.keeper) }
     ensures goes { Continues host.old.office.keeper.world host.new.office.keeper.world }
-    ensures last { OnOk result (OnlyWrote IsAnEnd (P.told ports.old) (P.told ports.new) host.new.office.keeper.world) }
+    ensures joins { JoinByKeys (L.contents files.old) host.old.office.keys host.old.office.keeper.world host.new.office.keeper.world }
+    ensures last { OnOk result (OnlyWrote IsAnEnd (P.told ports.old) (P.told ports.new) host.old.office.keeper.world host.new.office.keeper.world) }
     ensures asked { OnOk result (P.told ports.old ≡ nothing_told → WasToldToStop (P.told ports.new)) }
-    ensures sent { OnlyWrote AnyEntry (P.told ports.old) (P.told ports.new) host.new.office.keeper.world }
+    ensures sent { OnlyWrote AnyEntry (P.told ports.old) (P.told ports.new) host.old.office.keeper.world host.new.office.keeper.world }
 {
     let mut outside = Outside { ports, files, err };
     host.serve(rt, &mut outside, piece, clock)?;
@@ -137,7 +142,7 @@ fn tell_door<D: Doors, E: Sink, F: Folder>(
 }
 
 // Serves who comes through a door that was opened, until it is told to stop, and tells where it is.
-#[tactic(auto, using(crate::proofs::Through::nothing_wrote, crate::proofs::Written::continues_same))]
+#[tactic(auto, using(crate::proofs::Through::nothing_wrote, crate::proofs::Written::continues_same, crate::proofs::Joined::join_same))]
 fn serve_door<R: Wait, D: Doors, S, C: Clock, L: Files, E: Sink, F: Folder>(
     place: &mut Place<'_, '_, '_, '_, '_, '_, R, D, S, C, L, E>,
     options: &Options<'_>,
@@ -148,9 +153,10 @@ fn serve_door<R: Wait, D: Doors, S, C: Clock, L: Files, E: Sink, F: Folder>(
     requires nobody { host.old.room.guests ≡ [] }
     ensures done { OnOk result (IsAtEnd F.disk F.is_honest host.new.office.keeper) }
     ensures goes { Continues host.old.office.keeper.world host.new.office.keeper.world }
-    ensures last { OnOk result (OnlyWrote IsAnEnd (D.P.told ports.old) (D.P.told ports.new) host.new.office.keeper.world) }
+    ensures joins { JoinByKeys (L.contents place.old.files.now) host.old.office.keys host.old.office.keeper.world host.new.office.keeper.world }
+    ensures last { OnOk result (OnlyWrote IsAnEnd (D.P.told ports.old) (D.P.told ports.new) host.old.office.keeper.world host.new.office.keeper.world) }
     ensures asked { OnOk result (D.P.told ports.old ≡ nothing_told → WasToldToStop (D.P.told ports.new)) }
-    ensures sent { OnlyWrote AnyEntry (D.P.told ports.old) (D.P.told ports.new) host.new.office.keeper.world }
+    ensures sent { OnlyWrote AnyEntry (D.P.told ports.old) (D.P.told ports.new) host.old.office.keeper.world host.new.office.keeper.world }
 {
     tell_door(
         place.alloc,
@@ -173,7 +179,7 @@ fn serve_door<R: Wait, D: Doors, S, C: Clock, L: Files, E: Sink, F: Folder>(
 }
 
 // The door is opened, it is served, and the door is closed.
-#[tactic(auto, using(crate::proofs::Top2::halted_why, crate::proofs::Through::nothing_wrote, crate::proofs::Through::between_wrote, crate::proofs::Through::between_asked, crate::proofs::Written::continues_same))]
+#[tactic(auto, using(crate::proofs::Top2::halted_why, crate::proofs::Through::nothing_wrote, crate::proofs::Through::between_wrote, crate::proofs::Through::between_asked, crate::proofs::Written::continues_same, crate::proofs::Joined::join_same))]
 fn serve_between<R: Wait, D: Doors, S, C: Clock, L: Files, E: Sink, F: Folder>(
     place: &mut Place<'_, '_, '_, '_, '_, '_, R, D, S, C, L, E>,
     options: &Options<'_>,
@@ -184,9 +190,10 @@ fn serve_between<R: Wait, D: Doors, S, C: Clock, L: Files, E: Sink, F: Folder>(
     ensures done { OnOk result (IsAtEnd F.disk F.is_honest host.new.office.keeper) }
     ensures why { IfErr result (WhyStopped (D.refuses place.old.doors.now options.now.at.now) options.now.at.now) }
     ensures goes { Continues host.old.office.keeper.world host.new.office.keeper.world }
-    ensures last { OnOk result (OnlyWrote IsAnEnd (D.told place.old.doors.now) (D.told place.new.doors.now) host.new.office.keeper.world) }
+    ensures joins { JoinByKeys (L.contents place.old.files.now) host.old.office.keys host.old.office.keeper.world host.new.office.keeper.world }
+    ensures last { OnOk result (OnlyWrote IsAnEnd (D.told place.old.doors.now) (D.told place.new.doors.now) host.old.office.keeper.world host.new.office.keeper.world) }
     ensures asked { OnOk result (D.told place.old.doors.now ≡ nothing_told → WasToldToStop (D.told place.new.doors.now)) }
-    ensures sent { OnlyWrote AnyEntry (D.told place.old.doors.now) (D.told place.new.doors.now) host.new.office.keeper.world }
+    ensures sent { OnlyWrote AnyEntry (D.told place.old.doors.now) (D.told place.new.doors.now) host.old.office.keeper.world host.new.office.keeper.world }
 {
     let mut ports = door_of(place.alloc, options, place.doors)?;
     let served = serve_door(place, options, &mut ports, host);
@@ -208,9 +215,10 @@ fn serve_at<R: Wait, D: Doors, S, C: Clock, L: Files, E: Sink, F: Folder>(
     ensures done { OnOk result (IsAtEnd F.disk F.is_honest host.new.office.keeper) }
     ensures why { IfErr result (WhyStopped (D.refuses place.old.doors.now options.now.at.now) options.now.at.now) }
     ensures goes { Continues host.old.office.keeper.world host.new.office.keeper.world }
-    ensures last { OnOk result (OnlyWrote IsAnEnd (D.told place.old.doors.now) (D.told place.new.doors.now) host.new.office.keeper.world) }
+    ensures joins { JoinByKeys (L.contents place.old.files.now) host.old.office.keys host.old.office.keeper.world host.new.office.keeper.world }
+    ensures last { OnOk result (OnlyWrote IsAnEnd (D.told place.old.doors.now) (D.told place.new.doors.now) host.old.office.keeper.world host.new.office.keeper.world) }
     ensures asked { OnOk result (D.told place.old.doors.now ≡ nothing_told → WasToldToStop (D.told place.new.doors.now)) }
-    ensures sent { OnlyWrote AnyEntry (D.told place.old.doors.now) (D.told place.new.doors.now) host.new.office.keeper.world }
+    ensures sent { OnlyWrote AnyEntry (D.told place.old.doors.now) (D.told place.new.doors.now) host.old.office.keeper.world host.new.office.keeper.world }
 {
     if let Err(halt) = begin(host) {
         return Err(halted(place.alloc, host, halt)?);
@@ -219,7 +227,7 @@ fn serve_at<R: Wait, D: Doors, S, C: Clock, L: Files, E: Sink, F: Folder>(
 }
 
 // Serves a world, and answers how it stands then.
-#[tactic(auto, using(crate::proofs::Through::nothing_wrote, crate::proofs::Written::continues_same))]
+#[tactic(auto, using(crate::proofs::Through::nothing_wrote, crate::proofs::Written::continues_same, crate::proofs::Joined::join_same))]
 fn serve_host<R: Wait, D: Doors, S, C: Clock, L: Files, E: Sink, F: Folder>(
     place: &mut Place<'_, '_, '_, '_, '_, '_, R, D, S, C, L, E>,
     options: &Options<'_>,
@@ -227,10 +235,15 @@ fn serve_host<R: Wait, D: Doors, S, C: Clock, L: Files, E: Sink, F: Folder>(
 ) -> Result<Stopped, HostEnd>
     requires nobody { host.old.room.guests ≡ [] }
     requires office { IsOfficeFor (asked_by options.now) host.old.office.manners.authority host.old.office }
-    ensures done { IfOk result (HasStopped F.disk F.is_honest host.old.office.keeper (D.told place.old.doors.now) (D.told place.new.doors.now) options.now.folder.now) }
+    requires ended { open_sessions host.old.office.keeper.world.history ≡ [] }
+    requires order { AreInOrder host.old.office.keeper.world.history }
+    ensures done { (named : Option (List ℕ)) → AreHeldFor (L.contents place.old.files.now) named host.old.office.keys
+        → IfOk result (HasStopped F.disk F.is_honest (MayJoin (L.contents place.old.files.now) named) host.old.office.keeper
+        (D.told place.old.doors.now) (D.told place.new.doors.now) options.now.folder.now) }
     ensures why { IfErr result (WhyStopped (D.refuses place.old.doors.now options.now.at.now) options.now.at.now) }
     ensures goes { Continues host.old.office.keeper.world host.new.office.keeper.world }
-    ensures sent { OnlyWrote AnyEntry (D.told place.old.doors.now) (D.told place.new.doors.now) host.new.office.keeper.world }
+    ensures joins { JoinByKeys (L.contents place.old.files.now) host.old.office.keys host.old.office.keeper.world host.new.office.keeper.world }
+    ensures sent { OnlyWrote AnyEntry (D.told place.old.doors.now) (D.told place.new.doors.now) host.old.office.keeper.world host.new.office.keeper.world }
 {
     let folder = owned(place.alloc, options.folder)?;
     serve_at(place, options, host)?;
@@ -253,9 +266,12 @@ fn serve_kept<R: Wait, D: Doors, S, C: Clock, L: Files, E: Sink, F: Folder + Dro
     requires limits { AreWithinLimits keeper.world.rules }
     requires ended { open_sessions keeper.world.history ≡ [] }
     requires staff { IsStaffFor (asked_by options.now) staff }
-    ensures done { IfOk result (HasStopped F.disk F.is_honest keeper (D.told place.old.doors.now) (D.told place.new.doors.now) options.now.folder.now) }
+    ensures done { (named : Option (List ℕ)) → AreHeldFor (L.contents place.old.files.now) named staff.keys
+        → IfOk result (HasStopped F.disk F.is_honest (MayJoin (L.contents place.old.files.now) named) keeper
+        (D.told place.old.doors.now) (D.told place.new.doors.now) options.now.folder.now) }
     ensures why { IfErr result (WhyStopped (D.refuses place.old.doors.now options.now.at.now) options.now.at.now) }
-    ensures broke { BreaksOff (D.told place.old.doors.now) (D.told place.new.doors.now) keeper.world }
+    ensures broke { (named : Option (List ℕ)) → AreHeldFor (L.contents place.old.files.now) named staff.keys
+        → BreaksOff (MayJoin (L.contents place.old.files.now) named) (D.told place.old.doors.now) (D.told place.new.doors.now) keeper.world }
 {
     tell_keeper("start", options.folder, &keeper, place.err);
     keeper.is_lawful();
@@ -278,12 +294,15 @@ fn serve_prepared<R: Wait, D: Doors, S: Folders, C: Clock, L: Files, E: Sink>(
     requires good { IsGoodWorldFile prepared.file }
     requires staff { IsStaffFor (asked_by options.now) staff }
     ensures done { (contents : List ℕ → Option (List ℕ)) → IsPrepared (contents options.now.world.now) (asked_by options.now) prepared.file prepared.bytes.items
+        → AreRead contents (L.contents place.old.files.now) (asked_by options.now).keys staff.keys
         → IfOk result (WasServed S.F.disk S.F.is_honest (S.opens place.old.folders.now) contents (D.told place.old.doors.now) (D.told place.new.doors.now)
         (asked_by options.now)) }
     ensures why { (contents : List ℕ → Option (List ℕ)) → IsPrepared (contents options.now.world.now) (asked_by options.now) prepared.file prepared.bytes.items
+        → AreRead contents (L.contents place.old.files.now) (asked_by options.now).keys staff.keys
         → IfErr result (WhyBehind S.F.disk S.F.is_honest (S.opens place.old.folders.now) contents (D.told place.old.doors.now) (D.told place.new.doors.now)
         S.F.faults (S.refuses place.old.folders.now) (D.refuses place.old.doors.now) (asked_by options.now)) }
     ensures wrote { (contents : List ℕ → Option (List ℕ)) → IsPrepared (contents options.now.world.now) (asked_by options.now) prepared.file prepared.bytes.items
+        → AreRead contents (L.contents place.old.files.now) (asked_by options.now).keys staff.keys
         → OnErr result (WroteFirst S.F.disk S.F.is_honest (S.opens place.old.folders.now) contents (D.told place.old.doors.now) (D.told place.new.doors.now)
         (asked_by options.now)) }
 {

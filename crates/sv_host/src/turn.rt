@@ -2,6 +2,7 @@
 ghost use Rattle.std.specs.Prelude.{◌≡◌, IfOk, MatchBool, OnOk};
 ghost use Rattle.sv_office.specs.Offices.{session_of};
 ghost use Rattle.sv_host.specs.Inputs.{IsReadTo, WasToldToStop};
+ghost use Rattle.sv_host.specs.Joining.{LetsIn, LetsNobodyIn};
 ghost use Rattle.sv_host.specs.declared.turn.Turned.TheVariants as turns;
 ghost use Rattle.sv_host.specs.Rooms.{AnyEntry, AreServed, AreWritten, Continues, KeepsWritten, LeftInput, WereWritten, WroteNothing};
 
@@ -29,6 +30,7 @@ impl<F: Folder> Host<F> {
         ensures served { AreServed self.new.office.keeper.world (session_of self.new.office.steward) self.new.room.guests }
         ensures written { AreWritten self.old.office.keeper.world (P.told ports.old) self.old.room.guests → AreWritten self.new.office.keeper.world (P.told ports.new) self.new.room.guests }
         ensures world { self.new.office.keeper ≡ self.old.office.keeper }
+        ensures keys { self.new.office.keys ≡ self.old.office.keys }
         ensures still { WroteNothing (P.told ports.old) (P.told ports.new) }
     {
         let limit = self.limit();
@@ -53,6 +55,7 @@ impl<F: Folder> Host<F> {
         ensures served { AreServed self.new.office.keeper.world (session_of self.new.office.steward) self.new.room.guests }
         ensures written { AreWritten self.old.office.keeper.world (P.told ports.old) self.old.room.guests → AreWritten self.new.office.keeper.world (P.told ports.new) self.new.room.guests }
         ensures world { self.new.office.keeper ≡ self.old.office.keeper }
+        ensures keys { self.new.office.keys ≡ self.old.office.keys }
         ensures stops { IsReadTo (P.told ports.old) input.old → IfOk result (λ stops. MatchBool stops (WasToldToStop (P.told ports.new)) (IsReadTo (P.told ports.new) input.new)) }
     {
         if !self.office.manners.stops || !self.room.ready.input {
@@ -68,7 +71,7 @@ impl<F: Folder> Host<F> {
     }
 
     // Gives each connection that is ready, or had more, its turn.
-    #[tactic(auto, using(crate::proofs::Written::continues_then, crate::proofs::Written::continues_same, crate::proofs::Written::wrote_then, crate::proofs::Written::wrote_same))]
+    #[tactic(auto, using(crate::proofs::Written::continues_then, crate::proofs::Written::continues_same, crate::proofs::Written::wrote_then, crate::proofs::Written::wrote_same, crate::proofs::Joined::lets_then, crate::proofs::Joined::lets_same))]
     fn hear_all<P: Ports, L: Files, E: Sink>(
         &mut self,
         outside: &mut Outside<'_, '_, '_, P, L, E>,
@@ -78,6 +81,7 @@ impl<F: Folder> Host<F> {
         ensures served { OnOk result (AreServed self.new.office.keeper.world (session_of self.new.office.steward) self.new.room.guests) }
         ensures written { OnOk result (AreWritten self.old.office.keeper.world (P.told outside.old.ports.now) self.old.room.guests → AreWritten self.new.office.keeper.world (P.told outside.new.ports.now) self.new.room.guests) }
         ensures goes { Continues self.old.office.keeper.world self.new.office.keeper.world }
+        ensures joins { LetsIn (L.contents outside.old.files.now) (L.contents outside.new.files.now) self.old.office.keys self.new.office.keys self.old.office.keeper.world self.new.office.keeper.world }
         ensures still { WroteNothing (P.told outside.old.ports.now) (P.told outside.new.ports.now) }
         ensures lent { outside.new.ports.ghost_name ≡ outside.old.ports.ghost_name }
     {
@@ -96,12 +100,13 @@ impl<F: Folder> Host<F> {
     }
 
     // Does what is due: idle connections end, the steward reports, and held Observes are answered.
-    #[tactic(auto, using(crate::proofs::Written::continues_then))]
+    #[tactic(auto, using(crate::proofs::Written::continues_then, crate::proofs::Joined::nobody_then))]
     fn do_due(&mut self) -> Result<(), Halt>
         requires served { AreServed self.old.office.keeper.world (session_of self.old.office.steward) self.old.room.guests }
         ensures served { OnOk result (AreServed self.new.office.keeper.world (session_of self.new.office.steward) self.new.room.guests) }
         ensures written { OnOk result (KeepsWritten self.old.office.keeper.world self.old.room.guests self.new.office.keeper.world self.new.room.guests) }
         ensures goes { Continues self.old.office.keeper.world self.new.office.keeper.world }
+        ensures nobody { LetsNobodyIn self.old.office.keys self.new.office.keys self.old.office.keeper.world self.new.office.keeper.world }
     {
         self.look_for_idle()?;
         self.report()?;
@@ -118,9 +123,10 @@ impl<F: Folder> Host<F> {
         ensures served { OnOk result (AreServed self.new.office.keeper.world (session_of self.new.office.steward) self.new.room.guests) }
         ensures written { OnOk result (AreWritten self.old.office.keeper.world (P.told outside.old.ports.now) self.old.room.guests → AreWritten self.new.office.keeper.world (P.told outside.new.ports.now) self.new.room.guests) }
         ensures goes { Continues self.old.office.keeper.world self.new.office.keeper.world }
+        ensures joins { LetsIn (L.contents outside.old.files.now) (L.contents outside.new.files.now) self.old.office.keys self.new.office.keys self.old.office.keeper.world self.new.office.keeper.world }
         ensures lent { outside.new.ports.ghost_name ≡ outside.old.ports.ghost_name }
         ensures past { AreWritten self.old.office.keeper.world (P.told outside.old.ports.now) self.old.room.guests
-            → WereWritten AnyEntry (P.told outside.new.ports.now) self.new.office.keeper.world }
+            → WereWritten AnyEntry (P.told outside.new.ports.now) self.old.office.keeper.world self.new.office.keeper.world }
         ensures input { OnOk result (LeftInput (P.told outside.old.ports.now) (P.told outside.new.ports.now)) }
     {
         self.accept(outside.ports);
@@ -141,9 +147,10 @@ impl<F: Folder> Host<F> {
         ensures served { OnOk result (AreServed self.new.office.keeper.world (session_of self.new.office.steward) self.new.room.guests) }
         ensures written { OnOk result (AreWritten self.old.office.keeper.world (P.told outside.old.ports.now) self.old.room.guests → AreWritten self.new.office.keeper.world (P.told outside.new.ports.now) self.new.room.guests) }
         ensures goes { Continues self.old.office.keeper.world self.new.office.keeper.world }
+        ensures joins { LetsIn (L.contents outside.old.files.now) (L.contents outside.new.files.now) self.old.office.keys self.new.office.keys self.old.office.keeper.world self.new.office.keeper.world }
         ensures lent { outside.new.ports.ghost_name ≡ outside.old.ports.ghost_name }
         ensures past { AreWritten self.old.office.keeper.world (P.told outside.old.ports.now) self.old.room.guests
-            → WereWritten AnyEntry (P.told outside.new.ports.now) self.new.office.keeper.world }
+            → WereWritten AnyEntry (P.told outside.new.ports.now) self.old.office.keeper.world self.new.office.keeper.world }
         ensures stops { IsReadTo (P.told outside.old.ports.now) input.old → IfOk result (λ turned. turned ≡ turns.Stops → WasToldToStop (P.told outside.new.ports.now)) }
         ensures on { IsReadTo (P.told outside.old.ports.now) input.old → IfOk result (λ turned. turned ≡ turns.On → IsReadTo (P.told outside.new.ports.now) input.new) }
     {

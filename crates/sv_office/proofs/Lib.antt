@@ -17,6 +17,7 @@ pub mod Leaving
 pub mod Hearing2
 pub mod Stewarding2
 pub mod Renewed
+pub mod Showing
 pub mod Serially
 pub mod Alone
 pub mod Knowing

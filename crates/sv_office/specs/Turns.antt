@@ -2,6 +2,8 @@
 use Rattle.std.specs.Prelude.{◌≡◌, ◌⊎◌, ℕ, true, false, List, Option, Some}
 use Rattle.sv_log.specs.declared.folder.Folder.{Ghosts}
 use Rattle.sv_keys.specs.Keeping.{KeysView, has_digest}
+use Rattle.sv_peer.specs.View.{PeerView, Nexts}
+use Rattle.sv_peer.specs.declared.heard.Heard.TheVariants as heard
 use Rattle.sv_office.specs.Entering.{GoesOn, MayEnter, AsksInOne, MayHold}
 use Rattle.sv_office.specs.Offices.{session_of}
 use Rattle.sv_office.specs.declared.guest.Guest.{Guest}
@@ -12,6 +14,10 @@ use Rattle.sv_office.specs.declared.outside.Outside.{Outside}
 abbrev pub IsKnown : Option KeysView → Option (List ℕ) → Type 0
 IsKnown (Some keys) (Some digest) = has_digest keys digest ≡ true
 IsKnown _ _ = ⊥
+
+-- A connection has the key that it had, or the one that was heard next of it.
+abbrev pub HasHeardKey : PeerView → Option (List ℕ) → Option (List ℕ) → Type 0
+HasHeardKey peer before key = (key ≡ before) ⊎ ((digest : List ℕ) × (after : PeerView) × Nexts peer (heard.Hello digest) after × (key ≡ Some digest))
 
 -- A connection shows a key before it asks anything: once it has spoken, neither the keys nor its key change. A key that it showed is one of those by
 -- which some client may join.

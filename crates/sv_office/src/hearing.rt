@@ -1,5 +1,5 @@
 //! A connection's turn: requests are taken of it, at most so many, and read on.
-ghost use Rattle.std.specs.Prelude.{◌≡◌, ◌≢◌, ◌≤◌, ℕ, List, false, Some, IfOk, OnOk, IsTrue, length};
+ghost use Rattle.std.specs.Prelude.{◌≡◌, ◌≢◌, ◌⊎◌, ◌≤◌, ℕ, List, false, Some, IfOk, OnOk, IsTrue, length};
 ghost use Rattle.sv_journal.specs.Sessions.{is_end};
 ghost use Rattle.sv_living.specs.World.{WorldView};
 ghost use Rattle.sv_office.specs.Entering.{GoesOn, KeepsOwn, AsksInOne, MayEnter, MayHold};
@@ -7,7 +7,7 @@ ghost use Rattle.sv_office.specs.Guests.{HasYetToAsk, IsHeardOf, OnlyHeard};
 ghost use Rattle.sv_office.specs.Offices.{AreApart, session_of};
 ghost use Rattle.sv_office.specs.Renewing.{KeepsKeys};
 ghost use Rattle.sv_office.specs.Telling.{IsServed};
-ghost use Rattle.sv_office.specs.Turns.{AreLent, ShowsFirst, TakesTurn};
+ghost use Rattle.sv_office.specs.Turns.{AreLent, HasHeardKey, ShowsFirst, TakesTurn};
 ghost use Rattle.sv_office.specs.declared.guest.Standing.TheVariants as standing;
 ghost use Rattle.sv_office.specs.declared.hearing.Course.TheVariants as courses;
 
@@ -379,6 +379,7 @@ impl<F: Folder> Office<F> {
         ensures turn { TakesTurn self.old self.new guest.old guest.new }
         ensures idle { OnOk result (HasYetToAsk guest.old guest.new self.old.keeper.world self.new.keeper.world) }
         ensures sent { guest.new.peer.sent ≡ guest.old.peer.sent }
+        ensures key { HasHeardKey guest.old.peer guest.old.key guest.new.key }
         ensures kept { KeepsKeys (L.contents files.old) (L.contents files.new) self.old.keys self.new.keys }
     {
         let taken = self.take_one(files, err, guest)?;
@@ -410,6 +411,7 @@ impl<F: Folder> Office<F> {
         ensures turn { TakesTurn self.old self.new guest.old guest.new }
         ensures idle { OnOk result (HasYetToAsk guest.old guest.new self.old.keeper.world self.new.keeper.world) }
         ensures sent { guest.new.peer.sent ≡ guest.old.peer.sent }
+        ensures key { HasHeardKey guest.old.peer guest.old.key guest.new.key }
         ensures kept { KeepsKeys (L.contents files.old) (L.contents files.new) self.old.keys self.new.keys }
     {
         match guest.peer.next() {
@@ -449,6 +451,7 @@ impl<F: Folder> Office<F> {
         ensures turn { TakesTurn self.old self.new guest.old guest.new }
         ensures idle { OnOk result (HasYetToAsk guest.old guest.new self.old.keeper.world self.new.keeper.world) }
         ensures sent { guest.new.peer.sent ≡ guest.old.peer.sent }
+        ensures key { (guest.new.key ≡ guest.old.key) ⊎ (guest.new.key ≡ Some digest) }
         ensures kept { KeepsKeys (L.contents files.old) (L.contents files.new) self.old.keys self.new.keys }
     {
         if guest.has_spoken {

@@ -10,4 +10,5 @@ loop-preserved g c = record {
   written = λ are. c.admit.ensures.written (accepted_new c.loop.self.room.guests _ _ c.in-One.number c.in-One.ensures (c.loop.invariant.written are));
   input = left_then (left_then c.loop.invariant.input (left_accepted _ _ (accepts.One c.in-One.number) c.in-One.ensures)) c.admit.ensures.input;
   world = c.admit.ensures.world ∙ c.loop.invariant.world;
+  keys = c.admit.ensures.keys ∙ c.loop.invariant.keys;
 }

@@ -11,4 +11,5 @@ invariant-loop g l = record {
       → AreWritten l.self.office.keeper.world (g.P.Ports.told l.ports) l.self.room.guests;
   input : LeftInput (g.P.Ports.told l.fn.ports) (g.P.Ports.told l.ports);
   world : l.self.office.keeper ≡ l.fn.self.office.keeper;
+  keys : l.self.office.keys ≡ l.fn.self.office.keys;
 }

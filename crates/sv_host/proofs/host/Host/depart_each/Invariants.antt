@@ -1,5 +1,6 @@
 -- The connections so far are gone.
 use Rattle.sv_office.specs.Offices.{session_of}
+use Rattle.sv_host.specs.Joining.{LetsNobodyIn}
 use Rattle.sv_host.specs.Rooms.{AreServed, AreWritten, Continues, WroteNothing}
 use Rattle.sv_host.proofs.host.Host.depart_each.Given as goal
 
@@ -9,5 +10,6 @@ invariant-loop-number g l = record {
   written : AreWritten l.fn.self.office.keeper.world (g.P.Ports.told l.fn.ports) l.fn.self.room.guests
       → AreWritten l.self.office.keeper.world (g.P.Ports.told l.ports) l.self.room.guests;
   goes : Continues l.fn.self.office.keeper.world l.self.office.keeper.world;
+  nobody : LetsNobodyIn l.fn.self.office.keys l.self.office.keys l.fn.self.office.keeper.world l.self.office.keeper.world;
   still : WroteNothing (g.P.Ports.told l.fn.ports) (g.P.Ports.told l.ports);
 }

@@ -1,5 +1,6 @@
 -- Some was sent.
 use Rattle.sv_office.specs.Offices.{session_of}
+use Rattle.sv_host.specs.Joining.{LetsNobodyIn}
 use Rattle.sv_host.specs.Rooms.{AreServed, AreWritten, Continues, LeftInput}
 use Rattle.sv_host.proofs.host.Host.send_rest.Given as goal
 
@@ -10,4 +11,5 @@ invariant-loop g l = record {
       → AreWritten l.self.office.keeper.world (g.P.Ports.told l.ports) l.self.room.guests;
   input : LeftInput (g.P.Ports.told l.fn.ports) (g.P.Ports.told l.ports);
   goes : Continues l.fn.self.office.keeper.world l.self.office.keeper.world;
+  nobody : LetsNobodyIn l.fn.self.office.keys l.self.office.keys l.fn.self.office.keeper.world l.self.office.keeper.world;
 }

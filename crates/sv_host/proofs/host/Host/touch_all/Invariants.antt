@@ -9,4 +9,5 @@ invariant-loop-place g l = record {
   served : AreServed l.self.office.keeper.world (session_of l.self.office.steward) l.self.room.guests;
   written : KeepsWritten l.fn.self.office.keeper.world l.fn.self.room.guests l.self.office.keeper.world l.self.room.guests;
   world : l.self.office.keeper ≡ l.fn.self.office.keeper;
+  keys : l.self.office.keys ≡ l.fn.self.office.keys;
 }

@@ -41,3 +41,15 @@ returns-then-guest-clause-kept g c = kept_same (λ name. refl) c.take_request.en
 
 pub returns-in_default-clause-kept : goal.returns-in_default-clause-kept
 returns-in_default-clause-kept g c = kept_same (λ name. refl) refl
+
+pub returns-then-guest-clause-key : goal.returns-then-guest-clause-key
+returns-then-guest-clause-key g c = inl c.take_request.ensures.key
+
+pub returns-in_default-clause-key : goal.returns-in_default-clause-key
+returns-in_default-clause-key g c = inl refl
+
+pub returns-then-look-clause-key : goal.returns-then-look-clause-key
+returns-then-look-clause-key g c = inr refl
+
+pub returns-clause-key : goal.returns-clause-key
+returns-clause-key g c = inl (ap (λ (guest : Guest). guest.key) c.leave.ensures)

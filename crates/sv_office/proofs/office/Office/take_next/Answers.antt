@@ -2,6 +2,7 @@
 use Rattle.sv_office.proofs.Hearing2.{turn_then_ended}
 use Rattle.sv_office.proofs.Stepping1.{end_shut, not_open, yet_shut}
 use Rattle.std.proofs.Common.{refl}
+use Rattle.sv_office.proofs.Showing.{heard_still}
 use Rattle.sv_office.proofs.Renewed.{kept_same, kept_then}
 use Rattle.sv_office.proofs.office.Office.take_next.Goals as goal
 
@@ -23,3 +24,9 @@ returns-in_err-end-clause-kept g c = kept_then c.take_one.ensures.kept (kept_sam
 
 pub returns-then-not-is_open-clause-kept : goal.returns-then-not-is_open-clause-kept
 returns-then-not-is_open-clause-kept g c = kept_then c.take_one.ensures.kept (kept_same (λ name. refl) c.end.ensures.keys)
+
+pub returns-in_err-end-clause-key : goal.returns-in_err-end-clause-key
+returns-in_err-end-clause-key g c = heard_still c.end.ensures.guest.key c.take_one.ensures.key
+
+pub returns-then-not-is_open-clause-key : goal.returns-then-not-is_open-clause-key
+returns-then-not-is_open-clause-key g c = heard_still c.end.ensures.guest.key c.take_one.ensures.key

@@ -2,6 +2,7 @@
 use Rattle.std.proofs.Common.{inl, inr, refl, ap}
 use Rattle.sv_office.specs.declared.guest.Guest.{Guest}
 use Rattle.sv_office.proofs.Hearing2.{turn_asked, turn_nowhere}
+use Rattle.sv_office.proofs.Showing.{heard_key}
 use Rattle.sv_office.proofs.Stepping1.{yet_same}
 use Rattle.sv_office.proofs.Renewed.{kept_same}
 use Rattle.sv_office.proofs.office.Office.take_one.Goals as goal
@@ -53,3 +54,24 @@ returns-in-Closed-clause-kept g c = kept_same (λ name. refl) refl
 
 pub returns-in_ok-take_request-in-Request-clause-kept : goal.returns-in_ok-take_request-in-Request-clause-kept
 returns-in_ok-take_request-in-Request-clause-kept g c = kept_same (λ name. refl) c.take_request.ensures.keys
+
+pub returns-in_err-take_request-in-Request-clause-key : goal.returns-in_err-take_request-in-Request-clause-key
+returns-in_err-take_request-in-Request-clause-key g c = inl c.take_request.ensures.key
+
+pub returns-in_ok-take_request-in-Request-clause-key : goal.returns-in_ok-take_request-in-Request-clause-key
+returns-in_ok-take_request-in-Request-clause-key g c = inl c.take_request.ensures.key
+
+pub returns-in-NotYet-clause-key : goal.returns-in-NotYet-clause-key
+returns-in-NotYet-clause-key g c = inl refl
+
+pub returns-in-Memory-clause-key : goal.returns-in-Memory-clause-key
+returns-in-Memory-clause-key g c = inl (ap (λ (guest : Guest). guest.key) c.leave.ensures)
+
+pub returns-in-Closed-clause-key : goal.returns-in-Closed-clause-key
+returns-in-Closed-clause-key g c = inl c.close.ensures.key
+
+pub returns-in_err-greet-in-Hello-clause-key : goal.returns-in_err-greet-in-Hello-clause-key
+returns-in_err-greet-in-Hello-clause-key g c = heard_key c.in-Hello.digest c.in-Hello.ensures.next c.greet.ensures.key
+
+pub returns-in_ok-greet-in-Hello-clause-key : goal.returns-in_ok-greet-in-Hello-clause-key
+returns-in_ok-greet-in-Hello-clause-key g c = heard_key c.in-Hello.digest c.in-Hello.ensures.next c.greet.ensures.key
