@@ -6,6 +6,4 @@ mod frames;
 #[cfg(test)]
 mod great;
 #[cfg(test)]
-mod outbox;
-#[cfg(test)]
 mod tests;
