@@ -8,11 +8,13 @@ use Rattle.sv_living.specs.World.{WorldView}
 use Rattle.sv_keys.specs.Keeping.{KeysView, AreHeld, has_key}
 use Rattle.sv_keeper.specs.Views.{KeeperView}
 use Rattle.sv_log.specs.Pictures.{Disk}
+use Rattle.sv_log.specs.declared.folder.Folder.{Ghosts}
 use Rattle.sv_ports.specs.Told.{Told}
 use Rattle.sv_office.specs.Admitting.{is_admitted, is_observe, is_stewards_number, number_in, shows_key, steward_number}
 use Rattle.sv_office.specs.Entering.{AreAdded, CameOfHeld, GoesOn, IsEndOf, IsReport, IsStewards, MayEnter, is_report}
 use Rattle.sv_office.specs.Renewing.{AreHeldFor, KeepsKeys}
 use Rattle.sv_office.specs.declared.guest.Held.{Held}
+use Rattle.sv_office.specs.declared.office.Office.{Office}
 use Rattle.sv_office.proofs.Adding.{added_as, added_then}
 use Rattle.sv_office.proofs.Renewed.{held_as, kept_same, kept_then}
 use Rattle.sv_host.specs.Joining.{IsNoJoin, JoinByKeys, LetsIn, LetsNobodyIn, LetsStewardIn, MayJoin, MayJoinAs}
@@ -62,6 +64,9 @@ nobody_same {v = v} same stays =
 
 pub nobody_kept : {F : Type 0} {old new : Option KeysView} {a b : KeeperView F} → new ≡ old → b ≡ a → LetsNobodyIn old new a.world b.world
 nobody_kept {F} same stays = nobody_same same (ap (λ (k : KeeperView F). k.world) stays)
+
+pub nobody_office : {F : Type 0} {k : Ghosts F} {a b : Office F k} → b ≡ a → LetsNobodyIn a.keys b.keys a.keeper.world b.keeper.world
+nobody_office {F} {k} same = nobody_same (ap (λ (o : Office F k). o.keys) same) (ap (λ (o : Office F k). o.keeper.world) same)
 
 pub nobody_then : {a b c : Option KeysView} {u v w : WorldView} → LetsNobodyIn a b u v → LetsNobodyIn b c v w → LetsNobodyIn a c u w
 nobody_then first next = record { keys = next.keys ∙ first.keys; added = added_then first.added next.added }
@@ -139,6 +144,10 @@ lets_nobody contents on = record {
   kept = kept_same (λ name. refl) on.keys;
   join = record { added = λ named held. added_as (λ e none. no_join_may contents named (number_in e.request) none) on.added };
 }
+
+pub lets_office : {F : Type 0} {k : Ghosts F} {a b : Office F k} (contents : List ℕ → Option (List ℕ)) → b ≡ a
+    → LetsIn contents contents a.keys b.keys a.keeper.world b.keeper.world
+lets_office contents same = lets_nobody contents (nobody_office same)
 
 -- Where the steward joins.
 stewards_number_may : (contents : List ℕ → Option (List ℕ)) (named : Option (List ℕ)) (number : Option ℕ) → number ≡ Some steward_number → MayJoinAs contents named number

@@ -19,7 +19,7 @@ impl<F: Folder> Host<F> {
 
     // Takes a connection off the list, and answers its held Observe, where it has one.
     #[inline(never)]
-    #[tactic(auto, using(crate::proofs::Written::continues_then, crate::proofs::Written::continues_same, crate::proofs::Joined::nobody_then, crate::proofs::Joined::nobody_same))]
+    #[tactic(auto, using(crate::proofs::Written::continues_then, crate::proofs::Written::continues_same))]
     fn take_off(&mut self, number: u64) -> Result<(), Halt>
         requires served { AreServed self.old.office.keeper.world (session_of self.old.office.steward) self.old.room.guests }
         ensures served { OnOk result (AreServed self.new.office.keeper.world (session_of self.new.office.steward) self.new.room.guests) }
@@ -37,7 +37,7 @@ impl<F: Folder> Host<F> {
 
     // Looks at a connection of the list, and keeps it there where it waits on.
     #[inline(never)]
-    #[tactic(auto, using(crate::proofs::Written::continues_then, crate::proofs::Written::continues_same, crate::proofs::Joined::nobody_then, crate::proofs::Joined::nobody_same))]
+    #[tactic(auto, using(crate::proofs::Written::continues_then, crate::proofs::Written::continues_same))]
     fn look_at(&mut self, number: u64) -> Result<(), Halt>
         requires served { AreServed self.old.office.keeper.world (session_of self.old.office.steward) self.old.room.guests }
         ensures served { OnOk result (AreServed self.new.office.keeper.world (session_of self.new.office.steward) self.new.room.guests) }
@@ -56,7 +56,7 @@ impl<F: Folder> Host<F> {
     }
 
     // Looks at each of these.
-    #[tactic(auto, using(crate::proofs::Written::continues_then, crate::proofs::Written::continues_same, crate::proofs::Joined::nobody_then, crate::proofs::Joined::nobody_same))]
+    #[tactic(auto, using(crate::proofs::Written::continues_then, crate::proofs::Written::continues_same))]
     fn look_at_each(&mut self, numbers: &[u64]) -> Result<(), Halt>
         requires served { AreServed self.old.office.keeper.world (session_of self.old.office.steward) self.old.room.guests }
         ensures served { OnOk result (AreServed self.new.office.keeper.world (session_of self.new.office.steward) self.new.room.guests) }
@@ -71,7 +71,7 @@ impl<F: Folder> Host<F> {
     }
 
     /// Answers the held Observes for which there is news, or whose time has passed.
-    #[tactic(auto, using(crate::proofs::Written::continues_then, crate::proofs::Written::continues_same, crate::proofs::Joined::nobody_then, crate::proofs::Joined::nobody_same))]
+    #[tactic(auto, using(crate::proofs::Written::continues_then, crate::proofs::Written::continues_same))]
     pub fn look_at_held(&mut self) -> Result<(), Halt>
         requires served { AreServed self.old.office.keeper.world (session_of self.old.office.steward) self.old.room.guests }
         ensures served { OnOk result (AreServed self.new.office.keeper.world (session_of self.new.office.steward) self.new.room.guests) }

@@ -75,7 +75,7 @@ impl<F: Folder> Host<F> {
 
     /// Closes a connection, whose session has its End.
     #[inline(never)]
-    #[tactic(auto, using(crate::proofs::Written::continues_then, crate::proofs::Written::continues_same, crate::proofs::Written::wrote_then, crate::proofs::Written::wrote_same, crate::proofs::Joined::nobody_then, crate::proofs::Joined::nobody_same))]
+    #[tactic(auto, using(crate::proofs::Written::continues_then, crate::proofs::Written::continues_same, crate::proofs::Written::wrote_then, crate::proofs::Written::wrote_same))]
     pub fn depart<P: Ports>(&mut self, ports: &mut P, number: u64) -> Result<(), Halt>
         requires served { AreServed self.old.office.keeper.world (session_of self.old.office.steward) self.old.room.guests }
         ensures served { OnOk result (AreServed self.new.office.keeper.world (session_of self.new.office.steward) self.new.room.guests) }

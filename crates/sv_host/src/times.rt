@@ -29,7 +29,7 @@ impl<F: Folder> Host<F> {
 
     // Ends a connection that is idle.
     #[inline(never)]
-    #[tactic(auto, using(crate::proofs::Written::continues_then, crate::proofs::Written::continues_same, crate::proofs::Joined::nobody_then, crate::proofs::Joined::nobody_same))]
+    #[tactic(auto, using(crate::proofs::Written::continues_then, crate::proofs::Written::continues_same))]
     fn dismiss(&mut self, number: u64) -> Result<(), Halt>
         requires served { AreServed self.old.office.keeper.world (session_of self.old.office.steward) self.old.room.guests }
         ensures served { OnOk result (AreServed self.new.office.keeper.world (session_of self.new.office.steward) self.new.room.guests) }
@@ -45,9 +45,24 @@ impl<F: Folder> Host<F> {
         self.put_back(number, guest)
     }
 
+    // Ends a connection where it is idle.
+    #[tactic(auto, using(crate::proofs::Written::continues_same))]
+    fn dismiss_idle(&mut self, number: u64) -> Result<(), Halt>
+        requires served { AreServed self.old.office.keeper.world (session_of self.old.office.steward) self.old.room.guests }
+        ensures served { OnOk result (AreServed self.new.office.keeper.world (session_of self.new.office.steward) self.new.room.guests) }
+        ensures written { OnOk result (KeepsWritten self.old.office.keeper.world self.old.room.guests self.new.office.keeper.world self.new.room.guests) }
+        ensures goes { Continues self.old.office.keeper.world self.new.office.keeper.world }
+        ensures nobody { LetsNobodyIn self.old.office.keys self.new.office.keys self.old.office.keeper.world self.new.office.keeper.world }
+    {
+        if !self.is_idle(number) {
+            return Ok(());
+        }
+        self.dismiss(number)
+    }
+
     // Looks at all connections.
     #[inline(never)]
-    #[tactic(auto, using(crate::proofs::Written::continues_then, crate::proofs::Written::continues_same, crate::proofs::Joined::nobody_then, crate::proofs::Joined::nobody_same))]
+    #[tactic(auto, using(crate::proofs::Written::continues_then, crate::proofs::Written::continues_same))]
     fn look_at_all(&mut self) -> Result<(), Halt>
         requires served { AreServed self.old.office.keeper.world (session_of self.old.office.steward) self.old.room.guests }
         ensures served { OnOk result (AreServed self.new.office.keeper.world (session_of self.new.office.steward) self.new.room.guests) }
@@ -59,15 +74,13 @@ impl<F: Folder> Host<F> {
             let Some(number) = self.room.guests.number_at(place) else {
                 return Ok(());
             };
-            if self.is_idle(number) {
-                self.dismiss(number)?;
-            }
+            self.dismiss_idle(number)?;
         }
         Ok(())
     }
 
     /// Ends the connections that are idle.
-    #[tactic(auto, using(crate::proofs::Written::continues_then, crate::proofs::Written::continues_same, crate::proofs::Joined::nobody_then, crate::proofs::Joined::nobody_same))]
+    #[tactic(auto, using(crate::proofs::Written::continues_then, crate::proofs::Written::continues_same))]
     pub fn look_for_idle(&mut self) -> Result<(), Halt>
         requires served { AreServed self.old.office.keeper.world (session_of self.old.office.steward) self.old.room.guests }
         ensures served { OnOk result (AreServed self.new.office.keeper.world (session_of self.new.office.steward) self.new.room.guests) }

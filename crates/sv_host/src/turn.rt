@@ -71,7 +71,7 @@ impl<F: Folder> Host<F> {
     }
 
     // Gives each connection that is ready, or had more, its turn.
-    #[tactic(auto, using(crate::proofs::Written::continues_then, crate::proofs::Written::continues_same, crate::proofs::Written::wrote_then, crate::proofs::Written::wrote_same, crate::proofs::Joined::lets_then, crate::proofs::Joined::lets_same))]
+    #[tactic(auto, using(crate::proofs::Written::continues_then, crate::proofs::Written::continues_same, crate::proofs::Written::wrote_then, crate::proofs::Written::wrote_same))]
     fn hear_all<P: Ports, L: Files, E: Sink>(
         &mut self,
         outside: &mut Outside<'_, '_, '_, P, L, E>,
@@ -100,7 +100,7 @@ impl<F: Folder> Host<F> {
     }
 
     // Does what is due: idle connections end, the steward reports, and held Observes are answered.
-    #[tactic(auto, using(crate::proofs::Written::continues_then, crate::proofs::Joined::nobody_then))]
+    #[tactic(auto, using(crate::proofs::Written::continues_then))]
     fn do_due(&mut self) -> Result<(), Halt>
         requires served { AreServed self.old.office.keeper.world (session_of self.old.office.steward) self.old.room.guests }
         ensures served { OnOk result (AreServed self.new.office.keeper.world (session_of self.new.office.steward) self.new.room.guests) }

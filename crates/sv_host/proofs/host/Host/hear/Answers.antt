@@ -1,6 +1,7 @@
 -- It is put back as it was heard.
 use Rattle.sv_host.proofs.Boxes.{lent_written}
 use Rattle.sv_host.proofs.Written.{on_ok}
+use Rattle.sv_host.proofs.Joined.{lets_office}
 use Rattle.sv_host.proofs.host.Host.hear.Goals as goal
 
 pub returns-clause-written : goal.returns-clause-written
@@ -9,3 +10,6 @@ returns-clause-written g c =
     let out = lent_written _ _ _ c.args.number _ _ c.get_mut.ensures.value (c.in-Some.ensures.written _ are) in
     let heard = lent_written _ _ _ c.args.number _ _ c.get_mut-2.ensures.value (c.in_ok-hear_guest.ensures.written out) in
     c.put_back.ensures.written _ (c.list.ensures.written _ c.args.number heard))
+
+pub returns-in_default-clause-joins : goal.returns-in_default-clause-joins
+returns-in_default-clause-joins g c = lets_office _ c.in_default.ensures.office
