@@ -2,4 +2,3 @@
 pub mod Making
 pub mod Endings
 pub mod Explaining
-pub mod Both
