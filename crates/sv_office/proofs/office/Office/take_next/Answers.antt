@@ -26,7 +26,7 @@ pub returns-then-not-is_open-clause-kept : goal.returns-then-not-is_open-clause-
 returns-then-not-is_open-clause-kept g c = kept_then c.take_one.ensures.kept (kept_same (λ name. refl) c.end.ensures.keys)
 
 pub returns-in_err-end-clause-key : goal.returns-in_err-end-clause-key
-returns-in_err-end-clause-key g c = heard_still c.end.ensures.guest.key c.take_one.ensures.key
+returns-in_err-end-clause-key g c = heard_still _ c.end.ensures.guest.key c.take_one.ensures.key
 
 pub returns-then-not-is_open-clause-key : goal.returns-then-not-is_open-clause-key
-returns-then-not-is_open-clause-key g c = heard_still c.end.ensures.guest.key c.take_one.ensures.key
+returns-then-not-is_open-clause-key g c = heard_still _ c.end.ensures.guest.key c.take_one.ensures.key

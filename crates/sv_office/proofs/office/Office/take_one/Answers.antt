@@ -71,7 +71,7 @@ pub returns-in-Closed-clause-key : goal.returns-in-Closed-clause-key
 returns-in-Closed-clause-key g c = inl c.close.ensures.key
 
 pub returns-in_err-greet-in-Hello-clause-key : goal.returns-in_err-greet-in-Hello-clause-key
-returns-in_err-greet-in-Hello-clause-key g c = heard_key c.in-Hello.digest c.in-Hello.ensures.next c.greet.ensures.key
+returns-in_err-greet-in-Hello-clause-key g c = heard_key _ _ c.in-Hello.digest c.in-Hello.ensures.next c.greet.ensures.key
 
 pub returns-in_ok-greet-in-Hello-clause-key : goal.returns-in_ok-greet-in-Hello-clause-key
-returns-in_ok-greet-in-Hello-clause-key g c = heard_key c.in-Hello.digest c.in-Hello.ensures.next c.greet.ensures.key
+returns-in_ok-greet-in-Hello-clause-key g c = heard_key _ _ c.in-Hello.digest c.in-Hello.ensures.next c.greet.ensures.key
