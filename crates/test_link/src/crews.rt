@@ -7,8 +7,8 @@ use std::sync::Wait;
 use std::test::Fail;
 use std::thread::Threads;
 use sv_link::{
-    Crew, End, EndRead, EndWrote, FewCrew, Gate, HoldGate, Job, Net, OpenGate, Pair, PipeEnd, PipeNet,
-    Ran, ThreadCrew,
+    Crew, End, EndRead, EndWrote, FewCrew, Gate, HoldGate, Job, Net, OpenGate, Pair, PipeEnd,
+    PipeNet, Ran, ThreadCrew,
 };
 
 /// Says one byte, and hears one.
