@@ -2,3 +2,4 @@
 pub mod Making
 pub mod Endings
 pub mod Explaining
+pub mod Both

@@ -1,5 +1,5 @@
 -- How a call ends, and what each status says. `held` is what the scenario's file holds and `told` what the report's does, where that is told.
-use Rattle.std.specs.Prelude.{◌≡◌, ◌≢◌, ◌⊎◌, ℕ, ◌<◌, List, [], ◌++◌, length, take, Option, codes, unwrap_or, Result, Ok, Err, string_bytes, IfSome}
+use Rattle.std.specs.Prelude.{◌≡◌, ◌≢◌, ◌⊎◌, ℕ, ◌<◌, Bool, true, false, List, [], ◌++◌, length, take, drop, Option, Some, None, codes, unwrap_or, Result, Ok, Err, string_bytes, IfSome}
 use Rattle.std.specs.Fmt.{decimal}
 use Rattle.sv_bytes.specs.Writing.{GrewOrRose}
 use Rattle.sv_command.specs.declared.ending.Ending.TheVariants as plain
@@ -9,7 +9,7 @@ use Rattle.sv_command.specs.Reading.{IsRefused, IsNoScenario, read_limit}
 use Rattle.sv_command.specs.Statuses.{Counts, IsUnread, Raises as PlainRaises, status_of as plain_status, ending_line, status_line}
 use Rattle.sv_audit.specs.declared.ending.AuditEnding.{AuditEnding}
 use Rattle.sv_audit.specs.declared.ending.AuditEnding.TheVariants as endings
-use Rattle.sv_audit.specs.Judging.{IsText, IsWrong, IsOutside, report_size}
+use Rattle.sv_audit.specs.Judging.{IsText, IsWrong, IsOutside, report_size, report_limit}
 use Rattle.sv_audit.specs.Words.{Asked, Question, Why, scenario_named, report_named}
 
 -- ---- Endings
@@ -37,6 +37,22 @@ abbrev pub AreUnread : AuditEnding → Type 0
 AreUnread (endings.Plain ending) = IsUnread ending
 AreUnread endings.Report = Unit {0}
 AreUnread (endings.Wrong line) = ⊥
+
+-- ---- What was read
+
+-- The report was the file that was read last, up to its end or to a byte more than one may have: just the rest of it is left.
+abbrev pub IsReportRead : (told left : Option (List ℕ)) → Type 0
+IsReportRead (Some all) left = left ≡ Some (drop report_limit all)
+IsReportRead None left = left ≡ None
+
+-- The ending comes of what was read of both files.
+abbrev pub is_of_both : AuditEnding → Bool
+is_of_both (endings.Plain plain.Words) = false
+is_of_both (endings.Plain plain.File) = false
+is_of_both (endings.Plain plain.Memory) = false
+is_of_both (endings.Plain _) = true
+is_of_both endings.Report = false
+is_of_both (endings.Wrong line) = true
 
 -- ---- What is left
 

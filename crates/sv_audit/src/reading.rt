@@ -4,7 +4,7 @@ ghost use Rattle.sv_command.specs.Reading.{IsFileFront};
 ghost use Rattle.sv_command.specs.Statuses.{counts};
 ghost use Rattle.sv_command.specs.declared.ending.Ending.TheVariants as plain;
 ghost use Rattle.sv_audit.specs.Judging.{report_limit, IsReportFront};
-ghost use Rattle.sv_audit.specs.Statuses.{AreUnread, Raises, ending_of};
+ghost use Rattle.sv_audit.specs.Statuses.{AreUnread, IsReportRead, Raises, ending_of};
 ghost use Rattle.sv_audit.specs.declared.ending.AuditEnding.TheVariants as endings;
 
 use crate::ending::AuditEnding;
@@ -27,6 +27,7 @@ pub(crate) struct Both {
 fn report_bytes<F: Files>(alloc: Global, file: &str, files: &mut F) -> Result<Vec<u8>, AuditEnding>
     ensures front { IfOk result (λ bytes. IsReportFront (F.contents files.old file.now) bytes.items) }
     ensures bound { IfOk result (λ bytes. length bytes.items ≤ report_limit) }
+    ensures left { IfOk result (λ _. IsReportRead (F.contents files.old file.now) (F.left files.new)) }
     ensures unread { IfErr result AreUnread }
     ensures raises { (k : ℕ) → Raises (counts (F.faults files.old) 0 0 k) (counts (F.faults files.new) 0 0 k) (ending_of result) }
     ensures sure { F.sure files.old file.now → result ≢ Err endings.Report }
@@ -48,6 +49,7 @@ pub(crate) fn read_both<F: Files>(
     ensures scenario { IfOk result (λ both. IsFileFront (F.contents files.old audit.entry.scenario.now) both.scenario.items) }
     ensures report { IfOk result (λ both. IsReportFront (F.contents files.old audit.entry.report.now) both.report.items) }
     ensures bound { IfOk result (λ both. length both.report.items ≤ report_limit) }
+    ensures left { IfOk result (λ _. IsReportRead (F.contents files.old audit.entry.report.now) (F.left files.new)) }
     ensures unread { IfErr result AreUnread }
     ensures raises { (k : ℕ) → Raises (counts (F.faults files.old) 0 0 k) (counts (F.faults files.new) 0 0 k) (ending_of result) }
     ensures sure_scenario { F.sure files.old audit.entry.scenario.now → result ≢ Err (endings.Plain plain.File) }

@@ -1,12 +1,12 @@
 //! The top call of the checker of reports.
-ghost use Rattle.std.specs.Prelude.{◌≡◌, ◌≢◌, ◌↔◌, ◌⊎◌, ℕ, ◌≤◌, map, option_map, string_bytes, None, Err, IfSome};
+ghost use Rattle.std.specs.Prelude.{◌≡◌, ◌≢◌, ◌↔◌, ◌⊎◌, ℕ, ◌≤◌, true, map, option_map, string_bytes, None, Err, IfSome};
 ghost use Rattle.sv_bytes.specs.Faults.{Rose};
 ghost use Rattle.sv_command.specs.Endings.{IsMade};
 ghost use Rattle.sv_command.specs.Reading.{HoldsScenario};
 ghost use Rattle.sv_command.specs.Statuses.{counts, NoneRose};
 ghost use Rattle.sv_command.specs.declared.ending.Ending.TheVariants as plain;
 ghost use Rattle.sv_audit.specs.Judging.{IsText};
-ghost use Rattle.sv_audit.specs.Statuses.{Ends, EndsEarly, Leaves, Raises, TellsStatus, ending_of};
+ghost use Rattle.sv_audit.specs.Statuses.{Ends, EndsEarly, IsReportRead, Leaves, Raises, TellsStatus, ending_of, is_of_both};
 ghost use Rattle.sv_audit.specs.Words.{asked_by, asked_of, words_line};
 ghost use Rattle.sv_audit.specs.declared.ending.AuditEnding.TheVariants as endings;
 
@@ -25,6 +25,7 @@ fn text_for<F: Files>(alloc: Global, audit: Audit<'_>, files: &mut F) -> Result<
     ensures raises { (k : ℕ) → Raises (counts (F.faults files.old) 0 0 k) (counts (F.faults files.new) 0 0 k) (ending_of result) }
     ensures sure_scenario { F.sure files.old audit.entry.scenario.now → result ≢ Err (endings.Plain plain.File) }
     ensures sure_report { F.sure files.old audit.entry.report.now → result ≢ Err endings.Report }
+    ensures read { is_of_both (ending_of result) ≡ true → IsReportRead (F.contents files.old audit.entry.report.now) (F.left files.new) }
 {
     let both = read_both(alloc, audit, files)?;
     let scenario = given_scenario(alloc, &both.scenario)?;
@@ -44,6 +45,7 @@ fn decide<F: Files, K: Sink>(
     ensures raises { Raises (counts (F.faults files.old) 0 0 (K.faults out.old)) (counts (F.faults files.new) 0 0 (K.faults out.new)) result }
     ensures sure_scenario { IfSome (option_map asked_by audit.entry) (λ a. F.sure files.old a.scenario → result ≢ endings.Plain plain.File) }
     ensures sure_report { IfSome (option_map asked_by audit.entry) (λ a. F.sure files.old a.report → result ≢ endings.Report) }
+    ensures read { is_of_both result ≡ true → IfSome (option_map asked_by audit.entry) (λ a. IsReportRead (F.contents files.old a.report) (F.left files.new)) }
     ensures apart { option_map asked_by audit.entry ≡ None → (files.new ≡ files.old) × (K.taken out.new ≡ K.taken out.old) }
 {
     let Some(audit) = audit else {
@@ -81,6 +83,8 @@ pub fn run_check<F: Files, K: Sink, E: Sink>(
     ensures file { (result ≡ 4) ↔ Rose (F.faults files.old) (F.faults files.new) }
     ensures output { (result ≡ 5) ↔ Rose (K.faults out.old) (K.faults out.new) }
     ensures sure { IfSome (asked_of (map string_bytes words.now)) (λ a. F.sure files.old a.scenario → F.sure files.old a.report → result ≢ 4) }
+    // The report is read before anything is said of the scenario or of it.
+    ensures read { result ≢ 2 → result ≢ 4 → result ≢ 8 → IfSome (asked_of (map string_bytes words.now)) (λ a. IsReportRead (F.contents files.old a.report) (F.left files.new)) }
     ensures apart { result ≡ 2 → files.new ≡ files.old }
     ensures nothing { result ≢ 0 → result ≢ 5 → K.taken out.new ≡ K.taken out.old }
     ensures left { IfSome (asked_of (map string_bytes words.now)) (λ a. Leaves (F.contents files.old a.scenario) (F.contents files.old a.report) a.question (K.taken out.old) (K.taken out.new) result) }

@@ -1,6 +1,7 @@
 -- Each clause of the call, from what was decided.
 use Rattle.std.proofs.Common.{◌∙◌}
 use Rattle.sv_audit.proofs.Endings.{range_is, words_is, file_is, output_is, sure_is, left_is, nothing_is, told_is, complete_is}
+use Rattle.sv_audit.proofs.Both.{both_by_status}
 use Rattle.sv_audit.proofs.top.run_check.Goals as goal
 
 pub returns-clause-range : goal.returns-clause-range
@@ -21,6 +22,9 @@ pub returns-clause-sure : goal.returns-clause-sure
 returns-clause-sure g c =
     rw c.status_of.ensures
     (sure_is (g.F.Files.sure c.args.files.now) _ _ (rw c.audit_of-audit.ensures at c.decide-ending.ensures.sure_scenario) (rw c.audit_of-audit.ensures at c.decide-ending.ensures.sure_report))
+
+pub returns-clause-read : goal.returns-clause-read
+returns-clause-read g c = rw c.status_of.ensures (λ words file memory. rw c.audit_of-audit.ensures at (c.decide-ending.ensures.read (both_by_status _ words file memory)))
 
 pub returns-clause-apart : goal.returns-clause-apart
 returns-clause-apart g c = rw c.status_of.ensures (λ two. (c.decide-ending.ensures.apart ((words_is _ c.decide-ending.ensures.words).0 two)).0)
