@@ -1,7 +1,7 @@
 -- The lemmas of this crate, file by file.
 pub mod Places
 mod Settled
-mod Unused
+pub mod Unused
 pub mod Opened
 pub mod Ready
 pub mod Taken

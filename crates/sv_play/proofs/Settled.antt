@@ -42,7 +42,7 @@ module _ {E : Type 0} (told : E → Told) (calm : E → Type 0) (net_calm : Type
         others = [];
         settled = sym (append-nil old.settled);
         unmatched = sym (append-nil old.unmatched);
-        count = refl;
+        count = omega arith;
         made = refl;
         owed = omega arith;
         matched = λ _. refl;

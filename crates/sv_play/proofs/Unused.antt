@@ -1,6 +1,6 @@
 -- What becomes of pairs that nobody used, and of those of a whole run.
 use Rattle.std.proofs.Common.{◌≡◌, ℕ, ◌+◌, ◌<◌, ◌≤◌, Bool, true, false, List, [], ◌∷◌, ◌++◌, length, if◌then◌else◌, inl, inr, refl, sym, ap, subst, ◌∙◌, arith, append-nil}
-use Rattle.std.specs.Prelude.{Result, Ok, Err}
+use Rattle.std.specs.Prelude.{Result, Ok, Err, IsErrAnd}
 use Rattle.std.specs.List.{AllByRecursion, AllZip}
 use Rattle.std.proofs.lemmas.Option.{slice_get_within}
 use Rattle.sv_bytes.specs.Faults.{Rose}
@@ -10,18 +10,39 @@ use Rattle.sv_link.specs.declared.side.Side.TheVariants.{Server, Client}
 use Rattle.sv_play.specs.declared.outcome.PlayFault.{PlayFault}
 use Rattle.sv_play.specs.declared.outcome.PlayFault.TheVariants as faults_of
 use Rattle.sv_play.specs.declared.gathering.ClientEnd.{ClientEnd}
-use Rattle.sv_play.specs.Opening.{OpeningCause, HoldsUnused, SettledAfter}
+use Rattle.sv_play.specs.Opening.{FaultCause, HoldsUnused, SettledAfter}
 use Rattle.sv_play.specs.Pairs.{Pairing, SettledAll, MatchedAll, LeavesPairs, HasDiffered, SomeDiffered}
 use Rattle.sv_play.specs.Playing.{PlayCause}
 use Rattle.sv_play.specs.Settling.{SettledCause, SettledEach, ArePair, AreCalm, IsSince, AnyZip, Differ}
 use Rattle.sv_play.proofs.Places.{zip_from}
 
-pub unerr : {A : Type 0} → Result A PlayFault → PlayFault
+abbrev pub unerr : {A : Type 0} → Result A PlayFault → PlayFault
 unerr (Ok _) = faults_of.Link
 unerr (Err fault) = fault
 
-pub not_start : (B : Type 0) (fault : PlayFault) (a b : ℕ) → OpeningCause {A = B} a b (Err fault) → fault ≡ faults_of.Start → ⊥
-not_start B fault a b p is = subst (λ f. OpeningCause {A = B} a b (Err f)) is p
+pub not_start : (fault : PlayFault) (a b : ℕ) → FaultCause a b fault → fault ≡ faults_of.Start → ⊥
+not_start fault a b p is = subst (FaultCause a b) is p
+
+-- ---- Where nothing was made
+
+pub none_made : (p : Pairing) → MatchedAll p p
+none_made p =
+    record {
+      all =
+          record {
+            transcripts = [];
+            others = [];
+            settled = sym (append-nil p.settled);
+            unmatched = sym (append-nil p.unmatched);
+            made = omega arith;
+            owed = refl;
+          };
+      matched = refl;
+    }
+
+pub memory_leaves : (A : Type 0) (r : Result A PlayFault) (old new : Pairing) → IsErrAnd r (λ f. f ≡ faults_of.Memory) → MatchedAll old new → LeavesPairs {A = A} old new r
+memory_leaves A (Ok a) old new e m = absurd e
+memory_leaves A (Err fault) old new e m = subst (λ f. LeavesPairs {A = A} old new (Err f)) (sym e) m
 
 -- ---- All pairs that were made are settled
 
@@ -69,16 +90,16 @@ none_differs told (s ∷ ss) [] all any = absurd any
 none_differs told (s ∷ ss) (z ∷ zs) all (inl differ) = differ all.0
 none_differs told (s ∷ ss) (z ∷ zs) all (inr any) = none_differs told ss zs all.1 any
 
-later_rose : (B : Type 0) (fault : PlayFault) (a b c : ℕ) → OpeningCause {A = B} a b (Err fault) → Rose b c → Rose a c
-later_rose B faults_of.Start a b c p r = absurd p
-later_rose B faults_of.Link a b c p r = omega (arith, p, r)
-later_rose B faults_of.Memory a b c p r = omega (arith, p, r)
+later_rose : (fault : PlayFault) (a b c : ℕ) → FaultCause a b fault → Rose b c → Rose a c
+later_rose faults_of.Start a b c p r = absurd p
+later_rose faults_of.Link a b c p r = omega (arith, p, r)
+later_rose faults_of.Memory a b c p r = omega (arith, p, r)
 
-cause_by : (A B : Type 0) (m : Bool) (fault after : PlayFault) (k a b c : ℕ) → after ≡ (if m then fault else faults_of.Link) → OpeningCause {A = B} a b (Err fault) → SettledCause b c m → PlayCause {A = A} k k a c (Err after)
-cause_by A B true faults_of.Start after k a b c is p s = absurd p
-cause_by A B true faults_of.Link after k a b c is p s = subst (λ f. PlayCause k k a c (Err f)) (sym is) (refl, omega (arith, p, s))
-cause_by A B true faults_of.Memory after k a b c is p s = subst (λ f. PlayCause k k a c (Err f)) (sym is) (refl, omega (arith, p, s))
-cause_by A B false fault after k a b c is p s = subst (λ f. PlayCause k k a c (Err f)) (sym is) (refl, later_rose B fault a b c p s)
+cause_by : (A : Type 0) (m : Bool) (fault after : PlayFault) (k a b c : ℕ) → after ≡ (if m then fault else faults_of.Link) → FaultCause a b fault → SettledCause b c m → PlayCause {A = A} k k a c (Err after)
+cause_by A true faults_of.Start after k a b c is p s = absurd p
+cause_by A true faults_of.Link after k a b c is p s = subst (λ f. PlayCause {A = A} k k a c (Err f)) (sym is) (refl, omega (arith, p, s))
+cause_by A true faults_of.Memory after k a b c is p s = subst (λ f. PlayCause {A = A} k k a c (Err f)) (sym is) (refl, omega (arith, p, s))
+cause_by A false fault after k a b c is p s = subst (λ f. PlayCause {A = A} k k a c (Err f)) (sym is) (refl, later_rose fault a b c p s)
 
 module _ {E : Type 0} (told : E → Told) (faults : E → ℕ) (calm : E → Type 0) (net_calm : Type 0) (old mid : Pairing) (servers : List E) (clients : List (ClientEnd E))
     (h : HoldsUnused told faults calm net_calm old mid servers clients) where
@@ -115,17 +136,17 @@ module _ {E : Type 0} (told : E → Told) (faults : E → ℕ) (calm : E → Typ
     leaves_by : (A : Type 0) (m : Bool) (f g : PlayFault) → m ≡ s.matched → g ≡ (if m then f else faults_of.Link) → (f ≡ faults_of.Start → ⊥) → LeavesPairs {A = A} old new (Err g)
     leaves_by A true faults_of.Start g e is may = absurd (may refl)
     leaves_by A true faults_of.Link g e is may =
-        subst (λ x. LeavesPairs old new (Err x)) (sym is) (settled_all told calm now_calm servers clients s.matched (length servers) old mid new h.settled h.unmatched h.made h.owed refl s.each)
+        subst (λ x. LeavesPairs {A = A} old new (Err x)) (sym is) (settled_all told calm now_calm servers clients s.matched (length servers) old mid new h.settled h.unmatched h.made h.owed refl s.each)
     leaves_by A true faults_of.Memory g e is may =
-        subst (λ x. LeavesPairs old new (Err x)) (sym is) (matched_all told calm now_calm servers clients s.matched (length servers) old mid new h.settled h.unmatched h.made h.owed refl s.each (sym e))
+        subst (λ x. LeavesPairs {A = A} old new (Err x)) (sym is) (matched_all told calm now_calm servers clients s.matched (length servers) old mid new h.settled h.unmatched h.made h.owed refl s.each (sym e))
     leaves_by A false f g e is may =
-        subst (λ x. LeavesPairs old new (Err x)) (sym is) (settled_all told calm now_calm servers clients s.matched (length servers) old mid new h.settled h.unmatched h.made h.owed refl s.each)
+        subst (λ x. LeavesPairs {A = A} old new (Err x)) (sym is) (settled_all told calm now_calm servers clients s.matched (length servers) old mid new h.settled h.unmatched h.made h.owed refl s.each)
 
     pub unused_leaves : (A : Type 0) → (fault ≡ faults_of.Start → ⊥) → LeavesPairs {A = A} old new (Err after)
     unused_leaves A may = leaves_by A s.matched fault after refl s.after_is may
 
-    pub unused_cause : (A B : Type 0) (k z : ℕ) → OpeningCause {A = B} z a (Err fault) → PlayCause {A = A} k k z b (Err after)
-    unused_cause A B k z p = cause_by A B s.matched fault after k z a b s.after_is p s.cause
+    pub unused_cause : (A : Type 0) (k z : ℕ) → FaultCause z a fault → PlayCause {A = A} k k z b (Err after)
+    unused_cause A k z p = cause_by A s.matched fault after k z a b s.after_is p s.cause
 
     link_by : (m : Bool) (g : PlayFault) → m ≡ s.matched → g ≡ (if m then fault else faults_of.Link) → (fault ≡ faults_of.Link → ⊥) → net_calm → now_calm → g ≡ faults_of.Link → ⊥
     link_by true g e is other q now link = other (sym is ∙ link)

@@ -23,11 +23,14 @@ use Rattle.sv_play.specs.Pairs.{Pairing}
 use Rattle.sv_play.specs.Settling.{SettledCause, SettledEach, AreCalm, AnyZip, Differ}
 
 -- a net's count of faults rises just where a pair could not be made
+abbrev pub FaultCause : ℕ → ℕ → PlayFault → Type 0
+FaultCause before now faults.Start = ⊥
+FaultCause before now faults.Link = Rose before now
+FaultCause before now faults.Memory = now ≡ before
+
 abbrev pub OpeningCause : {A : Type 0} → ℕ → ℕ → Result A PlayFault → Type 0
 OpeningCause before now (Ok _) = now ≡ before
-OpeningCause before now (Err faults.Start) = ⊥
-OpeningCause before now (Err faults.Link) = Rose before now
-OpeningCause before now (Err faults.Memory) = now ≡ before
+OpeningCause before now (Err fault) = FaultCause before now fault
 
 -- ---- Before any pair is made
 

@@ -37,9 +37,9 @@ loop-part-preserved g c =
     let x = c.in-Some-part.part in
     let rest = c.next-in-loop-part.new.self.rest.items in
     record {
-      services = ap services_of c.push_reserved-2.ensures.items ∙ (services_same ts x ∙ i.services);
+      services = ap services_of c.push_reserved-in-loop-part.ensures.items ∙ (services_same ts x ∙ i.services);
       parts =
-          ap (λ l. parts_of l ++ rest) c.push_reserved-2.ensures.items
+          ap (λ l. parts_of l ++ rest) c.push_reserved-in-loop-part.ensures.items
           ∙ (ap (λ l. l ++ rest) (parts_more ts x)
           ∙ (append_assoc (parts_of ts) (x ∷ []) rest ∙ (ap (λ l. parts_of ts ++ l) (sym c.in-Some-part.ensures.steps.0) ∙ i.parts)));
       room = search rules;

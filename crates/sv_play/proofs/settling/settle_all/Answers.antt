@@ -1,8 +1,9 @@
 -- One pair more was settled.
-use Rattle.std.proofs.Common.{rules, ◌∷◌, refl, sym, subst, ◌∙◌}
+use Rattle.std.proofs.Common.{rules, ◌≡◌, true, [], ◌∷◌, ◌++◌, refl, sym, ap, subst, ◌∙◌, append_assoc}
 use Rattle.std.specs.List.{AllZip}
 use Rattle.std.specs.Vec.Iter.{into_iter_items}
 use Rattle.std.proofs.lemmas.List.{nil_from_length}
+use Rattle.sv_play.specs.Left.{transcripts_of}
 use Rattle.sv_play.specs.Pairs.{pairing}
 use Rattle.sv_play.specs.Settling.{ArePair}
 use Rattle.sv_play.proofs.Settled.{SettledSoFar, none_settled, one_matched, one_failed, all_settled}
@@ -10,13 +11,21 @@ use Rattle.sv_play.proofs.settling.settle_all.Goals as goal
 
 pub loop-server-init : goal.loop-server-init
 loop-server-init g c =
+    let told = g.N.E.End.told in
+    let calm = g.N.E.End.calm in
+    let servers = c.args.servers.items in
+    let clients = c.args.clients.items in
+    let quiet = g.N.Net.calm c.args.net.now in
+    let old = pairing (g.N.Net.settled c.args.net.now) (g.N.Net.unmatched c.args.net.now) (g.N.Net.made c.args.net.now) (g.N.Net.owed c.args.net.now) in
+    let same : c.into_iter-server-iterator.result.rest.items ≡ servers = search rules in
+    let also : into_iter_items c.into_iter-clients.result ≡ clients = search rules in
     record {
       pairs = search rules;
       owed = search rules;
       made = search rules;
       so_far =
-          none_settled g.N.E.End.told g.N.E.End.calm (g.N.Net.calm c.args.net.now) c.args.servers.items c.args.clients.items
-          (pairing (g.N.Net.settled c.args.net.now) (g.N.Net.unmatched c.args.net.now) (g.N.Net.made c.args.net.now) (g.N.Net.owed c.args.net.now));
+          subst (λ xs. SettledSoFar told calm quiet servers clients xs (into_iter_items c.into_iter-clients.result) true old old) (sym same)
+          (subst (λ xs. SettledSoFar told calm quiet servers clients servers xs true old old) (sym also) (none_settled told calm quiet servers clients old));
       settled = search rules;
       agree = search rules;
       cause = search rules;
@@ -30,6 +39,7 @@ pub loop-server-preserved-in-Matched : goal.loop-server-preserved-in-Matched
 loop-server-preserved-in-Matched g c =
     let i = c.loop-server.invariant in
     let told = g.N.E.End.told in
+    let faults = g.N.E.End.faults in
     let calm = g.N.E.End.calm in
     let servers = c.args.servers.items in
     let clients = c.args.clients.items in
@@ -44,12 +54,18 @@ loop-server-preserved-in-Matched g c =
     let was =
     subst (λ xs. SettledSoFar told calm quiet servers clients xs (c.in-Some-next.client ∷ zs) matched old mid) c.in-Some.ensures.steps.0
     (subst (λ xs. SettledSoFar told calm quiet servers clients c.loop-server.server-iterator.rest.items xs matched old mid) c.in-Some-next.ensures.items i.so_far) in
+    let all = g.N.Net.settled c.args.net.now ++ transcripts_of told faults servers clients in
+    let before =
+    subst (λ xs. matched ≡ true → g.N.Net.settled c.loop-server.net ++ transcripts_of told faults xs (c.in-Some-next.client ∷ zs) ≡ all) c.in-Some.ensures.steps.0
+    (subst (λ xs. matched ≡ true → g.N.Net.settled c.loop-server.net ++ transcripts_of told faults c.loop-server.server-iterator.rest.items xs ≡ all) c.in-Some-next.ensures.items i.settled) in
     record {
       pairs = search rules;
       owed = search rules;
       made = search rules;
       so_far = one_matched told calm quiet servers clients c.in-Some.server c.in-Some-next.client ss zs matched old mid new _ was done.settles.added done.unmatched done.made done.owed;
-      settled = search rules;
+      settled = λ e.
+          ap (λ l. l ++ transcripts_of told faults ss zs) done.settles.added
+          ∙ (append_assoc (g.N.Net.settled c.loop-server.net) (_ ∷ []) (transcripts_of told faults ss zs) ∙ before e);
       agree = search rules;
       cause = search rules;
       calm = search rules;

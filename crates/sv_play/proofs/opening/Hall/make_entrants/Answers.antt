@@ -23,8 +23,8 @@ loop-plan-preserved g c =
       number = search rules;
     }
 
-pub returns-clause : goal.returns-clause
-returns-clause g c =
+pub returns : goal.returns
+returns g c =
     let i = c.loop-plan.invariant in
     let shape = c.args.self.now.scenario.now.world.shape in
     let plans = c.args.self.now.scenario.now.clients in

@@ -42,7 +42,7 @@ loop-preserved g c =
           each_push (IsEndOf told faults calm run Client) c.loop.ends.items c.in_ok-service.end i.ends
           (new_end_as told faults calm run (g.N.Net.calm c.loop.net) (g.N.Net.calm c.args.net.now) Client (g.N.Net.made c.loop.net) (pairs + length c.loop.ends.items) c.in_ok-service.end i.calm
           (i.made ∙ ap (λ n. pairs + n) end_at) opened.client)
-          k x (sym (ap (λ l. slice_get l k) c.push_reserved-2.ensures.items) ∙ e);
+          k x (sym (ap (λ l. slice_get l k) c.push_reserved-in-loop.ensures.items) ∙ e);
       made = search rules;
       owed = search rules;
       settled = search rules;

@@ -1,5 +1,5 @@
 -- What a run on threads leaves is what its tasks left.
-use Rattle.std.proofs.Common.{rules, ◌++◌, [], ◌∷◌, length, reverse, sym, ap, subst, ◌∙◌, arith}
+use Rattle.std.proofs.Common.{rules, ◌+◌, ◌++◌, [], ◌∷◌, length, map, reverse, refl, sym, ap, subst, ◌∙◌, arith}
 use Rattle.std.specs.Prelude.{Err}
 use Rattle.std.specs.List.{flat_map}
 use Rattle.sv_scenario.specs.Sessions.{session_count}
@@ -8,15 +8,19 @@ use Rattle.std.proofs.Crossing.{crosses}
 use Rattle.sv_sequencer.proofs.Sent.{lock-syncs, pass-sends}
 use Rattle.sv_player.specs.Played.{lines_told}
 use Rattle.law_traffic.specs.Runs.{IsGoodRun}
-use Rattle.sv_play.specs.Given.{setting}
-use Rattle.sv_play.specs.Tasks.{serviced_of}
+use Rattle.sv_play.specs.Given.{setting, ends_given}
+use Rattle.sv_play.specs.Tasks.{services_of, parts_of, serviced_of}
 use Rattle.sv_play.specs.Left.{transcripts_of, HasRoom, JoinedPasses}
 use Rattle.sv_play.specs.Playing.{IsThreadedRun, TookAllIn}
 use Rattle.sv_play.proofs.Ready.{tasks_ready}
 use Rattle.sv_play.proofs.Sent.{client-field-sends, trace-field-sends, step-syncs}
+use Rattle.sv_play.specs.declared.outcome.Playing.{Playing}
+use Rattle.sv_play.specs.declared.outcome.PlayFault.TheVariants as faults_of
+use Rattle.sv_play.specs.declared.gathering.Left.{Left}
+use Rattle.sv_play.specs.Opening.{server_end, uncut}
 use Rattle.sv_play.specs.Pairs.{pairing}
 use Rattle.sv_play.proofs.Opened.{given_count, given_each, unused_held}
-use Rattle.sv_play.proofs.Unused.{settled_all, matched_all, some_differed, unused_pairs, unused_owed, unused_leaves, unused_cause, unused_matches, not_start, unerr}
+use Rattle.sv_play.proofs.Unused.{none_made, memory_leaves, settled_all, matched_all, some_differed, unused_pairs, unused_owed, unused_leaves, unused_cause, unused_matches, not_start, unerr}
 use Rattle.sv_play.proofs.Done.{passes, numbers, room, are_pairs, are_calm, are_since, owed_enough, took_all, threaded, told_all}
 use Rattle.sv_play.proofs.opening.Hall.play.Goals as goal
 
@@ -64,9 +68,10 @@ gather-requires-clause-room g c =
     let ts = c.in-Ok.tasks.items in
     let os = c.in-Done.outs.items in
     let kept = c.in-Done.ensures.kept in
-    room told faults calm _ run ts os t.count t.services t.parts kept c.in_ok-left.left
+    room told faults calm _ run ts os t.count t.services t.parts kept c.open.new.left
+    (subst (HasRoom (session_count c.args.self.now.scenario.now) (session_count c.args.self.now.scenario.now) (length c.args.self.now.scenario.now.clients)) (sym t.same)
     (subst (λ n. HasRoom n n (length c.args.self.now.scenario.now.clients) c.in_ok-left.left) c.sessions_of.ensures
-    (subst (λ m. HasRoom c.sessions_of.result c.sessions_of.result m c.in_ok-left.left) c.len.ensures c.in_ok-left.ensures.room))
+    (subst (λ m. HasRoom c.sessions_of.result c.sessions_of.result m c.in_ok-left.left) c.len.ensures c.in_ok-left.ensures.room)))
 
 pub settle_all-requires-clause-pairs : goal.settle_all-requires-clause-pairs
 settle_all-requires-clause-pairs g c κs within =
@@ -189,6 +194,27 @@ returns-clause-pairs g c =
     (pairing (g.N.Net.settled c.settle_all.new.net) (g.N.Net.unmatched c.settle_all.new.net) (g.N.Net.made c.settle_all.new.net) (g.N.Net.owed c.settle_all.new.net))
     t.settled.0 t.settled.1 t.pairs.0 t.pairs.1 count c.settle_all.ensures.each (search rules)
 
+pub returns-in_err-all_lines-clause-pairs : goal.returns-in_err-all_lines-clause-pairs
+returns-in_err-all_lines-clause-pairs g c =
+    let told = g.N.E.End.told in
+    let faults = g.N.E.End.faults in
+    let calm = g.N.E.End.calm in
+    let run = setting c.args.self.now.lock.now c.args.self.now.scenario.now (g.N.Net.made c.args.net.now) (g.N.Net.calm c.args.net.now) (g.W.Teller.telling c.args.self.now.teller.now).watched in
+    let t = c.in-Ok.ensures in
+    let ts = c.in-Ok.tasks.items in
+    let os = c.in-Done.outs.items in
+    let kept = c.in-Done.ensures.kept in
+    let left = c.gather.new.left in
+    let k = c.gather.new.keeper in
+    let joined = subst (λ b. JoinedPasses (serviced_of os) b k) t.keeper c.gather.ensures.joined in
+    let count = owed_enough told faults calm _ run ts os t.count t.services t.parts kept left k c.gather.ensures.gathered joined in
+    memory_leaves Playing c.from_residual-in_err-all_lines.result _ _ c.from_residual-in_err-all_lines.ensures.1
+    (matched_all told calm (g.N.Net.calm c.open.new.net) left.servers.items left.clients.items c.settle_all.result (session_count c.args.self.now.scenario.now)
+    (pairing (g.N.Net.settled c.args.net.now) (g.N.Net.unmatched c.args.net.now) (g.N.Net.made c.args.net.now) (g.N.Net.owed c.args.net.now))
+    (pairing (g.N.Net.settled c.open.new.net) (g.N.Net.unmatched c.open.new.net) (g.N.Net.made c.open.new.net) (g.N.Net.owed c.open.new.net))
+    (pairing (g.N.Net.settled c.settle_all.new.net) (g.N.Net.unmatched c.settle_all.new.net) (g.N.Net.made c.settle_all.new.net) (g.N.Net.owed c.settle_all.new.net))
+    t.settled.0 t.settled.1 t.pairs.0 t.pairs.1 count c.settle_all.ensures.each (search rules))
+
 pub returns-clause-run : goal.returns-clause-run
 returns-clause-run g c =
     let told = g.N.E.End.told in
@@ -244,27 +270,112 @@ returns-clause-keeper g c =
     (took_all told faults calm _ run ts os t.count t.services t.parts kept left k c.gather.ensures.gathered joined good)
 
 pub settle_after-requires-clause-pairs : goal.settle_after-requires-clause-pairs
-settle_after-requires-clause-pairs g c = unused_pairs g.N.E.End.told g.N.E.End.faults g.N.E.End.calm (g.N.Net.calm c.args.net.now) _ _ _ _ c.in-Err.ensures.unused
+settle_after-requires-clause-pairs g c κs within = unused_pairs g.N.E.End.told g.N.E.End.faults g.N.E.End.calm (g.N.Net.calm c.args.net.now) _ _ _ _ c.in-Err.ensures.unused
 
 pub settle_after-requires-clause-owed : goal.settle_after-requires-clause-owed
-settle_after-requires-clause-owed g c = unused_owed g.N.E.End.told g.N.E.End.faults g.N.E.End.calm (g.N.Net.calm c.args.net.now) _ _ _ _ c.in-Err.ensures.unused
+settle_after-requires-clause-owed g c κs within = unused_owed g.N.E.End.told g.N.E.End.faults g.N.E.End.calm (g.N.Net.calm c.args.net.now) _ _ _ _ c.in-Err.ensures.unused
 
 pub returns-in-Err-clause-pairs : goal.returns-in-Err-clause-pairs
 returns-in-Err-clause-pairs g c =
-    unused_leaves g.N.E.End.told g.N.E.End.faults g.N.E.End.calm (g.N.Net.calm c.args.net.now) _ _ _ _ c.in-Err.ensures.unused _ _ _ _ c.in-Err.fault _ c.settle_after.ensures.settled _
-    (not_start _ _ _ _ c.in-Err.ensures.cause)
+    unused_leaves g.N.E.End.told g.N.E.End.faults g.N.E.End.calm (g.N.Net.calm c.args.net.now) _ _ _ _ c.in-Err.ensures.unused _ _ _ _ c.in-Err.fault c.settle_after.result c.settle_after.ensures.settled Playing
+    (not_start _ _ _ c.in-Err.ensures.cause)
 
 pub returns-in-Err-clause-cause : goal.returns-in-Err-clause-cause
 returns-in-Err-clause-cause g c =
-    unused_cause g.N.E.End.told g.N.E.End.faults g.N.E.End.calm (g.N.Net.calm c.args.net.now) _ _ _ _ c.in-Err.ensures.unused _ _ _ _ c.in-Err.fault _ c.settle_after.ensures.settled _ _ _ _ c.in-Err.ensures.cause
+    unused_cause g.N.E.End.told g.N.E.End.faults g.N.E.End.calm (g.N.Net.calm c.args.net.now) _ _ _ _ c.in-Err.ensures.unused _ _ _ _ c.in-Err.fault c.settle_after.result c.settle_after.ensures.settled Playing _ _ c.in-Err.ensures.cause
 
 pub returns-in-Err-clause-calm : goal.returns-in-Err-clause-calm
 returns-in-Err-clause-calm g c = λ q. c.settle_after.ensures.calm (c.in-Err.ensures.calm q).1
 
 pub returns-in-Err-clause-certain : goal.returns-in-Err-clause-certain
 returns-in-Err-clause-certain g c = λ q e.
-    unused_matches g.N.E.End.told g.N.E.End.faults g.N.E.End.calm (g.N.Net.calm c.args.net.now) _ _ _ _ c.in-Err.ensures.unused _ _ _ _ c.in-Err.fault _ c.settle_after.ensures.settled
+    unused_matches g.N.E.End.told g.N.E.End.faults g.N.E.End.calm (g.N.Net.calm c.args.net.now) _ _ _ _ c.in-Err.ensures.unused _ _ _ _ c.in-Err.fault c.settle_after.result c.settle_after.ensures.settled
     (λ is. (c.in-Err.ensures.calm q).0 (ap Err is)) q (c.in-Err.ensures.calm q).1 (ap unerr e)
+
+pub returns-in_err-left-clause-pairs : goal.returns-in_err-left-clause-pairs
+returns-in_err-left-clause-pairs g c = memory_leaves Playing c.from_residual.result _ _ c.from_residual.ensures.1 (none_made _)
+
+pub take_back-requires-clause-clients : goal.take_back-requires-clause-clients
+take_back-requires-clause-clients g c κs within =
+    let told = g.N.E.End.told in
+    let faults = g.N.E.End.faults in
+    let calm = g.N.E.End.calm in
+    let run = setting c.args.self.now.lock.now c.args.self.now.scenario.now (g.N.Net.made c.args.net.now) (g.N.Net.calm c.args.net.now) (g.W.Teller.telling c.args.self.now.teller.now).watched in
+    let t = c.in-Ok.ensures in
+    let same = ap (λ ts. length (flat_map ends_given (parts_of ts))) c.in-Memory.ensures.left in
+    let given = given_count told faults calm g.W.Teller.telling run c.in-Ok.tasks.items t.parts in
+    let counted = c.sessions_of.ensures in
+    let room = subst (HasRoom c.sessions_of.result c.sessions_of.result c.len.result) (sym t.same) c.in_ok-left.ensures.room in
+    let ends = room.ends_fit in
+    omega (arith, same, given, counted, ends)
+
+pub settle_after-requires-in-Memory-clause-pairs : goal.settle_after-requires-in-Memory-clause-pairs
+settle_after-requires-in-Memory-clause-pairs g c κs within =
+    let told = g.N.E.End.told in
+    let faults = g.N.E.End.faults in
+    let calm = g.N.E.End.calm in
+    let run = setting c.args.self.now.lock.now c.args.self.now.scenario.now (g.N.Net.made c.args.net.now) (g.N.Net.calm c.args.net.now) (g.W.Teller.telling c.args.self.now.teller.now).watched in
+    let t = c.in-Ok.ensures in
+    let ts = c.in-Ok.tasks.items in
+    let same = c.in-Memory.ensures.left in
+    let back = c.take_back.ensures in
+    let empty = c.in_ok-left.ensures.empty in
+    let servers = back.servers ∙ (ap (λ (l : Left _). l.servers.items ++ map server_end (services_of c.in-Memory.tasks.items)) t.same ∙ (ap (λ l. l ++ map server_end (services_of c.in-Memory.tasks.items)) empty.servers ∙ ap (λ l. map server_end (services_of l)) same)) in
+    let clients = back.clients ∙ (ap (λ (l : Left _). l.clients.items ++ map uncut (flat_map ends_given (parts_of c.in-Memory.tasks.items))) t.same ∙ (ap (λ l. l ++ map uncut (flat_map ends_given (parts_of c.in-Memory.tasks.items))) empty.clients ∙ ap (λ l. map uncut (flat_map ends_given (parts_of l))) same)) in
+    let given = given_count told faults calm g.W.Teller.telling run ts t.parts in
+    let old = pairing (g.N.Net.settled c.args.net.now) (g.N.Net.unmatched c.args.net.now) (g.N.Net.made c.args.net.now) (g.N.Net.owed c.args.net.now) in
+    let mid = pairing (g.N.Net.settled c.open.new.net) (g.N.Net.unmatched c.open.new.net) (g.N.Net.made c.open.new.net) (g.N.Net.owed c.open.new.net) in
+    let held =
+    unused_held told faults calm run (services_of ts) (flat_map ends_given (parts_of ts)) old mid c.take_back.new.left.servers.items c.take_back.new.left.clients.items t.services
+    (given_each told faults calm g.W.Teller.telling run ts t.parts) (given ∙ sym t.count) servers clients refl t.settled.0 t.settled.1
+    (t.pairs.0 ∙ ap (λ n. g.N.Net.made c.args.net.now + n) (sym t.count)) (t.pairs.1 ∙ ap (λ n. g.N.Net.owed c.args.net.now + n) (sym t.count)) in
+    unused_pairs told faults calm (g.N.Net.calm c.args.net.now) old mid c.take_back.new.left.servers.items c.take_back.new.left.clients.items held
+
+pub returns-in-Memory-clause-pairs : goal.returns-in-Memory-clause-pairs
+returns-in-Memory-clause-pairs g c =
+    let told = g.N.E.End.told in
+    let faults = g.N.E.End.faults in
+    let calm = g.N.E.End.calm in
+    let run = setting c.args.self.now.lock.now c.args.self.now.scenario.now (g.N.Net.made c.args.net.now) (g.N.Net.calm c.args.net.now) (g.W.Teller.telling c.args.self.now.teller.now).watched in
+    let t = c.in-Ok.ensures in
+    let ts = c.in-Ok.tasks.items in
+    let same = c.in-Memory.ensures.left in
+    let back = c.take_back.ensures in
+    let empty = c.in_ok-left.ensures.empty in
+    let servers = back.servers ∙ (ap (λ (l : Left _). l.servers.items ++ map server_end (services_of c.in-Memory.tasks.items)) t.same ∙ (ap (λ l. l ++ map server_end (services_of c.in-Memory.tasks.items)) empty.servers ∙ ap (λ l. map server_end (services_of l)) same)) in
+    let clients = back.clients ∙ (ap (λ (l : Left _). l.clients.items ++ map uncut (flat_map ends_given (parts_of c.in-Memory.tasks.items))) t.same ∙ (ap (λ l. l ++ map uncut (flat_map ends_given (parts_of c.in-Memory.tasks.items))) empty.clients ∙ ap (λ l. map uncut (flat_map ends_given (parts_of l))) same)) in
+    let given = given_count told faults calm g.W.Teller.telling run ts t.parts in
+    let old = pairing (g.N.Net.settled c.args.net.now) (g.N.Net.unmatched c.args.net.now) (g.N.Net.made c.args.net.now) (g.N.Net.owed c.args.net.now) in
+    let mid = pairing (g.N.Net.settled c.open.new.net) (g.N.Net.unmatched c.open.new.net) (g.N.Net.made c.open.new.net) (g.N.Net.owed c.open.new.net) in
+    let held =
+    unused_held told faults calm run (services_of ts) (flat_map ends_given (parts_of ts)) old mid c.take_back.new.left.servers.items c.take_back.new.left.clients.items t.services
+    (given_each told faults calm g.W.Teller.telling run ts t.parts) (given ∙ sym t.count) servers clients refl t.settled.0 t.settled.1
+    (t.pairs.0 ∙ ap (λ n. g.N.Net.made c.args.net.now + n) (sym t.count)) (t.pairs.1 ∙ ap (λ n. g.N.Net.owed c.args.net.now + n) (sym t.count)) in
+    unused_leaves told faults calm (g.N.Net.calm c.args.net.now) old mid c.take_back.new.left.servers.items c.take_back.new.left.clients.items held (g.N.Net.calm c.open.new.net) (g.N.Net.faults c.open.new.net) (g.N.Net.faults c.settle_after-in-Memory.new.net)
+    (pairing (g.N.Net.settled c.settle_after-in-Memory.new.net) (g.N.Net.unmatched c.settle_after-in-Memory.new.net) (g.N.Net.made c.settle_after-in-Memory.new.net) (g.N.Net.owed c.settle_after-in-Memory.new.net)) faults_of.Memory c.settle_after-in-Memory.result c.settle_after-in-Memory.ensures.settled Playing (not_start faults_of.Memory 0 0 refl)
+
+pub returns-in-Memory-clause-certain : goal.returns-in-Memory-clause-certain
+returns-in-Memory-clause-certain g c =
+    let told = g.N.E.End.told in
+    let faults = g.N.E.End.faults in
+    let calm = g.N.E.End.calm in
+    let run = setting c.args.self.now.lock.now c.args.self.now.scenario.now (g.N.Net.made c.args.net.now) (g.N.Net.calm c.args.net.now) (g.W.Teller.telling c.args.self.now.teller.now).watched in
+    let t = c.in-Ok.ensures in
+    let ts = c.in-Ok.tasks.items in
+    let same = c.in-Memory.ensures.left in
+    let back = c.take_back.ensures in
+    let empty = c.in_ok-left.ensures.empty in
+    let servers = back.servers ∙ (ap (λ (l : Left _). l.servers.items ++ map server_end (services_of c.in-Memory.tasks.items)) t.same ∙ (ap (λ l. l ++ map server_end (services_of c.in-Memory.tasks.items)) empty.servers ∙ ap (λ l. map server_end (services_of l)) same)) in
+    let clients = back.clients ∙ (ap (λ (l : Left _). l.clients.items ++ map uncut (flat_map ends_given (parts_of c.in-Memory.tasks.items))) t.same ∙ (ap (λ l. l ++ map uncut (flat_map ends_given (parts_of c.in-Memory.tasks.items))) empty.clients ∙ ap (λ l. map uncut (flat_map ends_given (parts_of l))) same)) in
+    let given = given_count told faults calm g.W.Teller.telling run ts t.parts in
+    let old = pairing (g.N.Net.settled c.args.net.now) (g.N.Net.unmatched c.args.net.now) (g.N.Net.made c.args.net.now) (g.N.Net.owed c.args.net.now) in
+    let mid = pairing (g.N.Net.settled c.open.new.net) (g.N.Net.unmatched c.open.new.net) (g.N.Net.made c.open.new.net) (g.N.Net.owed c.open.new.net) in
+    let held =
+    unused_held told faults calm run (services_of ts) (flat_map ends_given (parts_of ts)) old mid c.take_back.new.left.servers.items c.take_back.new.left.clients.items t.services
+    (given_each told faults calm g.W.Teller.telling run ts t.parts) (given ∙ sym t.count) servers clients refl t.settled.0 t.settled.1
+    (t.pairs.0 ∙ ap (λ n. g.N.Net.made c.args.net.now + n) (sym t.count)) (t.pairs.1 ∙ ap (λ n. g.N.Net.owed c.args.net.now + n) (sym t.count)) in
+    λ q e. unused_matches told faults calm (g.N.Net.calm c.args.net.now) old mid c.take_back.new.left.servers.items c.take_back.new.left.clients.items held (g.N.Net.calm c.open.new.net) (g.N.Net.faults c.open.new.net) (g.N.Net.faults c.settle_after-in-Memory.new.net)
+    (pairing (g.N.Net.settled c.settle_after-in-Memory.new.net) (g.N.Net.unmatched c.settle_after-in-Memory.new.net) (g.N.Net.made c.settle_after-in-Memory.new.net) (g.N.Net.owed c.settle_after-in-Memory.new.net)) faults_of.Memory c.settle_after-in-Memory.result c.settle_after-in-Memory.ensures.settled (λ is. cc) q (t.calm q).1 (ap unerr e)
 
 pub run_all-requires-send-J : goal.run_all-requires-send-J
 run_all-requires-send-J g c κs within = let y = c.type_bounds.sync-G in let w = c.type_bounds.sync-W in let e = c.type_bounds.send-N-E in search (lock-syncs, pass-sends, client-field-sends, step-syncs, sendable, crosses) depth 40 fits 10000
