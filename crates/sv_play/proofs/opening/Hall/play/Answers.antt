@@ -296,7 +296,7 @@ pub returns-in_err-left-clause-pairs : goal.returns-in_err-left-clause-pairs
 returns-in_err-left-clause-pairs g c = memory_leaves Playing c.from_residual.result _ _ c.from_residual.ensures.1 (none_made _)
 
 pub take_back-requires-clause-clients : goal.take_back-requires-clause-clients
-take_back-requires-clause-clients g c κs within =
+take_back-requires-clause-clients g c =
     let told = g.N.E.End.told in
     let faults = g.N.E.End.faults in
     let calm = g.N.E.End.calm in
