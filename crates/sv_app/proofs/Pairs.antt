@@ -1,27 +1,13 @@
 -- What became of the pairs of the net, by how the call ends.
-use Rattle.std.proofs.Common.{◌≡◌, ℕ, ◌+◌, [], inl, inr, refl, sym, subst, append-nil, arith}
+use Rattle.std.proofs.Common.{◌≡◌, ℕ, inl, inr, refl, sym, subst}
 use Rattle.std.specs.Prelude.{Err}
 use Rattle.sv_command.specs.Statuses.{status_of}
 use Rattle.sv_play.specs.declared.outcome.PlayFault.{PlayFault}
 use Rattle.sv_play.specs.declared.outcome.PlayFault.TheVariants as faults
 use Rattle.sv_play.specs.Endings.{ending_of_fault}
 use Rattle.sv_play.specs.Pairs.{Pairing, MatchedAll, LeavesPairs}
+use Rattle.sv_play.proofs.Unused.{none_made}
 use Rattle.sv_app.specs.Statuses.{SettlesPairs}
-
-pub none_made : (p : Pairing) → MatchedAll p p
-none_made p =
-    record {
-      all =
-          record {
-            transcripts = [];
-            others = [];
-            settled = sym (append-nil p.settled);
-            unmatched = sym (append-nil p.unmatched);
-            made = omega arith;
-            owed = refl;
-          };
-      matched = refl;
-    }
 
 pub untouched_pairs : (status : ℕ) (old new : Pairing) → new ≡ old → SettlesPairs status old new
 untouched_pairs status old new same = inl (subst (MatchedAll old) (sym same) (none_made old))

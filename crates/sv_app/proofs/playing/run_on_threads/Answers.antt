@@ -6,6 +6,8 @@ use Rattle.sv_journal.specs.declared.entry.Entry.{Entry}
 use Rattle.sv_journal.specs.Answer.{Rules}
 use Rattle.sv_player.specs.Played.{lines_told}
 use Rattle.sv_play.specs.Moved.{moved}
+use Rattle.sv_play.proofs.Unused.{none_made, memory_leaves}
+use Rattle.sv_app.specs.declared.playing.Threaded.{Threaded}
 use Rattle.sv_app.proofs.Threads.{threaded_is}
 use Rattle.sv_app.proofs.playing.run_on_threads.Goals as goal
 
@@ -20,3 +22,12 @@ returns-clause-threaded g c =
     (c.close.ensures.base ∙ c.in_ok-traces.ensures.keeper.base ∙ ap (λ (v : PassView Rules Entry). v.base) c.in_ok-lock.ensures.keeper)
     c.in_ok-played.ensures.shape c.in_ok-played.ensures.commit c.in_ok-played.ensures.committed
     (c.in_ok-traces.ensures.lines ∙ ap (λ (b : Bool). flat_map (lines_told b) c.in_ok-traces.field-0.traces) c.watcher.ensures.watched)
+
+pub returns-in_err-callback-clause-pairs : goal.returns-in_err-callback-clause-pairs
+returns-in_err-callback-clause-pairs g c = memory_leaves Threaded c.from_residual.result _ _ c.from_residual.ensures.1 (none_made _)
+
+pub returns-in_err-sequencer-clause-pairs : goal.returns-in_err-sequencer-clause-pairs
+returns-in_err-sequencer-clause-pairs g c = memory_leaves Threaded c.from_residual-in_err-sequencer.result _ _ c.from_residual-in_err-sequencer.ensures.1 (none_made _)
+
+pub returns-in_err-lock-clause-pairs : goal.returns-in_err-lock-clause-pairs
+returns-in_err-lock-clause-pairs g c = memory_leaves Threaded c.from_residual-in_err-lock.result _ _ c.from_residual-in_err-lock.ensures.1 (none_made _)

@@ -1,5 +1,5 @@
 -- The counts of faults, and the output by what was made.
-use Rattle.std.proofs.Common.{string_bytes}
+use Rattle.std.proofs.Common.{refl, string_bytes}
 use Rattle.sv_command.proofs.Counts.{wrote, broke}
 use Rattle.sv_app.proofs.Endings.{printed_given, cut_given, early_given}
 use Rattle.sv_app.proofs.Pairs.{untouched_pairs}
@@ -28,5 +28,5 @@ pub returns-in-Err-clause-ends : goal.returns-in-Err-clause-ends
 returns-in-Err-clause-ends g c =
     early_given (g.F.Files.contents c.args.files.now) _ _ c.in-Some.command c.in-Some.is _ c.in-Err.ending c.in-Err.ensures.made
 
-pub returns-else-command-clause-pairs : goal.returns-else-command-clause-pairs
-returns-else-command-clause-pairs g c = untouched_pairs _ _ _ refl
+pub returns-in_default-clause-pairs : goal.returns-in_default-clause-pairs
+returns-in_default-clause-pairs g c = untouched_pairs _ _ _ refl
