@@ -1,6 +1,6 @@
 -- What the status of an ending says.
 use Rattle.std.proofs.Common.{◌≡◌, ◌≢◌, ◌↔◌, ◌⊎◌, inl, inr, refl, arith, ℕ, ◌≤◌, List, [], take, append-nil, subst, sym, ap, Option, Some, None}
-use Rattle.std.specs.Prelude.{string_bytes, option_map, IfSome, OnErr, Result, Ok, Err, String}
+use Rattle.std.specs.Prelude.{string_bytes, option_map, IfSome, IsErrAnd, OnErr, Result, Ok, Err, String}
 use Rattle.std.specs.declared.alloc.Global.{Global}
 use Rattle.std.proofs.lemmas.Option.{none-some}
 use Rattle.sv_bytes.specs.Writing.{Grew, GrewByPart}
@@ -34,6 +34,10 @@ none_made d = record { passages = []; given = sym (append-nil d.given); numbers 
 
 pub untouched_back : (status : ℕ) (ran_before ran_now : List ℕ) (old new : Doorway) → new ≡ old → GivesBackBut status ran_before ran_now old new
 untouched_back status ran_before ran_now old new same = inl (rw same (none_made old))
+
+pub memory_back : (A : Type 0) (r : Result A PlayFault) (ran : List ℕ) (d : Doorway) → IsErrAnd r (λ f. f ≡ faults.Memory) → GivesBack {A = A} ran ran d d r
+memory_back A (Ok a) ran d e = absurd e
+memory_back A (Err fault) ran d e = subst (λ f. GivesBack {A = A} ran ran d d (Err f)) (sym e) (none_made d)
 
 pub fault_back : (fault : PlayFault) (ran_before ran_now : List ℕ) (old new : Doorway) → GivesBack {A = SequencerView} ran_before ran_now old new (Err fault) →
     GivesBackBut (status_of (ending_of_fault fault)) ran_before ran_now old new

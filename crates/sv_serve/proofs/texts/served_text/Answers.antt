@@ -1,11 +1,11 @@
 -- The counts of faults, by the part of the call that ended it.
-use Rattle.std.proofs.Common.{ap, arith}
+use Rattle.std.proofs.Common.{ap, arith, refl}
 use Rattle.sv_command.specs.declared.ending.Ending.TheVariants as endings
 use Rattle.sv_command.specs.Statuses.{Counts, counts}
 use Rattle.sv_command.proofs.Counts.{came, raised_by, same_counts}
 use Rattle.sv_sequencer.specs.Step.{SequencerView}
 use Rattle.sv_play.proofs.Endings.{fault_raises}
-use Rattle.sv_serve.proofs.Endings.{touched}
+use Rattle.sv_serve.proofs.Endings.{touched, untouched_back}
 use Rattle.sv_serve.proofs.texts.served_text.Goals as goal
 
 pub returns-in_err-scenario-clause-raises : goal.returns-in_err-scenario-clause-raises
@@ -35,3 +35,6 @@ returns-in_err-hosted_text-clause-apart g c =
 pub returns-clause-raises : goal.returns-clause-raises
 returns-clause-raises g c =
     λ k. same_counts _ _ _ _ _ _ k (ap (λ (x : Counts). x.files) (c.in_ok-scenario.ensures.raises (counts 0 0 0 0))) c.in-Ok.ensures.cause.0 c.in-Ok.ensures.cause.1
+
+pub returns-in_err-scenario-clause-back : goal.returns-in_err-scenario-clause-back
+returns-in_err-scenario-clause-back g c = untouched_back _ _ _ _ _ refl
