@@ -5,8 +5,8 @@
     python3 tests/outside/edits.py --recorded
 
 Without words it tries those of all crates, with --due those that are due. It puts them in place in a copy of the repository's committed state,
-in which no other edit stands, and runs tools/pieces/gate.py there on these crates. So it takes what that has kept, and proves anew just what an
-edit changes. All of them take an hour of one processor and more. Where all of a crate's edits were refused, it records for it, in
+in which no other edit stands, and has `rt must-fail` try them there, over the libraries that `rt ci` keeps of the same text. What is not
+kept is proved first. All of them take some hours of one processor. Where all of a crate's edits were refused, it records for it, in
 edits/refused.txt, the sum of its edits and of its code and definitions and those of all crates below it. With --recorded it tries nothing, and
 only says which edits are due: those whose sum is another one now.
 """
@@ -79,15 +79,18 @@ def place(copy, crates):
 
 def try_all(crates):
     """Tries the edits of these crates over a copy. Those of a crate that are all refused are recorded. The status: 0 where all are."""
+    # The toolchain's command, which this loads, is wanted here alone.
+    sys.path.insert(0, os.path.join(ROOT, "tools", "check-early"))
+    import kept  # noqa: PLC0415
     with tempfile.TemporaryDirectory() as room:
         copy = os.path.join(room, "dimboetu")
         subprocess.run(["git", "clone", "-q", ROOT, copy], check=True)
         sums = {crate: sum_of(copy, crate) for crate in crates}
         place(copy, crates)
-        gate = [sys.executable, os.path.join(ROOT, "tools", "pieces", "gate.py"), "--at", copy, "--steps", "edits"]
         status = 0
         for crate in crates:
-            failed = subprocess.run([*gate, crate], check=False).returncode
+            kept.crates_of(copy)
+            failed = subprocess.run(["rt", "must-fail", crate], cwd=copy, check=False).returncode
             status = status or failed
             if not failed:
                 write_record({**recorded(), crate: sums[crate]})

@@ -4,20 +4,19 @@
     python3 tools/check-early/check.py CRATE [FLAGS..]
 
 FLAGS are those of `rattle check`, as `--only PATH`, `--allow-holes`, `--short-goals`, `--start F`, `--jobs N`, `--test`. A library is taken
-as built where tools/pieces/gate.py has proved just this text of it and of all below it, in any clone of the machine. What stands below a
-crate that is not built is passed as source too; then a check takes a minute or two before it begins. What it checked is kept in the crate's
-out/. The last line is no verdict of the gate.
+as built where `rt ci` keeps just this text of it and of all below it, from any clone of the machine. What stands below a crate that is not
+built is passed as source too; then a check takes a minute or two before it begins. What it checked is kept in the crate's out/. The last
+line is no verdict of the gate.
 """
 
 import os
 import subprocess
 import sys
 
-ROOT = os.path.normpath(os.path.join(os.path.dirname(os.path.abspath(__file__)), "..", ".."))
-sys.path.insert(0, os.path.join(ROOT, "tools", "pieces"))
-import kept  # noqa: E402
+import kept
+from kept import KIT
 
-KIT = kept.KIT
+ROOT = os.path.normpath(os.path.join(os.path.dirname(os.path.abspath(__file__)), "..", ".."))
 
 
 def root_of(crate):
@@ -28,7 +27,7 @@ def libraries(crate):
     """The words that pass what stands below a crate, built or as source."""
     words, as_source = [], []
     for dep in crate.below():
-        if kept.is_done(dep, "proof") and not any(it.name in as_source for it in dep.below()):
+        if dep.is_built() and not any(it.name in as_source for it in dep.below()):
             words += ["--extern", f"{dep.name}={dep.rlib}", "-L", f"dependency={os.path.dirname(dep.rlib)}"]
         else:
             as_source.append(dep.name)
