@@ -13,7 +13,7 @@ use Rattle.sv_play.specs.Moved.{moved}
 use Rattle.sv_play.specs.Playing.{TookAllIn}
 use Rattle.sv_play.proofs.Ready.{services_ready}
 use Rattle.sv_serve.specs.Giving.{kept_served, kept_unserved, IsUnservedOf}
-use Rattle.sv_serve.proofs.Steps.{served_back, unserved_back}
+use Rattle.sv_serve.proofs.Steps.{none_lacked, served_back, unserved_back}
 use Rattle.sv_serve.proofs.Hosted.{all_served, passes, unserved_own, unserved_numbers, served_own, served_numbers, took_all, hosted}
 use Rattle.sv_serve.proofs.hosting.serve_sessions.Goals as goal
 
@@ -53,7 +53,7 @@ returns-clause-hosted g c =
     let joined = subst (λ b. JoinedPasses ys b k) t.keeper left.joined in
     let good : IsGoodRun c.args.host.now.scenario.now = record { good = c.requires.good; opening = c.read_scenario_numbers.ensures.values } in
     hosted g.D.E.End.told g.D.E.End.faults g.D.E.End.calm run c.in_ok-services.services.items ys t.count t.services c.in-Done.ensures.kept k joined good
-    c.full_replies_stay.ensures c.legal_relays_name_accepted.ensures (left.lacked (search rules))
+    c.full_replies_stay.ensures c.legal_relays_name_accepted.ensures (none_lacked ys c.take_in.result left.lacked (search rules))
     (moved (g.D.Door.given c.args.door.now) (g.D.Door.given c.take_in.new.door) (g.C.Crew.ran c.args.crew.now) (g.C.Crew.ran c.run_all.new.self))
     (left.given ∙ ap (λ l. l ++ kept_served g.D.E.End.told g.D.E.End.faults ys) t.given)
     (c.in-Done.ensures.ran ∙ ap (λ n. g.C.Crew.ran c.args.crew.now ++ n ∷ []) c.in_ok-services.services.ok.0)
