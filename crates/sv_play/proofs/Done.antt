@@ -23,12 +23,13 @@ use Rattle.sv_play.specs.declared.gathering.Left.{Left}
 use Rattle.sv_play.specs.Places.{EachClient}
 use Rattle.sv_play.specs.Tasks.{services_of, parts_of, serviced_of, played_of, KeepsTask}
 use Rattle.sv_play.specs.Given.{Setting, keeper_after, IsPart, IsService}
-use Rattle.sv_play.specs.Left.{own_of, ends_of, transcripts_of, EndsAgree, HasRoom, HasFewSessions, Gathered, JoinedPasses, IsOfLock, IsServiced, HasPlayed}
+use Rattle.sv_play.specs.Left.{own_of, ends_of, is_memory, is_unplayed, transcripts_of, EndsAgree, HasRoom, HasFewSessions, Gathered, JoinedPasses, IsOfLock, IsServiced, HasPlayed}
 use Rattle.sv_play.specs.Settling.{ArePair, AreCalm, IsSince}
 use Rattle.sv_play.specs.Playing.{IsThreadedRun, TookAllIn}
 use Rattle.sv_play.proofs.Places.{clients_count}
 use Rattle.sv_play.proofs.Leaving.{services_left, parts_left, served_count, task_count, all_of_lock, all_few, ends_are_all, as_many, all_pairs, all_calm, all_since}
 use Rattle.sv_play.proofs.Whole.{overs, transcripts_are, is_run, all_end, all_awaited, lines_are}
+use Rattle.sv_play.proofs.Taken.{none_unserved, none_unplayed}
 use Rattle.sv_play.proofs.Keepers.{just_of, below_of, legal_of, all_taken_in}
 
 module _ {E G W : Type 0} (told : E → Told) (faults : E → ℕ) (calm : E → Type 0) (telling_of : W → Telling) (run : Setting)
@@ -109,6 +110,9 @@ module _ {E G W : Type 0} (told : E → Told) (faults : E → ℕ) (calm : E →
       -- ---- The record
 
       module _ (lacked : left.lacked ≡ false) (agree : AllZip (EndsAgree told faults) left.servers.items left.clients.items) where
+        none_lacked : AllByRecursion (λ (y : Serviced E). is_memory y.out ≡ false) ys × AllByRecursion (λ (y : PlayerOut E). is_unplayed y.cause ≡ false) ps
+        none_lacked = let none = sym gathered.lacked ∙ lacked in (none_unserved os none, none_unplayed os none)
+
         agree_is : AllZip (EndsAgree told faults) (map (λ (y : Serviced E). y.end) ys) (flat_map ends_of ps)
         agree_is = subst (λ servers. AllZip (EndsAgree told faults) servers (flat_map ends_of ps)) gathered.servers (subst (AllZip (EndsAgree told faults) left.servers.items) gathered.clients agree)
 
@@ -119,10 +123,10 @@ module _ {E G W : Type 0} (told : E → Told) (faults : E → ℕ) (calm : E →
         Ls = map (λ (y : PlayerOut E). y.trace) ps
 
         abbrev all_overs : List Over
-        all_overs = overs told faults calm run k.seen ys ps served all_served played (gathered.served lacked) (gathered.played lacked) agree_is joined.seen just enough
+        all_overs = overs told faults calm run k.seen ys ps served all_served played none_lacked.0 none_lacked.1 agree_is joined.seen just enough
 
         threaded_run : IsRun run.scenario k.seen Ls all_overs
-        threaded_run = is_run told faults calm run k.seen ys ps served all_served played (gathered.served lacked) (gathered.played lacked) agree_is joined.seen just enough legal below
+        threaded_run = is_run told faults calm run k.seen ys ps served all_served played none_lacked.0 none_lacked.1 agree_is joined.seen just enough legal below
 
         recorded : map transcript all_overs ≡ transcripts_of told faults left.servers.items left.clients.items
         recorded =
@@ -137,19 +141,19 @@ module _ {E G W : Type 0} (told : E → Told) (faults : E → ℕ) (calm : E →
             (record {
               full =
                   full run.scenario k.seen Ls all_overs good threaded_run
-                  (all_end told faults calm run k.seen ys ps served all_served played (gathered.served lacked) (gathered.played lacked) agree_is joined.seen just enough);
+                  (all_end told faults calm run k.seen ys ps served all_served played none_lacked.0 none_lacked.1 agree_is joined.seen just enough);
               transcripts = transcripts_of told faults left.servers.items left.clients.items;
               added = settled;
               traffic = subst (TrafficIsRecorded run.scenario (reverse k.seen) Ls) recorded (traffic run.scenario k.seen Ls all_overs good threaded_run);
               ran = ran ∙ ap (λ n. ran_before ++ n ∷ []) jobs;
-              awaited = all_awaited told faults calm run k.seen ys ps served all_served played (gathered.served lacked) (gathered.played lacked) agree_is joined.seen just enough;
+              awaited = all_awaited told faults calm run k.seen ys ps served all_served played none_lacked.0 none_lacked.1 agree_is joined.seen just enough;
             })
 
         pub told_all : flat_map (λ v. v.items) left.lines.items ≡ flat_map (lines_told run.watched) left.traces.items
         told_all =
             ap (flat_map (λ v. v.items)) gathered.lines
             ∙ (through ps
-            ∙ (lines_are told faults calm run k.seen ys ps served all_served played (gathered.served lacked) (gathered.played lacked) agree_is joined.seen just enough
+            ∙ (lines_are told faults calm run k.seen ys ps served all_served played none_lacked.0 none_lacked.1 agree_is joined.seen just enough
             ∙ ap (flat_map (lines_told run.watched)) (sym gathered.traces)))
           where
             through : (qs : List (PlayerOut E)) → flat_map (λ v. v.items) (map (λ (y : PlayerOut E). y.lines) qs) ≡ flat_map (λ (y : PlayerOut E). y.lines.items) qs

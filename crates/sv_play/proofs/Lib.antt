@@ -9,5 +9,6 @@ pub mod Leaving
 pub mod Whole
 pub mod Keepers
 pub mod Endings
+pub mod Jobs
 pub mod Done
 pub mod Sent

@@ -1,8 +1,10 @@
 -- One task's out more.
 use Rattle.std.proofs.Common.{◌≡◌, ℕ, false, ◌||◌, List, [], ◌∷◌, ◌++◌, map, refl, sym, ap, subst, ◌∙◌, append_assoc, append-nil, arith}
-use Rattle.std.specs.List.{AllByRecursion, flat_map}
+use Rattle.std.specs.List.{AllByRecursion, flat_map, list_any}
+use Rattle.std.proofs.lemmas.List.Folds.{list_any-append}
 use Rattle.std.proofs.lemmas.List.{map-append}
 use Rattle.std.proofs.lemmas.List.Concat.{flat_map-append}
+use Rattle.std.proofs.Math.Bool.{or-false}
 use Rattle.std.proofs.lemmas.Bool.{or_parts}
 use mathlib.Core.List.{IsPrefix}
 use Rattle.sv_journal.specs.declared.entry.Entry.{Entry}
@@ -17,7 +19,7 @@ use Rattle.sv_play.specs.declared.tasks.TaskOut.TheVariants as outs
 use Rattle.sv_play.specs.declared.gathering.ClientEnd.{ClientEnd}
 use Rattle.sv_play.specs.declared.gathering.Left.{Left}
 use Rattle.sv_play.specs.Tasks.{serviced_of, played_of}
-use Rattle.sv_play.specs.Left.{own_of, ends_of, is_memory, is_unplayed, Gathered, KeeperKnows, JoinedPasses}
+use Rattle.sv_play.specs.Left.{own_of, ends_of, is_memory, is_unplayed, is_lacking, Gathered, KeeperKnows, JoinedPasses}
 
 module _ {E : Type 0} where
   served_more : (os : List (TaskOut E)) (y : Serviced E) → serviced_of (os ++ outs.Served y ∷ []) ≡ serviced_of os ++ y ∷ []
@@ -40,6 +42,12 @@ module _ {E : Type 0} where
   played_more (outs.Served x ∷ os) y = played_more os y
   played_more (outs.Played x ∷ os) y = ap (λ (l : List (PlayerOut E)). x ∷ l) (played_more os y)
 
+  lacking_more : (os : List (TaskOut E)) (o : TaskOut E) (a b : Left E) → a.lacked ≡ list_any is_lacking os → b.lacked ≡ (a.lacked || is_lacking o) → b.lacked ≡ list_any is_lacking (os ++ o ∷ [])
+  lacking_more os o a b was now =
+      now
+      ∙ (ap (λ l. l || is_lacking o) was
+      ∙ sym (list_any-append is_lacking os (o ∷ []) ∙ ap (λ l. list_any is_lacking os || l) (or-false (is_lacking o))))
+
   pub gathered_server : (os : List (TaskOut E)) (y : Serviced E) (a b : Left E) → Gathered os a → b.servers.items ≡ a.servers.items ++ y.end ∷ [] → b.lacked ≡ (a.lacked || is_memory y.out) →
       b.clients.items ≡ a.clients.items → b.traces.items ≡ a.traces.items → b.lines.items ≡ a.lines.items → Gathered (os ++ outs.Served y ∷ []) b
   gathered_server os y a b g servers lacked clients traces lines =
@@ -50,13 +58,7 @@ module _ {E : Type 0} where
         clients = clients ∙ g.clients ∙ ap (flat_map ends_of) (sym (played_same os y));
         traces = traces ∙ g.traces ∙ ap (map (λ (x : PlayerOut E). x.trace)) (sym (played_same os y));
         lines = lines ∙ g.lines ∙ ap (map (λ (x : PlayerOut E). x.lines)) (sym (played_same os y));
-        served = λ none.
-            let both = or_parts a.lacked (is_memory y.out) (sym lacked ∙ none) in
-            subst (AllByRecursion (λ (x : Serviced E). is_memory x.out ≡ false)) (sym (served_more os y))
-            (each-push (λ (x : Serviced E). is_memory x.out ≡ false) (serviced_of os) y (g.served both.0) both.1);
-        played = λ none.
-            let both = or_parts a.lacked (is_memory y.out) (sym lacked ∙ none) in
-            subst (AllByRecursion (λ (x : PlayerOut E). is_unplayed x.cause ≡ false)) (sym (played_same os y)) (g.played both.0);
+        lacked = lacking_more os (outs.Served y) a b g.lacked lacked;
       }
 
   pub gathered_client : (os : List (TaskOut E)) (y : PlayerOut E) (a b : Left E) → Gathered os a → b.clients.items ≡ a.clients.items ++ ends_of y → b.traces.items ≡ a.traces.items ++ y.trace ∷ [] →
@@ -74,14 +76,20 @@ module _ {E : Type 0} where
         lines =
             lines ∙ ap (λ l. l ++ y.lines ∷ []) g.lines
             ∙ sym (map-append (λ (x : PlayerOut E). x.lines) (played_of os) (y ∷ [])) ∙ ap (map (λ (x : PlayerOut E). x.lines)) (sym (played_more os y));
-        served = λ none.
-            let both = or_parts a.lacked (is_unplayed y.cause) (sym lacked ∙ none) in
-            subst (AllByRecursion (λ (x : Serviced E). is_memory x.out ≡ false)) (sym (served_same os y)) (g.served both.0);
-        played = λ none.
-            let both = or_parts a.lacked (is_unplayed y.cause) (sym lacked ∙ none) in
-            subst (AllByRecursion (λ (x : PlayerOut E). is_unplayed x.cause ≡ false)) (sym (played_more os y))
-            (each-push (λ (x : PlayerOut E). is_unplayed x.cause ≡ false) (played_of os) y (g.played both.0) both.1);
+        lacked = lacking_more os (outs.Played y) a b g.lacked lacked;
       }
+
+  -- ---- Where none had no memory
+
+  pub none_unserved : (os : List (TaskOut E)) → list_any is_lacking os ≡ false → AllByRecursion (λ (y : Serviced E). is_memory y.out ≡ false) (serviced_of os)
+  none_unserved [] none = tt
+  none_unserved (outs.Served y ∷ os) none = let both = or_parts (is_memory y.out) (list_any is_lacking os) none in (both.0, none_unserved os both.1)
+  none_unserved (outs.Played y ∷ os) none = none_unserved os (or_parts (is_unplayed y.cause) (list_any is_lacking os) none).1
+
+  pub none_unplayed : (os : List (TaskOut E)) → list_any is_lacking os ≡ false → AllByRecursion (λ (y : PlayerOut E). is_unplayed y.cause ≡ false) (played_of os)
+  none_unplayed [] none = tt
+  none_unplayed (outs.Served y ∷ os) none = none_unplayed os (or_parts (is_memory y.out) (list_any is_lacking os) none).1
+  none_unplayed (outs.Played y ∷ os) none = let both = or_parts (is_unplayed y.cause) (list_any is_lacking os) none in (both.0, none_unplayed os both.1)
 
   -- ---- The keeper
 

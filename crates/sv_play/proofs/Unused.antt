@@ -1,11 +1,11 @@
 -- What becomes of pairs that nobody used, and of those of a whole run.
-use Rattle.std.proofs.Common.{◌≡◌, ℕ, ◌+◌, ◌<◌, ◌≤◌, Bool, true, false, List, [], ◌∷◌, ◌++◌, length, if◌then◌else◌, inl, inr, refl, sym, ap, subst, ◌∙◌, arith, append-nil}
+use Rattle.std.proofs.Common.{◌≡◌, ℕ, ◌+◌, ◌≤◌, Bool, true, false, List, [], ◌∷◌, ◌++◌, length, if◌then◌else◌, inl, inr, refl, sym, ap, subst, ◌∙◌, arith, append-nil}
 use Rattle.std.specs.Prelude.{Result, Ok, Err, IsErrAnd}
 use Rattle.std.specs.List.{AllByRecursion, AllZip}
 use Rattle.std.proofs.lemmas.Option.{slice_get_within}
 use Rattle.sv_bytes.specs.Faults.{Rose}
 use Rattle.sv_link.specs.Ends.{Told, new_end}
-use Rattle.sv_link.specs.Nets.{BothEnds, BothArrived}
+use Rattle.sv_link.specs.Nets.{BothArrived}
 use Rattle.sv_link.specs.declared.side.Side.TheVariants.{Server, Client}
 use Rattle.sv_play.specs.declared.outcome.PlayFault.{PlayFault}
 use Rattle.sv_play.specs.declared.outcome.PlayFault.TheVariants as faults_of

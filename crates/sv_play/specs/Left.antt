@@ -1,6 +1,6 @@
 -- What the threads of a run leave.
 use Rattle.std.specs.Prelude.{◌≡◌, ◌≢◌, ℕ, suc, ◌+◌, ◌<◌, ◌≤◌, Bool, true, false, List, [], ◌∷◌, ◌++◌, map, length, reverse, IsSome, vec_len}
-use Rattle.std.specs.List.{AllByRecursion, flat_map}
+use Rattle.std.specs.List.{AllByRecursion, flat_map, list_any}
 use Rattle.std.specs.Vec.{vec_capacity}
 use mathlib.Core.List.{IsPrefix}
 use Rattle.sv_world.specs.Limits.{most_sessions}
@@ -26,6 +26,7 @@ use Rattle.sv_player.specs.declared.outcome.PlayerCause.TheVariants as causes
 use Rattle.law_traffic.specs.Sessions.{Over}
 use Rattle.sv_play.specs.declared.tasks.Serviced.{Serviced}
 use Rattle.sv_play.specs.declared.tasks.TaskOut.{TaskOut}
+use Rattle.sv_play.specs.declared.tasks.TaskOut.TheVariants as outs
 use Rattle.sv_play.specs.declared.gathering.ClientEnd.{ClientEnd}
 use Rattle.sv_play.specs.declared.gathering.Left.{Left}
 use Rattle.sv_system.specs.Places.{EachPlace}
@@ -41,6 +42,11 @@ is_memory _ = false
 abbrev pub is_unplayed : PlayerCause → Bool
 is_unplayed causes.Memory = true
 is_unplayed _ = false
+
+-- the task had no memory
+abbrev pub is_lacking : {E : Type 0} → TaskOut E → Bool
+is_lacking (outs.Served y) = is_memory y.out
+is_lacking (outs.Played y) = is_unplayed y.cause
 
 -- the number of a session, and its entries
 abbrev pub own_of : {E : Type 0} → Serviced E → ℕ × List Entry
@@ -65,14 +71,13 @@ pub record HasRoom {E : Type 0} (servers ends clients : ℕ) (left : Left E) : T
 abbrev pub HasFewSessions : {E : Type 0} → PlayerOut E → Type 0
 HasFewSessions y = y.trace.first + length y.ends.items ≤ most_sessions
 
--- what tasks left, in order; none had no memory, unless it was noted
+-- what tasks left, in order; it is noted just where one of them had no memory
 pub record Gathered {E : Type 0} (os : List (TaskOut E)) (left : Left E) : Type 0 where
   pub servers : left.servers.items ≡ map (λ (y : Serviced E). y.end) (serviced_of os)
   pub clients : left.clients.items ≡ flat_map ends_of (played_of os)
   pub traces : left.traces.items ≡ map (λ (y : PlayerOut E). y.trace) (played_of os)
   pub lines : left.lines.items ≡ map (λ (y : PlayerOut E). y.lines) (played_of os)
-  pub served : left.lacked ≡ false → AllByRecursion (λ (y : Serviced E). is_memory y.out ≡ false) (serviced_of os)
-  pub played : left.lacked ≡ false → AllByRecursion (λ (y : PlayerOut E). is_unplayed y.cause ≡ false) (played_of os)
+  pub lacked : left.lacked ≡ list_any is_lacking os
 
 -- the pass was made by a split of this lock
 pub record IsOfLock {E : Type 0} (lock : LockView) (y : Serviced E) : Type 0 where

@@ -1,5 +1,5 @@
 -- A whole run on threads.
-use Rattle.std.specs.Prelude.{◌≡◌, ℕ, ◌+◌, List, [], ◌∷◌, ◌++◌, map, length, reverse, Result, Ok, Err}
+use Rattle.std.specs.Prelude.{◌≡◌, ◌⊎◌, ℕ, ◌+◌, List, [], ◌∷◌, ◌++◌, map, length, reverse, Result, Ok, Err}
 use Rattle.std.specs.List.{range_with_len}
 use Rattle.sv_bytes.specs.Faults.{Rose}
 use Rattle.sv_link.specs.Nets.{Transcript}
@@ -47,3 +47,11 @@ PlayCause crew_before crew_now net_before net_now (Ok _) = (crew_now ≡ crew_be
 PlayCause crew_before crew_now net_before net_now (Err faults.Start) = Rose crew_before crew_now × (net_now ≡ net_before)
 PlayCause crew_before crew_now net_before net_now (Err faults.Link) = (crew_now ≡ crew_before) × Rose net_before net_now
 PlayCause crew_before crew_now net_before net_now (Err faults.Memory) = (crew_now ≡ crew_before) × (net_now ≡ net_before)
+
+-- A run's jobs, so many, run at most once, and all in one run of the crew: at an answer they ran, and none did where a thread could not be
+-- started.
+abbrev pub RunsOnce : {A : Type 0} → ℕ → (before now : List ℕ) → Result A PlayFault → Type 0
+RunsOnce jobs before now (Ok _) = now ≡ before ++ jobs ∷ []
+RunsOnce jobs before now (Err faults.Start) = now ≡ before
+RunsOnce jobs before now (Err faults.Link) = (now ≡ before) ⊎ (now ≡ before ++ jobs ∷ [])
+RunsOnce jobs before now (Err faults.Memory) = (now ≡ before) ⊎ (now ≡ before ++ jobs ∷ [])

@@ -240,6 +240,7 @@ impl<'a, G, W: Teller> Hall<'a, G, W> {
         ensures pairs { OnOk result ((N.made net.new ≡ N.made net.old + session_count self.now.scenario.now) × (N.owed net.new ≡ N.owed net.old + session_count self.now.scenario.now)) }
         ensures settled { OnOk result ((N.settled net.new ≡ N.settled net.old) × (N.unmatched net.new ≡ N.unmatched net.old)) }
         ensures same { OnOk result (left.new ≡ left.old) }
+        ensures most { N.made net.new ≤ N.made net.old + session_count self.now.scenario.now }
         ensures unused { OnErr result (HoldsUnused N.E.told N.E.faults N.E.calm (N.calm net.old) (pairing (N.settled net.old) (N.unmatched net.old) (N.made net.old) (N.owed net.old)) (pairing (N.settled net.new) (N.unmatched net.new) (N.made net.new) (N.owed net.new)) left.new.servers.items left.new.clients.items) }
         ensures cause { OpeningCause (N.faults net.old) (N.faults net.new) result }
         ensures calm { N.calm net.old → (result ≢ Err PlayFault.Link) × N.calm net.new }

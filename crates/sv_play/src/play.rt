@@ -1,12 +1,12 @@
 //! A scenario's run on threads.
-ghost use Rattle.std.specs.Prelude.{◌≡◌, ◌≢◌, ◌+◌, reverse, length, is_some, IfOk, IfSome, IsOk, Err};
+ghost use Rattle.std.specs.Prelude.{◌≡◌, ◌≢◌, ◌+◌, ◌≤◌, reverse, length, is_some, IfOk, IfSome, IsOk, Err};
 ghost use Rattle.std.specs.List.{flat_map};
 ghost use Rattle.sv_scenario.specs.Limits.{IsGoodScenario};
 ghost use Rattle.sv_scenario.specs.Sessions.{session_count};
 ghost use Rattle.sv_player.specs.Played.{lines_told};
 ghost use Rattle.sv_play.specs.Given.{keeper_after};
 ghost use Rattle.sv_play.specs.Pairs.{pairing, LeavesPairs, SomeDiffered};
-ghost use Rattle.sv_play.specs.Playing.{IsThreadedRun, TookAllIn, PlayCause};
+ghost use Rattle.sv_play.specs.Playing.{IsThreadedRun, TookAllIn, PlayCause, RunsOnce};
 
 use crate::gathering::{Left, gather, take_back};
 use crate::opening::Hall;
@@ -53,6 +53,8 @@ pub fn play_all<N: Net, C: Crew, G: Gate + Sync, R: Threads + Wait + Sync>(
     ensures calm { N.calm net.old → N.calm net.new }
     ensures made { IfOk result (λ _. N.made net.new ≡ N.made net.old + session_count scenario.now) }
     ensures pairs { LeavesPairs (pairing (N.settled net.old) (N.unmatched net.old) (N.made net.old) (N.owed net.old)) (pairing (N.settled net.new) (N.unmatched net.new) (N.made net.new) (N.owed net.new)) result }
+    ensures most { N.made net.new ≤ N.made net.old + session_count scenario.now }
+    ensures ran { RunsOnce (session_count scenario.now + length scenario.now.clients) (C.ran crew.old) (C.ran crew.new) result }
     ensures certain { N.calm net.old → result ≡ Err PlayFault.Link → SomeDiffered (pairing (N.settled net.old) (N.unmatched net.old) (N.made net.old) (N.owed net.old)) (pairing (N.settled net.new) (N.unmatched net.new) (N.made net.new) (N.owed net.new)) }
 {
     match watch {
@@ -97,6 +99,8 @@ impl<'a, G: Gate + Sync, W: Teller + Sync> Hall<'a, G, W> {
         ensures calm { N.calm net.old → N.calm net.new }
         ensures made { IfOk result (λ _. N.made net.new ≡ N.made net.old + session_count self.now.scenario.now) }
         ensures pairs { LeavesPairs (pairing (N.settled net.old) (N.unmatched net.old) (N.made net.old) (N.owed net.old)) (pairing (N.settled net.new) (N.unmatched net.new) (N.made net.new) (N.owed net.new)) result }
+        ensures most { N.made net.new ≤ N.made net.old + session_count self.now.scenario.now }
+        ensures ran { RunsOnce (session_count self.now.scenario.now + length self.now.scenario.now.clients) (C.ran crew.old) (C.ran crew.new) result }
         ensures certain { N.calm net.old → result ≡ Err PlayFault.Link → SomeDiffered (pairing (N.settled net.old) (N.unmatched net.old) (N.made net.old) (N.owed net.old)) (pairing (N.settled net.new) (N.unmatched net.new) (N.made net.new) (N.owed net.new)) }
     {
         read_scenario_numbers(self.scenario);

@@ -1,5 +1,5 @@
 -- What the status of an ending says.
-use Rattle.std.proofs.Common.{◌≡◌, ◌≢◌, ◌↔◌, ◌⊎◌, inl, inr, refl, arith, ℕ, ◌≤◌, List, [], take, append-nil, subst, sym, ap, Option, Some, None}
+use Rattle.std.proofs.Common.{◌≡◌, ◌≢◌, ◌↔◌, ◌⊎◌, inl, inr, refl, arith, ℕ, ◌≤◌, List, [], ◌∷◌, ◌++◌, length, length-append, take, append-nil, subst, sym, ap, ◌∙◌, Option, Some, None}
 use Rattle.std.specs.Prelude.{string_bytes, option_map, IfSome, IsErrAnd, OnErr, Result, Ok, Err, String}
 use Rattle.std.specs.declared.alloc.Global.{Global}
 use Rattle.std.proofs.lemmas.Option.{none-some}
@@ -20,7 +20,7 @@ use Rattle.sv_play.specs.Endings.{ending_of_fault}
 use Rattle.sv_door.specs.Doors.{Passage}
 use Rattle.sv_serve.specs.declared.words.Command.{Command}
 use Rattle.sv_serve.specs.Words.{Asked, asked_by, named_by}
-use Rattle.sv_serve.specs.Giving.{Doorway, GaveAllBack, GivesBack}
+use Rattle.sv_serve.specs.Giving.{Doorway, GaveAllBack, GaveBack, GaveUnused, GivesBack}
 use Rattle.sv_serve.specs.Statuses.{IsText, EndsEarly, LeavesAlone, GivesBackBut}
 
 -- ---- The ends
@@ -32,18 +32,55 @@ on_err (Err e) P p = p
 pub none_made : (d : Doorway) → GaveAllBack d d
 none_made d = record { passages = []; given = sym (append-nil d.given); numbers = λ k x e. absurd (none-some x e); made = omega arith; owed = refl }
 
-pub untouched_back : (status : ℕ) (ran_before ran_now : List ℕ) (old new : Doorway) → new ≡ old → GivesBackBut status ran_before ran_now old new
-untouched_back status ran_before ran_now old new same = inl (rw same (none_made old))
+pub none_used : (d : Doorway) → GaveUnused d d
+unfolding none_made
+none_used d = record { back = none_made d; unused = λ k x e. absurd (none-some x e) }
+
+-- where nothing was sent over them nor received
+pub unused_back : {old new : Doorway} (ran_before ran_now : List ℕ) → GaveUnused old new → GaveBack ran_before ran_now old new
+unused_back ran_before ran_now unused = record { back = unused.back; unserved = λ same. unused }
+
+-- where jobs ran
+pub used_back : {old new : Doorway} (n : ℕ) (ran_before ran_now : List ℕ) → GaveAllBack old new → ran_now ≡ ran_before ++ n ∷ [] → GaveBack ran_before ran_now old new
+used_back n ran_before ran_now back ran =
+    record {
+      back = back;
+      unserved = λ same.
+          let more = ap (λ (l : List ℕ). length l) (sym ran ∙ same) in
+          let size = length-append ran_before (n ∷ []) in
+          absurd (omega (arith, more, size));
+    }
+
+-- where no session was served for a fault other than that a thread could not be started
+pub unserved_fault : (A : Type 0) (fault : PlayFault) (ran : List ℕ) (old new : Doorway) → (fault ≡ faults.Start → ⊥) → GaveUnused old new → GivesBack {A = A} ran ran old new (Err fault)
+unserved_fault A faults.Start ran old new other unused = absurd (other refl)
+unserved_fault A faults.Link ran old new other unused = (unused_back ran ran unused, refl)
+unserved_fault A faults.Memory ran old new other unused = unused_back ran ran unused
+
+pub untouched_back : (status : ℕ) (ran : List ℕ) (old new : Doorway) → new ≡ old → GivesBackBut status ran ran old new
+untouched_back status ran old new same = inl (rw same (unused_back ran ran (none_used old)), λ six. refl)
 
 pub memory_back : (A : Type 0) (r : Result A PlayFault) (ran : List ℕ) (d : Doorway) → IsErrAnd r (λ f. f ≡ faults.Memory) → GivesBack {A = A} ran ran d d r
 memory_back A (Ok a) ran d e = absurd e
-memory_back A (Err fault) ran d e = subst (λ f. GivesBack {A = A} ran ran d d (Err f)) (sym e) (none_made d)
+memory_back A (Err fault) ran d e = subst (λ f. GivesBack {A = A} ran ran d d (Err f)) (sym e) (unused_back ran ran (none_used d))
 
 pub fault_back : (fault : PlayFault) (ran_before ran_now : List ℕ) (old new : Doorway) → GivesBack {A = SequencerView} ran_before ran_now old new (Err fault) →
     GivesBackBut (status_of (ending_of_fault fault)) ran_before ran_now old new
 fault_back faults.Start ran_before ran_now old new h = inr (refl, h)
-fault_back faults.Link ran_before ran_now old new h = inl h
-fault_back faults.Memory ran_before ran_now old new h = inl h
+fault_back faults.Link ran_before ran_now old new h = inl (h.0, λ six. h.1)
+fault_back faults.Memory ran_before ran_now old new h = inl (h, λ six. absurd (omega (arith, six)))
+
+-- at 0 and 8
+pub done_back : (ran_before ran_now : List ℕ) (old new : Doorway) → GaveBack ran_before ran_now old new → GivesBackBut 0 ran_before ran_now old new
+done_back ran_before ran_now old new h = inl (h, λ six. absurd (omega (arith, six)))
+
+pub unmade_back : (ran_before ran_now : List ℕ) (old new : Doorway) → GaveBack ran_before ran_now old new → GivesBackBut 8 ran_before ran_now old new
+unmade_back ran_before ran_now old new h = inl (h, λ six. absurd (omega (arith, six)))
+
+-- where the text was made and could not be printed
+pub unprinted_back : (ran_before ran_now : List ℕ) (old new : Doorway) → GivesBackBut 0 ran_before ran_now old new → GivesBackBut 5 ran_before ran_now old new
+unprinted_back ran_before ran_now old new (inl h) = inl (h.0, λ six. absurd (omega (arith, six)))
+unprinted_back ran_before ran_now old new (inr h) = let seven = h.0 in absurd (omega (arith, seven))
 
 -- ---- What a status excludes
 

@@ -5,7 +5,8 @@ use Rattle.std.proofs.lemmas.List.{length-map}
 use Rattle.std.proofs.lemmas.List.Elements.{All-from_recursion, recursion_from_All}
 use Rattle.std.proofs.lemmas.Option.{slice_get_within}
 use Rattle.std.proofs.lemmas.Slice.Zip.{AllZip-long}
-use Rattle.sv_link.specs.Ends.{Told}
+use Rattle.sv_link.specs.Ends.{Told, new_end}
+use Rattle.sv_link.specs.declared.side.Side.TheVariants.{Server}
 use Rattle.sv_journal.specs.declared.entry.Entry.{Entry}
 use Rattle.sv_journal.specs.Laws.{FullRepliesStay, LegalRelaysNameAccepted}
 use Rattle.sv_scenario.specs.Sessions.{session_count}
@@ -24,10 +25,10 @@ use Rattle.sv_play.specs.Playing.{TookAllIn}
 use Rattle.sv_play.proofs.Leaving.{served_left, all_of_lock}
 use Rattle.sv_play.proofs.Whole.{session_served}
 use Rattle.sv_play.proofs.Keepers.{just_of, below_of, legal_of, all_taken_in}
-use Rattle.sv_door.specs.Doors.{Passage}
+use Rattle.sv_door.specs.Doors.{Passage, passage_of}
 use Rattle.law_traffic.specs.Sessions.{IsSessionServed}
 use Rattle.law_traffic.proofs.Loops.{ends_are}
-use Rattle.sv_serve.specs.Giving.{passage_kept, kept_unserved, kept_served, IsUnservedOf, IsServedOf}
+use Rattle.sv_serve.specs.Giving.{passage_kept, kept_unserved, kept_served, unused_passage, IsUnservedOf, IsServedOf}
 use Rattle.sv_serve.specs.Passages.{IsPassageOf}
 use Rattle.sv_serve.specs.Hosting.{IsHosted}
 use Rattle.sv_serve.proofs.Passages.{passage_is}
@@ -49,6 +50,13 @@ module _ {E G : Type 0} (told : E → Told) (faults : E → ℕ) (calm : E → T
   unserved_numbers xs services k p e =
       let x = unmap_at (λ (x : Service E _). passage_kept told faults x.end) xs k p e in
       ap (λ (q : Passage). q.number) (sym x.2) ∙ ap (λ (t : Told). t.pair) (services k x.0 x.1).end.told_is
+
+  -- What is kept of them tells that nobody used them.
+  pub unserved_unused : (xs : List (Service E G)) → EachPlace (IsService told faults calm run) xs → EachPlace (λ k x. x ≡ unused_passage (run.pairs + k)) (kept_unserved told faults xs)
+  unserved_unused xs services k p e =
+      let x = unmap_at (λ (x : Service E _). passage_kept told faults x.end) xs k p e in
+      let end = (services k x.0 x.1).end in
+      sym x.2 ∙ (ap (λ (t : Told). passage_of t (faults x.0.end)) end.told_is ∙ ap (λ (n : ℕ). passage_of (new_end (run.pairs + k) Server) n) end.faultless)
 
 module _ {E G : Type 0} (told : E → Told) (faults : E → ℕ) (calm : E → Type 0) (run : Setting) (xs : List (Service E G)) (ys : List (Serviced E))
     (count : length xs ≡ session_count run.scenario) (services : EachPlace (IsService told faults calm run) xs) (kept : AllZip (WasServed told faults calm) xs ys) where

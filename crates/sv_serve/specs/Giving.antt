@@ -1,6 +1,7 @@
 -- Giving the ends of connections back.
 use Rattle.std.specs.Prelude.{◌≡◌, ℕ, ◌+◌, ◌<◌, List, ◌++◌, map, length, Result, Ok, Err}
-use Rattle.sv_link.specs.Ends.{Told}
+use Rattle.sv_link.specs.Ends.{Told, new_end}
+use Rattle.sv_link.specs.declared.side.Side.TheVariants.{Server}
 use Rattle.sv_system.specs.Places.{EachPlace}
 use Rattle.sv_play.specs.declared.outcome.PlayFault.{PlayFault}
 use Rattle.sv_play.specs.declared.outcome.PlayFault.TheVariants as faults
@@ -25,6 +26,20 @@ pub record GaveAllBack (old new : Doorway) : Type 0 where
   pub made : new.made ≡ old.made + length passages
   pub owed : new.owed ≡ old.owed
 
+-- What is kept of an end that was given back as it was made: nothing was sent over it, and nothing received.
+abbrev pub unused_passage : ℕ → Passage
+unused_passage number = passage_of (new_end number Server) 0
+
+-- Each end that was made was given back as it was made: no session was served.
+pub record GaveUnused (old new : Doorway) : Type 0 where
+  pub back : GaveAllBack old new
+  pub unused : EachPlace (λ k x. x ≡ unused_passage (old.made + k)) back.passages
+
+-- Each end that was made was given back; and where no run of jobs is noted, each as it was made.
+pub record GaveBack (ran_before ran_now : List ℕ) (old new : Doorway) : Type 0 where
+  pub back : GaveAllBack old new
+  pub unserved : ran_now ≡ ran_before → GaveUnused old new
+
 -- None was given back, and no run of jobs is noted: threads that could not be started took the ends along.
 pub record LostAll (ran_before ran_now : List ℕ) (old new : Doorway) : Type 0 where
   pub ends : ℕ
@@ -33,12 +48,12 @@ pub record LostAll (ran_before ran_now : List ℕ) (old new : Doorway) : Type 0 
   pub owed : new.owed ≡ old.owed + ends
   pub ran : ran_now ≡ ran_before
 
--- Each end that was made was given back, but where a thread could not be started.
+-- Each end that was made was given back, but where a thread could not be started. Where a connection could not be made no run of jobs is noted.
 abbrev pub GivesBack : {A : Type 0} → List ℕ → List ℕ → Doorway → Doorway → Result A PlayFault → Type 0
-GivesBack ran_before ran_now old new (Ok made) = GaveAllBack old new
-GivesBack ran_before ran_now old new (Err faults.Link) = GaveAllBack old new
+GivesBack ran_before ran_now old new (Ok made) = GaveBack ran_before ran_now old new
+GivesBack ran_before ran_now old new (Err faults.Link) = GaveBack ran_before ran_now old new × (ran_now ≡ ran_before)
 GivesBack ran_before ran_now old new (Err faults.Start) = LostAll ran_before ran_now old new
-GivesBack ran_before ran_now old new (Err faults.Memory) = GaveAllBack old new
+GivesBack ran_before ran_now old new (Err faults.Memory) = GaveBack ran_before ran_now old new
 
 module _ {E : Type 0} (told : E → Told) (faults : E → ℕ) where
   abbrev pub passage_kept : E → Passage

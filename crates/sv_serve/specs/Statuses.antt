@@ -12,7 +12,7 @@ use Rattle.sv_command.specs.declared.ending.Ending.TheVariants as endings
 use Rattle.sv_command.specs.Reading.{IsRead, IsRefused}
 use Rattle.sv_play.specs.Moved.{Moved}
 use Rattle.sv_door.specs.Doors.{Passage}
-use Rattle.sv_serve.specs.Giving.{Doorway, GaveAllBack, LostAll}
+use Rattle.sv_serve.specs.Giving.{Doorway, GaveBack, LostAll}
 use Rattle.sv_serve.specs.Hosting.{IsHosted}
 
 -- ---- The text
@@ -53,6 +53,7 @@ pub record LeavesAlone {F D C : Type 0} (status : ℕ) (f0 f1 : F) (d0 d1 : D) (
   pub door : (2 ≤ status) × (status ≤ 4) → d1 ≡ d0
   pub crew : (2 ≤ status) × (status ≤ 4) → c1 ≡ c0
 
--- Each end that was made was given back, but at 7: there a thread could not be started.
+-- Each end that was made was given back, but at 7: there a thread could not be started. At 6 no run of jobs is noted, so no session was served.
 abbrev pub GivesBackBut : ℕ → List ℕ → List ℕ → Doorway → Doorway → Type 0
-GivesBackBut status ran_before ran_now old new = GaveAllBack old new ⊎ ((status ≡ 7) × LostAll ran_before ran_now old new)
+GivesBackBut status ran_before ran_now old new =
+    (GaveBack ran_before ran_now old new × (status ≡ 6 → ran_now ≡ ran_before)) ⊎ ((status ≡ 7) × LostAll ran_before ran_now old new)

@@ -7,7 +7,7 @@ ghost use Rattle.sv_scenario.specs.Sessions.{session_count};
 ghost use Rattle.sv_system.specs.Places.{EachPlace};
 ghost use Rattle.sv_play.specs.Given.{keeper_after, pass_of, setting, IsNewEnd, IsService};
 ghost use Rattle.sv_play.specs.Opening.{OpeningCause};
-ghost use Rattle.sv_serve.specs.Giving.{doorway, kept_unserved, GaveAllBack, IsUnservedOf};
+ghost use Rattle.sv_serve.specs.Giving.{doorway, kept_unserved, GaveUnused, IsUnservedOf};
 
 use std::alloc::Global;
 use sv_door::{Door, EndMade};
@@ -76,7 +76,8 @@ impl<'a, G: Gate> Host<'a, G> {
         ensures made { OnOk result (D.made door.new ≡ D.made door.old + session_count self.now.scenario.now) }
         ensures owed { OnOk result (D.owed door.new ≡ D.owed door.old + session_count self.now.scenario.now) }
         ensures given { OnOk result (D.given door.new ≡ D.given door.old) }
-        ensures back { OnErr result (GaveAllBack (doorway (D.given door.old) (D.made door.old) (D.owed door.old)) (doorway (D.given door.new) (D.made door.new) (D.owed door.new))) }
+        ensures most { D.made door.new ≤ D.made door.old + session_count self.now.scenario.now }
+        ensures back { OnErr result (GaveUnused (doorway (D.given door.old) (D.made door.old) (D.owed door.old)) (doorway (D.given door.new) (D.made door.new) (D.owed door.new))) }
         ensures cause { OpeningCause (D.faults door.old) (D.faults door.new) result }
         ensures certain { D.sure door.old self.now.port → result ≢ Err PlayFault.Link }
     {

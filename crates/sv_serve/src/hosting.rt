@@ -1,11 +1,11 @@
 //! The sessions of a scenario, served to whoever connects.
-ghost use Rattle.std.specs.Prelude.{◌≡◌, ◌≢◌, reverse, IfOk, Err};
+ghost use Rattle.std.specs.Prelude.{◌≡◌, ◌≢◌, ◌+◌, ◌≤◌, reverse, IfOk, Err};
 ghost use Rattle.sv_scenario.specs.Limits.{IsGoodScenario};
 ghost use Rattle.sv_scenario.specs.Sessions.{session_count};
 ghost use Rattle.sv_sequencer.specs.Step.{history};
 ghost use Rattle.sv_play.specs.Given.{keeper_after};
 ghost use Rattle.sv_play.specs.Moved.{moved};
-ghost use Rattle.sv_play.specs.Playing.{PlayCause, TookAllIn};
+ghost use Rattle.sv_play.specs.Playing.{PlayCause, RunsOnce, TookAllIn};
 ghost use Rattle.sv_serve.specs.Giving.{doorway, GivesBack};
 ghost use Rattle.sv_serve.specs.Hosting.{IsHosted};
 
@@ -39,6 +39,8 @@ fn serve_sessions<D: Door, C: Crew, G: Gate + Sync, R: Threads + Wait + Sync>(
     ensures keeper { IfOk result (λ _. TookAllIn host.now.scenario.now keeper.old keeper.new) }
     ensures cause { PlayCause (C.faults crew.old) (C.faults crew.new) (D.faults door.old) (D.faults door.new) result }
     ensures back { GivesBack (C.ran crew.old) (C.ran crew.new) (doorway (D.given door.old) (D.made door.old) (D.owed door.old)) (doorway (D.given door.new) (D.made door.new) (D.owed door.new)) result }
+    ensures most { D.made door.new ≤ D.made door.old + session_count host.now.scenario.now }
+    ensures ran { RunsOnce (session_count host.now.scenario.now) (C.ran crew.old) (C.ran crew.new) result }
     ensures certain { D.sure door.old host.now.port → result ≢ Err PlayFault.Link }
 {
     full_replies_stay();
@@ -63,8 +65,9 @@ fn serve_sessions<D: Door, C: Crew, G: Gate + Sync, R: Threads + Wait + Sync>(
 ///
 /// It accepts one connection for each session, in the order of their numbers, before it serves any of them. A peer may send anything, close
 /// at any time or fall silent: its session alone ends by it. Once all sessions are over their ends are given back, in the same order; so are
-/// those that were accepted where no session is served, but where a thread could not be started. The answer is Link where a connection could not be made, Start where a thread could not be started, and Memory where there or in a session
-/// there was no memory.
+/// those that were accepted where no session is served, but where a thread could not be started. The answer is Link where a connection could
+/// not be made: then no session is served. It is Start where a thread could not be started, and Memory where there or in a session there was no
+/// memory.
 pub fn serve_scenario<D: Door, C: Crew, G: Gate + Sync, R: Threads + Wait + Sync>(
     rt: &R,
     alloc: Global,
@@ -78,6 +81,8 @@ pub fn serve_scenario<D: Door, C: Crew, G: Gate + Sync, R: Threads + Wait + Sync
     ensures hosted { IfOk result (λ s. IsHosted scenario.now (history s) (moved (D.given door.old) (D.given door.new) (C.ran crew.old) (C.ran crew.new))) }
     ensures cause { PlayCause (C.faults crew.old) (C.faults crew.new) (D.faults door.old) (D.faults door.new) result }
     ensures back { GivesBack (C.ran crew.old) (C.ran crew.new) (doorway (D.given door.old) (D.made door.old) (D.owed door.old)) (doorway (D.given door.new) (D.made door.new) (D.owed door.new)) result }
+    ensures most { D.made door.new ≤ D.made door.old + session_count scenario.now }
+    ensures ran { RunsOnce (session_count scenario.now) (C.ran crew.old) (C.ran crew.new) result }
     ensures certain { D.sure door.old port → result ≢ Err PlayFault.Link }
 {
     let sequencer = open_sequencer(alloc, scenario)?;

@@ -1,6 +1,6 @@
 //! Taking in what the sessions left.
-ghost use Rattle.std.specs.Prelude.{◌≡◌, ◌+◌, ◌≤◌, ◌++◌, ◌||◌, false, length, None};
-ghost use Rattle.std.specs.List.{AllByRecursion};
+ghost use Rattle.std.specs.Prelude.{◌≡◌, ◌+◌, ◌≤◌, ◌++◌, ◌||◌, length, None};
+ghost use Rattle.std.specs.List.{AllByRecursion, list_any};
 ghost use Rattle.sv_play.specs.Left.{is_memory, IsOfLock, JoinedPasses};
 ghost use Rattle.sv_play.specs.declared.tasks.Serviced.{Serviced as Left};
 ghost use Rattle.sv_serve.specs.Giving.{kept_served, IsServedOf};
@@ -37,7 +37,7 @@ pub(crate) fn take_in<D: Door>(
     ensures made { D.made door.new ≡ D.made door.old }
     ensures owed { D.owed door.old ≡ D.owed door.new + length served.items }
     ensures faults { D.faults door.new ≡ D.faults door.old }
-    ensures lacked { result ≡ false → AllByRecursion (λ (y : Left D.E). is_memory y.out ≡ false) served.items }
+    ensures lacked { result ≡ list_any (λ (y : Left D.E). is_memory y.out) served.items }
 {
     let mut lacked = false;
     for session in served {

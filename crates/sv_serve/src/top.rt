@@ -55,8 +55,8 @@ fn decide<F: Files, D: Door, C: Crew, G: Gate + Sync, K: Sink, R: Threads + Wait
 /// its peers. What a peer sends, or a fault at its connection, ends its session alone and gives no status.
 ///
 /// The status is the first of these that applies: 2 where the words are others, 4 where the file can't be read, 3 where it is no scenario, 7
-/// where a thread can't be started, 6 where a connection could not be made, and 5 where the output failed; else it is 0, or 8 where memory ran
-/// out, here or in a session. All of the text is made before any of it is printed.
+/// where a thread can't be started, 6 where a connection could not be made, and then no session is served, and 5 where the output failed; else
+/// it is 0, or 8 where memory ran out, here or in a session. All of the text is made before any of it is printed.
 pub fn run_serve<
     F: Files,
     D: Door,

@@ -1,7 +1,6 @@
 -- What is left of sessions that were served, from what each of them left.
-use Rattle.std.proofs.Common.{rules, ◌+◌, ◌++◌, [], ◌∷◌, length, refl, sym, ap, subst, ◌∙◌, arith, false}
+use Rattle.std.proofs.Common.{rules, ◌+◌, ◌++◌, [], ◌∷◌, length, inr, sym, ap, subst, ◌∙◌, arith, false}
 use Rattle.std.specs.List.{AllByRecursion}
-use Rattle.sv_system.specs.Places.{EachPlace}
 use denote.Param.Send.{sendable}
 use Rattle.std.proofs.Crossing.{crosses}
 use Rattle.sv_sequencer.proofs.Sent.{lock-syncs, pass-sends}
@@ -13,8 +12,9 @@ use Rattle.sv_play.specs.Moved.{moved}
 use Rattle.sv_play.specs.Playing.{TookAllIn}
 use Rattle.sv_play.proofs.Ready.{services_ready}
 use Rattle.sv_serve.specs.Giving.{kept_served, kept_unserved, IsUnservedOf}
-use Rattle.sv_serve.proofs.Steps.{served_back, unserved_back}
-use Rattle.sv_serve.proofs.Hosted.{all_served, passes, unserved_own, unserved_numbers, served_own, served_numbers, took_all, hosted}
+use Rattle.sv_serve.proofs.Steps.{none_lacked, served_back, unserved_back}
+use Rattle.sv_serve.proofs.Endings.{unused_back, used_back}
+use Rattle.sv_serve.proofs.Hosted.{all_served, passes, unserved_own, unserved_numbers, unserved_unused, served_own, served_numbers, took_all, hosted}
 use Rattle.sv_serve.proofs.hosting.serve_sessions.Goals as goal
 
 pub run_all-requires-clause-ready : goal.run_all-requires-clause-ready
@@ -53,7 +53,7 @@ returns-clause-hosted g c =
     let joined = subst (λ b. JoinedPasses ys b k) t.keeper left.joined in
     let good : IsGoodRun c.args.host.now.scenario.now = record { good = c.requires.good; opening = c.read_scenario_numbers.ensures.values } in
     hosted g.D.E.End.told g.D.E.End.faults g.D.E.End.calm run c.in_ok-services.services.items ys t.count t.services c.in-Done.ensures.kept k joined good
-    c.full_replies_stay.ensures c.legal_relays_name_accepted.ensures (left.lacked (search rules))
+    c.full_replies_stay.ensures c.legal_relays_name_accepted.ensures (none_lacked ys c.take_in.result left.lacked (search rules))
     (moved (g.D.Door.given c.args.door.now) (g.D.Door.given c.take_in.new.door) (g.C.Crew.ran c.args.crew.now) (g.C.Crew.ran c.run_all.new.self))
     (left.given ∙ ap (λ l. l ++ kept_served g.D.E.End.told g.D.E.End.faults ys) t.given)
     (c.in-Done.ensures.ran ∙ ap (λ n. g.C.Crew.ran c.args.crew.now ++ n ∷ []) c.in_ok-services.services.ok.0)
@@ -78,11 +78,13 @@ returns-then-take_in-clause-back g c =
     let count = all_served g.D.E.End.told g.D.E.End.faults g.D.E.End.calm run c.in_ok-services.services.items ys t.count t.services c.in-Done.ensures.kept in
     let more = t.owed in
     let less = left.owed in
+    used_back _ _ _
     (served_back g.D.E.End.told g.D.E.End.faults (g.D.Door.given c.args.door.now) (g.D.Door.given c.take_in.new.door) (g.D.Door.made c.args.door.now) (g.D.Door.made c.take_in.new.door)
     (g.D.Door.owed c.args.door.now) (g.D.Door.owed c.take_in.new.door) ys
     (left.given ∙ ap (λ l. l ++ kept_served g.D.E.End.told g.D.E.End.faults ys) t.given)
     (served_numbers g.D.E.End.told g.D.E.End.faults g.D.E.End.calm run c.in_ok-services.services.items ys t.count t.services c.in-Done.ensures.kept)
     (left.made ∙ (t.made ∙ ap (λ n. g.D.Door.made c.args.door.now + n) (sym count))) (omega (arith, count, more, less)))
+    (c.in-Done.ensures.ran ∙ ap (λ n. g.C.Crew.ran c.args.crew.now ++ n ∷ []) c.in_ok-services.services.ok.0)
 
 pub returns-clause-back : goal.returns-clause-back
 returns-clause-back g c =
@@ -93,11 +95,19 @@ returns-clause-back g c =
     let count = all_served g.D.E.End.told g.D.E.End.faults g.D.E.End.calm run c.in_ok-services.services.items ys t.count t.services c.in-Done.ensures.kept in
     let more = t.owed in
     let less = left.owed in
-    served_back g.D.E.End.told g.D.E.End.faults (g.D.Door.given c.args.door.now) (g.D.Door.given c.take_in.new.door) (g.D.Door.made c.args.door.now) (g.D.Door.made c.take_in.new.door)
+    used_back _ _ _
+    (served_back g.D.E.End.told g.D.E.End.faults (g.D.Door.given c.args.door.now) (g.D.Door.given c.take_in.new.door) (g.D.Door.made c.args.door.now) (g.D.Door.made c.take_in.new.door)
     (g.D.Door.owed c.args.door.now) (g.D.Door.owed c.take_in.new.door) ys
     (left.given ∙ ap (λ l. l ++ kept_served g.D.E.End.told g.D.E.End.faults ys) t.given)
     (served_numbers g.D.E.End.told g.D.E.End.faults g.D.E.End.calm run c.in_ok-services.services.items ys t.count t.services c.in-Done.ensures.kept)
-    (left.made ∙ (t.made ∙ ap (λ n. g.D.Door.made c.args.door.now + n) (sym count))) (omega (arith, count, more, less))
+    (left.made ∙ (t.made ∙ ap (λ n. g.D.Door.made c.args.door.now + n) (sym count))) (omega (arith, count, more, less)))
+    (c.in-Done.ensures.ran ∙ ap (λ n. g.C.Crew.ran c.args.crew.now ++ n ∷ []) c.in_ok-services.services.ok.0)
+
+pub returns-clause-ran : goal.returns-clause-ran
+returns-clause-ran g c = c.in-Done.ensures.ran ∙ ap (λ n. g.C.Crew.ran c.args.crew.now ++ n ∷ []) (c.in_ok-services.services.ok.0 ∙ c.in_ok-services.ensures.count)
+
+pub returns-then-take_in-clause-ran : goal.returns-then-take_in-clause-ran
+returns-then-take_in-clause-ran g c = inr (c.in-Done.ensures.ran ∙ ap (λ n. g.C.Crew.ran c.args.crew.now ++ n ∷ []) (c.in_ok-services.services.ok.0 ∙ c.in_ok-services.ensures.count))
 
 pub give_back_all-requires-clause-own : goal.give_back_all-requires-clause-own
 give_back_all-requires-clause-own g c κs within =
@@ -136,11 +146,12 @@ returns-in-Memory-clause-back g c =
     let less = back.owed in
     let made = t.made in
     let kept = back.made in
-    unserved_back told faults (g.D.Door.given c.args.door.now) (g.D.Door.given c.give_back_all.new.door) (g.D.Door.made c.args.door.now) (g.D.Door.made c.give_back_all.new.door)
+    unused_back _ _
+    (unserved_back told faults (g.D.Door.given c.args.door.now) (g.D.Door.given c.give_back_all.new.door) (g.D.Door.made c.args.door.now) (g.D.Door.made c.give_back_all.new.door)
     (g.D.Door.owed c.args.door.now) (g.D.Door.owed c.give_back_all.new.door) xs
     (back.given ∙ (ap (λ l. l ++ kept_unserved told faults c.in-Memory.services.items) t.given ∙ ap (λ l. g.D.Door.given c.args.door.now ++ kept_unserved told faults l) same))
-    (unserved_numbers told faults g.D.E.End.calm run xs t.services)
-    (omega (arith, kept, made, count)) (omega (arith, size, count, more, less))
+    (unserved_numbers told faults g.D.E.End.calm run xs t.services) (unserved_unused told faults g.D.E.End.calm run xs t.services)
+    (omega (arith, kept, made, count)) (omega (arith, size, count, more, less)))
 
 pub run_all-requires-send-J : goal.run_all-requires-send-J
 run_all-requires-send-J g c κs within = let y = c.type_bounds.sync-G in let e = c.type_bounds.send-D-E in search (lock-syncs, pass-sends, sendable, crosses) depth 40 fits 10000

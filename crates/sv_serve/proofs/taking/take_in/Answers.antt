@@ -1,9 +1,9 @@
 -- One session taken in.
-use Rattle.std.proofs.Common.{◌++◌, [], ◌∷◌, sym, ap, subst, ◌∙◌, append_assoc, false, ◌≡◌, length, arith}
-use Rattle.std.specs.List.{AllByRecursion}
+use Rattle.std.proofs.Common.{◌++◌, ◌||◌, [], ◌∷◌, sym, ap, subst, ◌∙◌, append_assoc, length, arith}
+use Rattle.std.specs.List.{AllByRecursion, list_any}
+use Rattle.std.proofs.lemmas.List.Folds.{list_any-append}
 use Rattle.std.proofs.lemmas.List.{map-append}
-use Rattle.std.proofs.lemmas.Bool.{or_parts}
-use Rattle.sv_system.proofs.Every.{each-push}
+use Rattle.std.proofs.Math.Bool.{or-false}
 use Rattle.sv_play.specs.Left.{is_memory, IsOfLock}
 use Rattle.sv_play.proofs.Taken.{joined_more}
 use Rattle.sv_serve.specs.Giving.{passage_kept, kept_served, IsServedOf}
@@ -48,7 +48,8 @@ loop-session-preserved g c =
       owed = omega (arith, size, owed, less);
       made = b.made ∙ i.made;
       faults = b.faults ∙ i.faults;
-      lacked = λ none.
-          let both = or_parts c.loop-session.lacked (is_memory y.out) (sym c.lacks-lacked.ensures ∙ none) in
-          each-push (λ x. is_memory x.out ≡ false) yielded y (i.lacked both.0) both.1;
+      lacked =
+          c.lacks-lacked.ensures
+          ∙ (ap (λ b. b || is_memory y.out) i.lacked
+          ∙ sym (list_any-append (λ x. is_memory x.out) yielded (y ∷ []) ∙ ap (λ b. list_any (λ x. is_memory x.out) yielded || b) (or-false (is_memory y.out))));
     }

@@ -1,6 +1,6 @@
 -- The sessions that are still to be taken in.
-use Rattle.std.proofs.Common.{◌≡◌, ◌+◌, ◌≤◌, ◌++◌, false, length}
-use Rattle.std.specs.List.{AllByRecursion}
+use Rattle.std.proofs.Common.{◌≡◌, ◌+◌, ◌≤◌, ◌++◌, length}
+use Rattle.std.specs.List.{AllByRecursion, list_any}
 use Rattle.sv_play.specs.Left.{is_memory, IsOfLock, JoinedPasses}
 use Rattle.sv_serve.specs.Giving.{kept_served, IsServedOf}
 use Rattle.sv_serve.proofs.taking.take_in.Given as goal
@@ -20,5 +20,5 @@ invariant-loop-session g l =
       owed : g.D.Door.owed l.initial.door + length rest ≡ g.D.Door.owed l.door + length l.fn.served.items;
       made : g.D.Door.made l.door ≡ g.D.Door.made l.initial.door;
       faults : g.D.Door.faults l.door ≡ g.D.Door.faults l.initial.door;
-      lacked : l.lacked ≡ false → AllByRecursion (λ y. is_memory y.out ≡ false) l.yielded;
+      lacked : l.lacked ≡ list_any (λ y. is_memory y.out) l.yielded;
     }

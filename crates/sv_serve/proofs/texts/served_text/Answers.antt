@@ -5,7 +5,7 @@ use Rattle.sv_command.specs.Statuses.{Counts, counts}
 use Rattle.sv_command.proofs.Counts.{came, raised_by, same_counts}
 use Rattle.sv_sequencer.specs.Step.{SequencerView}
 use Rattle.sv_play.proofs.Endings.{fault_raises}
-use Rattle.sv_serve.proofs.Endings.{touched, untouched_back}
+use Rattle.sv_serve.proofs.Endings.{touched, untouched_back, done_back, unmade_back}
 use Rattle.sv_serve.proofs.texts.served_text.Goals as goal
 
 pub returns-in_err-scenario-clause-raises : goal.returns-in_err-scenario-clause-raises
@@ -37,4 +37,12 @@ returns-clause-raises g c =
     λ k. same_counts _ _ _ _ _ _ k (ap (λ (x : Counts). x.files) (c.in_ok-scenario.ensures.raises (counts 0 0 0 0))) c.in-Ok.ensures.cause.0 c.in-Ok.ensures.cause.1
 
 pub returns-in_err-scenario-clause-back : goal.returns-in_err-scenario-clause-back
-returns-in_err-scenario-clause-back g c = untouched_back _ _ _ _ _ refl
+returns-in_err-scenario-clause-back g c = untouched_back _ _ _ _ refl
+
+pub returns-clause-back : goal.returns-clause-back
+returns-clause-back g c = done_back _ _ _ _ c.in-Ok.ensures.back
+
+pub returns-in_err-hosted_text-clause-back : goal.returns-in_err-hosted_text-clause-back
+returns-in_err-hosted_text-clause-back g c =
+    rw (came c.from_residual-in_err-hosted_text.result endings.Memory c.from_residual-in_err-hosted_text.ensures.1)
+    (unmade_back _ _ _ _ c.in-Ok.ensures.back)

@@ -1,7 +1,7 @@
 -- The counts of faults, and the output by what was made.
 use Rattle.std.proofs.Common.{refl, string_bytes}
 use Rattle.sv_command.proofs.Counts.{wrote, broke}
-use Rattle.sv_serve.proofs.Endings.{printed_given, cut_given, early_given, untouched_back}
+use Rattle.sv_serve.proofs.Endings.{printed_given, cut_given, early_given, untouched_back, unprinted_back}
 use Rattle.sv_serve.proofs.top.decide.Goals as goal
 
 pub returns-in-Ok-clause-raises : goal.returns-in-Ok-clause-raises
@@ -28,4 +28,7 @@ returns-in-Err-clause-ends g c =
     early_given (g.F.Files.contents c.args.files.now) _ _ c.in-Some.command c.in-Some.is _ c.in-Err.ending c.in-Err.ensures.made
 
 pub returns-in_default-clause-back : goal.returns-in_default-clause-back
-returns-in_default-clause-back g c = untouched_back _ _ _ _ _ refl
+returns-in_default-clause-back g c = untouched_back _ _ _ _ refl
+
+pub returns-in-Ok-2-clause-back : goal.returns-in-Ok-2-clause-back
+returns-in-Ok-2-clause-back g c = unprinted_back _ _ _ _ c.in-Ok.ensures.back

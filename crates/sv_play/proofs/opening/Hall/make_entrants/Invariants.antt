@@ -1,5 +1,5 @@
 -- The clients so far are the first.
-use Rattle.std.proofs.Common.{◌≡◌, ◌+◌, ◌++◌, List, length, drop}
+use Rattle.std.proofs.Common.{◌≡◌, ◌++◌, List, drop}
 use Rattle.sv_play.specs.declared.opening.Entrant.{Entrant}
 use Rattle.sv_play.specs.Opening.{EachEntrant}
 use Rattle.sv_play.proofs.opening.Hall.make_entrants.Given as goal

@@ -1,5 +1,5 @@
 -- The sessions so far were opened, each with its pair and its pass.
-use Rattle.std.proofs.Common.{◌≡◌, ◌+◌, ◌≤◌, length}
+use Rattle.std.proofs.Common.{◌≡◌, ◌+◌, length}
 use Rattle.std.specs.Vec.{vec_capacity}
 use Rattle.sv_link.specs.declared.side.Side.TheVariants.{Client}
 use Rattle.sv_system.specs.Places.{EachPlace}

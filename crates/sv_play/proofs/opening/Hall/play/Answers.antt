@@ -1,5 +1,5 @@
 -- What a run on threads leaves is what its tasks left.
-use Rattle.std.proofs.Common.{rules, ◌+◌, ◌++◌, [], ◌∷◌, length, map, reverse, refl, sym, ap, subst, ◌∙◌, arith}
+use Rattle.std.proofs.Common.{rules, ◌+◌, ◌++◌, [], ◌∷◌, length, map, reverse, inr, refl, sym, ap, subst, ◌∙◌, arith}
 use Rattle.std.specs.Prelude.{Err}
 use Rattle.std.specs.List.{flat_map}
 use Rattle.sv_scenario.specs.Sessions.{session_count}
@@ -21,7 +21,8 @@ use Rattle.sv_play.specs.Opening.{server_end, uncut}
 use Rattle.sv_play.specs.Pairs.{pairing}
 use Rattle.sv_play.proofs.Opened.{given_count, given_each, unused_held}
 use Rattle.sv_play.proofs.Unused.{none_made, memory_leaves, settled_all, matched_all, some_differed, unused_pairs, unused_owed, unused_leaves, unused_cause, unused_matches, not_start, unerr}
-use Rattle.sv_play.proofs.Done.{passes, numbers, room, are_pairs, are_calm, are_since, owed_enough, took_all, threaded, told_all}
+use Rattle.sv_play.proofs.Jobs.{none_ran, fault_none_ran, memory_all_ran}
+use Rattle.sv_play.proofs.Done.{passes, numbers, room, jobs, are_pairs, are_calm, are_since, owed_enough, took_all, threaded, told_all}
 use Rattle.sv_play.proofs.opening.Hall.play.Goals as goal
 
 pub run_all-requires-clause-ready : goal.run_all-requires-clause-ready
@@ -376,6 +377,62 @@ returns-in-Memory-clause-certain g c =
     (t.pairs.0 ∙ ap (λ n. g.N.Net.made c.args.net.now + n) (sym t.count)) (t.pairs.1 ∙ ap (λ n. g.N.Net.owed c.args.net.now + n) (sym t.count)) in
     λ q e. unused_matches told faults calm (g.N.Net.calm c.args.net.now) old mid c.take_back.new.left.servers.items c.take_back.new.left.clients.items held (g.N.Net.calm c.open.new.net) (g.N.Net.faults c.open.new.net) (g.N.Net.faults c.settle_after-in-Memory.new.net)
     (pairing (g.N.Net.settled c.settle_after-in-Memory.new.net) (g.N.Net.unmatched c.settle_after-in-Memory.new.net) (g.N.Net.made c.settle_after-in-Memory.new.net) (g.N.Net.owed c.settle_after-in-Memory.new.net)) faults_of.Memory c.settle_after-in-Memory.result c.settle_after-in-Memory.ensures.settled (λ is. cc) q (t.calm q).1 (ap unerr e)
+
+pub returns-then-not-settle_all-clause-ran : goal.returns-then-not-settle_all-clause-ran
+returns-then-not-settle_all-clause-ran g c =
+    let told = g.N.E.End.told in
+    let faults = g.N.E.End.faults in
+    let calm = g.N.E.End.calm in
+    let run = setting c.args.self.now.lock.now c.args.self.now.scenario.now (g.N.Net.made c.args.net.now) (g.N.Net.calm c.args.net.now) (g.W.Teller.telling c.args.self.now.teller.now).watched in
+    let t = c.in-Ok.ensures in
+    let count = c.in-Ok.tasks.ok.0 ∙ jobs told faults calm _ run c.in-Ok.tasks.items c.in-Done.outs.items t.count t.services t.parts c.in-Done.ensures.kept in
+    let ran = c.in-Done.ensures.ran ∙ ap (λ n. g.C.Crew.ran c.args.crew.now ++ n ∷ []) count in
+    inr ran
+
+pub returns-then-lacked-clause-ran : goal.returns-then-lacked-clause-ran
+returns-then-lacked-clause-ran g c =
+    let told = g.N.E.End.told in
+    let faults = g.N.E.End.faults in
+    let calm = g.N.E.End.calm in
+    let run = setting c.args.self.now.lock.now c.args.self.now.scenario.now (g.N.Net.made c.args.net.now) (g.N.Net.calm c.args.net.now) (g.W.Teller.telling c.args.self.now.teller.now).watched in
+    let t = c.in-Ok.ensures in
+    let count = c.in-Ok.tasks.ok.0 ∙ jobs told faults calm _ run c.in-Ok.tasks.items c.in-Done.outs.items t.count t.services t.parts c.in-Done.ensures.kept in
+    let ran = c.in-Done.ensures.ran ∙ ap (λ n. g.C.Crew.ran c.args.crew.now ++ n ∷ []) count in
+    inr ran
+
+pub returns-in_err-all_lines-clause-ran : goal.returns-in_err-all_lines-clause-ran
+returns-in_err-all_lines-clause-ran g c =
+    let told = g.N.E.End.told in
+    let faults = g.N.E.End.faults in
+    let calm = g.N.E.End.calm in
+    let run = setting c.args.self.now.lock.now c.args.self.now.scenario.now (g.N.Net.made c.args.net.now) (g.N.Net.calm c.args.net.now) (g.W.Teller.telling c.args.self.now.teller.now).watched in
+    let t = c.in-Ok.ensures in
+    let count = c.in-Ok.tasks.ok.0 ∙ jobs told faults calm _ run c.in-Ok.tasks.items c.in-Done.outs.items t.count t.services t.parts c.in-Done.ensures.kept in
+    let ran = c.in-Done.ensures.ran ∙ ap (λ n. g.C.Crew.ran c.args.crew.now ++ n ∷ []) count in
+    memory_all_ran Playing c.from_residual-in_err-all_lines.result _ _ _ c.from_residual-in_err-all_lines.ensures.1 ran
+
+pub returns-clause-ran : goal.returns-clause-ran
+returns-clause-ran g c =
+    let told = g.N.E.End.told in
+    let faults = g.N.E.End.faults in
+    let calm = g.N.E.End.calm in
+    let run = setting c.args.self.now.lock.now c.args.self.now.scenario.now (g.N.Net.made c.args.net.now) (g.N.Net.calm c.args.net.now) (g.W.Teller.telling c.args.self.now.teller.now).watched in
+    let t = c.in-Ok.ensures in
+    let count = c.in-Ok.tasks.ok.0 ∙ jobs told faults calm _ run c.in-Ok.tasks.items c.in-Done.outs.items t.count t.services t.parts c.in-Done.ensures.kept in
+    let ran = c.in-Done.ensures.ran ∙ ap (λ n. g.C.Crew.ran c.args.crew.now ++ n ∷ []) count in
+    ran
+
+pub returns-in_err-left-clause-ran : goal.returns-in_err-left-clause-ran
+returns-in_err-left-clause-ran g c =
+    fault_none_ran Playing _ c.from_residual.result _ _ c.from_residual.ensures.1
+
+pub returns-in-Err-clause-ran : goal.returns-in-Err-clause-ran
+returns-in-Err-clause-ran g c =
+    none_ran Playing c.settle_after.result _ _ _ refl
+
+pub returns-in-Memory-clause-ran : goal.returns-in-Memory-clause-ran
+returns-in-Memory-clause-ran g c =
+    none_ran Playing c.settle_after-in-Memory.result _ _ _ c.in-Memory.ensures.ran
 
 pub run_all-requires-send-J : goal.run_all-requires-send-J
 run_all-requires-send-J g c κs within = let y = c.type_bounds.sync-G in let w = c.type_bounds.sync-W in let e = c.type_bounds.send-N-E in search (lock-syncs, pass-sends, client-field-sends, step-syncs, sendable, crosses) depth 40 fits 10000

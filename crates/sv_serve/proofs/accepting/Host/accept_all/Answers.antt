@@ -5,14 +5,14 @@ use Rattle.sv_session.specs.Serving.{SessionPass}
 use Rattle.sv_play.specs.Given.{keeper_after, pass_of, setting, IsService}
 use Rattle.sv_system.proofs.Places.{each_push}
 use Rattle.sv_play.proofs.Opened.{new_end_as}
-use Rattle.sv_serve.proofs.Endings.{on_err, none_made}
+use Rattle.sv_serve.proofs.Endings.{on_err, none_used}
 use Rattle.sv_serve.specs.Giving.{kept_unserved}
 use Rattle.sv_serve.proofs.Steps.{unserved_back}
-use Rattle.sv_serve.proofs.Hosted.{unserved_own, unserved_numbers}
+use Rattle.sv_serve.proofs.Hosted.{unserved_own, unserved_numbers, unserved_unused}
 use Rattle.sv_serve.proofs.accepting.Host.accept_all.Goals as goal
 
 pub returns-in_err-services-clause-back : goal.returns-in_err-services-clause-back
-returns-in_err-services-clause-back g c = on_err c.from_residual.result _ (none_made _)
+returns-in_err-services-clause-back g c = on_err c.from_residual.result _ (none_used _)
 
 pub give_back_all-requires-clause-own : goal.give_back_all-requires-clause-own
 give_back_all-requires-clause-own g c κs within =
@@ -41,7 +41,7 @@ returns-in-Err-clause-back g c =
     let less = back.owed in
     unserved_back told faults (g.D.Door.given c.args.door.now) (g.D.Door.given c.give_back_all.new.door) (g.D.Door.made c.args.door.now) (g.D.Door.made c.give_back_all.new.door)
     (g.D.Door.owed c.args.door.now) (g.D.Door.owed c.give_back_all.new.door) xs
-    (back.given ∙ ap (λ l. l ++ kept_unserved told faults xs) (c.in-Err.ensures.given ∙ i.given)) (unserved_numbers told faults g.D.E.End.calm run xs i.services)
+    (back.given ∙ ap (λ l. l ++ kept_unserved told faults xs) (c.in-Err.ensures.given ∙ i.given)) (unserved_numbers told faults g.D.E.End.calm run xs i.services) (unserved_unused told faults g.D.E.End.calm run xs i.services)
     (omega (arith, kept, none_made, made, count)) (omega (arith, less, none_owed, owed, count))
 
 pub loop-preserved : goal.loop-preserved
