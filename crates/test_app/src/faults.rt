@@ -1,6 +1,8 @@
 //! Files, outputs, links and threads that fail.
 
 use crate::calls::{Desk, called_well, desk_of};
+use crate::lacking::LackingNet;
+use crate::texts::*;
 use std::alloc::{AllocError, Global};
 use std::sync::Wait;
 use std::test::Fail;
@@ -10,7 +12,7 @@ use test_calls::Printed;
 use test_calls::examples::{FIRST, FIRST_REPORT};
 
 /// What has a call that fails.
-#[derive(Clone, Copy)]
+#[derive(Clone, Copy, Debug)]
 enum Failing {
     Net,
     ServerEnd,
@@ -20,10 +22,18 @@ enum Failing {
     Settling,
 }
 
-/// The first example, played over a net in memory one of whose calls fails, by its number from 1.
+/// A scenario, and the brief report of its play.
+#[derive(Clone, Copy)]
+struct Play {
+    text: &'static str,
+    brief: &'static str,
+}
+
+/// A play over a net in memory one of whose calls fails, by its number from 1.
 fn played<R: Threads + Wait + Sync>(
     rt: &R,
     alloc: Global,
+    play: Play,
     failing: Failing,
     call: u64,
 ) -> Result<Printed, AllocError> {
@@ -34,19 +44,20 @@ fn played<R: Threads + Wait + Sync>(
         Failing::ClientEnd => net.fail_client_at(call)?,
         Failing::Settling => net.change_at(call)?,
     }
-    let desk = Desk::new(alloc, FIRST, net, ThreadCrew::new(alloc))?;
-    desk.called(rt, alloc, "play a", &OpenGate)
+    let desk = Desk::new(alloc, play.text, net, ThreadCrew::new(alloc))?;
+    desk.called(rt, alloc, "play a --brief", &OpenGate)
 }
 
-/// Whether all is printed, or else the run ends with status 6 and nothing printed; None where neither is so.
+/// Whether all is printed, or else the play ends with status 6 and nothing printed; None where neither is so.
 fn is_whole<R: Threads + Wait + Sync>(
     rt: &R,
     alloc: Global,
+    play: Play,
     failing: Failing,
     call: u64,
 ) -> Result<Option<bool>, AllocError> {
-    let printed = played(rt, alloc, failing, call)?;
-    let found = if printed.has(0, FIRST_REPORT, "") {
+    let printed = played(rt, alloc, play, failing, call)?;
+    let found = if printed.has(0, play.brief, "") {
         Some(true)
     } else if printed.has(6, "", "link\n") {
         Some(false)
@@ -57,36 +68,125 @@ fn is_whole<R: Threads + Wait + Sync>(
     Ok(found)
 }
 
-/// Whether each of the first calls ends the run with status 6 and nothing printed if it fails, up to one that does not come, where all is
-/// printed. There are at least so many of them.
-fn faults_are_told<R: Threads + Wait + Sync>(
+/// How many calls end the play with status 6 and nothing printed if they fail, up to one at which all is printed. None where another status
+/// comes.
+fn faults_told<R: Threads + Wait + Sync>(
     rt: &R,
     alloc: Global,
+    play: Play,
     failing: Failing,
-    least: u64,
-) -> Result<bool, AllocError> {
+) -> Result<Option<u64>, AllocError> {
+    let mut count = 0;
     for call in 1..60 {
-        match is_whole(rt, alloc, failing, call)? {
-            Some(true) => return Ok(least < call),
-            Some(false) => {}
-            None => return Ok(false),
+        match is_whole(rt, alloc, play, failing, call)? {
+            Some(true) => return Ok(Some(count)),
+            Some(false) => count = call,
+            None => return Ok(None),
         }
     }
-    Ok(false)
+    Ok(None)
 }
 
-/// Each kind of call, with the least number of them: a pair and its settling; and of each end four reads and four writes at the least.
-const LINKS: [(Failing, u64); 4] = [
-    (Failing::Net, 2),
-    (Failing::ServerEnd, 4),
-    (Failing::ClientEnd, 4),
-    (Failing::Settling, 1),
+const ONE_ACT: Play = Play {
+    text: FIRST,
+    brief: FIRST_BRIEF,
+};
+
+const THREE_ACTS: Play = Play {
+    text: BURST,
+    brief: BURST_BRIEF,
+};
+
+const QUIT: Play = Play {
+    text: QUITTING,
+    brief: QUITTING_BRIEF,
+};
+
+/// Each kind of call, with the number of them: a pair and its settling; and of each end four writes and four reads, for the Join, the actions,
+/// their results and the Leave, as many for three actions at once as for one. Once a client quits no fault of its session counts: the server's
+/// end only reads the Join and writes the Welcome before.
+const LINKS: [(Failing, Play, u64); 7] = [
+    (Failing::Net, ONE_ACT, 2),
+    (Failing::Settling, ONE_ACT, 1),
+    (Failing::ServerEnd, ONE_ACT, 8),
+    (Failing::ClientEnd, ONE_ACT, 8),
+    (Failing::ServerEnd, THREE_ACTS, 8),
+    (Failing::ClientEnd, THREE_ACTS, 8),
+    (Failing::ServerEnd, QUIT, 2),
 ];
 
 #[test]
 fn failing_links_are_told(rt: HostRuntime) -> Result<(), Fail> {
-    for (failing, least) in LINKS {
-        assert!(rt; faults_are_told(&rt, rt.alloc(), failing, least)?);
+    for (failing, play, calls) in LINKS {
+        let told = faults_told(&rt, rt.alloc(), play, failing)?;
+        assert!(rt; told == Some(calls), "{failing:?} {told:?}");
+    }
+    Ok(())
+}
+
+/// The faults of an end in a session that its client quit: reading the Poll, writing the reply, and reading on.
+#[test]
+fn faults_of_cut_sessions_are_not_told(rt: HostRuntime) -> Result<(), Fail> {
+    for call in 3..6 {
+        let whole = is_whole(&rt, rt.alloc(), QUIT, Failing::ServerEnd, call)?;
+        assert!(rt; whole == Some(true), "{call}");
+    }
+    Ok(())
+}
+
+/// The calls of the one session's ends that fail and that find no memory, by their numbers from 1. Where a number is 0 none does.
+#[derive(Clone, Copy, Debug)]
+struct Wrong {
+    server_fails: u64,
+    client_fails: u64,
+    server_lacks: u64,
+    client_lacks: u64,
+}
+
+/// The status and the line of a play over such ends that prints nothing.
+fn ends_with<R: Threads + Wait + Sync>(
+    rt: &R,
+    alloc: Global,
+    wrong: Wrong,
+    status: u8,
+    line: &str,
+) -> Result<bool, AllocError> {
+    let mut net = PipeNet::new(alloc, rt);
+    net.fail_server_at(wrong.server_fails)?;
+    net.fail_client_at(wrong.client_fails)?;
+    let net = LackingNet {
+        net,
+        server: wrong.server_lacks,
+        client: wrong.client_lacks,
+    };
+    let desk = Desk::new(alloc, FIRST, net, ThreadCrew::new(alloc))?;
+    Ok(
+        desk.called(rt, alloc, "play a", &OpenGate)?
+            .is(status, "", line),
+    )
+}
+
+/// The n-th calls of the two ends find no memory, or one of them fails and the other finds none: then the link's fault is told.
+#[test]
+fn want_of_memory_hides_no_fault(rt: HostRuntime) -> Result<(), Fail> {
+    for call in 1..9 {
+        for (server_fails, client_fails, server_lacks, client_lacks, status, line) in [
+            (0, 0, call, 0, 8, "memory\n"),
+            (0, 0, 0, call, 8, "memory\n"),
+            (call, 0, 0, call, 6, "link\n"),
+            (0, call, call, 0, 6, "link\n"),
+        ] {
+            let wrong = Wrong {
+                server_fails,
+                client_fails,
+                server_lacks,
+                client_lacks,
+            };
+            assert!(rt;
+                ends_with(&rt, rt.alloc(), wrong, status, line)?,
+                "{wrong:?}"
+            );
+        }
     }
     Ok(())
 }

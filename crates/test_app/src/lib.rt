@@ -6,6 +6,8 @@ mod calls;
 #[cfg(test)]
 mod faults;
 #[cfg(test)]
+mod lacking;
+#[cfg(test)]
 mod plays;
 #[cfg(test)]
 mod replays;

@@ -1,4 +1,4 @@
-//! What is printed of scenarios, beside the reports of examples/.
+//! Scenarios, and what is printed of some, beside those of examples/.
 
 /// The report of the first example, and what its client was told.
 pub const FIRST_WATCHED: &str =
@@ -6,6 +6,20 @@ pub const FIRST_WATCHED: &str =
 
 pub const FIRST_BRIEF: &str =
     "clients 1\nsessions 1\nobjects 1\nmade 1\naccepted 1\ndropped 0\ncommit 1\ntotal 0: 6\n";
+
+/// Three actions, none of which waits for a result.
+pub const BURST: &str =
+    r#"{"attrs":1,"objects":[[5]],"bound":4,"clients":[{"interest":[],"steps":[{"act":"reads 0 writes 0 { set @0.0 (@0.0 + 1); }"},{"act":"reads 0 writes 0 { set @0.0 (@0.0 + 1); }"},{"act":"reads 0 writes 0 { set @0.0 (@0.0 + 1); }"}]}]}"#;
+
+pub const BURST_BRIEF: &str =
+    "clients 1\nsessions 1\nobjects 1\nmade 3\naccepted 3\ndropped 0\ncommit 3\ntotal 0: 8\n";
+
+/// A client that asks for what was abandoned, and quits without waiting for the reply.
+pub const QUITTING: &str =
+    r#"{"attrs":1,"objects":[[5]],"bound":4,"clients":[{"interest":[],"steps":["poll","quit"]}]}"#;
+
+pub const QUITTING_BRIEF: &str =
+    "clients 1\nsessions 1\nobjects 1\nmade 0\naccepted 0\ndropped 0\ncommit 0\ntotal 0: 5\n";
 
 pub const BOUND_0_BRIEF: &str =
     "clients 1\nsessions 1\nobjects 1\nmade 2\naccepted 1\ndropped 1\ncommit 1\ntotal 0: 6\n";

@@ -2,8 +2,12 @@
 #![tactic(auto)]
 
 #[cfg(test)]
+mod ends;
+#[cfg(test)]
 mod frames;
 #[cfg(test)]
 mod great;
+#[cfg(test)]
+mod outbox;
 #[cfg(test)]
 mod tests;

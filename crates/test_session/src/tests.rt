@@ -195,14 +195,74 @@ fn repeated(alloc: Global, frame: &[u8], count: usize) -> Result<Vec<u8>, Fail> 
     Ok(bytes)
 }
 
+/// They came in one read, and all replies go in one write: a third call of the end would fail.
 #[test]
 fn a_session_makes_so_many_requests(rt: HostRuntime) -> Result<(), Fail> {
     let polls = repeated(rt.alloc(), POLL, 2_000)?;
     let mut replies = repeated(rt.alloc(), REFUSED_2, 1_024)?;
     replies.extend_from_slice(REFUSED_9)?;
-    let (out, sent) = serve(&rt, rt.alloc(), &polls, 100_000, 0)?;
+    let (out, sent) = serve(&rt, rt.alloc(), &polls, 100_000, 3)?;
     assert_eq!(rt; out, SessionOut::Spent);
     assert!(rt; sent == replies);
+    Ok(())
+}
+
+/// What comes at once, the outcome, the frames of the replies, and for each call of the end whether they all were sent before it.
+type Calls<'a> = (&'a [&'a [u8]], SessionOut, &'a [&'a [u8]], &'a [bool]);
+
+/// A session reads, writes all replies to what came at once, and only then reads on.
+const CALLS: &[Calls] = &[
+    (&[], SessionOut::Closed, &[], &[false]),
+    (
+        &[JOIN_0, SUBMIT_INC_0, POLL],
+        SessionOut::Closed,
+        &[BARE_WELCOME, RELAY_INC_0, IDLE],
+        &[false, false, true],
+    ),
+    (
+        &[JOIN_0, OBSERVE_0, POLL, LEAVE],
+        SessionOut::Left,
+        &[BARE_WELCOME, SEEN_0, IDLE, BYE],
+        &[false, false],
+    ),
+    (
+        &[POLL, POLL, &[0, 0, 0, 0]],
+        SessionOut::Malformed,
+        &[REFUSED_2, REFUSED_2, REFUSED_1],
+        &[false, false],
+    ),
+];
+
+/// Each call of the end fails in turn, up to one that does not come.
+fn check_calls<R: Wait>(rt: &R, alloc: Global, row: &Calls) -> Result<(), Fail> {
+    let (coming, outcome, replies, calls) = row;
+    let coming = joined(alloc, *coming)?;
+    let replies = joined(alloc, *replies)?;
+    let mut failing = 1u64;
+    for is_behind in *calls {
+        let (out, sent) = serve(rt, alloc, &coming, 100_000, failing)?;
+        let is_so = if *is_behind {
+            sent == replies
+        } else {
+            sent.is_empty()
+        };
+        if out != SessionOut::LinkFault || !is_so {
+            return Err(Fail::new(format_args!("{out:?} at call {failing}")));
+        }
+        failing = failing.wrapping_add(1);
+    }
+    let (out, sent) = serve(rt, alloc, &coming, 100_000, failing)?;
+    if out != *outcome || sent != replies {
+        return Err(Fail::new(format_args!("{out:?} at call {failing}")));
+    }
+    Ok(())
+}
+
+#[test]
+fn replies_to_one_read_are_one_write(rt: HostRuntime) -> Result<(), Fail> {
+    for row in CALLS {
+        check_calls(&rt, rt.alloc(), row)?;
+    }
     Ok(())
 }
 
