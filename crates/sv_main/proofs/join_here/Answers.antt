@@ -2,4 +2,4 @@
 use Rattle.sv_main.proofs.join_here.Goals as goal
 
 pub returns-clause-output : goal.returns-clause-output
-returns-clause-output g c = (_ , _ , _ , c.run_join.ensures.left)
+returns-clause-output g c = (_, _, _, c.run_join.ensures.left)
