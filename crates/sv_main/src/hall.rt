@@ -1,12 +1,48 @@
 //! Folders and doors of the system, for the server of a living world.
+ghost use Rattle.std.specs.Prelude.{◌≡◌, ◌↔◌, IsTrue};
+ghost use Rattle.std.specs.IoError.{error_kind};
+ghost use Rattle.std.specs.declared.io.ErrorKind.TheVariants.{AddrInUse};
+ghost use Rattle.sv_main.specs.Halls.{fault_of};
+
 use http_server::Log;
 use std::alloc::Global;
-use std::io::ErrorKind;
+use std::io::{self, ErrorKind};
 use std::net::{Net, SocketAddr};
 use std::rt::Stdin;
 use sv_disk::{DiskFolder, OpenFault, SyncMode};
 use sv_host::{DoorFault, Doors, FolderFault, Folders};
 use sv_mio::MioPorts;
+
+fn mode_of(syncs: bool) -> SyncMode
+    ensures { (result ≡ SyncMode.Waits) ↔ IsTrue syncs }
+{
+    if syncs {
+        SyncMode::Waits
+    } else {
+        SyncMode::Never
+    }
+}
+
+fn fault_of(fault: OpenFault) -> FolderFault
+    ensures { result ≡ fault_of fault }
+{
+    match fault {
+        OpenFault::Busy => FolderFault::Busy,
+        OpenFault::Failed => FolderFault::Failed,
+        OpenFault::Memory => FolderFault::Memory,
+    }
+}
+
+/// Why no door is opened. Another program has the address just where the system says so.
+fn door_fault(error: &io::Error) -> DoorFault
+    ensures { (result ≡ DoorFault.Busy) ↔ (error_kind error.now ≡ AddrInUse) }
+{
+    if error.kind() == ErrorKind::AddrInUse {
+        DoorFault::Busy
+    } else {
+        DoorFault::Failed
+    }
+}
 
 /// The folders of the system. Its contracts don't tell what stands in one.
 #[derive(Drop)]
@@ -22,16 +58,9 @@ impl<'r> Folders for OsFolders<'r> {
     ghost refuses = { λ _ _ _. Unit {0} };
 
     fn open(&mut self, name: &str, syncs: bool) -> Result<DiskFolder<'r>, FolderFault> {
-        let mode = if syncs {
-            SyncMode::Waits
-        } else {
-            SyncMode::Never
-        };
-        match DiskFolder::open(self.rt, name, mode) {
+        match DiskFolder::open(self.rt, name, mode_of(syncs)) {
             Ok(folder) => Ok(folder),
-            Err(OpenFault::Busy) => Err(FolderFault::Busy),
-            Err(OpenFault::Failed) => Err(FolderFault::Failed),
-            Err(OpenFault::Memory) => Err(FolderFault::Memory),
+            Err(fault) => Err(fault_of(fault)),
         }
     }
 }
@@ -63,8 +92,7 @@ impl<'r, R: Net> Doors for OsDoors<'r, R> {
         let input = if input { Some(self.input) } else { None };
         match MioPorts::open(self.rt, self.alloc, address, input) {
             Ok(ports) => Ok(ports),
-            Err(error) if error.kind() == ErrorKind::AddrInUse => Err(DoorFault::Busy),
-            Err(_) => Err(DoorFault::Failed),
+            Err(error) => Err(door_fault(&error)),
         }
     }
 

@@ -2,6 +2,12 @@
 //! `--version` it answers itself.
 #![tactic(auto)]
 
+ghost use Rattle.std.specs.Prelude.{◌≡◌, ◌≢◌, ◌⊎◌, codes, map, string_bytes, IfSome};
+ghost use Rattle.sv_bytes.specs.Writing.{GrewOrRose};
+ghost use Rattle.sv_main.specs.Answers.{Faults, Knows, Line, Output, Prints};
+ghost use Rattle.sv_main.specs.Choice.{command_of};
+ghost use Rattle.sv_main.specs.Notices.{Tells, notice_of};
+
 mod choice;
 mod commands;
 mod hall;
@@ -50,6 +56,15 @@ fn words(rt: &HostRuntime) -> io::Result<Vec<String>> {
     Ok(words)
 }
 
+/// The status where there is no memory, which is told.
+fn without_memory<E: Sink>(err: &mut E) -> u8
+    ensures status { result ≡ 8 }
+    ensures told { GrewOrRose (E.taken err.old) (E.taken err.new) (E.faults err.old) (E.faults err.new) (codes "memory\n") }
+{
+    tell(&Ending::Memory, b"", None, err);
+    status_of(&Ending::Memory)
+}
+
 /// The status of `run`, over connections on this machine and a thread for each job.
 fn run_here<R, F: Files, K: Sink, E: Sink>(
     rt: &R,
@@ -60,6 +75,11 @@ fn run_here<R, F: Files, K: Sink, E: Sink>(
 ) -> u8
 where
     R: Threads + Wait + Sync + Sockets<Listener = TcpListener, Stream = TcpStream>,
+    ensures words { Knows Command.Run (map string_bytes call.now.words.now) result }
+    ensures faults { Faults Command.Run (F.faults files.old) (F.faults files.new) (K.faults out.old) (K.faults out.new) result }
+    ensures output { Output Command.Run (map string_bytes call.now.words.now) (F.contents files.old) (K.taken out.old) (K.taken out.new) result }
+    ensures nothing { result ≢ 0 → result ≢ 5 → K.taken out.new ≡ K.taken out.old }
+    ensures line { Line Command.Run (map string_bytes call.now.words.now) (F.sure files.old) (F.contents files.old) (E.taken err.old) (E.taken err.new) (E.faults err.old) (E.faults err.new) result }
 {
     let mut net = TcpNet::new(call.alloc, rt);
     let mut crew = ThreadCrew::new(call.alloc);
@@ -78,6 +98,11 @@ fn serve_here<R, F: Files, K: Sink, E: Sink>(
 ) -> u8
 where
     R: Threads + Wait + Sync + Clock + Sockets<Listener = TcpListener, Stream = TcpStream>,
+    ensures words { Knows Command.Serve (map string_bytes call.now.words.now) result }
+    ensures faults { Faults Command.Serve (F.faults files.old) (F.faults files.new) (K.faults out.old) (K.faults out.new) result }
+    ensures output { Output Command.Serve (map string_bytes call.now.words.now) (F.contents files.old) (K.taken out.old) (K.taken out.new) result }
+    ensures nothing { result ≢ 0 → result ≢ 5 → K.taken out.new ≡ K.taken out.old }
+    ensures line { Line Command.Serve (map string_bytes call.now.words.now) (F.sure files.old) (F.contents files.old) (E.taken err.old) (E.taken err.new) (E.faults err.old) (E.faults err.new) result }
 {
     let mut door = TcpDoor::new(call.alloc, rt);
     let mut crew = ThreadCrew::new(call.alloc);
@@ -105,7 +130,9 @@ fn host_with<R: Wait, D: Doors, S: Folders, C: Times, F: Files, E: Sink>(
     clock: &mut C,
     files: &mut F,
     err: &mut E,
-) -> u8 {
+) -> u8
+    ensures words { Knows Command.Host (map string_bytes call.now.words.now) result }
+{
     let mut place = Place {
         rt,
         alloc: call.alloc,
@@ -126,10 +153,12 @@ fn host_here<R: Wait + Sockets + Clock, F: Files, E: Sink>(
     hosting: &Hosting<'_>,
     files: &mut F,
     err: &mut E,
-) -> u8 {
+) -> u8
+    ensures words { Knows Command.Host (map string_bytes call.now.words.now) result }
+    ensures random { hosting.now.random ≡ None → (result ≡ 8) × GrewOrRose (E.taken err.old) (E.taken err.new) (E.faults err.old) (E.faults err.new) (codes "memory\n") }
+{
     let Some(random) = hosting.random else {
-        tell(&Ending::Memory, b"", None, err);
-        return status_of(&Ending::Memory);
+        return without_memory(err);
     };
     let mut doors = OsDoors {
         rt,
@@ -163,12 +192,33 @@ fn join_here<R, F: Files, K: Sink, E: Sink>(
 ) -> u8
 where
     R: Clock + Sockets<Listener = TcpListener, Stream = TcpStream>,
+    ensures words { Knows Command.Join (map string_bytes call.now.words.now) result }
+    ensures faults { Faults Command.Join (F.faults files.old) (F.faults files.new) (K.faults out.old) (K.faults out.new) result }
+    ensures output { Output Command.Join (map string_bytes call.now.words.now) (F.contents files.old) (K.taken out.old) (K.taken out.new) result }
+    ensures nothing { result ≢ 0 → result ≢ 5 → K.taken out.new ≡ K.taken out.old }
+    ensures line { Line Command.Join (map string_bytes call.now.words.now) (F.sure files.old) (F.contents files.old) (E.taken err.old) (E.taken err.new) (E.faults err.old) (E.faults err.new) result }
 {
     let mut door = TcpDoor::new(call.alloc, rt);
     run_join(call.alloc, call.words, files, &mut door, out, err)
 }
 
-/// The status of the call that the words are for.
+/// The status of `looks`.
+fn looks_here<F: Files, K: Sink, E: Sink>(
+    call: &Call<'_>,
+    files: &mut F,
+    out: &mut K,
+    err: &mut E,
+) -> u8
+    ensures words { Knows Command.Looks (map string_bytes call.now.words.now) result }
+    ensures faults { Faults Command.Looks (F.faults files.old) (F.faults files.new) (K.faults out.old) (K.faults out.new) result }
+    ensures output { Output Command.Looks (map string_bytes call.now.words.now) (F.contents files.old) (K.taken out.old) (K.taken out.new) result }
+    ensures nothing { result ≢ 0 → result ≢ 5 → K.taken out.new ≡ K.taken out.old }
+    ensures line { Line Command.Looks (map string_bytes call.now.words.now) (F.sure files.old) (F.contents files.old) (E.taken err.old) (E.taken err.new) (E.faults err.old) (E.faults err.new) result }
+{
+    run_looks(call.alloc, call.words, files, out, err)
+}
+
+/// The status of what the words ask for: a notice, or the call that they are for.
 fn answer<R, F: Files, K: Sink, E: Sink>(
     rt: &R,
     call: &Call<'_>,
@@ -179,10 +229,20 @@ fn answer<R, F: Files, K: Sink, E: Sink>(
 ) -> u8
 where
     R: Threads + Wait + Sync + Clock + Sockets<Listener = TcpListener, Stream = TcpStream>,
+    ensures notice { IfSome (notice_of (map string_bytes call.now.words.now)) (λ notice. ((result ≡ 0) ⊎ (result ≡ 5)) × Prints (Tells notice) (K.taken out.old) (K.taken out.new) result) }
+    ensures notice_line { IfSome (notice_of (map string_bytes call.now.words.now)) (λ notice. result ≡ 5 → GrewOrRose (E.taken err.old) (E.taken err.new) (E.faults err.old) (E.faults err.new) (codes "out\n")) }
+    ensures words { notice_of (map string_bytes call.now.words.now) ≡ None → Knows (command_of (map string_bytes call.now.words.now)) (map string_bytes call.now.words.now) result }
+    ensures faults { notice_of (map string_bytes call.now.words.now) ≡ None → Faults (command_of (map string_bytes call.now.words.now)) (F.faults files.old) (F.faults files.new) (K.faults out.old) (K.faults out.new) result }
+    ensures output { notice_of (map string_bytes call.now.words.now) ≡ None → Output (command_of (map string_bytes call.now.words.now)) (map string_bytes call.now.words.now) (F.contents files.old) (K.taken out.old) (K.taken out.new) result }
+    ensures nothing { result ≢ 0 → result ≢ 5 → K.taken out.new ≡ K.taken out.old }
+    ensures line { notice_of (map string_bytes call.now.words.now) ≡ None → Line (command_of (map string_bytes call.now.words.now)) (map string_bytes call.now.words.now) (F.sure files.old) (F.contents files.old) (E.taken err.old) (E.taken err.new) (E.faults err.old) (E.faults err.new) result }
 {
+    if let Some(notice) = notice(call.words) {
+        return print_text(text_of(notice), out, err);
+    }
     match command(call.words) {
         Command::Run => run_here(rt, call, files, out, err),
-        Command::Looks => run_looks(call.alloc, call.words, files, out, err),
+        Command::Looks => looks_here(call, files, out, err),
         Command::Witness => run_witness(call.alloc, call.words, files, out, err),
         Command::Serve => serve_here(rt, call, files, out, err),
         Command::Host => host_here(rt, call, hosting, files, err),
@@ -198,15 +258,11 @@ fn main(rt: HostRuntime) -> ExitCode {
     let words = match words(&rt) {
         Ok(words) => words,
         Err(error) if error.kind() == io::ErrorKind::OutOfMemory => {
-            tell(&Ending::Memory, b"", None, &mut err);
-            return ExitCode::from(status_of(&Ending::Memory));
+            return ExitCode::from(without_memory(&mut err));
         }
         // A word that is no text is none that the program knows.
         Err(_) => Vec::new(rt.alloc()),
     };
-    if let Some(notice) = notice(&words) {
-        return ExitCode::from(print_text(text_of(notice), &mut out, &mut err));
-    }
     let call = Call {
         alloc: rt.alloc(),
         words: &words,

@@ -1,8 +1,8 @@
 //! What the program tells of itself, where it is asked by one word.
-ghost use Rattle.std.specs.Prelude.{◌≡◌, ◌⊎◌, map, string_bytes};
+ghost use Rattle.std.specs.Prelude.{◌≡◌, ◌⊎◌, codes, map, string_bytes};
 ghost use Rattle.sv_bytes.specs.Faults.{Rose};
-ghost use Rattle.sv_bytes.specs.Writing.{Grew};
-ghost use Rattle.sv_main.specs.Notices.{notice_for, notice_of};
+ghost use Rattle.sv_bytes.specs.Writing.{Grew, GrewByPart, GrewOrRose};
+ghost use Rattle.sv_main.specs.Notices.{Tells, notice_for, notice_of};
 
 use crate::help::{HELP, Notice, VERSION};
 use sv_bytes::{Sink, write_all};
@@ -29,7 +29,9 @@ pub fn notice(words: &[String]) -> Option<Notice>
 }
 
 /// The text of a notice.
-pub fn text_of(notice: Notice) -> &'static str {
+pub fn text_of(notice: Notice) -> &'static str
+    ensures { Tells notice result.now }
+{
     match notice {
         Notice::Help => HELP,
         Notice::Version => VERSION,
@@ -41,7 +43,9 @@ pub fn print_text<K: Sink, E: Sink>(text: &str, out: &mut K, err: &mut E) -> u8
     ensures printed { result ≡ 0 → Grew (K.taken out.old) (K.taken out.new) text.now }
     ensures whole { result ≡ 0 → K.faults out.new ≡ K.faults out.old }
     ensures failed { result ≡ 5 → Rose (K.faults out.old) (K.faults out.new) }
+    ensures part { GrewByPart (K.taken out.old) (K.taken out.new) text.now }
     ensures quiet { result ≡ 0 → (E.taken err.new ≡ E.taken err.old) × (E.faults err.new ≡ E.faults err.old) }
+    ensures told { result ≡ 5 → GrewOrRose (E.taken err.old) (E.taken err.new) (E.faults err.old) (E.faults err.new) (codes "out\n") }
     ensures no_other { (result ≡ 0) ⊎ (result ≡ 5) }
 {
     if write_all(out, text.as_bytes()) {
