@@ -1,13 +1,16 @@
 -- What is left of a call, by how it ended.
-use Rattle.std.proofs.Common.{◌≡◌, ◌≢◌, refl, arith, ℕ, List, Option, subst}
-use Rattle.std.specs.Prelude.{IsErrAnd, Result, String}
+use Rattle.std.proofs.Common.{◌≡◌, ◌≢◌, refl, arith, ℕ, List, take, Option, subst}
+use Rattle.std.specs.Prelude.{IfSome, IsErrAnd, Result, String}
 use Rattle.std.specs.declared.alloc.Global.{Global}
 use Rattle.sv_bytes.specs.Writing.{Grew, GrewByPart}
 use Rattle.sv_command.specs.declared.ending.Ending.{Ending}
 use Rattle.sv_command.specs.declared.ending.Ending.TheVariants as endings
 use Rattle.sv_command.specs.Statuses.{status_of}
+use Rattle.sv_command.specs.Calls.{Leaves}
+use Rattle.sv_command.specs.Reading.{read_limit, IsNoScenario}
 use Rattle.sv_command.specs.Endings.{IsMade, IsPrinted, IsCutShort, Ends, OrWords}
 use Rattle.sv_command.proofs.Counts.{came}
+use Rattle.sv_command.proofs.Held.{Faulty}
 
 -- There is no text, for a cause that came by a `?`.
 pub early_made : {E : Type 0} (IsText : List ℕ → Type 0) (EndsEarly : E → Type 0) (r : Result (String Global) E) (e : E) → IsErrAnd r (λ x. x ≡ e) → EndsEarly e → IsMade IsText EndsEarly r
@@ -82,6 +85,10 @@ module _ (IsText : List ℕ → Type 0) (EndsEarly : Ending → Type 0) (old now
   nothing_is endings.Link h z f = h.1
   nothing_is endings.Memory h z f = h.1
   nothing_is endings.Range h z f = h.1
+
+  pub leaves_is : (held : Option (List ℕ)) (e : Ending) → Ends IsText EndsEarly old now e → IfSome held (λ all. IsNoScenario (take read_limit all) → Faulty (status_of e))
+      → Leaves IsText held old now (status_of e)
+  leaves_is held e h faulty = record { printed = printed_is e h; part = part_is e h; nothing = nothing_is e h; faulty = faulty }
 
   -- An ending that tells of no scenario says what the call says of it.
   pub refused_is : (e : Ending) → Ends IsText EndsEarly old now e → (line : String Global) → e ≡ endings.Scenario line → EndsEarly (endings.Scenario line)

@@ -75,7 +75,7 @@ told : {A : Type 0} (n : ℕ) → A → (n ≡ n) ↔ A
 told n a = (λ s. a, λ x. refl)
 
 -- The status tells of no fault.
-abbrev TellsNone : ℕ → Type 0
+abbrev pub TellsNone : ℕ → Type 0
 TellsNone n = (n < 4) ⊎ (7 < n)
 
 apart : (n m : ℕ) → TellsNone n → 4 ≤ m → m ≤ 7 → n ≡ m → ⊥
@@ -83,7 +83,7 @@ apart n m (inl l) low high e = omega (arith, l, low, e)
 apart n m (inr l) low high e = omega (arith, l, high, e)
 
 module _ (before now : Counts) where
-  none_told : (n : ℕ) → TellsNone n → now ≡ before → TellsFaults n before now
+  pub none_told : (n : ℕ) → TellsNone n → now ≡ before → TellsFaults n before now
   none_told n t e = record {
     file = untold n 4 _ _ (apart n 4 t (omega arith) (omega arith)) (ap (λ (k : Counts). k.files) e);
     start = untold n 7 _ _ (apart n 7 t (omega arith) (omega arith)) (ap (λ (k : Counts). k.crew) e);

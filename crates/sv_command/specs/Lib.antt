@@ -4,3 +4,4 @@ pub mod Reading
 pub mod Numbers
 pub mod Statuses
 pub mod Endings
+pub mod Calls
