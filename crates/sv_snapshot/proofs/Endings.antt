@@ -4,13 +4,17 @@ use Rattle.std.specs.Prelude.{string_bytes, IfSome, IsErrAnd, Result, String}
 use Rattle.std.specs.declared.alloc.Global.{Global}
 use Rattle.sv_command.specs.declared.ending.Ending.{Ending}
 use Rattle.sv_command.specs.declared.ending.Ending.TheVariants as endings
-use Rattle.sv_bytes.specs.Writing.{Grew, GrewByPart}
+use Rattle.sv_bytes.specs.Writing.{Grew, GrewByPart, GrewOrRose}
+use Rattle.sv_command.specs.Calls.{Moment}
 use Rattle.sv_command.specs.Endings.{Ends, IsCutShort, IsMade, IsPrinted, OrWords}
 use Rattle.sv_command.specs.Reading.{read_limit, held_by_file, IsRefused, IsNoScenario, HoldsScenario}
-use Rattle.sv_command.specs.Statuses.{status_of, Counts, Raises, NoneRose}
+use Rattle.sv_command.specs.Statuses.{status_of, Counts, Raises, NoneRose, ending_line}
 use Rattle.sv_command.proofs.Held.{Faulty, read_is, holds_none, always, unheld, unnamed}
-use Rattle.sv_command.proofs.Left.{early_made, printed_by, cut_by, ends_early, or_words, printed_is as left_printed, part_is as left_part, nothing_is as left_nothing, refused_is as left_refused}
+use Rattle.sv_command.proofs.Left.{early_made, printed_by, cut_by, ends_early, or_words, leaves_is, refused_is as left_refused}
+use Rattle.sv_command.proofs.Statuses.{words_is, sure_is, faults_are, told_is}
+use Rattle.sv_snapshot.specs.Answers.{Answers}
 use Rattle.sv_snapshot.specs.Statuses.{EndsEarly, IsText}
+use Rattle.sv_snapshot.specs.Words.{words_line}
 
 pub early_by : (held : Option (List ℕ)) (r : Result (String Global) Ending) (e : Ending) → IsErrAnd r (λ x. x ≡ e) → EndsEarly held e → IsMade (IsText held) (EndsEarly held) r
 early_by held r e by h = early_made (IsText held) (EndsEarly held) r e by h
@@ -50,15 +54,6 @@ module _ (held old now : Option (List ℕ)) where
   range_is endings.Memory h = inr (inr refl)
   range_is endings.Range h = absurd h.0
 
-  pub printed_is : (e : Ending) → Leaves held old now e → status_of e ≡ 0 → IsPrinted (IsText held) old now
-  printed_is e h s = left_printed (IsText held) (OrWords (EndsEarly held)) old now e h s
-
-  pub part_is : (e : Ending) → Leaves held old now e → status_of e ≡ 5 → IsCutShort (IsText held) old now
-  part_is e h s = left_part (IsText held) (OrWords (EndsEarly held)) old now e h s
-
-  pub nothing_is : (e : Ending) → Leaves held old now e → status_of e ≢ 0 → status_of e ≢ 5 → now ≡ old
-  nothing_is e h z f = left_nothing (IsText held) (OrWords (EndsEarly held)) old now e h z f
-
   pub refused_is : (e : Ending) → Leaves held old now e → (line : String Global) → e ≡ endings.Scenario line → IsRefused held (string_bytes line)
   refused_is e h line is = left_refused (IsText held) (OrWords (EndsEarly held)) old now e h line is
 
@@ -89,6 +84,24 @@ module _ (named : Option (List ℕ)) (contents : List ℕ → Option (List ℕ))
   complete_is before after endings.Link w h r can none = absurd h.0
   complete_is before after endings.Range w h r can none = absurd h.0
   complete_is before after endings.Out w h r can none = absurd (none.3 r.0)
+
+-- ---- The answer
+
+module _ (asked : Option (List ℕ)) (contents : List ℕ → Option (List ℕ)) (is_sure : List ℕ → Type 0) (before now : Moment) where
+  pub answers_is : (e : Ending) → ((e ≡ endings.Words) ↔ (asked ≡ None)) → Leaves (held_by_file contents asked) before.out now.out e → Raises before.faults now.faults e
+      → IfSome asked (λ file. is_sure file → e ≢ endings.File) → GrewOrRose before.err now.err before.err_faults now.err_faults (ending_line words_line e asked)
+      → Answers asked contents is_sure before now (status_of e)
+  answers_is e w h r s t =
+      let held : Option (List ℕ) = held_by_file contents asked in
+      record {
+        range = range_is held before.out now.out e h;
+        words = words_is e w;
+        faults = faults_are before.faults now.faults e r;
+        sure = sure_is is_sure asked e s;
+        left = leaves_is (IsText held) (OrWords (EndsEarly held)) before.out now.out held e h (faulty_is asked contents before.out now.out e w h);
+        told = told_is words_line held asked before.err now.err before.err_faults now.err_faults e (refused_is held before.out now.out e h) t;
+        complete = complete_is asked contents before.out now.out before.faults now.faults e w h r;
+      }
 
 -- The status says that the words are others only where they are.
 pub apart_is : (e : Ending) (P : Type 0) → (e ≡ endings.Words → P) → status_of e ≡ 2 → P

@@ -5,3 +5,4 @@ pub mod Lines
 pub mod Again
 pub mod Words
 pub mod Statuses
+pub mod Answers

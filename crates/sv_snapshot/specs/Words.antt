@@ -2,10 +2,10 @@
 use Rattle.std.specs.Prelude.{ℕ, List, [], ◌∷◌, Option, Some, None, codes, if◌then◌else◌}
 use Rattle.std.specs.Str.{bytes_eq}
 
--- `looks FILE` asks for the snapshots of the file's scenario. All other words ask for nothing.
-abbrev pub file_in : List (List ℕ) → Option (List ℕ)
-file_in (word ∷ file ∷ []) = if bytes_eq word (codes "looks") then Some file else None
-file_in _ = None
+-- The file whose scenario's snapshots are asked for: `looks FILE`. All other words ask for nothing.
+abbrev pub asked_of : List (List ℕ) → Option (List ℕ)
+asked_of (word ∷ file ∷ []) = if bytes_eq word (codes "looks") then Some file else None
+asked_of _ = None
 
 abbrev pub words_line : List ℕ
 words_line = codes "words: looks FILE\n"

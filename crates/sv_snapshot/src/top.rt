@@ -1,14 +1,16 @@
 //! The top call that prints the snapshots of a scheduled run.
-ghost use Rattle.std.specs.Prelude.{◌≡◌, ◌≢◌, ◌↔◌, ◌⊎◌, ◌≤◌, ℕ, take, map, string_bytes, None, IfSome};
+ghost use Rattle.std.specs.Prelude.{◌≡◌, ◌≢◌, ◌↔◌, map, string_bytes, None, IfSome};
 ghost use Rattle.std.specs.Option.{option_copied};
-ghost use Rattle.sv_command.specs.Endings.{Ends, IsCutShort, IsPrinted, OrWords};
-ghost use Rattle.sv_command.specs.Reading.{read_limit, held_by_file, HoldsScenario, IsNoScenario};
-ghost use Rattle.sv_command.specs.Statuses.{counts, NoneRose, Raises, TellsFaults, TellsStatus};
-ghost use Rattle.sv_snapshot.specs.Words.{file_in, words_line};
+ghost use Rattle.sv_command.specs.Calls.{moment};
+ghost use Rattle.sv_command.specs.Endings.{Ends, OrWords};
+ghost use Rattle.sv_command.specs.Reading.{held_by_file};
+ghost use Rattle.sv_command.specs.Statuses.{counts, Raises};
+ghost use Rattle.sv_snapshot.specs.Answers.{Answers};
 ghost use Rattle.sv_snapshot.specs.Statuses.{EndsEarly, IsText};
+ghost use Rattle.sv_snapshot.specs.Words.{asked_of};
 
 use crate::texts::text_for;
-use crate::words::file_in;
+use crate::words::{WORDS_LINE, file_in};
 use std::alloc::Global;
 use sv_bytes::{Files, Sink, write_all};
 use sv_command::{Ending, status_of, tell};
@@ -54,24 +56,13 @@ pub fn run_looks<F: Files, K: Sink, E: Sink>(
     out: &mut K,
     err: &mut E,
 ) -> u8
-    ensures range { (result ≡ 0) ⊎ ((2 ≤ result) × (result ≤ 5)) ⊎ (result ≡ 8) }
-    ensures words { (result ≡ 2) ↔ (file_in (map string_bytes words.now) ≡ None) }
-    ensures faults { TellsFaults result (counts (F.faults files.old) 0 0 (K.faults out.old)) (counts (F.faults files.new) 0 0 (K.faults out.new)) }
-    ensures sure { IfSome (file_in (map string_bytes words.now)) (λ name. F.sure files.old name → result ≢ 4) }
+    ensures answers { Answers (asked_of (map string_bytes words.now)) (F.contents files.old) (F.sure files.old)
+        (moment (counts (F.faults files.old) 0 0 (K.faults out.old)) (K.taken out.old) (E.taken err.old) (E.faults err.old))
+        (moment (counts (F.faults files.new) 0 0 (K.faults out.new)) (K.taken out.new) (E.taken err.new) (E.faults err.new)) result }
     ensures apart { result ≡ 2 → files.new ≡ files.old }
-    ensures faulty { IfSome (held_by_file (F.contents files.old) (file_in (map string_bytes words.now)))
-        (λ all. IsNoScenario (take read_limit all) → (result ≡ 3) ⊎ (result ≡ 4) ⊎ (result ≡ 8)) }
-    ensures printed { result ≡ 0 → IsPrinted (IsText (held_by_file (F.contents files.old) (file_in (map string_bytes words.now)))) (K.taken out.old) (K.taken out.new) }
-    ensures part { result ≡ 5 → IsCutShort (IsText (held_by_file (F.contents files.old) (file_in (map string_bytes words.now)))) (K.taken out.old) (K.taken out.new) }
-    ensures nothing { result ≢ 0 → result ≢ 5 → K.taken out.new ≡ K.taken out.old }
-    ensures told { TellsStatus words_line result (held_by_file (F.contents files.old) (file_in (map string_bytes words.now))) (file_in (map string_bytes words.now))
-        (E.taken err.old) (E.taken err.new) (E.faults err.old) (E.faults err.new) }
-    ensures complete { HoldsScenario (held_by_file (F.contents files.old) (file_in (map string_bytes words.now)))
-        → NoneRose (counts (F.faults files.old) 0 0 (K.faults out.old)) (counts (F.faults files.new) 0 0 (K.faults out.new))
-        → (result ≡ 0) ⊎ (result ≡ 8) }
 {
     let file = file_in(words);
     let ending = decide(alloc, file, files, out);
-    tell(&ending, b"words: looks FILE\n", file, err);
+    tell(&ending, WORDS_LINE, file, err);
     status_of(&ending)
 }
