@@ -7,6 +7,9 @@ ghost use Rattle.sv_audit.specs.Words.{asked_by, asked_if, asked_of, line_for, p
 use sv_command::number_in;
 use sv_world::ObjectId;
 
+/// The line that tells which words there are.
+const WORDS_LINE: &[u8] = b"words: check SCENARIO REPORT\n";
+
 /// An object, and a position among the accepted actions.
 #[derive(Clone, Copy, Debug, Drop)]
 pub(crate) struct Place {
@@ -113,7 +116,7 @@ fn line_for(word: &str) -> &'static [u8]
     match word {
         "why" => b"words: why SCENARIO REPORT OBJECT POSITION\n",
         "world" => b"words: world SCENARIO REPORT\n",
-        _ => b"words: check SCENARIO REPORT\n",
+        _ => WORDS_LINE,
     }
 }
 
@@ -123,6 +126,6 @@ pub(crate) fn words_line(words: &[String]) -> &'static [u8]
 {
     match words {
         [word, ..] => line_for(word.as_str()),
-        [] => b"words: check SCENARIO REPORT\n",
+        [] => WORDS_LINE,
     }
 }
