@@ -6,6 +6,7 @@ ghost use Rattle.sv_join.specs.Faults.{wire_cause_number, reply_line, take_line}
 ghost use Rattle.sv_join.specs.Statuses.{join_line, status_of};
 
 use crate::outcome::JoinFault;
+use crate::words::WORDS_LINE;
 use std::alloc::AllocError;
 use sv_bytes::Sink;
 use sv_client::TakeFault;
@@ -117,9 +118,7 @@ pub(crate) fn tell<E: Sink>(ending: &JoinEnding, named: Option<&str>, err: &mut 
     ensures { GrewOrRose (E.taken err.old) (E.taken err.new) (E.faults err.old) (E.faults err.new) (join_line ending.now (option_copied named.entry)) }
 {
     match ending {
-        JoinEnding::Plain(ending) => {
-            sv_command::tell(ending, b"words: join FILE K PORT\n", named, err)
-        }
+        JoinEnding::Plain(ending) => sv_command::tell(ending, WORDS_LINE, named, err),
         JoinEnding::Reply(fault) => tell_reply(*fault, err),
         JoinEnding::Closed => tell_line(b"closed\n", err),
     }
