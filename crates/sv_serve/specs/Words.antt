@@ -13,10 +13,10 @@ abbrev pub asked_by : Command → Asked
 asked_by command = record { file = command.file.now; port = command.port }
 
 -- `serve FILE PORT`, with PORT from 1 to 65535 without leading zeros. All other words ask for nothing.
-abbrev pub command_of : List (List ℕ) → Option Asked
-command_of (word ∷ file ∷ port ∷ []) =
+abbrev pub asked_of : List (List ℕ) → Option Asked
+asked_of (word ∷ file ∷ port ∷ []) =
     if bytes_eq word (codes "serve") then option_map (λ n. record { file = file; port = n }) (number_between 1 65535 port) else None
-command_of _ = None
+asked_of _ = None
 
 -- The file that is named.
 abbrev pub named_by : Option Asked → Option (List ℕ)

@@ -1,9 +1,12 @@
 //! What the words of a call ask for.
 ghost use Rattle.std.specs.Prelude.{◌≡◌, map, string_bytes, option_map};
 ghost use Rattle.std.specs.Option.{option_copied};
-ghost use Rattle.sv_serve.specs.Words.{asked_by, command_of, named_by};
+ghost use Rattle.sv_serve.specs.Words.{asked_by, asked_of, named_by};
 
 use sv_command::number_in;
+
+/// The line that tells which words there are.
+pub(crate) const WORDS_LINE: &[u8] = b"words: serve FILE PORT\n";
 
 /// The scenario of a file is to be served at a port.
 #[derive(Clone, Copy, Debug, Drop)]
@@ -14,7 +17,7 @@ pub struct Command<'a> {
 
 /// What the words ask for: `serve FILE PORT`.
 pub(crate) fn command_of(words: &[String]) -> Option<Command<'_>>
-    ensures { option_map asked_by result ≡ command_of (map string_bytes words.now) }
+    ensures { option_map asked_by result ≡ asked_of (map string_bytes words.now) }
 {
     let [word, file, port] = words else {
         return None;
