@@ -2,19 +2,21 @@
 use Rattle.std.proofs.Common.{◌≡◌, ◌≢◌, ◌↔◌, ◌⊎◌, ◌≤◌, inl, inr, refl, ℕ, List, take, Option, Some, None, sym, ap, subst}
 use Rattle.std.specs.Prelude.{string_bytes, option_map, IfSome, String}
 use Rattle.std.specs.declared.alloc.Global.{Global}
-use Rattle.sv_bytes.specs.Writing.{Grew, GrewByPart}
+use Rattle.sv_bytes.specs.Writing.{Grew, GrewByPart, GrewOrRose}
 use Rattle.sv_command.specs.declared.ending.Ending.{Ending}
 use Rattle.sv_command.specs.declared.ending.Ending.TheVariants as endings
+use Rattle.sv_command.specs.Calls.{Moment}
 use Rattle.sv_command.specs.Endings.{Ends, IsCutShort, IsPrinted, OrWords}
 use Rattle.sv_command.specs.Reading.{read_limit, held_by_file, IsNoScenario, IsRefused}
-use Rattle.sv_command.specs.Statuses.{status_of, Counts, Raises, NoneRose}
+use Rattle.sv_command.specs.Statuses.{status_of, Counts, Raises, NoneRose, ending_line}
 use Rattle.sv_command.proofs.Held.{Faulty, read_is, holds_none, always, unheld}
-use Rattle.sv_command.proofs.Statuses.{range_is as plain_range}
-use Rattle.sv_command.proofs.Left.{printed_by, cut_by, ends_early, or_words, unranged, printed_is as left_printed, part_is as left_part, nothing_is as left_nothing, refused_is as left_refused}
+use Rattle.sv_command.proofs.Statuses.{words_is, sure_is, faults_are, told_is, range_is as plain_range}
+use Rattle.sv_command.proofs.Left.{printed_by, cut_by, ends_early, or_words, unranged, leaves_is, refused_is as left_refused}
 use Rattle.sv_link.specs.Nets.{Transcript}
 use Rattle.sv_play.specs.Moved.{Moved}
 use Rattle.sv_app.specs.declared.words.Command.{Command}
-use Rattle.sv_app.specs.Words.{Asked, Play, Replay, Load, asked_by, file_of, named_by}
+use Rattle.sv_app.specs.Answers.{Answers}
+use Rattle.sv_app.specs.Words.{Asked, Play, Replay, Load, asked_by, file_of, named_by, words_line}
 use Rattle.sv_app.specs.Runs.{IsScenarioFor, IsText, IsTextFor}
 use Rattle.sv_app.specs.Statuses.{LeavesAlone, IsReady, EndsEarly, CanRun}
 
@@ -85,22 +87,13 @@ module _ (a : Option Asked) (contents : List ℕ → Option (List ℕ)) (m : Mov
   abbrev held : Option (List ℕ)
   held = held_by_file contents (named_by a)
 
-  pub range_is : (e : Ending) → Leaves a held m old now e → (status_of e ≡ 0) ⊎ ((2 ≤ status_of e) × (status_of e ≤ 8))
+  range_is : (e : Ending) → Leaves a held m old now e → (status_of e ≡ 0) ⊎ ((2 ≤ status_of e) × (status_of e ≤ 8))
   range_is e h = plain_range e (unranged (IsTextFor a held m) (OrWords (EndsEarly a held)) old now (λ x. x) e h)
 
-  pub printed_is : (e : Ending) → Leaves a held m old now e → status_of e ≡ 0 → IsPrinted (IsTextFor a held m) old now
-  printed_is e h s = left_printed (IsTextFor a held m) (OrWords (EndsEarly a held)) old now e h s
-
-  pub part_is : (e : Ending) → Leaves a held m old now e → status_of e ≡ 5 → IsCutShort (IsTextFor a held m) old now
-  part_is e h s = left_part (IsTextFor a held m) (OrWords (EndsEarly a held)) old now e h s
-
-  pub nothing_is : (e : Ending) → Leaves a held m old now e → status_of e ≢ 0 → status_of e ≢ 5 → now ≡ old
-  nothing_is e h z f = left_nothing (IsTextFor a held m) (OrWords (EndsEarly a held)) old now e h z f
-
-  pub refused_is : (e : Ending) → Leaves a held m old now e → (line : String Global) → e ≡ endings.Scenario line → IsRefused held (string_bytes line)
+  refused_is : (e : Ending) → Leaves a held m old now e → (line : String Global) → e ≡ endings.Scenario line → IsRefused held (string_bytes line)
   refused_is e h line is = left_refused (IsTextFor a held m) (OrWords (EndsEarly a held)) old now e h line is
 
-  pub faulty_is : (e : Ending) → ((e ≡ endings.Words) ↔ (a ≡ None)) → Leaves a held m old now e
+  faulty_is : (e : Ending) → ((e ≡ endings.Words) ↔ (a ≡ None)) → Leaves a held m old now e
       → IfSome held (λ all. IsNoScenario (take read_limit all) → Faulty (status_of e))
   faulty_is endings.Done w h = ready_is contents _ a (text_ready a held m h.text h.told)
   faulty_is endings.Out w h = ready_is contents _ a (text_ready a held m h.text h.told)
@@ -112,7 +105,7 @@ module _ (a : Option Asked) (contents : List ℕ → Option (List ℕ)) (m : Mov
   faulty_is endings.Memory w h = always (Faulty 8) _ held (inr (inr refl))
   faulty_is endings.Range w h = absurd h.0
 
-  pub complete_is : {F N C : Type 0} (f0 f1 : F) (n0 n1 : N) (c0 c1 : C) (before after : Counts) (e : Ending) → ((e ≡ endings.Words) ↔ (a ≡ None))
+  complete_is : {F N C : Type 0} (f0 f1 : F) (n0 n1 : N) (c0 c1 : C) (before after : Counts) (e : Ending) → ((e ≡ endings.Words) ↔ (a ≡ None))
       → Leaves a held m old now e → LeavesAlone a (status_of e) f0 f1 n0 n1 c0 c1 → Raises before after e → CanRun a held → NoneRose before after → (status_of e ≡ 0) ⊎ (status_of e ≡ 8)
   complete_is f0 f1 n0 n1 c0 c1 before after endings.Done w h l r can none = inl refl
   complete_is f0 f1 n0 n1 c0 c1 before after endings.Memory w h l r can none = inr refl
@@ -123,3 +116,22 @@ module _ (a : Option Asked) (contents : List ℕ → Option (List ℕ)) (m : Mov
   complete_is f0 f1 n0 n1 c0 c1 before after endings.Link w h l r can none = absurd (none.2 r.0)
   complete_is f0 f1 n0 n1 c0 c1 before after endings.Out w h l r can none = absurd (none.3 r.0)
   complete_is f0 f1 n0 n1 c0 c1 before after endings.Range w h l r can none = absurd h.0
+
+-- ---- The answer
+
+module _ (asked : Option Asked) (contents : List ℕ → Option (List ℕ)) (is_sure : List ℕ → Type 0) (m : Moved Transcript) (before now : Moment) where
+  pub answers_is : {F N C : Type 0} (f0 f1 : F) (n0 n1 : N) (c0 c1 : C) (e : Ending) → ((e ≡ endings.Words) ↔ (asked ≡ None))
+      → Leaves asked (held_by_file contents (named_by asked)) m before.out now.out e → LeavesAlone asked (status_of e) f0 f1 n0 n1 c0 c1 → Raises before.faults now.faults e
+      → IfSome (named_by asked) (λ file. is_sure file → e ≢ endings.File)
+      → GrewOrRose before.err now.err before.err_faults now.err_faults (ending_line words_line e (named_by asked)) → Answers asked contents is_sure m before now (status_of e)
+  answers_is f0 f1 n0 n1 c0 c1 e w h l r s t =
+      let held : Option (List ℕ) = held_by_file contents (named_by asked) in
+      record {
+        range = range_is asked contents m before.out now.out e h;
+        words = words_is e w;
+        faults = faults_are before.faults now.faults e r;
+        sure = sure_is is_sure (named_by asked) e s;
+        left = leaves_is (IsTextFor asked held m) (OrWords (EndsEarly asked held)) before.out now.out held e h (faulty_is asked contents m before.out now.out e w h);
+        told = told_is words_line held (named_by asked) before.err now.err before.err_faults now.err_faults e (refused_is asked contents m before.out now.out e h) t;
+        complete = complete_is asked contents m before.out now.out f0 f1 n0 n1 c0 c1 before.faults now.faults e w h l r;
+      }

@@ -1,5 +1,5 @@
 -- How a call of `run` ends.
-use Rattle.std.specs.Prelude.{◌≡◌, ◌≢◌, ◌⊎◌, ℕ, List, Option, Some, None, codes, string_bytes}
+use Rattle.std.specs.Prelude.{◌≡◌, ◌≢◌, ◌⊎◌, ℕ, List, Option, Some, None, string_bytes}
 use Rattle.sv_scenario.specs.declared.scenario.Scenario.{Scenario}
 use Rattle.sv_play.specs.Pairs.{Pairing, SettledAll, MatchedAll, OwesAll}
 use Rattle.sv_command.specs.declared.ending.Ending.{Ending}
@@ -49,8 +49,3 @@ CanRun None held = ⊥
 CanRun (Some (Play file form)) held = HoldsScenario held
 CanRun (Some (Replay file)) held = HoldsScenario held
 CanRun (Some (Load size)) held = Unit {0}
-
--- ---- The line that tells which words there are
-
-abbrev pub words_line : List ℕ
-words_line = codes "words: play FILE [--brief | --watch] | replay FILE | load N\n"

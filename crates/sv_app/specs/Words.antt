@@ -45,10 +45,10 @@ abbrev pub of_three : List ℕ → List ℕ → List ℕ → Option Asked
 of_three word file form = if bytes_eq word (codes "play") then option_map (Play file) (form_of form) else None
 
 -- What words ask for. All others than these ask for nothing.
-abbrev pub command_of : List (List ℕ) → Option Asked
-command_of (word ∷ text ∷ []) = of_two word text
-command_of (word ∷ file ∷ form ∷ []) = of_three word file form
-command_of _ = None
+abbrev pub asked_of : List (List ℕ) → Option Asked
+asked_of (word ∷ text ∷ []) = of_two word text
+asked_of (word ∷ file ∷ form ∷ []) = of_three word file form
+asked_of _ = None
 
 -- The file that is named.
 abbrev pub file_of : Asked → Option (List ℕ)
@@ -58,3 +58,6 @@ file_of (Load size) = None
 
 abbrev pub named_by : Option Asked → Option (List ℕ)
 named_by asked = option_and_then file_of asked
+
+abbrev pub words_line : List ℕ
+words_line = codes "words: play FILE [--brief | --watch] | replay FILE | load N\n"

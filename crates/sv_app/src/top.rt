@@ -1,25 +1,24 @@
 //! The top call of runs: played, replayed or made up.
-ghost use Rattle.std.specs.Prelude.{◌≡◌, ◌≢◌, ◌↔◌, ◌⊎◌, ◌≤◌, ℕ, take, map, option_map, string_bytes, None, IfSome};
+ghost use Rattle.std.specs.Prelude.{◌≡◌, ◌≢◌, ◌↔◌, map, option_map, string_bytes, None, IfSome};
 ghost use Rattle.sv_play.specs.Moved.{moved};
 ghost use Rattle.sv_play.specs.Pairs.{pairing, SomeDiffered};
-ghost use Rattle.sv_app.specs.Words.{IsSized, asked_by, command_of, named_by};
-ghost use Rattle.sv_command.specs.Endings.{Ends, IsCutShort, IsPrinted, OrWords};
-ghost use Rattle.sv_command.specs.Reading.{read_limit, held_by_file, IsNoScenario};
-ghost use Rattle.sv_command.specs.Statuses.{counts, NoneRose, Raises, TellsFaults, TellsStatus, status_of};
+ghost use Rattle.sv_command.specs.Calls.{moment};
+ghost use Rattle.sv_command.specs.Endings.{Ends, OrWords};
+ghost use Rattle.sv_command.specs.Reading.{held_by_file};
+ghost use Rattle.sv_command.specs.Statuses.{counts, Raises, status_of};
+ghost use Rattle.sv_app.specs.Answers.{Answers, LeavesNet};
 ghost use Rattle.sv_app.specs.Runs.{IsTextFor};
-ghost use Rattle.sv_app.specs.Statuses.{CanRun, EndsEarly, LeavesAlone, SettlesPairs, words_line};
+ghost use Rattle.sv_app.specs.Statuses.{EndsEarly, LeavesAlone, SettlesPairs};
+ghost use Rattle.sv_app.specs.Words.{IsSized, asked_by, asked_of, named_by};
 
 use crate::texts::text_for;
-use crate::words::{Command, command_of, file_of};
+use crate::words::{Command, WORDS_LINE, command_of, file_of};
 use std::alloc::Global;
 use std::sync::Wait;
 use std::thread::Threads;
 use sv_bytes::{Files, Sink, write_all};
 use sv_command::{Ending, Stage, status_of, tell};
 use sv_link::{Crew, Gate, Net};
-
-/// The line that tells which words there are.
-const WORDS_LINE: &[u8] = b"words: play FILE [--brief | --watch] | replay FILE | load N\n";
 
 /// Does what is asked for, and tells how it ended.
 fn decide<F: Files, N: Net, C: Crew, G: Gate + Sync, K: Sink, R: Threads + Wait + Sync>(
@@ -71,27 +70,13 @@ pub fn run<F: Files, N: Net, C: Crew, G: Gate + Sync, K: Sink, E: Sink, R: Threa
     out: &mut K,
     err: &mut E,
 ) -> u8
-    ensures range { (result ≡ 0) ⊎ ((2 ≤ result) × (result ≤ 8)) }
-    ensures words { (result ≡ 2) ↔ (command_of (map string_bytes words.now) ≡ None) }
-    ensures faults { TellsFaults result (counts (F.faults files.old) (C.faults crew.old) (N.faults net.old) (K.faults out.old))
-        (counts (F.faults files.new) (C.faults crew.new) (N.faults net.new) (K.faults out.new)) }
-    ensures sure { IfSome (named_by (command_of (map string_bytes words.now))) (λ name. F.sure files.old name → result ≢ 4) }
-    ensures apart { LeavesAlone (command_of (map string_bytes words.now)) result files.old files.new net.old net.new crew.old crew.new }
-    ensures pairs { SettlesPairs result (pairing (N.settled net.old) (N.unmatched net.old) (N.made net.old) (N.owed net.old)) (pairing (N.settled net.new) (N.unmatched net.new) (N.made net.new) (N.owed net.new)) }
-    ensures calm { N.calm net.old → result ≡ 6 → SomeDiffered (pairing (N.settled net.old) (N.unmatched net.old) (N.made net.old) (N.owed net.old)) (pairing (N.settled net.new) (N.unmatched net.new) (N.made net.new) (N.owed net.new)) }
-    ensures faulty { IfSome (held_by_file (F.contents files.old) (named_by (command_of (map string_bytes words.now))))
-        (λ all. IsNoScenario (take read_limit all) → (result ≡ 3) ⊎ (result ≡ 4) ⊎ (result ≡ 8)) }
-    ensures printed { result ≡ 0 → IsPrinted (IsTextFor (command_of (map string_bytes words.now)) (held_by_file (F.contents files.old) (named_by (command_of (map string_bytes words.now))))
-        (moved (N.settled net.old) (N.settled net.new) (C.ran crew.old) (C.ran crew.new))) (K.taken out.old) (K.taken out.new) }
-    ensures part { result ≡ 5 → IsCutShort (IsTextFor (command_of (map string_bytes words.now)) (held_by_file (F.contents files.old) (named_by (command_of (map string_bytes words.now))))
-        (moved (N.settled net.old) (N.settled net.new) (C.ran crew.old) (C.ran crew.new))) (K.taken out.old) (K.taken out.new) }
-    ensures nothing { result ≢ 0 → result ≢ 5 → K.taken out.new ≡ K.taken out.old }
-    ensures told { TellsStatus words_line result (held_by_file (F.contents files.old) (named_by (command_of (map string_bytes words.now)))) (named_by (command_of (map string_bytes words.now)))
-        (E.taken err.old) (E.taken err.new) (E.faults err.old) (E.faults err.new) }
-    ensures complete { CanRun (command_of (map string_bytes words.now)) (held_by_file (F.contents files.old) (named_by (command_of (map string_bytes words.now))))
-        → NoneRose (counts (F.faults files.old) (C.faults crew.old) (N.faults net.old) (K.faults out.old))
-        (counts (F.faults files.new) (C.faults crew.new) (N.faults net.new) (K.faults out.new))
-        → (result ≡ 0) ⊎ (result ≡ 8) }
+    ensures answers { Answers (asked_of (map string_bytes words.now)) (F.contents files.old) (F.sure files.old)
+        (moved (N.settled net.old) (N.settled net.new) (C.ran crew.old) (C.ran crew.new))
+        (moment (counts (F.faults files.old) (C.faults crew.old) (N.faults net.old) (K.faults out.old)) (K.taken out.old) (E.taken err.old) (E.faults err.old))
+        (moment (counts (F.faults files.new) (C.faults crew.new) (N.faults net.new) (K.faults out.new)) (K.taken out.new) (E.taken err.new) (E.faults err.new)) result }
+    ensures apart { LeavesAlone (asked_of (map string_bytes words.now)) result files.old files.new net.old net.new crew.old crew.new }
+    ensures pairs { LeavesNet (N.calm net.old) (pairing (N.settled net.old) (N.unmatched net.old) (N.made net.old) (N.owed net.old))
+        (pairing (N.settled net.new) (N.unmatched net.new) (N.made net.new) (N.owed net.new)) result }
 {
     let command = command_of(words);
     let stage = Stage { rt, alloc, gate };

@@ -1,10 +1,14 @@
 //! What the words of a call ask for.
 ghost use Rattle.std.specs.Prelude.{◌≡◌, map, string_bytes, option_map, IfSome};
 ghost use Rattle.std.specs.Option.{option_copied};
-ghost use Rattle.sv_app.specs.Words.{IsSize, IsSized, asked_by, size_of, form_of, of_two, of_three, command_of, named_by};
+ghost use Rattle.sv_app.specs.Words.{IsSize, IsSized, asked_by, size_of, form_of, of_two, of_three, asked_of, named_by};
 
 use sv_command::number_in;
 use sv_gen::MOST_LOAD;
+
+/// The line that tells which words there are.
+pub(crate) const WORDS_LINE: &[u8] =
+    b"words: play FILE [--brief | --watch] | replay FILE | load N\n";
 
 /// How a run on threads is told.
 #[derive(Clone, Copy, Debug, Drop, PartialEq, Eq)]
@@ -82,7 +86,7 @@ fn of_three<'a>(word: &str, file: &'a str, form: &str) -> Option<Command<'a>>
 
 /// What the words ask for: `play FILE`, `play FILE --brief`, `play FILE --watch`, `replay FILE` or `load N`.
 pub(crate) fn command_of(words: &[String]) -> Option<Command<'_>>
-    ensures asked { option_map asked_by result ≡ command_of (map string_bytes words.now) }
+    ensures asked { option_map asked_by result ≡ asked_of (map string_bytes words.now) }
     ensures sized { IfSome result IsSized }
 {
     match words {
