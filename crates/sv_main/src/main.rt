@@ -218,6 +218,38 @@ fn looks_here<F: Files, K: Sink, E: Sink>(
     run_looks(call.alloc, call.words, files, out, err)
 }
 
+/// The status of `witness`.
+fn witness_here<F: Files, K: Sink, E: Sink>(
+    call: &Call<'_>,
+    files: &mut F,
+    out: &mut K,
+    err: &mut E,
+) -> u8
+    ensures words { Knows Command.Witness (map string_bytes call.now.words.now) result }
+    ensures faults { Faults Command.Witness (F.faults files.old) (F.faults files.new) (K.faults out.old) (K.faults out.new) result }
+    ensures output { Output Command.Witness (map string_bytes call.now.words.now) (F.contents files.old) (K.taken out.old) (K.taken out.new) result }
+    ensures nothing { result ≢ 0 → result ≢ 5 → K.taken out.new ≡ K.taken out.old }
+    ensures line { Line Command.Witness (map string_bytes call.now.words.now) (F.sure files.old) (F.contents files.old) (E.taken err.old) (E.taken err.new) (E.faults err.old) (E.faults err.new) result }
+{
+    run_witness(call.alloc, call.words, files, out, err)
+}
+
+/// The status of `check`, `why` and `world`.
+fn check_here<F: Files, K: Sink, E: Sink>(
+    call: &Call<'_>,
+    files: &mut F,
+    out: &mut K,
+    err: &mut E,
+) -> u8
+    ensures words { Knows Command.Check (map string_bytes call.now.words.now) result }
+    ensures faults { Faults Command.Check (F.faults files.old) (F.faults files.new) (K.faults out.old) (K.faults out.new) result }
+    ensures output { Output Command.Check (map string_bytes call.now.words.now) (F.contents files.old) (K.taken out.old) (K.taken out.new) result }
+    ensures nothing { result ≢ 0 → result ≢ 5 → K.taken out.new ≡ K.taken out.old }
+    ensures line { Line Command.Check (map string_bytes call.now.words.now) (F.sure files.old) (F.contents files.old) (E.taken err.old) (E.taken err.new) (E.faults err.old) (E.faults err.new) result }
+{
+    run_check(call.alloc, call.words, files, out, err)
+}
+
 /// The status of what the words ask for: a notice, or the call that they are for.
 fn answer<R, F: Files, K: Sink, E: Sink>(
     rt: &R,
@@ -243,11 +275,11 @@ where
     match command(call.words) {
         Command::Run => run_here(rt, call, files, out, err),
         Command::Looks => looks_here(call, files, out, err),
-        Command::Witness => run_witness(call.alloc, call.words, files, out, err),
+        Command::Witness => witness_here(call, files, out, err),
         Command::Serve => serve_here(rt, call, files, out, err),
         Command::Host => host_here(rt, call, hosting, files, err),
         Command::Join => join_here(rt, call, files, out, err),
-        Command::Check => run_check(call.alloc, call.words, files, out, err),
+        Command::Check => check_here(call, files, out, err),
     }
 }
 
