@@ -1,5 +1,5 @@
 //! Doors in memory.
-use crate::talk::{Delays, hears, meet_twice, says};
+use crate::talk::{Delays, hears, meet_thrice, says};
 use std::alloc::{AllocError, Global};
 use std::sync::Wait;
 use std::test::Fail;
@@ -14,7 +14,7 @@ fn meets_on_threads(rt: HostRuntime) -> Result<(), Fail> {
         let at_server = PipeDoor::new(rt.alloc(), &rt, PORT)?;
         let at_client = at_server.another()?;
         let delays = Delays { server, client };
-        let met = meet_twice(&rt, at_server, at_client, PORT, delays)?;
+        let met = meet_thrice(&rt, at_server, at_client, PORT, delays)?;
         assert!(&rt; met, "{server} {client}");
     }
     Ok(())

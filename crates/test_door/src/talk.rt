@@ -40,13 +40,18 @@ pub(crate) fn says<E: End>(end: &mut E, byte: u8) -> bool
     }
 }
 
-/// What a server hears that then says a byte.
-fn serves<D: Door>(door: &mut D, port: u16, byte: u8) -> Option<u8> {
+/// What a server hears that then says a byte, or, where it has none, closes its end while the client waits.
+fn serves<D: Door>(rt: &impl Clock, door: &mut D, port: u16, byte: Option<u8>) -> Option<u8> {
     let EndMade::End(mut end) = door.accept(port) else {
         return None;
     };
     let heard = hears(&mut end);
-    let _ = says(&mut end, byte);
+    match byte {
+        Some(byte) => {
+            let _ = says(&mut end, byte);
+        }
+        None => waits(rt, 50),
+    }
     door.give_back(end);
     heard
 }
@@ -87,8 +92,8 @@ fn wait_for(rt: &(impl Clock + Abort), marks: [&AtomicBool; 2]) {
     panic!(rt; "a server or a client was not woken");
 }
 
-/// Whether a server and a client, each on a thread of its own, meet twice and hear each other.
-pub(crate) fn meet_twice<R: Threads + Wait + Clock + Abort + Sync, D: Door + Send + Drop>(
+/// Whether a server and a client, each on a thread of its own, meet three times and hear each other, and at last that the server closes.
+pub(crate) fn meet_thrice<R: Threads + Wait + Clock + Abort + Sync, D: Door + Send + Drop>(
     rt: &R,
     server: D,
     client: D,
@@ -101,20 +106,28 @@ pub(crate) fn meet_twice<R: Threads + Wait + Clock + Abort + Sync, D: Door + Sen
         let serving = scope.spawn(move || {
             let mut door = server;
             waits(rt, delays.server);
-            let heard = [serves(&mut door, port, 11), serves(&mut door, port, 12)];
+            let heard = [
+                serves(rt, &mut door, port, Some(11)),
+                serves(rt, &mut door, port, Some(12)),
+                serves(rt, &mut door, port, None),
+            ];
             at_server.store(true, Ordering::SeqCst);
             heard
         })?;
         let visiting = scope.spawn(move || {
             let mut door = client;
             waits(rt, delays.client);
-            let heard = [visits(&mut door, port, 1), visits(&mut door, port, 2)];
+            let heard = [
+                visits(&mut door, port, 1),
+                visits(&mut door, port, 2),
+                visits(&mut door, port, 3),
+            ];
             at_client.store(true, Ordering::SeqCst);
             heard
         })?;
         wait_for(rt, [at_server, at_client]);
         let served = serving.join(rt);
         let visited = visiting.join(rt);
-        Ok(served == [Some(1), Some(2)] && visited == [Some(11), Some(12)])
+        Ok(served == [Some(1), Some(2), Some(3)] && visited == [Some(11), Some(12), None])
     })
 }

@@ -1,5 +1,5 @@
 //! Doors over TCP.
-use crate::talk::{Delays, meet_twice};
+use crate::talk::{Delays, meet_thrice};
 use std::alloc::{AllocError, Global};
 use std::net::{Net as Sockets, TcpListener, TcpStream};
 use std::rt::Clock;
@@ -26,7 +26,7 @@ fn meets_over_tcp(rt: HostRuntime) -> Result<(), Fail> {
         let at_server = TcpDoor::new(rt.alloc(), &rt);
         let at_client = TcpDoor::new(rt.alloc(), &rt);
         let delays = Delays { server, client };
-        let met = meet_twice(&rt, at_server, at_client, port, delays)?;
+        let met = meet_thrice(&rt, at_server, at_client, port, delays)?;
         assert!(&rt; met, "{server} {client}");
     }
     Ok(())
