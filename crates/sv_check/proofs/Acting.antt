@@ -31,8 +31,7 @@ use Rattle.sv_system.proofs.Fronts.{front-all, front-then}
 use Rattle.law_schedule.proofs.SoundTraces.{joined-within}
 use Rattle.sv_replay.proofs.Events.{asks_up, asks_got}
 use Rattle.sv_client.specs.Seen.{ClientView}
-use Rattle.sv_player.proofs.Going.{bye_finishes}
-use Rattle.sv_player.proofs.Onward.{or_none}
+use Rattle.sv_script.proofs.Shifted.{bye_finishes, or_none}
 use Rattle.sv_system.proofs.Places.{map_at}
 use Rattle.sv_system.proofs.Asked.{current-joined}
 use Rattle.sv_replay.proofs.Machines.{read_at}

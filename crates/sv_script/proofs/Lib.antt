@@ -7,5 +7,6 @@ pub mod Counts
 pub mod Cuts
 pub mod Ends
 pub mod Places
+pub mod Shifted
 pub mod Told
 pub mod Examples
