@@ -5,6 +5,8 @@ pub mod Pending
 pub mod Due
 pub mod Counts
 pub mod Cuts
+pub mod Asked
+pub mod Begun
 pub mod Ends
 pub mod Places
 pub mod Shifted

@@ -3,7 +3,7 @@ ghost use Rattle.std.specs.Prelude.{◌≡◌, ◌≢◌, ◌++◌, false, IfSom
 ghost use Rattle.sv_frame.specs.Frames.{frame};
 ghost use Rattle.sv_wire.specs.Grammar.{IsWireReply};
 ghost use Rattle.sv_wire.specs.Spelling.{reply_bytes};
-ghost use Rattle.sv_sequencer.specs.Shared.{logged_of};
+ghost use Rattle.sv_journal.specs.History.{logged_of};
 ghost use Rattle.sv_session.specs.Requests.{stop_for_code, stop_of};
 ghost use Rattle.sv_session.specs.Answers.{IsReplyPosted, RoundCause};
 
