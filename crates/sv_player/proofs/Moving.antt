@@ -20,6 +20,7 @@ use Rattle.sv_scenario.specs.declared.scenario.Step.TheVariants as steps
 use Rattle.sv_script.specs.Laws.{is_got}
 use Rattle.sv_exchange.specs.Outgoing.{KeepsBack}
 use Rattle.sv_script.specs.Following.{MayCome, must_join, is_welcomed, is_finished, unsynced, is_bye}
+use Rattle.sv_script.proofs.Shifted.{bye_finishes}
 use Rattle.sv_player.specs.declared.buffers.Buffers.{Buffers}
 use Rattle.sv_player.specs.declared.outcome.Ending.{Ending}
 use Rattle.sv_player.specs.declared.outcome.Ending.TheVariants as endings
@@ -34,7 +35,7 @@ use Rattle.sv_player.specs.Partings.{parting_step, parting_event, parting_ending
 use Rattle.sv_player.specs.Sessions.{IsAt, Onward, HasEnded, Ended, Stopped, SessionGoesOn, Got, IsMoved, IsKeptBack}
 use Rattle.sv_player.proofs.Posting.{none_posted}
 use Rattle.sv_player.proofs.Onward.{IsOf}
-use Rattle.sv_player.proofs.Going.{few_events, going_on, does_step, still_within, within_settled, bye_finishes, left_here}
+use Rattle.sv_player.proofs.Going.{few_events, going_on, does_step, still_within, within_settled, left_here}
 use Rattle.sv_player.proofs.Turns.{onward_more, onward_by, before_move, show_due, goes_by}
 
 -- ---- The session goes on

@@ -4,7 +4,7 @@ ghost use Rattle.sv_frame.specs.Frames.{frame};
 ghost use Rattle.sv_wire.specs.Grammar.{IsWireReply};
 ghost use Rattle.sv_wire.specs.Spelling.{reply_bytes};
 ghost use Rattle.sv_exchange.specs.Outgoing.{KeepsBack};
-ghost use Rattle.sv_sequencer.specs.Shared.{logged_of};
+ghost use Rattle.sv_journal.specs.History.{logged_of};
 ghost use Rattle.sv_session.specs.Requests.{stop_for_code, stop_of};
 ghost use Rattle.sv_session.specs.Answers.{IsReplyPosted, RoundCause};
 

@@ -1,5 +1,6 @@
 -- A journal accepts at most as many actions as its sessions may make requests.
 use Rattle.std.proofs.Common.{◌≡◌, ℕ, zero, suc, ◌+◌, ◌*◌, ◌<◌, ◌≤◌, min, Bool, true, false, ◌&&◌, not, inl, inr, cond, eqb, leb, List, [], ◌∷◌, ◌++◌, length, Option, Some, None, refl, sym, ap, subst, ◌∙◌, arith, length-append, true≢false, eq-eqb}
+use Rattle.std.specs.Prelude.{All}
 use Rattle.std.specs.List.{AllByRecursion}
 use Rattle.std.proofs.Math.Nat.{mul-suc}
 use Rattle.std.proofs.lemmas.Bool.{cond-true, cases_eq, leb-false, and_from, not_from_false}
@@ -10,11 +11,10 @@ use Rattle.sv_journal.specs.declared.entry.Entry.{Entry}
 use Rattle.sv_journal.specs.History.{Authored, client_of, is_relay, new_action, outcomes_of, accepted}
 use Rattle.sv_journal.specs.Sessions.{is_over, is_end, asked_in}
 use Rattle.sv_journal.specs.declared.entry.Logged.{Logged}
-use Rattle.sv_journal.specs.Answer.{Rules, refused, is_spent}
+use Rattle.sv_journal.specs.Answer.{Rules, Legal, refused, is_spent}
 use Rattle.sv_journal.specs.Serving.{Keeping, plain, with_last_rows, reply_for, LegalFor, IsKeeping}
 use Rattle.sv_journal.proofs.Kept.{asked-kept}
 use Rattle.sv_journal.proofs.Plain.{plain-keeping, plain-legal}
-use Rattle.sv_asked.specs.Asked.{AcceptedAreFew, ServedAcceptedAreFew}
 
 -- How many requests the first n sessions made, of each at most so many as it may make.
 abbrev spent : ℕ → ℕ → List Entry → ℕ
@@ -108,10 +108,12 @@ accepted-spent k law r most limited n (e ∷ h) legal all = go (is_relay e.reply
         omega (arith, before, length-append (accepted h) new, new-few (client_of h e.session) (λ j. suc (length (outcomes_of h j))) e.request, spent-more most n e h all.0 few.0 few.1)
     go false f before = omega (arith, before, length-append (accepted h) [], spent-grows most n e h)
 
-pub served-few : ServedAcceptedAreFew
+pub served-few : (k : Keeping) (r : Rules) (h : List Entry) (sessions most : ℕ) → IsKeeping k → r.requests ≡ Some most → LegalFor k r h →
+    All (λ (e : Entry). e.session < sessions) h → length (accepted h) ≤ most * sessions
 served-few k r h n most law limited legal all =
     let within = accepted-spent k law r most limited n h legal (recursion_from_All (λ (e : Entry). e.session < n) h all) in
     omega (arith, within, spent-most most n h)
 
-pub accepted-few : AcceptedAreFew
+pub accepted-few : (r : Rules) (h : List Entry) (sessions most : ℕ) → r.requests ≡ Some most → Legal r h → All (λ (e : Entry). e.session < sessions) h →
+    length (accepted h) ≤ most * sessions
 accepted-few r h n most limited legal all = served-few plain r h n most plain-keeping limited (plain-legal r h legal) all
