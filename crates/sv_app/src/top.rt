@@ -10,12 +10,12 @@ ghost use Rattle.sv_app.specs.Runs.{IsTextFor};
 ghost use Rattle.sv_app.specs.Statuses.{CanRun, EndsEarly, LeavesAlone, SettlesPairs, words_line};
 
 use crate::texts::text_for;
-use crate::words::{Command, command_of, file_of};
+use crate::words::{RunCommand, command_of, file_of};
 use std::alloc::Global;
 use std::sync::Wait;
 use std::thread::Threads;
 use sv_bytes::{Files, Sink, write_all};
-use sv_command::{Ending, Stage, status_of, tell};
+use sv_command::{Ending, PlayStage, status_of, tell};
 use sv_link::{Crew, Gate, Net};
 
 /// The line that tells which words there are.
@@ -23,8 +23,8 @@ const WORDS_LINE: &[u8] = b"words: play FILE [--brief | --watch] | replay FILE |
 
 /// Does what is asked for, and tells how it ended.
 fn decide<F: Files, N: Net, C: Crew, G: Gate + Sync, K: Sink, R: Threads + Wait + Sync>(
-    stage: &Stage<'_, R, G>,
-    command: Option<Command<'_>>,
+    stage: &PlayStage<'_, R, G>,
+    command: Option<RunCommand<'_>>,
     files: &mut F,
     net: &mut N,
     crew: &mut C,
@@ -94,7 +94,7 @@ pub fn run<F: Files, N: Net, C: Crew, G: Gate + Sync, K: Sink, E: Sink, R: Threa
         → (result ≡ 0) ⊎ (result ≡ 8) }
 {
     let command = command_of(words);
-    let stage = Stage { rt, alloc, gate };
+    let stage = PlayStage { rt, alloc, gate };
     let ending = decide(&stage, command, files, net, crew, out);
     tell(&ending, WORDS_LINE, file_of(command), err);
     status_of(&ending)

@@ -26,11 +26,11 @@ use Rattle.sv_join.specs.Joining.{Passed}
 use Rattle.sv_join.specs.Statuses.{Leaves as JoinLeaves, TellsStatus as JoinTells}
 use Rattle.sv_audit.specs.Words.{asked_of as check_asked, words_line as check_words}
 use Rattle.sv_audit.specs.Statuses.{Leaves as CheckLeaves, TellsStatus as CheckTells}
-use Rattle.sv_main.specs.declared.commands.Command.{Command}
-use Rattle.sv_main.specs.declared.commands.Command.TheVariants as commands
+use Rattle.sv_main.specs.declared.commands.TopCall.{TopCall}
+use Rattle.sv_main.specs.declared.commands.TopCall.TheVariants as commands
 
 -- Status 2 says that the words ask nothing of their call. `host` may answer 8 there, and 2 where its world has nobody to report.
-abbrev pub Knows : Command → List (List ℕ) → ℕ → Type 0
+abbrev pub Knows : TopCall → List (List ℕ) → ℕ → Type 0
 Knows commands.Run words status = (status ≡ 2) ↔ (run_asked words ≡ None)
 Knows commands.Looks words status = (status ≡ 2) ↔ (looks_named words ≡ None)
 Knows commands.Witness words status = (status ≡ 2) ↔ (witness_asked words ≡ None)
@@ -40,7 +40,7 @@ Knows commands.Join words status = (status ≡ 2) ↔ (join_asked words ≡ None
 Knows commands.Check words status = (status ≡ 2) ↔ (check_asked words ≡ None)
 
 -- Statuses 4 and 5 say that a file and the output failed. `host` writes nothing to the output.
-abbrev pub Faults : Command → (files_before files_now out_before out_now : ℕ) → ℕ → Type 0
+abbrev pub Faults : TopCall → (files_before files_now out_before out_now : ℕ) → ℕ → Type 0
 Faults commands.Host f0 f1 o0 o1 status = o1 ≡ o0
 Faults _ f0 f1 o0 o1 status = ((status ≡ 4) ↔ Rose f0 f1) × ((status ≡ 5) ↔ Rose o0 o1)
 
@@ -50,7 +50,7 @@ pub record Prints (IsText : List ℕ → Type 0) (old now : Option (List ℕ)) (
   pub part : status ≡ 5 → IsCutShort IsText old now
 
 -- What the output was given. A run's connections are made for it alone, so there are some of which its text tells.
-abbrev pub Output : Command → List (List ℕ) → (List ℕ → Option (List ℕ)) → (old now : Option (List ℕ)) → ℕ → Type 0
+abbrev pub Output : TopCall → List (List ℕ) → (List ℕ → Option (List ℕ)) → (old now : Option (List ℕ)) → ℕ → Type 0
 Output commands.Run words contents old now status =
     (m : Moved Transcript) × Prints (IsRunText (run_asked words) (held_by_file contents (run_named (run_asked words))) m) old now status
 Output commands.Looks words contents old now status = Prints (IsLooksText (held_by_file contents (looks_named words))) old now status
@@ -66,7 +66,7 @@ Output commands.Check words contents old now status =
 
 -- The line that is told beside the output, and nothing else, where `old` and `now` are what was told before and after, and `before` and `after`
 -- how often that failed. What `host` tells, its own crate says.
-abbrev pub Line : Command → List (List ℕ) → (sure : List ℕ → Type 0) (contents : List ℕ → Option (List ℕ)) → (old now : Option (List ℕ)) (before after : ℕ) → ℕ → Type 0
+abbrev pub Line : TopCall → List (List ℕ) → (sure : List ℕ → Type 0) (contents : List ℕ → Option (List ℕ)) → (old now : Option (List ℕ)) (before after : ℕ) → ℕ → Type 0
 Line commands.Run words sure contents old now before after status =
     TellsStatus run_words status (held_by_file contents (run_named (run_asked words))) (run_named (run_asked words)) old now before after
 Line commands.Looks words sure contents old now before after status =

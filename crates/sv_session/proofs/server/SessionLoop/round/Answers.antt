@@ -1,8 +1,8 @@
--- What the check leaves to prove of `Server::round`.
+-- What the check leaves to prove of `SessionLoop::round`.
 use Rattle.sv_session.specs.Rounds.{stand}
 use Rattle.sv_session.proofs.Joined.{steps_none}
 use Rattle.sv_session.proofs.Rounds.{halts_unanswered, round_posted, round_read}
-use Rattle.sv_session.proofs.server.Server.round.Goals as goal
+use Rattle.sv_session.proofs.server.SessionLoop.round.Goals as goal
 
 pub returns-in-NotYet-clause-round : goal.returns-in-NotYet-clause-round
 returns-in-NotYet-clause-round g c =

@@ -1,6 +1,6 @@
--- What the check leaves to prove of `Server::step`.
+-- What the check leaves to prove of `SessionLoop::step`.
 use Rattle.sv_session.proofs.Rounds.{steps_if}
-use Rattle.sv_session.proofs.server.Server.step.Goals as goal
+use Rattle.sv_session.proofs.server.SessionLoop.step.Goals as goal
 
 pub returns-clause-ok : goal.returns-clause-ok
 returns-clause-ok g c =

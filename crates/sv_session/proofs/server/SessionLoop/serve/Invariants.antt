@@ -1,8 +1,8 @@
--- The loop invariant of `Server::serve`.
+-- The loop invariant of `SessionLoop::serve`.
 use Rattle.std.proofs.Common.{◌≡◌, false}
 use Rattle.sv_session.specs.Serving.{MayServe}
 use Rattle.sv_session.specs.Rounds.{stand, Onward}
-use Rattle.sv_session.proofs.server.Server.serve.Given as goal
+use Rattle.sv_session.proofs.server.SessionLoop.serve.Given as goal
 
 abbrev pub invariant-loop : goal.invariant-loop
 invariant-loop g l = record {

@@ -1,9 +1,9 @@
--- What the check leaves to prove of `Server::serve`.
+-- What the check leaves to prove of `SessionLoop::serve`.
 use Rattle.std.proofs.Common.{refl, ap, ◌∙◌}
 use Rattle.sv_link.specs.Ends.{Told}
 use Rattle.sv_session.specs.Rounds.{stand, Onward}
 use Rattle.sv_session.proofs.Joined.{may_go_on, onward_self, onward_twice, halts_later}
-use Rattle.sv_session.proofs.server.Server.serve.Goals as goal
+use Rattle.sv_session.proofs.server.SessionLoop.serve.Goals as goal
 
 pub loop-init : goal.loop-init
 loop-init g c = record {
