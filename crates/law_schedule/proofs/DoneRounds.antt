@@ -23,7 +23,9 @@ use Rattle.law_schedule.proofs.DoneGiven.{StaySound}
 use Rattle.law_schedule.proofs.DoneLists.{repeated-keeps}
 use Rattle.law_schedule.proofs.DoneDue.{EndsAreDue, due-turn, due-round}
 use Rattle.law_schedule.proofs.DoneFacts.{following}
-use Rattle.law_schedule.proofs.DoneCounts.{left-less, cuts-less, current-there, one_if}
+use Rattle.sv_script.proofs.Asked.{left-less}
+use Rattle.sv_script.proofs.Begun.{cuts-less, current-there}
+use Rattle.sv_script.proofs.Counts.{one_if}
 use Rattle.law_schedule.proofs.DoneTakes.{AreDones, IsOpen, takes-none}
 use Rattle.law_schedule.proofs.DoneWaits.{HasWaited, has-waited}
 use Rattle.law_schedule.proofs.DoneShut.{open-closed, open-none, stays-closed, shut-turn, shut-take, due-mapped, due-at}

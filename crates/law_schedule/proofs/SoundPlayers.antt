@@ -36,8 +36,10 @@ use Rattle.law_schedule.specs.Players.{Player, does, is_calm, is_settled, last_s
 use Rattle.law_schedule.specs.Serving.{Server}
 use Rattle.law_schedule.specs.Sound.{ArePassed, none, sync, IsPlaying, has_joined}
 use Rattle.law_schedule.specs.Served.{AreHeard}
-use Rattle.law_schedule.proofs.SoundTraces.{IsNoQuit, nothing-left, left-or_finished, finished-settled, makes-within, all-left, joined-within}
-use Rattle.law_schedule.proofs.DoneCounts.{joins-counted, one_if}
+use Rattle.law_schedule.proofs.SoundTraces.{IsNoQuit, nothing-left, left-or_finished, finished-settled, makes-within, all-left}
+use Rattle.sv_script.proofs.Begun.{joins-counted}
+use Rattle.sv_script.proofs.Counts.{one_if}
+use Rattle.sv_system.proofs.Joined.{joined-within}
 use Rattle.law_schedule.proofs.DoneLists.{open-by}
 
 -- ---- What is true of a player beside the history

@@ -22,11 +22,11 @@ use Rattle.sv_script.specs.Following.{Follows}
 use Rattle.sv_system.specs.Fits.{replies_in}
 use Rattle.sv_system.specs.Records.{rules_of, EachTrace}
 use Rattle.sv_world.specs.Limits.{most_positions}
+use Rattle.sv_script.proofs.Asked.{few-asked}
 use Rattle.sv_asked.specs.Asked.{RepliesAreMessages}
 use Rattle.sv_asked.proofs.Facts.{accepted-short}
 use Rattle.sv_system.proofs.Every.{each-append, each-reverse}
 use Rattle.sv_system.proofs.Limits.{limits_of, objects_few}
-use Rattle.law_schedule.proofs.Asking.{few-asked}
 use Rattle.law_traffic.specs.Sessions.{Over, IsSessionDone}
 use Rattle.law_traffic.specs.Runs.{EachSession, IsRun, IsGoodRun}
 use Rattle.law_traffic.proofs.Ours.{mine}

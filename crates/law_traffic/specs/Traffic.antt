@@ -10,8 +10,7 @@ use Rattle.sv_wire.specs.declared.message.Request.{Request}
 use Rattle.sv_wire.specs.declared.message.Reply.{Reply}
 use Rattle.sv_wire.specs.Spelling.{request_bytes, reply_bytes}
 use Rattle.sv_journal.specs.declared.entry.Entry.{Entry}
-use Rattle.sv_journal.specs.History.{accepted}
-use Rattle.sv_sequencer.specs.Shared.{logged_of}
+use Rattle.sv_journal.specs.History.{accepted, logged_of}
 use Rattle.sv_session.specs.Requests.{stop_of}
 use Rattle.sv_client.specs.declared.trace.Trace.{Trace}
 use Rattle.sv_client.specs.Traces.{requests_of}

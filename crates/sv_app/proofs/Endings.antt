@@ -14,7 +14,7 @@ use Rattle.sv_command.proofs.Statuses.{words_is, sure_is, faults_are, told_is, r
 use Rattle.sv_command.proofs.Left.{printed_by, cut_by, ends_early, or_words, unranged, leaves_is, refused_is as left_refused}
 use Rattle.sv_link.specs.Nets.{Transcript}
 use Rattle.sv_play.specs.Moved.{Moved}
-use Rattle.sv_app.specs.declared.words.Command.{Command}
+use Rattle.sv_app.specs.declared.words.RunCommand.{RunCommand}
 use Rattle.sv_app.specs.Answers.{Answers}
 use Rattle.sv_app.specs.Words.{Asked, Play, Replay, Load, asked_by, file_of, named_by, words_line}
 use Rattle.sv_app.specs.Runs.{IsScenarioFor, IsText, IsTextFor}
@@ -58,10 +58,10 @@ unasked held (Some a) n can = cc
 abbrev pub Leaves : Option Asked → Option (List ℕ) → Moved Transcript → Option (List ℕ) → Option (List ℕ) → Ending → Type 0
 Leaves a held m old now e = Ends (IsTextFor a held m) (OrWords (EndsEarly a held)) old now e
 
-module _ (contents : List ℕ → Option (List ℕ)) (m : Moved Transcript) (given : Option Command) (command : Command) (is : given ≡ Some command) where
+module _ (contents : List ℕ → Option (List ℕ)) (m : Moved Transcript) (given : Option RunCommand) (command : RunCommand) (is : given ≡ Some command) where
   text_given : (text : List ℕ) → IsText (asked_by command) (held_by_file contents (file_of (asked_by command))) m text
       → IsTextFor (option_map asked_by given) (held_by_file contents (named_by (option_map asked_by given))) m text
-  text_given text told = subst (λ (o : Option Command). IsTextFor (option_map asked_by o) (held_by_file contents (named_by (option_map asked_by o))) m text) (sym is) told
+  text_given text told = subst (λ (o : Option RunCommand). IsTextFor (option_map asked_by o) (held_by_file contents (named_by (option_map asked_by o))) m text) (sym is) told
 
   pub printed_given : (text bytes : List ℕ) (old now : Option (List ℕ)) → bytes ≡ text → IsText (asked_by command) (held_by_file contents (file_of (asked_by command))) m text → Grew old now bytes
       → IsPrinted (IsTextFor (option_map asked_by given) (held_by_file contents (named_by (option_map asked_by given))) m) old now
@@ -78,7 +78,7 @@ module _ (contents : List ℕ → Option (List ℕ)) (m : Moved Transcript) (giv
   early_given old e h =
       let asked : Option Asked = Some (asked_by command) in
       let held = held_by_file contents (file_of (asked_by command)) in
-      subst (λ (o : Option Command). Leaves (option_map asked_by o) (held_by_file contents (named_by (option_map asked_by o))) m old old e) (sym is)
+      subst (λ (o : Option RunCommand). Leaves (option_map asked_by o) (held_by_file contents (named_by (option_map asked_by o))) m old old e) (sym is)
       (ends_early (IsTextFor asked held m) (OrWords (EndsEarly asked held)) old (λ x. x) (λ x. x) e (or_words (EndsEarly asked held) e h))
 
 -- ---- What is left of a call, by its status

@@ -3,8 +3,8 @@ use Rattle.std.specs.Prelude.{ℕ, ◌≤◌, List, [], ◌∷◌, Option, Some,
 use Rattle.std.specs.Str.{bytes_eq}
 use Rattle.sv_gen.specs.Generated.{most_load}
 use Rattle.sv_command.specs.Numbers.{number_between}
-use Rattle.sv_app.specs.declared.words.Command.{Command}
-use Rattle.sv_app.specs.declared.words.Command.TheVariants as commands
+use Rattle.sv_app.specs.declared.words.RunCommand.{RunCommand}
+use Rattle.sv_app.specs.declared.words.RunCommand.TheVariants as commands
 use Rattle.sv_app.specs.declared.words.Form.{Form}
 use Rattle.sv_app.specs.declared.words.Form.TheVariants as forms
 
@@ -14,7 +14,7 @@ pub data Asked : Type 0 where
   Replay : (file : List ℕ) → Asked
   Load : (size : ℕ) → Asked
 
-abbrev pub asked_by : Command → Asked
+abbrev pub asked_by : RunCommand → Asked
 asked_by (commands.Play file form) = Play file.now form
 asked_by (commands.Replay file) = Replay file.now
 asked_by (commands.Load size) = Load size
@@ -22,7 +22,7 @@ asked_by (commands.Load size) = Load size
 abbrev pub IsSize : ℕ → Type 0
 IsSize n = (1 ≤ n) × (n ≤ most_load)
 
-abbrev pub IsSized : Command → Type 0
+abbrev pub IsSized : RunCommand → Type 0
 IsSized (commands.Load size) = IsSize size
 IsSized _ = Unit {0}
 

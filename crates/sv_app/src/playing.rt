@@ -12,9 +12,9 @@ use crate::words::Form;
 use std::alloc::{AllocError, Global};
 use std::sync::Wait;
 use std::thread::Threads;
-use sv_command::{Stage, append_lines};
+use sv_command::{PlayStage, append_lines};
 use sv_link::{Crew, Gate, Net};
-use sv_play::{PlayFault, Playing, lock_sequencer, play_all};
+use sv_play::{PlayFault, PlayedAll, lock_sequencer, play_all};
 use sv_replay::{open_sequencer, played_of};
 use sv_report::{brief, report};
 use sv_scenario::Scenario;
@@ -42,7 +42,7 @@ fn watcher<'a>(form: Form, watch: &'a Watch) -> Option<&'a Watch>
 
 /// Runs a scenario on threads: one for each session, and one for each client.
 pub(crate) fn run_on_threads<N: Net, C: Crew, G: Gate + Sync, R: Threads + Wait + Sync>(
-    stage: &Stage<'_, R, G>,
+    stage: &PlayStage<'_, R, G>,
     scenario: &Scenario,
     form: Form,
     net: &mut N,
@@ -60,7 +60,7 @@ pub(crate) fn run_on_threads<N: Net, C: Crew, G: Gate + Sync, R: Threads + Wait 
     let watch = Watch::new(shape, callback);
     let sequencer = open_sequencer(alloc, scenario)?;
     let (lock, mut keeper) = lock_sequencer(alloc, scenario, sequencer)?;
-    let Playing { traces, lines } = play_all(
+    let PlayedAll { traces, lines } = play_all(
         stage.rt,
         alloc,
         scenario,

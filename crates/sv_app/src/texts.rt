@@ -11,13 +11,13 @@ ghost use Rattle.sv_app.specs.Runs.{IsText};
 ghost use Rattle.sv_app.specs.Statuses.{EndsEarly, LeavesAlone, SettlesPairs};
 
 use crate::playing::{form_text, load_text, run_on_threads};
-use crate::words::{Command, Form};
+use crate::words::{Form, RunCommand};
 use std::alloc::Global;
 use std::mem::forget;
 use std::sync::Wait;
 use std::thread::Threads;
 use sv_bytes::Files;
-use sv_command::{Ending, Stage, scenario_in};
+use sv_command::{Ending, PlayStage, scenario_in};
 use sv_gen::generate;
 use sv_link::{Crew, Gate, Net};
 use sv_play::ending_of_fault;
@@ -47,7 +47,7 @@ fn replay<F: Files>(alloc: Global, file: &str, files: &mut F) -> Result<String, 
 
 /// How a run of a file's scenario on threads is told.
 fn play<F: Files, N: Net, C: Crew, G: Gate + Sync, R: Threads + Wait + Sync>(
-    stage: &Stage<'_, R, G>,
+    stage: &PlayStage<'_, R, G>,
     file: &str,
     form: Form,
     files: &mut F,
@@ -73,7 +73,7 @@ fn play<F: Files, N: Net, C: Crew, G: Gate + Sync, R: Threads + Wait + Sync>(
 
 /// How a run of the generated scenario of a size is told.
 fn load<N: Net, C: Crew, G: Gate + Sync, R: Threads + Wait + Sync>(
-    stage: &Stage<'_, R, G>,
+    stage: &PlayStage<'_, R, G>,
     size: u32,
     net: &mut N,
     crew: &mut C,
@@ -97,8 +97,8 @@ fn load<N: Net, C: Crew, G: Gate + Sync, R: Threads + Wait + Sync>(
 
 /// The text that tells what is asked for. Whatever it is, it is whole before any of it is printed.
 pub(crate) fn text_for<F: Files, N: Net, C: Crew, G: Gate + Sync, R: Threads + Wait + Sync>(
-    stage: &Stage<'_, R, G>,
-    command: Command<'_>,
+    stage: &PlayStage<'_, R, G>,
+    command: RunCommand<'_>,
     files: &mut F,
     net: &mut N,
     crew: &mut C,
@@ -114,8 +114,8 @@ pub(crate) fn text_for<F: Files, N: Net, C: Crew, G: Gate + Sync, R: Threads + W
     ensures calm { N.calm net.old → result ≡ Err Ending.Link → SomeDiffered (pairing (N.settled net.old) (N.unmatched net.old) (N.made net.old) (N.owed net.old)) (pairing (N.settled net.new) (N.unmatched net.new) (N.made net.new) (N.owed net.new)) }
 {
     match command {
-        Command::Play { file, form } => play(stage, file, form, files, net, crew),
-        Command::Replay { file } => replay(stage.alloc, file, files),
-        Command::Load { size } => load(stage, size, net, crew),
+        RunCommand::Play { file, form } => play(stage, file, form, files, net, crew),
+        RunCommand::Replay { file } => replay(stage.alloc, file, files),
+        RunCommand::Load { size } => load(stage, size, net, crew),
     }
 }

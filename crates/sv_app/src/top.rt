@@ -12,18 +12,18 @@ ghost use Rattle.sv_app.specs.Statuses.{EndsEarly, LeavesAlone, SettlesPairs};
 ghost use Rattle.sv_app.specs.Words.{IsSized, asked_by, asked_of, named_by};
 
 use crate::texts::text_for;
-use crate::words::{Command, WORDS_LINE, command_of, file_of};
+use crate::words::{RunCommand, WORDS_LINE, command_of, file_of};
 use std::alloc::Global;
 use std::sync::Wait;
 use std::thread::Threads;
 use sv_bytes::{Files, Sink, write_all};
-use sv_command::{Ending, Stage, status_of, tell};
+use sv_command::{Ending, PlayStage, status_of, tell};
 use sv_link::{Crew, Gate, Net};
 
 /// Does what is asked for, and tells how it ended.
 fn decide<F: Files, N: Net, C: Crew, G: Gate + Sync, K: Sink, R: Threads + Wait + Sync>(
-    stage: &Stage<'_, R, G>,
-    command: Option<Command<'_>>,
+    stage: &PlayStage<'_, R, G>,
+    command: Option<RunCommand<'_>>,
     files: &mut F,
     net: &mut N,
     crew: &mut C,
@@ -79,7 +79,7 @@ pub fn run<F: Files, N: Net, C: Crew, G: Gate + Sync, K: Sink, E: Sink, R: Threa
         (pairing (N.settled net.new) (N.unmatched net.new) (N.made net.new) (N.owed net.new)) result }
 {
     let command = command_of(words);
-    let stage = Stage { rt, alloc, gate };
+    let stage = PlayStage { rt, alloc, gate };
     let ending = decide(&stage, command, files, net, crew, out);
     tell(&ending, WORDS_LINE, file_of(command), err);
     status_of(&ending)

@@ -25,7 +25,7 @@ pub enum Form {
 
 /// What the program is to do.
 #[derive(Clone, Copy, Debug, Drop)]
-pub enum Command<'a> {
+pub enum RunCommand<'a> {
     /// To run a file's scenario on threads.
     Play { file: &'a str, form: Form },
 
@@ -54,38 +54,38 @@ fn form_of(text: &str) -> Option<Form>
     }
 }
 
-fn of_two<'a>(word: &str, text: &'a str) -> Option<Command<'a>>
+fn of_two<'a>(word: &str, text: &'a str) -> Option<RunCommand<'a>>
     ensures asked { option_map asked_by result ≡ of_two word.now text.entry.now }
     ensures sized { IfSome result IsSized }
 {
     match word {
-        "play" => Some(Command::Play {
+        "play" => Some(RunCommand::Play {
             file: text,
             form: Form::Report,
         }),
-        "replay" => Some(Command::Replay { file: text }),
-        "load" => Some(Command::Load {
+        "replay" => Some(RunCommand::Replay { file: text }),
+        "load" => Some(RunCommand::Load {
             size: size_of(text)?,
         }),
         _ => None,
     }
 }
 
-fn of_three<'a>(word: &str, file: &'a str, form: &str) -> Option<Command<'a>>
+fn of_three<'a>(word: &str, file: &'a str, form: &str) -> Option<RunCommand<'a>>
     ensures asked { option_map asked_by result ≡ of_three word.now file.entry.now form.now }
     ensures sized { IfSome result IsSized }
 {
     if word != "play" {
         return None;
     }
-    Some(Command::Play {
+    Some(RunCommand::Play {
         file,
         form: form_of(form)?,
     })
 }
 
 /// What the words ask for: `play FILE`, `play FILE --brief`, `play FILE --watch`, `replay FILE` or `load N`.
-pub(crate) fn command_of(words: &[String]) -> Option<Command<'_>>
+pub(crate) fn command_of(words: &[String]) -> Option<RunCommand<'_>>
     ensures asked { option_map asked_by result ≡ asked_of (map string_bytes words.now) }
     ensures sized { IfSome result IsSized }
 {
@@ -97,11 +97,11 @@ pub(crate) fn command_of(words: &[String]) -> Option<Command<'_>>
 }
 
 /// The file that is named.
-pub(crate) fn file_of<'a>(command: Option<Command<'a>>) -> Option<&'a str>
+pub(crate) fn file_of<'a>(command: Option<RunCommand<'a>>) -> Option<&'a str>
     ensures { option_copied result ≡ named_by (option_map asked_by command.entry) }
 {
     match command? {
-        Command::Play { file, .. } | Command::Replay { file } => Some(file),
-        Command::Load { .. } => None,
+        RunCommand::Play { file, .. } | RunCommand::Replay { file } => Some(file),
+        RunCommand::Load { .. } => None,
     }
 }

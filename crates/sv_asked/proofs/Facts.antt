@@ -19,14 +19,13 @@ use Rattle.sv_wire.specs.declared.message.Request.{Request}
 use Rattle.sv_wire.specs.declared.message.Request.TheVariants as requests
 use Rattle.sv_wire.specs.Ranges.{ResultFits, ActionFits, RequestFits}
 use Rattle.sv_journal.specs.declared.entry.Entry.{Entry}
-use Rattle.sv_journal.specs.declared.entry.Logged.TheVariants as logged
 use Rattle.sv_journal.specs.History.{either, is_welcome, is_relay, is_noted, joining, client_of, new_action, outcomes_of, Authored, accepted, actions_of, reported, reports, result_at, commit_of, installed, committed_of}
 use Rattle.sv_journal.specs.Sessions.{welcomes, life_in, life_of}
 use Rattle.sv_journal.specs.Serving.{Keeping, with_results, IsKeeping}
+use Rattle.sv_journal.proofs.Spent.{new-few}
 use Rattle.sv_system.proofs.Every.{each-get, each-append, each-if}
 use Rattle.sv_asked.proofs.Evaluated.{AreNumbers}
 use Rattle.sv_asked.proofs.Worlds.{put_all_fits}
-use Rattle.sv_asked.proofs.Spent.{new-few}
 
 abbrev pub RequestsFit : List Entry → Type 0
 RequestsFit h = AllByRecursion (λ (e : Entry). RequestFits e.request) h

@@ -7,7 +7,6 @@ pub mod Reported
 pub mod Owned
 pub mod Items
 pub mod Honest
-pub mod Spent
 pub mod Facts
 pub mod Answered
 pub mod Replied

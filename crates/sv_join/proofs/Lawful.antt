@@ -31,8 +31,8 @@ use Rattle.sv_player.specs.declared.outcome.ReplyFault.{ReplyFault}
 use Rattle.law_traffic.proofs.Messages.{AreGot, got_first}
 use Rattle.sv_system.specs.Laws.{NeverRefusedInScenarios}
 use Rattle.sv_door.specs.Doors.{Passage}
+use Rattle.sv_script.proofs.Asked.{few-asked}
 use Rattle.sv_system.proofs.Limits.{limits_of, objects_few}
-use Rattle.law_schedule.proofs.Asking.{few-asked}
 use Rattle.law_traffic.proofs.Sendable.{sendable_in}
 use Rattle.law_traffic.proofs.Takeable.{takeable_by, not_bad}
 use Rattle.sv_join.specs.Legal.{numbered_from, IsLegalServer}

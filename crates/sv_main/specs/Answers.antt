@@ -28,11 +28,11 @@ use Rattle.sv_join.specs.Statuses.{TellsStatus as JoinTells}
 use Rattle.sv_audit.specs.Words.{asked_of as check_asked, scenario_named as check_named, words_line as check_words}
 use Rattle.sv_audit.specs.Answers.{IsTextFor as IsCheckText, Judges}
 use Rattle.sv_audit.specs.Statuses.{TellsStatus as CheckTells}
-use Rattle.sv_main.specs.declared.commands.Command.{Command}
-use Rattle.sv_main.specs.declared.commands.Command.TheVariants as commands
+use Rattle.sv_main.specs.declared.commands.TopCall.{TopCall}
+use Rattle.sv_main.specs.declared.commands.TopCall.TheVariants as commands
 
 -- Status 2 says that the words ask nothing of their call. `host` may answer 8 there, and 2 where its world has nobody to report.
-abbrev pub Knows : Command → List (List ℕ) → ℕ → Type 0
+abbrev pub Knows : TopCall → List (List ℕ) → ℕ → Type 0
 Knows commands.Run words status = (status ≡ 2) ↔ (run_asked words ≡ None)
 Knows commands.Looks words status = (status ≡ 2) ↔ (looks_named words ≡ None)
 Knows commands.Witness words status = (status ≡ 2) ↔ (witness_asked words ≡ None)
@@ -42,7 +42,7 @@ Knows commands.Join words status = (status ≡ 2) ↔ (join_asked words ≡ None
 Knows commands.Check words status = (status ≡ 2) ↔ (check_asked words ≡ None)
 
 -- Statuses 4 and 5 say that a file and the output failed. `host` writes nothing to the output.
-abbrev pub Faults : Command → (files_before files_now out_before out_now : ℕ) → ℕ → Type 0
+abbrev pub Faults : TopCall → (files_before files_now out_before out_now : ℕ) → ℕ → Type 0
 Faults commands.Host f0 f1 o0 o1 status = o1 ≡ o0
 Faults _ f0 f1 o0 o1 status = ((status ≡ 4) ↔ Rose f0 f1) × ((status ≡ 5) ↔ Rose o0 o1)
 
@@ -53,7 +53,7 @@ pub record Prints (IsText : List ℕ → Type 0) (old now : Option (List ℕ)) (
 
 -- What the output was given, and what the status says of what was read. A run's connections are made for it alone, so there are some of which its
 -- text tells.
-abbrev pub Output : Command → List (List ℕ) → (List ℕ → Option (List ℕ)) → (old now : Option (List ℕ)) → ℕ → Type 0
+abbrev pub Output : TopCall → List (List ℕ) → (List ℕ → Option (List ℕ)) → (old now : Option (List ℕ)) → ℕ → Type 0
 Output commands.Run words contents old now status =
     (m : Moved Transcript)
     × Leaves (IsRunText (run_asked words) (held_by_file contents (run_named (run_asked words))) m) (held_by_file contents (run_named (run_asked words))) old now status
@@ -78,7 +78,7 @@ Output commands.Check words contents old now status =
 
 -- The line that is told beside the output, and nothing else, where `old` and `now` are what was told before and after, and `before` and `after`
 -- how often that failed. What `host` tells, its own crate says.
-abbrev pub Line : Command → List (List ℕ) → (sure : List ℕ → Type 0) (contents : List ℕ → Option (List ℕ)) → (old now : Option (List ℕ)) (before after : ℕ) → ℕ → Type 0
+abbrev pub Line : TopCall → List (List ℕ) → (sure : List ℕ → Type 0) (contents : List ℕ → Option (List ℕ)) → (old now : Option (List ℕ)) (before after : ℕ) → ℕ → Type 0
 Line commands.Run words sure contents old now before after status =
     TellsStatus run_words status (held_by_file contents (run_named (run_asked words))) (run_named (run_asked words)) old now before after
 Line commands.Looks words sure contents old now before after status =

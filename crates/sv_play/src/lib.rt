@@ -12,6 +12,6 @@ mod tasks;
 
 pub use ending::ending_of_fault;
 pub use locking::lock_sequencer;
-pub use outcome::{PlayFault, Playing};
+pub use outcome::{PlayFault, PlayedAll};
 pub use play::play_all;
 pub use tasks::{Service, Serviced};

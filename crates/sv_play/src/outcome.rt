@@ -7,7 +7,7 @@ use thiserror::Error;
 
 /// What the clients did, and the lines that tell the changes of their views, client by client.
 #[derive(Debug, Drop)]
-pub struct Playing {
+pub struct PlayedAll {
     pub traces: List<Trace>,
     pub lines: Vec<Line>,
 }

@@ -10,7 +10,7 @@ ghost use Rattle.sv_play.specs.Playing.{IsThreadedRun, TookAllIn, PlayCause, Run
 
 use crate::gathering::{Left, gather, take_back};
 use crate::opening::Hall;
-use crate::outcome::{PlayFault, Playing};
+use crate::outcome::{PlayFault, PlayedAll};
 use crate::settling::{settle_after, settle_all};
 use crate::tasks::{Silence, Teller};
 use law_traffic::threaded_runs_leave_records;
@@ -41,7 +41,7 @@ pub fn play_all<N: Net, C: Crew, G: Gate + Sync, R: Threads + Wait + Sync>(
     crew: &mut C,
     gate: &G,
     watch: Option<&Watch>,
-) -> Result<Playing, PlayFault>
+) -> Result<PlayedAll, PlayFault>
     requires good { IsGoodScenario scenario.now }
     requires passes { lock.now.passes ≡ session_count scenario.now }
     requires keeper { keeper.old ≡ keeper_after 0 lock.now scenario.now }
@@ -87,7 +87,7 @@ impl<'a, G: Gate + Sync, W: Teller + Sync> Hall<'a, G, W> {
         keeper: &mut Pass<Sequencer>,
         net: &mut N,
         crew: &mut C,
-    ) -> Result<Playing, PlayFault>
+    ) -> Result<PlayedAll, PlayFault>
         requires good { IsGoodScenario self.now.scenario.now }
         requires passes { self.now.lock.now.passes ≡ session_count self.now.scenario.now }
         requires keeper { keeper.old ≡ keeper_after 0 self.now.lock.now self.now.scenario.now }
@@ -136,7 +136,7 @@ impl<'a, G: Gate + Sync, W: Teller + Sync> Hall<'a, G, W> {
         if lacked {
             return Err(PlayFault::Memory);
         }
-        Ok(Playing {
+        Ok(PlayedAll {
             traces: List::from_vec(traces),
             lines: all_lines(self.alloc, lines)?,
         })

@@ -19,7 +19,7 @@ use Rattle.sv_play.specs.declared.outcome.PlayFault.TheVariants as faults
 use Rattle.sv_play.specs.Moved.{Moved}
 use Rattle.sv_play.specs.Endings.{ending_of_fault}
 use Rattle.sv_door.specs.Doors.{Passage}
-use Rattle.sv_serve.specs.declared.words.Command.{Command}
+use Rattle.sv_serve.specs.declared.words.ServeCommand.{ServeCommand}
 use Rattle.sv_serve.specs.Answers.{Answers}
 use Rattle.sv_serve.specs.Words.{Asked, asked_by, named_by, words_line}
 use Rattle.sv_serve.specs.Giving.{Doorway, GaveAllBack, GaveBack, GaveUnused, GivesBack}
@@ -108,9 +108,9 @@ certain_is sure (Some x) e h = λ s six. h s (link_is e six)
 abbrev pub Leaves : Option (List ℕ) → Moved Passage → Option (List ℕ) → Option (List ℕ) → Ending → Type 0
 Leaves held m old now e = Ends (IsText held m) (OrWords (EndsEarly held)) old now e
 
-module _ (contents : List ℕ → Option (List ℕ)) (m : Moved Passage) (given : Option Command) (command : Command) (is : given ≡ Some command) where
+module _ (contents : List ℕ → Option (List ℕ)) (m : Moved Passage) (given : Option ServeCommand) (command : ServeCommand) (is : given ≡ Some command) where
   text_given : (text : List ℕ) → IsText (contents command.file.now) m text → IsText (held_by_file contents (named_by (option_map asked_by given))) m text
-  text_given text told = subst (λ (o : Option Command). IsText (held_by_file contents (named_by (option_map asked_by o))) m text) (sym is) told
+  text_given text told = subst (λ (o : Option ServeCommand). IsText (held_by_file contents (named_by (option_map asked_by o))) m text) (sym is) told
 
   pub printed_given : (text bytes : List ℕ) (old now : Option (List ℕ)) → bytes ≡ text → IsText (contents command.file.now) m text → Grew old now bytes
       → IsPrinted (IsText (held_by_file contents (named_by (option_map asked_by given))) m) old now
@@ -122,7 +122,7 @@ module _ (contents : List ℕ → Option (List ℕ)) (m : Moved Passage) (given 
 
   pub early_given : (old : Option (List ℕ)) (e : Ending) → EndsEarly (contents command.file.now) e → Leaves (held_by_file contents (named_by (option_map asked_by given))) m old old e
   early_given old e h =
-      subst (λ (o : Option Command). Leaves (held_by_file contents (named_by (option_map asked_by o))) m old old e) (sym is)
+      subst (λ (o : Option ServeCommand). Leaves (held_by_file contents (named_by (option_map asked_by o))) m old old e) (sym is)
       (ends_early (IsText (contents command.file.now) m) (OrWords (EndsEarly (contents command.file.now))) old (λ x. x) (λ x. x) e (or_words (EndsEarly (contents command.file.now)) e h))
 
 -- ---- What is left of a call, by its status

@@ -8,12 +8,12 @@ ghost use Rattle.sv_serve.specs.Giving.{doorway};
 ghost use Rattle.sv_serve.specs.Statuses.{hosted_text, EndsEarly, GivesBackBut, IsText, LeavesAlone};
 
 use crate::hosting::serve_scenario;
-use crate::words::Command;
+use crate::words::ServeCommand;
 use std::alloc::{AllocError, Global};
 use std::sync::Wait;
 use std::thread::Threads;
 use sv_bytes::Files;
-use sv_command::{Ending, Stage, scenario_in};
+use sv_command::{Ending, PlayStage, scenario_in};
 use sv_door::Door;
 use sv_journal::{legal_relays_name_accepted, print_journal};
 use sv_link::{Crew, Gate};
@@ -35,8 +35,8 @@ fn hosted_text(alloc: Global, shape: Shape, sequencer: &Sequencer) -> Result<Str
 
 /// Serves the scenario of a file. The text that tells it is whole before any of it is printed.
 pub(crate) fn served_text<F: Files, D: Door, C: Crew, G: Gate + Sync, R: Threads + Wait + Sync>(
-    stage: &Stage<'_, R, G>,
-    command: Command<'_>,
+    stage: &PlayStage<'_, R, G>,
+    command: ServeCommand<'_>,
     files: &mut F,
     door: &mut D,
     crew: &mut C,

@@ -11,19 +11,19 @@ ghost use Rattle.sv_serve.specs.Giving.{doorway};
 ghost use Rattle.sv_serve.specs.Statuses.{EndsEarly, GivesBackBut, IsText, LeavesAlone};
 
 use crate::texts::served_text;
-use crate::words::{Command, WORDS_LINE, command_of, file_of};
+use crate::words::{ServeCommand, WORDS_LINE, command_of, file_of};
 use std::alloc::Global;
 use std::sync::Wait;
 use std::thread::Threads;
 use sv_bytes::{Files, Sink, write_all};
-use sv_command::{Ending, Stage, status_of, tell};
+use sv_command::{Ending, PlayStage, status_of, tell};
 use sv_door::Door;
 use sv_link::{Crew, Gate};
 
 /// Serves what is asked for, and tells how it ended.
 fn decide<F: Files, D: Door, C: Crew, G: Gate + Sync, K: Sink, R: Threads + Wait + Sync>(
-    stage: &Stage<'_, R, G>,
-    command: Option<Command<'_>>,
+    stage: &PlayStage<'_, R, G>,
+    command: Option<ServeCommand<'_>>,
     files: &mut F,
     door: &mut D,
     crew: &mut C,
@@ -87,7 +87,7 @@ pub fn run_serve<
         (doorway (D.given door.old) (D.made door.old) (D.owed door.old)) (doorway (D.given door.new) (D.made door.new) (D.owed door.new)) }
 {
     let command = command_of(words);
-    let stage = Stage { rt, alloc, gate };
+    let stage = PlayStage { rt, alloc, gate };
     let ending = decide(&stage, command, files, door, crew, out);
     tell(&ending, WORDS_LINE, file_of(command), err);
     status_of(&ending)

@@ -10,13 +10,13 @@ pub(crate) const WORDS_LINE: &[u8] = b"words: serve FILE PORT\n";
 
 /// The scenario of a file is to be served at a port.
 #[derive(Clone, Copy, Debug, Drop)]
-pub struct Command<'a> {
+pub struct ServeCommand<'a> {
     pub file: &'a str,
     pub port: u16,
 }
 
 /// What the words ask for: `serve FILE PORT`.
-pub(crate) fn command_of(words: &[String]) -> Option<Command<'_>>
+pub(crate) fn command_of(words: &[String]) -> Option<ServeCommand<'_>>
     ensures { option_map asked_by result ≡ asked_of (map string_bytes words.now) }
 {
     let [word, file, port] = words else {
@@ -25,16 +25,16 @@ pub(crate) fn command_of(words: &[String]) -> Option<Command<'_>>
     if word.as_str() != "serve" {
         return None;
     }
-    Some(Command {
+    Some(ServeCommand {
         file: file.as_str(),
         port: number_in(port.as_str(), 1, 65_535)? as u16,
     })
 }
 
 /// The file that is named.
-pub(crate) fn file_of<'a>(command: Option<Command<'a>>) -> Option<&'a str>
+pub(crate) fn file_of<'a>(command: Option<ServeCommand<'a>>) -> Option<&'a str>
     ensures { option_copied result ≡ named_by (option_map asked_by command.entry) }
 {
-    let Command { file, .. } = command?;
+    let ServeCommand { file, .. } = command?;
     Some(file)
 }

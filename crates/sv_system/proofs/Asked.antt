@@ -1,11 +1,11 @@
 -- A trace's requests and replies of a session, event by event.
-use Rattle.std.proofs.Common.{◌≡◌, ℕ, zero, suc, ◌+◌, ◌<◌, ◌≤◌, Bool, true, false, ◌==◌, ◌⊎◌, inl, inr, List, [], ◌∷◌, ◌++◌, map, drop, reverse, length, Option, Some, None, slice_get, refl, sym, ap, ◌∙◌, subst, arith, eqb-true, eq-eqb, true≢false}
+use Rattle.std.proofs.Common.{◌≡◌, ℕ, zero, suc, ◌+◌, ◌<◌, ◌≤◌, Bool, true, false, ◌==◌, ◌⊎◌, inl, inr, List, [], ◌∷◌, ◌++◌, map, drop, reverse, length, Option, Some, None, slice_get, refl, sym, ap, ◌∙◌, subst, arith, eqb-true, eq-eqb, true≢false, ◌||◌}
 use Rattle.std.specs.Prelude.{if◌then◌else◌}
 use Rattle.std.specs.List.{list_any}
-use Rattle.std.proofs.lemmas.Bool.{cond_both, cond-true, cond-false, cases_Bool, or_cases, or_left, or_right}
-use Rattle.std.proofs.lemmas.List.{reverse-append}
-use Rattle.std.proofs.lemmas.List.Folds.{list_any-append}
+use Rattle.std.proofs.lemmas.Bool.{cond_both, cond-true, cond-false, cases_Bool, or_left, or_right}
 use Rattle.std.proofs.lemmas.Option.{none-some, same_Some}
+use mathlib.Core.List.{reverse_aux}
+use mathlib.Core.Bool.{or-false}
 use Rattle.sv_pending.specs.Pending.{PendingAction}
 use Rattle.sv_wire.specs.declared.message.Done1.{Done1}
 use Rattle.sv_wire.specs.declared.message.Request.{Request}
@@ -323,10 +323,21 @@ pub any-part : (p : Event → Bool) (t u : List Event) → IsPart t u → list_a
 any-part p t whole all h = h
 any-part p t whole (then_one {u} e b) h = or_right (p e) (list_any p u) (any-part p t u b h)
 
+or-move : (a b c : Bool) → (b || (a || c)) ≡ ((a || b) || c)
+or-move true true c = refl
+or-move true false c = refl
+or-move false true c = refl
+or-move false false c = refl
+
+any-onto : {X : Type 0} (test : X → Bool) (xs ys : List X) → list_any test (reverse_aux xs ys) ≡ (list_any test xs || list_any test ys)
+any-onto test [] ys = refl
+any-onto test (x ∷ xs) ys = any-onto test xs (x ∷ ys) ∙ or-move (test x) (list_any test xs) (list_any test ys)
+
+pub any-reversed : {X : Type 0} (test : X → Bool) (xs : List X) → list_any test (reverse xs) ≡ list_any test xs
+any-reversed test xs = any-onto test xs [] ∙ or-false (list_any test xs)
+
 pub any-reverse : (p : Event → Bool) (xs : List Event) → list_any p (reverse xs) ≡ true → list_any p xs ≡ true
-any-reverse p [] h = h
-any-reverse p (x ∷ xs) h =
-    elim (or_cases (list_any p (reverse xs)) (list_any p (x ∷ [])) (sym (ap (list_any p) (reverse-append (x ∷ []) xs) ∙ list_any-append p (reverse xs) (x ∷ [])) ∙ h)) [
-      | inl a ↦ or_right (p x) (list_any p xs) (any-reverse p xs a)
-      | inr b ↦ or_left (p x) (list_any p xs) (elim (or_cases (p x) false b) [ inl c ↦ c | inr c ↦ cc ])
-    ]
+any-reverse p xs h = sym (any-reversed p xs) ∙ h
+
+pub any-turned : (p : Event → Bool) (xs : List Event) → list_any p xs ≡ true → list_any p (reverse xs) ≡ true
+any-turned p xs h = any-reversed p xs ∙ h

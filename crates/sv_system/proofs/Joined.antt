@@ -1,14 +1,15 @@
 -- Which session each Join of a trace began.
-use Rattle.std.proofs.Common.{◌≡◌, ℕ, suc, ◌<◌, ◌≤◌, true, false, ◌==◌, inl, inr, List, [], ◌∷◌, Option, Some, None, refl, sym, ◌∙◌, subst, arith, eqb-true, eq-eqb}
+use Rattle.std.proofs.Common.{◌≡◌, ℕ, suc, ◌<◌, ◌≤◌, true, false, ◌==◌, inl, inr, List, [], ◌∷◌, Option, Some, None, refl, sym, ◌∙◌, subst, arith, eqb-true, eq-eqb, ◌+◌, true≢false}
 use Rattle.std.specs.Prelude.{if◌then◌else◌, All}
 use Rattle.std.specs.List.{list_any, AllByRecursion}
-use Rattle.std.proofs.lemmas.Bool.{cond-true, cond-false, cases_Bool, ne_eqb, or_left, or_right}
+use Rattle.std.proofs.lemmas.Bool.{cond-true, cond-false, cases_Bool, ne_eqb, or_left, or_right, or_cases, cases_eq}
 use Rattle.std.proofs.lemmas.List.Elements.{recursion_from_All}
 use Rattle.std.proofs.lemmas.Option.{none-some, same_Some}
 use Rattle.sv_client.specs.declared.trace.Event.{Event}
 use Rattle.sv_client.specs.declared.trace.Event.TheVariants as events
 use Rattle.sv_client.specs.Traces.{joins, current_session}
 use Rattle.sv_client.specs.Taking.{Identity}
+use Rattle.sv_client.specs.Proper.{AreProper}
 use Rattle.sv_system.specs.Clients.{sessions_begun, AreClientEvents}
 use Rattle.sv_system.specs.Fits.{is_join_of}
 
@@ -134,3 +135,44 @@ at-one who (events.Leave ∷ t) p a b s x y = at-one who t p.1 a b s x y
 at-one who (events.Cut ∷ t) p a b s x y = at-one who t p.1 a b s x y
 at-one who (events.Quit ∷ t) p a b s x y = at-one who t p.1 a b s x y
 at-one who (events.Show objects ∷ t) p a b s x y = at-one who t p.1 a b s x y
+
+-- ---- The sessions joined
+
+-- The sessions that a trace joined are those from its first one on.
+pub joined-within : (who : Identity) (first : ℕ) (t : List Event) (n : ℕ) → AreProper who first t → list_any (is_join_of n) t ≡ true → (first ≤ n) × (n < first + joins t)
+joined-within who first [] n p h = absurd (true≢false (sym h))
+joined-within who first (events.Join s ∷ t) n p h =
+    elim (or_cases (s == n) (list_any (is_join_of n) t) h) [
+      | inl e ↦ (omega (arith, eqb-true s n e, p.0.next), omega (arith, eqb-true s n e, p.0.next))
+      | inr e ↦ (let b = joined-within who first t n p.1 e in (b.0, omega (arith, b.1)))
+    ]
+joined-within who first (events.Make action ∷ t) n p h = joined-within who first t n p.1 h
+joined-within who first (events.Poll ∷ t) n p h = joined-within who first t n p.1 h
+joined-within who first (events.Observe objects wait ∷ t) n p h = joined-within who first t n p.1 h
+joined-within who first (events.Leave ∷ t) n p h = joined-within who first t n p.1 h
+joined-within who first (events.Got s reply ∷ t) n p h = joined-within who first t n p.1 h
+joined-within who first (events.Cut ∷ t) n p h = joined-within who first t n p.1 h
+joined-within who first (events.Quit ∷ t) n p h = joined-within who first t n p.1 h
+joined-within who first (events.Show objects ∷ t) n p h = joined-within who first t n p.1 h
+
+-- The sessions that were joined are the first ones.
+pub joined-low : (who : Identity) (first : ℕ) (t : List Event) (s : ℕ) → AreProper who first t → list_any (is_join_of s) t ≡ true → s < first + joins t
+joined-low who first t s p h = (joined-within who first t s p h).1
+
+pub low-joined : (who : Identity) (first : ℕ) (t : List Event) (s : ℕ) → AreProper who first t → first ≤ s → s < first + joins t → list_any (is_join_of s) t ≡ true
+low-joined who first [] s p a b = absurd (omega (arith, a, b))
+low-joined who first (events.Join m ∷ t) s p a b =
+    let number : m ≡ first + joins t = p.0.next in
+    let later = low-joined who first t s p.1 a in
+    elim (cases_eq m s) [
+      | inl e ↦ or_left (m == s) (list_any (is_join_of s) t) (eq-eqb m s e)
+      | inr n ↦ or_right (m == s) (list_any (is_join_of s) t) (later (omega arith))
+    ]
+low-joined who first (events.Got m reply ∷ t) s p a b = low-joined who first t s p.1 a b
+low-joined who first (events.Make action ∷ t) s p a b = low-joined who first t s p.1 a b
+low-joined who first (events.Poll ∷ t) s p a b = low-joined who first t s p.1 a b
+low-joined who first (events.Observe objects wait ∷ t) s p a b = low-joined who first t s p.1 a b
+low-joined who first (events.Leave ∷ t) s p a b = low-joined who first t s p.1 a b
+low-joined who first (events.Cut ∷ t) s p a b = low-joined who first t s p.1 a b
+low-joined who first (events.Quit ∷ t) s p a b = low-joined who first t s p.1 a b
+low-joined who first (events.Show objects ∷ t) s p a b = low-joined who first t s p.1 a b

@@ -13,6 +13,7 @@ pub mod Commits
 pub mod Covers
 pub mod Cuts
 pub mod Dones
+pub mod Ends
 pub mod Entered
 pub mod Every
 pub mod Fronts

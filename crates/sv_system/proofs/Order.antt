@@ -84,6 +84,11 @@ never-refused requests.Leave code detail = refl
 never-refused requests.Bad code detail = refl
 never-refused requests.End code detail = refl
 
+-- A Bye or a refusal that a client takes answers a Leave.
+pub leave-stopped : (q : Request) (w : Reply) → (w ≡ replies.Bye) ⊎ ((code : ℕ) × ((detail : ℕ) × (w ≡ replies.Refused code detail))) → allows q w ≡ true → q ≡ requests.Leave
+leave-stopped q w (inl bye) a = leave-only q (ap (allows q) (sym bye) ∙ a)
+leave-stopped q w (inr (code, (detail, refused))) a = absurd (true≢false (sym (ap (allows q) (sym refused) ∙ a) ∙ never-refused q code detail))
+
 module _ (K : Keeping) (r : Rules) (H : List Entry) (L : Trace) (served : IsServed K r H L) where
   open served use {keeps, legal, fits}
 

@@ -28,12 +28,12 @@ use Rattle.sv_system.proofs.Entered.{is_of}
 use Rattle.sv_system.proofs.Places.{map_at}
 use Rattle.sv_system.proofs.Asking.{same-request}
 use Rattle.sv_system.proofs.Clients.{client-trace}
+use Rattle.sv_system.proofs.Asked.{any-turned}
 use Rattle.law_schedule.specs.Players.{Player, trace_of_player}
 use Rattle.law_schedule.specs.Serving.{Run, Server, traces_of}
 use Rattle.law_schedule.specs.Schedule.{rules_of}
 use Rattle.law_schedule.specs.Sound.{has_joined}
 use Rattle.law_schedule.specs.Served.{IsServersOwn, AreHeard, KeepsSound, HearsJoins, FitsServer, IsSoundOver}
-use Rattle.law_schedule.proofs.DoneFacts.{any-turned}
 use Rattle.law_schedule.proofs.DoneLists.{any-found, any-there}
 use Rattle.law_schedule.proofs.SoundPlayers.{front-push}
 use Rattle.law_schedule.proofs.SoundCalls.{player-at}

@@ -25,6 +25,7 @@ use Rattle.sv_scenario.specs.declared.scenario.Scenario.{Scenario}
 use Rattle.sv_world.specs.Limits.{most_positions}
 use Rattle.sv_scenario.specs.Limits.{IsGoodScenario}
 use Rattle.sv_scenario.specs.Sessions.{session_count}
+use Rattle.sv_journal.proofs.Spent.{served-few}
 use Rattle.sv_system.specs.Fits.{is_join_of, requests_in, replies_in}
 use Rattle.sv_system.specs.Served.{no_client, FitsBut, OwnsSessions, FitsButValues}
 use Rattle.sv_system.specs.Serial.{AreSerial}
@@ -43,16 +44,16 @@ use Rattle.sv_asked.proofs.Evaluated.{IsNumber}
 use Rattle.sv_asked.proofs.Counts.{proper-counts}
 use Rattle.sv_asked.proofs.Made.{Makes, Asks, asked-have}
 use Rattle.sv_asked.proofs.Owned.{entry-at, SubmitHas, submit-asked, end-submits, end-fits, event-makes, accepted-have}
-use Rattle.sv_asked.proofs.Spent.{served-few}
+use Rattle.sv_script.proofs.Asked.{asked-few}
 use Rattle.law_schedule.specs.Players.{Player, trace_of_player}
 use Rattle.law_schedule.specs.Serving.{Run, Server, run_served, traces_of}
 use Rattle.law_schedule.specs.Schedule.{rules_of}
 use Rattle.law_schedule.specs.Served.{IsHeard, AreHeard, KeepsSound, FitsServer, IsSoundOver}
 use Rattle.law_schedule.specs.Done.{NextRepliesAreTaken}
 use Rattle.sv_system.specs.Records.{ScriptsAreDone, ends_in}
+use Rattle.sv_system.proofs.Asked.{any-turned}
 use Rattle.law_schedule.specs.Sound.{has_joined}
-use Rattle.law_schedule.proofs.DoneCounts.{asked-few}
-use Rattle.law_schedule.proofs.DoneFacts.{any-turned, same-who, same-events}
+use Rattle.law_schedule.proofs.DoneFacts.{same-who, same-events}
 use Rattle.law_schedule.proofs.SoundCalls.{player-at}
 use Rattle.law_schedule.proofs.SoundLaws.{run-sound}
 use Rattle.law_schedule.proofs.SoundOwned.{session-owned}

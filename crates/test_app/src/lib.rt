@@ -1,4 +1,4 @@
-//! Tests of the top call, over files, nets, crews and outputs in memory, and over loopback TCP.
+//! Tests of the top calls `run`, `run_looks` and `run_witness`, over files, nets, crews and outputs in memory, and over loopback TCP.
 #![tactic(auto)]
 
 #[cfg(test)]
@@ -8,6 +8,8 @@ mod faults;
 #[cfg(test)]
 mod lacking;
 #[cfg(test)]
+mod looks;
+#[cfg(test)]
 mod plays;
 #[cfg(test)]
 mod replays;
@@ -15,3 +17,5 @@ mod replays;
 mod shown;
 #[cfg(test)]
 mod texts;
+#[cfg(test)]
+mod witness;

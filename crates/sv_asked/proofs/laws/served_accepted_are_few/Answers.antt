@@ -1,5 +1,5 @@
+use Rattle.sv_journal.proofs.Spent.{served-few}
 -- A journal of few sessions accepts few actions, whatever results are kept.
-use Rattle.sv_asked.proofs.Spent.{served-few}
 use Rattle.sv_asked.proofs.laws.served_accepted_are_few.Goals as goal
 
 pub returns : goal.returns

@@ -14,7 +14,7 @@ use Rattle.sv_play.specs.Left.{transcripts_of, HasRoom, JoinedPasses}
 use Rattle.sv_play.specs.Playing.{IsThreadedRun, TookAllIn}
 use Rattle.sv_play.proofs.Ready.{tasks_ready}
 use Rattle.sv_play.proofs.Sent.{client-field-sends, trace-field-sends, step-syncs}
-use Rattle.sv_play.specs.declared.outcome.Playing.{Playing}
+use Rattle.sv_play.specs.declared.outcome.PlayedAll.{PlayedAll}
 use Rattle.sv_play.specs.declared.outcome.PlayFault.TheVariants as faults_of
 use Rattle.sv_play.specs.declared.gathering.Left.{Left}
 use Rattle.sv_play.specs.Opening.{server_end, uncut}
@@ -209,7 +209,7 @@ returns-in_err-all_lines-clause-pairs g c =
     let k = c.gather.new.keeper in
     let joined = subst (λ b. JoinedPasses (serviced_of os) b k) t.keeper c.gather.ensures.joined in
     let count = owed_enough told faults calm _ run ts os t.count t.services t.parts kept left k c.gather.ensures.gathered joined in
-    memory_leaves Playing c.from_residual-in_err-all_lines.result _ _ c.from_residual-in_err-all_lines.ensures.1
+    memory_leaves PlayedAll c.from_residual-in_err-all_lines.result _ _ c.from_residual-in_err-all_lines.ensures.1
     (matched_all told calm (g.N.Net.calm c.open.new.net) left.servers.items left.clients.items c.settle_all.result (session_count c.args.self.now.scenario.now)
     (pairing (g.N.Net.settled c.args.net.now) (g.N.Net.unmatched c.args.net.now) (g.N.Net.made c.args.net.now) (g.N.Net.owed c.args.net.now))
     (pairing (g.N.Net.settled c.open.new.net) (g.N.Net.unmatched c.open.new.net) (g.N.Net.made c.open.new.net) (g.N.Net.owed c.open.new.net))
@@ -278,12 +278,12 @@ settle_after-requires-clause-owed g c κs within = unused_owed g.N.E.End.told g.
 
 pub returns-in-Err-clause-pairs : goal.returns-in-Err-clause-pairs
 returns-in-Err-clause-pairs g c =
-    unused_leaves g.N.E.End.told g.N.E.End.faults g.N.E.End.calm (g.N.Net.calm c.args.net.now) _ _ _ _ c.in-Err.ensures.unused _ _ _ _ c.in-Err.fault c.settle_after.result c.settle_after.ensures.settled Playing
+    unused_leaves g.N.E.End.told g.N.E.End.faults g.N.E.End.calm (g.N.Net.calm c.args.net.now) _ _ _ _ c.in-Err.ensures.unused _ _ _ _ c.in-Err.fault c.settle_after.result c.settle_after.ensures.settled PlayedAll
     (not_start _ _ _ c.in-Err.ensures.cause)
 
 pub returns-in-Err-clause-cause : goal.returns-in-Err-clause-cause
 returns-in-Err-clause-cause g c =
-    unused_cause g.N.E.End.told g.N.E.End.faults g.N.E.End.calm (g.N.Net.calm c.args.net.now) _ _ _ _ c.in-Err.ensures.unused _ _ _ _ c.in-Err.fault c.settle_after.result c.settle_after.ensures.settled Playing _ _ c.in-Err.ensures.cause
+    unused_cause g.N.E.End.told g.N.E.End.faults g.N.E.End.calm (g.N.Net.calm c.args.net.now) _ _ _ _ c.in-Err.ensures.unused _ _ _ _ c.in-Err.fault c.settle_after.result c.settle_after.ensures.settled PlayedAll _ _ c.in-Err.ensures.cause
 
 pub returns-in-Err-clause-calm : goal.returns-in-Err-clause-calm
 returns-in-Err-clause-calm g c = λ q. c.settle_after.ensures.calm (c.in-Err.ensures.calm q).1
@@ -294,7 +294,7 @@ returns-in-Err-clause-certain g c = λ q e.
     (λ is. (c.in-Err.ensures.calm q).0 (ap Err is)) q (c.in-Err.ensures.calm q).1 (ap unerr e)
 
 pub returns-in_err-left-clause-pairs : goal.returns-in_err-left-clause-pairs
-returns-in_err-left-clause-pairs g c = memory_leaves Playing c.from_residual.result _ _ c.from_residual.ensures.1 (none_made _)
+returns-in_err-left-clause-pairs g c = memory_leaves PlayedAll c.from_residual.result _ _ c.from_residual.ensures.1 (none_made _)
 
 pub take_back-requires-clause-clients : goal.take_back-requires-clause-clients
 take_back-requires-clause-clients g c =
@@ -353,7 +353,7 @@ returns-in-Memory-clause-pairs g c =
     (given_each told faults calm g.W.Teller.telling run ts t.parts) (given ∙ sym t.count) servers clients refl t.settled.0 t.settled.1
     (t.pairs.0 ∙ ap (λ n. g.N.Net.made c.args.net.now + n) (sym t.count)) (t.pairs.1 ∙ ap (λ n. g.N.Net.owed c.args.net.now + n) (sym t.count)) in
     unused_leaves told faults calm (g.N.Net.calm c.args.net.now) old mid c.take_back.new.left.servers.items c.take_back.new.left.clients.items held (g.N.Net.calm c.open.new.net) (g.N.Net.faults c.open.new.net) (g.N.Net.faults c.settle_after-in-Memory.new.net)
-    (pairing (g.N.Net.settled c.settle_after-in-Memory.new.net) (g.N.Net.unmatched c.settle_after-in-Memory.new.net) (g.N.Net.made c.settle_after-in-Memory.new.net) (g.N.Net.owed c.settle_after-in-Memory.new.net)) faults_of.Memory c.settle_after-in-Memory.result c.settle_after-in-Memory.ensures.settled Playing (not_start faults_of.Memory 0 0 refl)
+    (pairing (g.N.Net.settled c.settle_after-in-Memory.new.net) (g.N.Net.unmatched c.settle_after-in-Memory.new.net) (g.N.Net.made c.settle_after-in-Memory.new.net) (g.N.Net.owed c.settle_after-in-Memory.new.net)) faults_of.Memory c.settle_after-in-Memory.result c.settle_after-in-Memory.ensures.settled PlayedAll (not_start faults_of.Memory 0 0 refl)
 
 pub returns-in-Memory-clause-certain : goal.returns-in-Memory-clause-certain
 returns-in-Memory-clause-certain g c =
@@ -409,7 +409,7 @@ returns-in_err-all_lines-clause-ran g c =
     let t = c.in-Ok.ensures in
     let count = c.in-Ok.tasks.ok.0 ∙ jobs told faults calm _ run c.in-Ok.tasks.items c.in-Done.outs.items t.count t.services t.parts c.in-Done.ensures.kept in
     let ran = c.in-Done.ensures.ran ∙ ap (λ n. g.C.Crew.ran c.args.crew.now ++ n ∷ []) count in
-    memory_all_ran Playing c.from_residual-in_err-all_lines.result _ _ _ c.from_residual-in_err-all_lines.ensures.1 ran
+    memory_all_ran PlayedAll c.from_residual-in_err-all_lines.result _ _ _ c.from_residual-in_err-all_lines.ensures.1 ran
 
 pub returns-clause-ran : goal.returns-clause-ran
 returns-clause-ran g c =
@@ -424,15 +424,15 @@ returns-clause-ran g c =
 
 pub returns-in_err-left-clause-ran : goal.returns-in_err-left-clause-ran
 returns-in_err-left-clause-ran g c =
-    fault_none_ran Playing _ c.from_residual.result _ _ c.from_residual.ensures.1
+    fault_none_ran PlayedAll _ c.from_residual.result _ _ c.from_residual.ensures.1
 
 pub returns-in-Err-clause-ran : goal.returns-in-Err-clause-ran
 returns-in-Err-clause-ran g c =
-    none_ran Playing c.settle_after.result _ _ _ refl
+    none_ran PlayedAll c.settle_after.result _ _ _ refl
 
 pub returns-in-Memory-clause-ran : goal.returns-in-Memory-clause-ran
 returns-in-Memory-clause-ran g c =
-    none_ran Playing c.settle_after-in-Memory.result _ _ _ c.in-Memory.ensures.ran
+    none_ran PlayedAll c.settle_after-in-Memory.result _ _ _ c.in-Memory.ensures.ran
 
 pub run_all-requires-send-J : goal.run_all-requires-send-J
 run_all-requires-send-J g c κs within = let y = c.type_bounds.sync-G in let w = c.type_bounds.sync-W in let e = c.type_bounds.send-N-E in search (lock-syncs, pass-sends, client-field-sends, step-syncs, sendable, crosses) depth 40 fits 10000
