@@ -1,8 +1,8 @@
 -- What the call answers, by its status. `contents` says what a file holds, where that is told, and `is_sure` which file is sure to be read.
 use Rattle.std.specs.Prelude.{◌≡◌, ◌≢◌, ◌↔◌, ◌⊎◌, ◌<◌, ◌≤◌, ℕ, List, length, Option, Some, None, IfSome}
-use Rattle.sv_command.specs.Calls.{Leaves, Moment}
-use Rattle.sv_command.specs.Reading.{HoldsScenario, held_by_file}
-use Rattle.sv_command.specs.Statuses.{NoneRose, TellsFaults}
+use Rattle.sv_ending.specs.Calls.{Leaves, Moment}
+use Rattle.sv_ending.specs.Reading.{HoldsScenario, held_by_file}
+use Rattle.sv_ending.specs.Statuses.{NoneRose, TellsFaults}
 use Rattle.sv_audit.specs.Judging.{IsText, report_size}
 use Rattle.sv_audit.specs.Statuses.{HasWrong, IsPlaceOutside, IsReportRead, TellsStatus}
 use Rattle.sv_audit.specs.Words.{Asked, Question, scenario_named}

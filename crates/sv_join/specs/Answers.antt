@@ -2,9 +2,9 @@
 -- `is_certain` at which port a connection is sure to be made. `door` is what the door's ends told.
 use Rattle.std.specs.Prelude.{◌≡◌, ◌≢◌, ◌↔◌, ◌⊎◌, ◌≤◌, ℕ, List, take, Option, Some, None, IfSome}
 use Rattle.sv_link.specs.Ends.{Told}
-use Rattle.sv_command.specs.Calls.{Leaves, Moment}
-use Rattle.sv_command.specs.Reading.{HoldsScenario, held_by_file, read_limit}
-use Rattle.sv_command.specs.Statuses.{NoneRose}
+use Rattle.sv_ending.specs.Calls.{Leaves, Moment}
+use Rattle.sv_ending.specs.Reading.{HoldsScenario, held_by_file, read_limit}
+use Rattle.sv_ending.specs.Statuses.{NoneRose}
 use Rattle.sv_join.specs.Joining.{Passed}
 use Rattle.sv_join.specs.Statuses.{IsLost, IsOutside, IsShutOut, IsText, LacksClient, TellsJoinFaults, TellsStatus}
 use Rattle.sv_join.specs.Words.{Asked, named_by}

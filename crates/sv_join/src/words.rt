@@ -2,9 +2,9 @@
 ghost use Rattle.std.specs.Prelude.{◌≡◌, map, string_bytes, option_map};
 ghost use Rattle.std.specs.Option.{option_copied};
 ghost use Rattle.sv_join.specs.Words.{asked_by, asked_if, asked_of, named_by};
-ghost use Rattle.sv_command.specs.Numbers.{number_between};
+ghost use Rattle.sv_ending.specs.Numbers.{number_between};
 
-use sv_command::number_in;
+use sv_ending::number_in;
 
 /// The line that tells which words there are.
 pub(crate) const WORDS_LINE: &[u8] = b"words: join FILE K PORT\n";

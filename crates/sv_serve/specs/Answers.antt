@@ -1,10 +1,10 @@
 -- What the call answers, by its status. `contents` says what a file holds, where that is told, `is_sure` which file is sure to be read, and
 -- `is_certain` at which port connections are sure to be made. `m` is what was given back of the door's ends and ran.
 use Rattle.std.specs.Prelude.{◌≡◌, ◌≢◌, ◌↔◌, ◌⊎◌, ◌≤◌, ℕ, List, Option, None, IfSome}
-use Rattle.sv_command.specs.Calls.{Leaves, Moment}
-use Rattle.sv_command.specs.Reading.{HoldsScenario, held_by_file}
-use Rattle.sv_command.specs.Statuses.{NoneRose, TellsFaults, TellsStatus}
-use Rattle.sv_play.specs.Moved.{Moved}
+use Rattle.sv_ending.specs.Calls.{Leaves, Moment}
+use Rattle.sv_ending.specs.Reading.{HoldsScenario, held_by_file}
+use Rattle.sv_ending.specs.Statuses.{NoneRose, TellsFaults, TellsStatus}
+use Rattle.sv_threads.specs.Moved.{Moved}
 use Rattle.sv_door.specs.Doors.{Passage}
 use Rattle.sv_serve.specs.Statuses.{IsText}
 use Rattle.sv_serve.specs.Words.{Asked, named_by, words_line}

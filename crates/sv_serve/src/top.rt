@@ -1,10 +1,10 @@
 //! The top call of a server by itself.
 ghost use Rattle.std.specs.Prelude.{◌≡◌, ◌≢◌, ◌↔◌, map, option_map, string_bytes, None, IfSome};
-ghost use Rattle.sv_command.specs.Calls.{moment};
-ghost use Rattle.sv_command.specs.Endings.{Ends, OrWords};
-ghost use Rattle.sv_command.specs.Reading.{held_by_file};
-ghost use Rattle.sv_command.specs.Statuses.{counts, Raises, status_of};
-ghost use Rattle.sv_play.specs.Moved.{moved};
+ghost use Rattle.sv_ending.specs.Calls.{moment};
+ghost use Rattle.sv_ending.specs.Endings.{Ends, OrWords};
+ghost use Rattle.sv_ending.specs.Reading.{held_by_file};
+ghost use Rattle.sv_ending.specs.Statuses.{counts, Raises, status_of};
+ghost use Rattle.sv_threads.specs.Moved.{moved};
 ghost use Rattle.sv_serve.specs.Answers.{Answers};
 ghost use Rattle.sv_serve.specs.Words.{asked_by, asked_of, named_by};
 ghost use Rattle.sv_serve.specs.Giving.{doorway};
@@ -16,8 +16,8 @@ use std::alloc::Global;
 use std::sync::Wait;
 use std::thread::Threads;
 use sv_bytes::{Files, Sink, write_all};
-use sv_command::{Ending, PlayStage, status_of, tell};
 use sv_door::Door;
+use sv_ending::{Ending, PlayStage, status_of, tell};
 use sv_link::{Crew, Gate};
 
 /// Serves what is asked for, and tells how it ended.

@@ -5,15 +5,15 @@ use Rattle.std.specs.declared.alloc.Global.{Global}
 use Rattle.sv_bytes.specs.Writing.{Grew, GrewByPart, GrewOrRose}
 use Rattle.sv_scenario.specs.declared.scenario.Scenario.{Scenario}
 use Rattle.sv_scenario.specs.Scenarios.{scenario_of}
-use Rattle.sv_command.specs.declared.ending.Ending.{Ending}
-use Rattle.sv_command.specs.declared.ending.Ending.TheVariants as endings
-use Rattle.sv_command.specs.Calls.{Leaves, Moment}
-use Rattle.sv_command.specs.Endings.{Ends}
-use Rattle.sv_command.specs.Reading.{IsRead, IsRefused, IsNoScenario, HoldsScenario, held_by_file, read_limit}
-use Rattle.sv_command.specs.Statuses.{Counts, Raises, NoneRose, TellsStatus, ending_line, status_of}
-use Rattle.sv_command.proofs.Held.{Faulty, always, both, same_scenario, read_is, holds_none}
-use Rattle.sv_command.proofs.Statuses.{words_is, file_is, faults_are, told_is as plain_told}
-use Rattle.sv_command.proofs.Left.{printed_by, cut_by, ends_early, leaves_is, refused_is}
+use Rattle.sv_ending.specs.declared.ending.Ending.{Ending}
+use Rattle.sv_ending.specs.declared.ending.Ending.TheVariants as endings
+use Rattle.sv_ending.specs.Calls.{Leaves, Moment}
+use Rattle.sv_ending.specs.Endings.{Ends}
+use Rattle.sv_ending.specs.Reading.{IsRead, IsRefused, IsNoScenario, HoldsScenario, held_by_file, read_limit}
+use Rattle.sv_ending.specs.Statuses.{Counts, Raises, NoneRose, TellsStatus, ending_line, status_of}
+use Rattle.sv_ending.proofs.Held.{Faulty, always, both, same_scenario, read_is, holds_none}
+use Rattle.sv_ending.proofs.Statuses.{words_is, file_is, faults_are, told_is as plain_told}
+use Rattle.sv_ending.proofs.Left.{printed_by, cut_by, ends_early, leaves_is, refused_is}
 use Rattle.sv_witness.specs.declared.words.Witnessing.{Witnessing}
 use Rattle.sv_witness.specs.Words.{Asked, asked_by, named_by, words_line}
 use Rattle.sv_witness.specs.Statuses.{IsLiarWithin, IsLiarOver, IsText, LacksLiar, EndsEarly}

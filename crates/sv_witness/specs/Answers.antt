@@ -1,8 +1,8 @@
 -- What the call answers, by its status. `contents` says what a file holds, where that is told, and `is_sure` which file is sure to be read.
 use Rattle.std.specs.Prelude.{◌≡◌, ◌≢◌, ◌↔◌, ◌⊎◌, ◌≤◌, ℕ, List, take, Option, Some, None, IfSome}
-use Rattle.sv_command.specs.Calls.{Leaves, Moment}
-use Rattle.sv_command.specs.Reading.{HoldsScenario, held_by_file, read_limit}
-use Rattle.sv_command.specs.Statuses.{NoneRose, TellsFaults, TellsStatus}
+use Rattle.sv_ending.specs.Calls.{Leaves, Moment}
+use Rattle.sv_ending.specs.Reading.{HoldsScenario, held_by_file, read_limit}
+use Rattle.sv_ending.specs.Statuses.{NoneRose, TellsFaults, TellsStatus}
 use Rattle.sv_witness.specs.Statuses.{IsOutside, IsText, LacksLiar}
 use Rattle.sv_witness.specs.Words.{Asked, named_by, words_line}
 

@@ -1,6 +1,6 @@
 -- The answer of the call, from what was decided.
 use Rattle.std.proofs.Common.{◌∙◌}
-use Rattle.sv_command.proofs.Statuses.{words_is}
+use Rattle.sv_ending.proofs.Statuses.{words_is}
 use Rattle.sv_witness.proofs.Endings.{answers_is}
 use Rattle.sv_witness.proofs.top.run_witness.Goals as goal
 
