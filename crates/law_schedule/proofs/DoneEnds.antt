@@ -14,14 +14,14 @@ use Rattle.sv_scenario.specs.Sessions.{sessions_of_plan, sessions_in, session_co
 use Rattle.sv_script.proofs.Ends.{none-left}
 use Rattle.sv_script.proofs.Places.{finished-first}
 use Rattle.sv_script.proofs.Begun.{all-joined}
-use Rattle.sv_system.specs.Fits.{is_join_of}
+use Rattle.law_system.specs.Fits.{is_join_of}
 use Rattle.law_schedule.specs.Players.{Player, open_session, has_closed, player_turn, take_turns, repeated}
 use Rattle.law_schedule.specs.Serving.{Run, Server, after_clients, after_served, round_served}
 use Rattle.law_schedule.specs.Served.{IsSoundOver}
 use Rattle.law_schedule.specs.Sound.{IsPlaying, ArePlaying}
-use Rattle.sv_system.proofs.Places.{unmap_at}
-use Rattle.sv_system.proofs.Every.{each-at, each-place}
-use Rattle.sv_system.proofs.Joined.{low-joined}
+use Rattle.law_system.proofs.Places.{unmap_at}
+use Rattle.law_system.proofs.Every.{each-at, each-place}
+use Rattle.law_system.proofs.Joined.{low-joined}
 use Rattle.law_schedule.specs.Done.{IsRunDone, NextRepliesAreTaken}
 use Rattle.law_schedule.proofs.DoneGiven.{StaySound}
 use Rattle.law_schedule.proofs.DoneLists.{repeated-sum, repeated-still, any-there}

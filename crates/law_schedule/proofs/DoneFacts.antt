@@ -17,11 +17,11 @@ use Rattle.sv_scenario.specs.declared.scenario.Step.{Step}
 use Rattle.sv_scenario.specs.Limits.{quits_last, IsGoodPlan, IsGoodScenario}
 use Rattle.sv_scenario.specs.Sessions.{sessions_of_plan, sessions_in, session_count}
 use Rattle.sv_script.specs.Following.{FollowsTo, is_finished}
-use Rattle.sv_system.specs.Fronts.{IsFront}
-use Rattle.sv_system.specs.Fits.{replies_in, IsEndLast, is_join_of, AreApart, AreAllApart}
-use Rattle.sv_system.proofs.Asked.{any-turned}
-use Rattle.sv_system.proofs.Places.{map_at}
-use Rattle.sv_system.proofs.Every.{each-at}
+use Rattle.law_system.specs.Fronts.{IsFront}
+use Rattle.law_system.specs.Fits.{replies_in, IsEndLast, is_join_of, AreApart, AreAllApart}
+use Rattle.law_system.proofs.Asked.{any-turned}
+use Rattle.law_system.proofs.Places.{map_at}
+use Rattle.law_system.proofs.Every.{each-at}
 use Rattle.law_schedule.specs.Players.{Player, trace_of_player}
 use Rattle.law_schedule.specs.Serving.{Run, Server, traces_of}
 use Rattle.law_schedule.specs.Served.{FitsServer, IsSoundOver}

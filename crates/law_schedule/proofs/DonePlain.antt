@@ -9,15 +9,15 @@ use Rattle.sv_client.specs.Proper.{Proper}
 use Rattle.sv_scenario.specs.declared.scenario.Scenario.{Scenario}
 use Rattle.sv_scenario.specs.Limits.{IsGoodScenario}
 use Rattle.sv_scenario.specs.Sessions.{session_count}
-use Rattle.sv_system.specs.Fronts.{IsFront}
-use Rattle.sv_system.specs.Fits.{requests_in, replies_in, is_join_of, FitsOne}
-use Rattle.sv_system.proofs.Places.{map_at}
-use Rattle.sv_system.specs.Laws.{NeverRefusedInScenarios}
-use Rattle.sv_system.proofs.Every.{each-at}
+use Rattle.law_system.specs.Fronts.{IsFront}
+use Rattle.law_system.specs.Fits.{requests_in, replies_in, is_join_of, FitsOne}
+use Rattle.law_system.proofs.Places.{map_at}
+use Rattle.law_system.specs.Laws.{NeverRefusedInScenarios}
+use Rattle.law_system.proofs.Every.{each-at}
 use Rattle.std.proofs.lemmas.List.Elements.{recursion_from_All}
 use Rattle.sv_journal.proofs.Spent.{accepted-few}
 use Rattle.sv_script.proofs.Asked.{asked-few}
-use Rattle.sv_system.proofs.Asked.{any-turned}
+use Rattle.law_system.proofs.Asked.{any-turned}
 use Rattle.law_schedule.specs.Players.{Player, trace_of_player}
 use Rattle.law_schedule.specs.Serving.{Run, traces_of}
 use Rattle.law_schedule.specs.Schedule.{rules_of, plain_server}

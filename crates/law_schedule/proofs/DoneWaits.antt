@@ -26,16 +26,16 @@ use Rattle.sv_scenario.specs.Sessions.{session_count}
 use Rattle.sv_journal.proofs.Stays.{logged-back}
 use Rattle.sv_session.proofs.Stops.{stops-kinds}
 use Rattle.sv_script.specs.Following.{must_join, is_welcomed}
-use Rattle.sv_system.specs.Fronts.{IsFront}
-use Rattle.sv_system.specs.Fits.{requests_in, replies_in, is_join_of}
-use Rattle.sv_system.proofs.Fronts.{get-last}
-use Rattle.sv_system.proofs.Histories.{IsEarlier, same, after}
-use Rattle.sv_system.proofs.Entered.{is_of, as-many, replies-earlier}
-use Rattle.sv_system.proofs.Asked.{part-rest, asked-part, got-when, got-answers, begun-or_not, current-joined}
-use Rattle.sv_system.proofs.Clients.{proper-events}
-use Rattle.sv_system.proofs.Leaving.{leave-last}
-use Rattle.sv_system.proofs.Order.{leave-stopped}
-use Rattle.sv_system.proofs.Places.{map_at, at_place}
+use Rattle.law_system.specs.Fronts.{IsFront}
+use Rattle.law_system.specs.Fits.{requests_in, replies_in, is_join_of}
+use Rattle.law_system.proofs.Fronts.{get-last}
+use Rattle.law_system.proofs.Histories.{IsEarlier, same, after}
+use Rattle.law_system.proofs.Entered.{is_of, as-many, replies-earlier}
+use Rattle.law_system.proofs.Asked.{part-rest, asked-part, got-when, got-answers, begun-or_not, current-joined}
+use Rattle.law_system.proofs.Clients.{proper-events}
+use Rattle.law_system.proofs.Leaving.{leave-last}
+use Rattle.law_system.proofs.Order.{leave-stopped}
+use Rattle.law_system.proofs.Places.{map_at, at_place}
 use Rattle.law_schedule.specs.Players.{Player, open_session, has_closed, take_turns}
 use Rattle.law_schedule.specs.Serving.{Run, Server, after_served, after_takes}
 use Rattle.law_schedule.specs.Served.{IsSoundOver}
@@ -47,7 +47,7 @@ use Rattle.law_schedule.proofs.DoneDue.{EndsAreDue, due-round}
 use Rattle.law_schedule.proofs.DoneFacts.{IsFollowing, IsFit, following, one-owner}
 use Rattle.law_schedule.proofs.DoneTakes.{AreDones, dones-drop, IsOpen, open-from, asks, IsTaken, takes-all}
 use Rattle.sv_script.proofs.Begun.{joins-few, got-welcomed}
-use Rattle.sv_system.proofs.Joined.{joined-low}
+use Rattle.law_system.proofs.Joined.{joined-low}
 
 -- ---- Lists
 

@@ -18,9 +18,9 @@ use Rattle.sv_scenario.specs.declared.scenario.Scenario.{Scenario}
 use Rattle.sv_scenario.specs.declared.scenario.Turn.{Turn}
 use Rattle.sv_scenario.specs.Limits.{IsGoodPlan, IsGoodScenario, IsGoodTurn}
 use Rattle.sv_scenario.specs.Sessions.{sessions_of_plan, session_count}
-use Rattle.sv_system.specs.Fronts.{IsFront}
-use Rattle.sv_system.specs.Fits.{is_join_of, has_session, replies_in, AreApart, AreAllApart}
-use Rattle.sv_system.proofs.Asked.{any-reversed}
+use Rattle.law_system.specs.Fronts.{IsFront}
+use Rattle.law_system.specs.Fits.{is_join_of, has_session, replies_in, AreApart, AreAllApart}
+use Rattle.law_system.proofs.Asked.{any-reversed}
 use Rattle.law_schedule.specs.Players.{Player, players_from, repeated, trace_of_player}
 use Rattle.law_schedule.specs.Serving.{Run, Server, turn_served, turns_served, after_clients, after_served, after_takes, round_served, opening_run, most_rounds, run_served, traces_of}
 use Rattle.law_schedule.specs.Sound.{IsPlaying, ArePlaying, has_joined}

@@ -10,7 +10,7 @@ use Rattle.sv_scenario.specs.declared.scenario.Plan.{Plan}
 use Rattle.sv_scenario.specs.Limits.{IsGoodPlan}
 use Rattle.sv_scenario.specs.Sessions.{sessions_of_plan, sessions_in}
 use Rattle.sv_script.proofs.Begun.{joins-counted}
-use Rattle.sv_system.proofs.Joined.{joined-within}
+use Rattle.law_system.proofs.Joined.{joined-within}
 use Rattle.law_schedule.specs.Players.{Player, asked_in_run, at_player}
 use Rattle.law_schedule.specs.Serving.{Server}
 use Rattle.law_schedule.specs.Sound.{IsPlaying, ArePlaying, has_joined}

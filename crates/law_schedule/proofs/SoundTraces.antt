@@ -19,7 +19,7 @@ use Rattle.sv_client.proofs.Faultless.{kind-of}
 use Rattle.sv_script.specs.Following.{FollowsTo, must_join, is_finished}
 use Rattle.sv_script.proofs.Beginnings.{step-less, event-less, all-after}
 use Rattle.sv_script.proofs.Ends.{has_leave, leave-append, leave-rest, no-submit, no-done, bye-after, no-step}
-use Rattle.sv_system.specs.Fits.{is_join_of}
+use Rattle.law_system.specs.Fits.{is_join_of}
 
 -- ---- After a Leave
 

@@ -21,8 +21,8 @@ use Rattle.sv_session.specs.Requests.{stop_of, StopsFor, due_frames}
 use Rattle.sv_session.specs.Serving.{ExplainsOut, ended_by}
 use Rattle.sv_session.specs.declared.outcome.SessionOut.{SessionOut}
 use Rattle.sv_session.specs.declared.outcome.SessionOut.TheVariants as outs
-use Rattle.sv_system.specs.Fits.{requests_in, replies_in}
-use Rattle.sv_system.specs.Records.{ends_in}
+use Rattle.law_system.specs.Fits.{requests_in, replies_in}
+use Rattle.law_system.specs.Records.{ends_in}
 use Rattle.law_traffic.specs.Sessions.{IsSessionServed}
 use Rattle.law_traffic.specs.Traffic.{reply_frames, EndsWithStop}
 use Rattle.law_traffic.proofs.Ours.{mine, requests_are, replies_are, one_end}

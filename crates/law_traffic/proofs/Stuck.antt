@@ -21,12 +21,12 @@ use Rattle.sv_client.specs.Traces.{requests_of, got, asked}
 use Rattle.sv_client.specs.Taking.{first_fault_of_reply}
 use Rattle.sv_client.specs.Proper.{Proper, identity_of}
 use Rattle.sv_world.specs.declared.world.Shape.{Shape}
-use Rattle.sv_system.proofs.Asked.{got-when, got-answers, part-rest, asked-part}
-use Rattle.sv_system.proofs.Clients.{proper-events}
-use Rattle.sv_system.proofs.Fronts.{get-last}
-use Rattle.sv_system.proofs.Leaving.{leave-last}
+use Rattle.law_system.proofs.Asked.{got-when, got-answers, part-rest, asked-part}
+use Rattle.law_system.proofs.Clients.{proper-events}
+use Rattle.law_system.proofs.Fronts.{get-last}
+use Rattle.law_system.proofs.Leaving.{leave-last}
 use Rattle.sv_client.specs.declared.trace.Event.TheVariants as events
-use Rattle.sv_system.proofs.Every.{each-right}
+use Rattle.law_system.proofs.Every.{each-right}
 use Rattle.sv_session.specs.declared.outcome.SessionOut.TheVariants as outs
 use Rattle.sv_exchange.proofs.Sizes.{reply_short}
 use Rattle.sv_session.proofs.Stops.{stops-kinds}
@@ -40,7 +40,7 @@ use Rattle.law_traffic.proofs.Cuts.{empty_short}
 use Rattle.law_traffic.proofs.Messages.{requests_fit, request_frames_are, reply_frames_both, AreGot, got_first}
 use Rattle.law_traffic.proofs.Bytes.{answered, steps, all, messages, received_part, sent_whole, no_fault_open, how_ended}
 use Rattle.law_traffic.proofs.Takeable.{one_frame, takeable_by}
-use Rattle.sv_system.proofs.Order.{leave-stopped}
+use Rattle.law_system.proofs.Order.{leave-stopped}
 
 -- ---- Frames of replies
 

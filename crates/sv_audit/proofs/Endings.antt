@@ -3,15 +3,15 @@ use Rattle.std.proofs.Common.{◌≡◌, ◌≢◌, ◌↔◌, ◌⊎◌, inl, i
 use Rattle.std.specs.Prelude.{string_bytes, IfSome}
 use Rattle.std.proofs.lemmas.List.{length-take-le}
 use Rattle.sv_scenario.specs.declared.scenario.Scenario.{Scenario}
-use Rattle.sv_system.specs.declared.played.Played.{Played}
+use Rattle.law_system.specs.declared.played.Played.{Played}
 use Rattle.sv_bytes.specs.Faults.{Rose}
 use Rattle.sv_bytes.specs.Writing.{GrewOrRose}
-use Rattle.sv_command.specs.declared.ending.Ending.TheVariants as plain
-use Rattle.sv_command.specs.Reading.{HoldsScenario, IsNoScenario, read_limit}
-use Rattle.sv_command.specs.Lines.{file_line}
-use Rattle.sv_command.specs.Statuses.{Counts, NoneRose, status_line}
-use Rattle.sv_command.proofs.Held.{Faulty, always, read_is, holds_none}
-use Rattle.sv_command.proofs.Statuses.{words_is as plain_words_is, file_is as plain_file_is, faults_are as plain_faults, untold}
+use Rattle.sv_ending.specs.declared.ending.Ending.TheVariants as plain
+use Rattle.sv_ending.specs.Reading.{HoldsScenario, IsNoScenario, read_limit}
+use Rattle.sv_ending.specs.Lines.{file_line}
+use Rattle.sv_ending.specs.Statuses.{Counts, NoneRose, status_line}
+use Rattle.sv_ending.proofs.Held.{Faulty, always, read_is, holds_none}
+use Rattle.sv_ending.proofs.Statuses.{words_is as plain_words_is, file_is as plain_file_is, faults_are as plain_faults, untold}
 use Rattle.sv_audit.specs.declared.ending.AuditEnding.{AuditEnding}
 use Rattle.sv_audit.specs.declared.ending.AuditEnding.TheVariants as endings
 use Rattle.sv_audit.specs.Judging.{IsReportFront, IsApproved, report_size, report_limit}

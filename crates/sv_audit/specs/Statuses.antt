@@ -2,11 +2,11 @@
 use Rattle.std.specs.Prelude.{◌≡◌, ◌≢◌, ◌⊎◌, ℕ, ◌<◌, Bool, true, false, List, [], ◌++◌, length, take, drop, Option, Some, None, codes, unwrap_or, Result, Ok, Err, string_bytes, IfSome}
 use Rattle.std.specs.Fmt.{decimal}
 use Rattle.sv_bytes.specs.Writing.{GrewOrRose}
-use Rattle.sv_command.specs.declared.ending.Ending.TheVariants as plain
-use Rattle.sv_command.specs.Endings.{IsPrinted, IsCutShort, Ends as PlainEnds}
-use Rattle.sv_command.specs.Lines.{file_line}
-use Rattle.sv_command.specs.Reading.{IsRefused, IsNoScenario, read_limit}
-use Rattle.sv_command.specs.Statuses.{Counts, IsUnread, Raises as PlainRaises, status_of as plain_status, ending_line, status_line}
+use Rattle.sv_ending.specs.declared.ending.Ending.TheVariants as plain
+use Rattle.sv_ending.specs.Endings.{IsPrinted, IsCutShort, Ends as PlainEnds}
+use Rattle.sv_ending.specs.Lines.{file_line}
+use Rattle.sv_ending.specs.Reading.{IsRefused, IsNoScenario, read_limit}
+use Rattle.sv_ending.specs.Statuses.{Counts, IsUnread, Raises as PlainRaises, status_of as plain_status, ending_line, status_line}
 use Rattle.sv_audit.specs.declared.ending.AuditEnding.{AuditEnding}
 use Rattle.sv_audit.specs.declared.ending.AuditEnding.TheVariants as endings
 use Rattle.sv_audit.specs.Judging.{IsText, IsWrong, IsOutside, report_size, report_limit}

@@ -1,10 +1,10 @@
 //! The top call of the checker of reports.
 ghost use Rattle.std.specs.Prelude.{◌≡◌, ◌≢◌, ◌↔◌, ◌⊎◌, ℕ, ◌≤◌, true, map, option_map, string_bytes, None, Err, IfSome};
 ghost use Rattle.sv_bytes.specs.Faults.{Rose};
-ghost use Rattle.sv_command.specs.Endings.{IsMade};
-ghost use Rattle.sv_command.specs.Reading.{HoldsScenario};
-ghost use Rattle.sv_command.specs.Statuses.{counts, NoneRose};
-ghost use Rattle.sv_command.specs.declared.ending.Ending.TheVariants as plain;
+ghost use Rattle.sv_ending.specs.Endings.{IsMade};
+ghost use Rattle.sv_ending.specs.Reading.{HoldsScenario};
+ghost use Rattle.sv_ending.specs.Statuses.{counts, NoneRose};
+ghost use Rattle.sv_ending.specs.declared.ending.Ending.TheVariants as plain;
 ghost use Rattle.sv_audit.specs.Judging.{IsText};
 ghost use Rattle.sv_audit.specs.Statuses.{Ends, EndsEarly, IsReportRead, Leaves, Raises, TellsStatus, ending_of, is_of_both};
 ghost use Rattle.sv_audit.specs.Words.{asked_by, asked_of, words_line};
@@ -16,7 +16,7 @@ use crate::reading::read_both;
 use crate::words::{Audit, audit_of, words_line};
 use std::alloc::Global;
 use sv_bytes::{Files, Sink, write_all};
-use sv_command::{Ending, given_scenario};
+use sv_ending::{Ending, given_scenario};
 
 /// The text that answers what is asked. It is whole before any of it is printed.
 fn text_for<F: Files>(alloc: Global, audit: Audit<'_>, files: &mut F) -> Result<String, AuditEnding>

@@ -1,10 +1,10 @@
 //! What the words of a call ask for.
 ghost use Rattle.std.specs.Prelude.{◌≡◌, map, string_bytes, option_map};
 ghost use Rattle.std.specs.Option.{option_copied};
-ghost use Rattle.sv_command.specs.Numbers.{number_between};
+ghost use Rattle.sv_ending.specs.Numbers.{number_between};
 ghost use Rattle.sv_audit.specs.Words.{asked_by, asked_if, asked_of, line_for, place_by, place_if, plain_question, question_by, report_named, scenario_named, why_if, words_line};
 
-use sv_command::number_in;
+use sv_ending::number_in;
 use sv_world::ObjectId;
 
 /// An object, and a position among the accepted actions.

@@ -22,13 +22,13 @@ use Rattle.sv_scenario.specs.Sessions.{cuts_in, sessions_of_plan, sessions_in, s
 use Rattle.sv_script.specs.Following.{FollowsToEnd, steps_done, events_of}
 use Rattle.sv_script.specs.Laws.{StepsAreDoneInOrder, EndsDoAllSteps}
 use Rattle.sv_script.proofs.Places.{finished-first}
-use Rattle.sv_system.specs.Fits.{is_join_of, has_session, is_owned, FitsOne, AreApart, AreAllApart}
-use Rattle.sv_system.specs.Records.{AreTracesOf, EachTrace, IsRecordOf, ScriptsAreFollowed, rules_of, ends_in}
-use Rattle.sv_system.proofs.Asked.{any-reverse, any-turned}
-use Rattle.sv_system.proofs.Clients.{client-trace}
+use Rattle.law_system.specs.Fits.{is_join_of, has_session, is_owned, FitsOne, AreApart, AreAllApart}
+use Rattle.law_system.specs.Records.{AreTracesOf, EachTrace, IsRecordOf, ScriptsAreFollowed, rules_of, ends_in}
+use Rattle.law_system.proofs.Asked.{any-reverse, any-turned}
+use Rattle.law_system.proofs.Clients.{client-trace}
 use Rattle.sv_script.proofs.Begun.{joins-counted, joins-few}
 use Rattle.sv_script.proofs.Counts.{one_if}
-use Rattle.sv_system.proofs.Joined.{low-joined, joined-within}
+use Rattle.law_system.proofs.Joined.{low-joined, joined-within}
 use Rattle.sv_check.specs.Parts.{IsWholeTrace, AreFirstTraces, IsOf}
 
 -- ---- The sessions of a trace

@@ -17,8 +17,8 @@ use Rattle.sv_sequencer.specs.Step.{SequencerView, history, Answered, entry_of}
 use Rattle.sv_scenario.specs.declared.scenario.Scenario.{Scenario}
 use Rattle.sv_scenario.specs.Limits.{IsGoodScenario}
 use Rattle.sv_scenario.specs.Sessions.{session_count}
-use Rattle.sv_system.specs.Records.{rules_of, ends_in}
-use Rattle.sv_system.proofs.Ends.{none-ended}
+use Rattle.law_system.specs.Records.{rules_of, ends_in}
+use Rattle.law_system.proofs.Ends.{none-ended}
 use Rattle.sv_lines.specs.Told.{IsTold}
 use Rattle.sv_check.specs.declared.journal.Served.{Served}
 use Rattle.sv_check.specs.Parts.{AreEntries, IsWholeJournal}

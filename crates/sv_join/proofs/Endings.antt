@@ -6,11 +6,11 @@ use Rattle.sv_bytes.specs.Writing.{GrewOrRose}
 use Rattle.sv_link.specs.Ends.{Told}
 use Rattle.sv_scenario.specs.declared.scenario.Scenario.{Scenario}
 use Rattle.sv_scenario.specs.Scenarios.{scenario_of}
-use Rattle.sv_command.specs.declared.ending.Ending.TheVariants as plain
-use Rattle.sv_command.specs.Reading.{IsRead, IsRefused, HoldsScenario, held_by_file, read_limit}
-use Rattle.sv_command.specs.Statuses.{Counts, NoneRose}
-use Rattle.sv_command.proofs.Held.{Faulty, always, both, same_scenario, read_is, holds_none}
-use Rattle.sv_command.proofs.Statuses.{words_is as plain_words_is, file_is as plain_file_is, link_is as plain_link_is, quiet, untold}
+use Rattle.sv_ending.specs.declared.ending.Ending.TheVariants as plain
+use Rattle.sv_ending.specs.Reading.{IsRead, IsRefused, HoldsScenario, held_by_file, read_limit}
+use Rattle.sv_ending.specs.Statuses.{Counts, NoneRose}
+use Rattle.sv_ending.proofs.Held.{Faulty, always, both, same_scenario, read_is, holds_none}
+use Rattle.sv_ending.proofs.Statuses.{words_is as plain_words_is, file_is as plain_file_is, link_is as plain_link_is, quiet, untold}
 use Rattle.sv_join.specs.declared.ending.JoinEnding.{JoinEnding}
 use Rattle.sv_join.specs.declared.ending.JoinEnding.TheVariants as endings
 use Rattle.sv_join.specs.Joining.{Passed}

@@ -6,10 +6,10 @@ use Rattle.sv_link.specs.Ends.{Told}
 use Rattle.sv_scenario.specs.declared.scenario.Scenario.{Scenario}
 use Rattle.sv_scenario.specs.Scenarios.{scenario_of}
 use Rattle.sv_player.specs.declared.outcome.ReplyFault.{ReplyFault}
-use Rattle.sv_command.specs.declared.ending.Ending.TheVariants as plain
-use Rattle.sv_command.specs.Endings.{IsPrinted, IsCutShort, Ends as PlainEnds}
-use Rattle.sv_command.specs.Reading.{IsRead, IsRefused, IsNoScenario, read_limit}
-use Rattle.sv_command.specs.Statuses.{Counts, status_of as plain_status, ending_line, status_line}
+use Rattle.sv_ending.specs.declared.ending.Ending.TheVariants as plain
+use Rattle.sv_ending.specs.Endings.{IsPrinted, IsCutShort, Ends as PlainEnds}
+use Rattle.sv_ending.specs.Reading.{IsRead, IsRefused, IsNoScenario, read_limit}
+use Rattle.sv_ending.specs.Statuses.{Counts, status_of as plain_status, ending_line, status_line}
 use Rattle.sv_join.specs.declared.outcome.Joined.{Joined}
 use Rattle.sv_join.specs.declared.outcome.JoinFault.{JoinFault}
 use Rattle.sv_join.specs.declared.outcome.JoinFault.TheVariants as faults

@@ -1,7 +1,7 @@
 -- What the words of a join ask for.
 use Rattle.std.specs.Prelude.{ℕ, List, [], ◌∷◌, Option, Some, None, option_map, codes, if◌then◌else◌}
 use Rattle.std.specs.Str.{bytes_eq}
-use Rattle.sv_command.specs.Numbers.{number_between}
+use Rattle.sv_ending.specs.Numbers.{number_between}
 use Rattle.sv_join.specs.declared.words.Join.{Join}
 
 -- The scenario's file, the number of the client that is to be played, and the server's port.

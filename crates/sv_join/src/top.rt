@@ -1,12 +1,12 @@
 //! The top call of a client that joins another program's server.
 ghost use Rattle.std.specs.Prelude.{◌≡◌, ◌≢◌, ◌↔◌, ◌⊎◌, ◌≤◌, ℕ, map, option_map, string_bytes, None, Err, IfSome};
-ghost use Rattle.sv_command.specs.Endings.{IsMade};
-ghost use Rattle.sv_command.specs.Reading.{held_by_file, HoldsScenario};
-ghost use Rattle.sv_command.specs.Statuses.{counts, NoneRose};
+ghost use Rattle.sv_ending.specs.Endings.{IsMade};
+ghost use Rattle.sv_ending.specs.Reading.{held_by_file, HoldsScenario};
+ghost use Rattle.sv_ending.specs.Statuses.{counts, NoneRose};
 ghost use Rattle.sv_join.specs.Joining.{passed};
 ghost use Rattle.sv_join.specs.Statuses.{Ends, EndsEarly, IsText, Leaves, Raises, TellsJoinFaults, TellsStatus, ending_of};
 ghost use Rattle.sv_join.specs.Words.{asked_by, named_by, join_of};
-ghost use Rattle.sv_command.specs.declared.ending.Ending.TheVariants as plain;
+ghost use Rattle.sv_ending.specs.declared.ending.Ending.TheVariants as plain;
 ghost use Rattle.sv_join.specs.declared.ending.JoinEnding.TheVariants as endings;
 
 use crate::ending::{JoinEnding, status_of, tell};
@@ -15,8 +15,8 @@ use crate::texts::join_text;
 use crate::words::{Join, file_of, join_of};
 use std::alloc::Global;
 use sv_bytes::{Files, Sink, write_all};
-use sv_command::{Ending, scenario_in};
 use sv_door::Door;
+use sv_ending::{Ending, scenario_in};
 
 /// The text that tells the play of a client. It is whole before any of it is printed.
 fn text_for<F: Files, D: Door>(

@@ -2,9 +2,9 @@
 ghost use Rattle.std.specs.Prelude.{◌≡◌, map, string_bytes, option_map};
 ghost use Rattle.std.specs.Option.{option_copied};
 ghost use Rattle.sv_join.specs.Words.{asked_by, asked_if, named_by, join_of};
-ghost use Rattle.sv_command.specs.Numbers.{number_between};
+ghost use Rattle.sv_ending.specs.Numbers.{number_between};
 
-use sv_command::number_in;
+use sv_ending::number_in;
 
 /// A join that is asked for: of a client of a file's scenario, with the server at a port.
 #[derive(Clone, Copy, Debug, Drop)]

@@ -6,15 +6,15 @@ use Rattle.sv_bytes.specs.Faults.{Rose}
 use Rattle.sv_link.specs.TcpEnds.{end_told, end_faults}
 use Rattle.sv_door.specs.Doors.{Passage}
 use Rattle.sv_link.specs.Nets.{Transcript}
-use Rattle.sv_play.specs.Moved.{Moved}
-use Rattle.sv_command.specs.Endings.{IsCutShort, IsPrinted}
-use Rattle.sv_command.specs.Reading.{held_by_file}
-use Rattle.sv_command.specs.Statuses.{TellsStatus}
-use Rattle.sv_app.specs.Words.{command_of as run_asked, named_by as run_named}
-use Rattle.sv_app.specs.Runs.{IsTextFor as IsRunText}
-use Rattle.sv_app.specs.Statuses.{words_line as run_words}
-use Rattle.sv_snapshot.specs.Words.{file_in as looks_named, words_line as looks_words}
-use Rattle.sv_snapshot.specs.Statuses.{IsText as IsLooksText}
+use Rattle.sv_threads.specs.Moved.{Moved}
+use Rattle.sv_ending.specs.Endings.{IsCutShort, IsPrinted}
+use Rattle.sv_ending.specs.Reading.{held_by_file}
+use Rattle.sv_ending.specs.Statuses.{TellsStatus}
+use Rattle.sv_run.specs.Words.{command_of as run_asked, named_by as run_named}
+use Rattle.sv_run.specs.Runs.{IsTextFor as IsRunText}
+use Rattle.sv_run.specs.Statuses.{words_line as run_words}
+use Rattle.sv_looks.specs.Words.{file_in as looks_named, words_line as looks_words}
+use Rattle.sv_looks.specs.Statuses.{IsText as IsLooksText}
 use Rattle.sv_witness.specs.Words.{witnessing_of as witness_asked, named_by as witness_named, words_line as witness_words}
 use Rattle.sv_witness.specs.Statuses.{Leaves as WitnessLeaves}
 use Rattle.sv_serve.specs.Words.{command_of as serve_asked, named_by as serve_named, words_line as serve_words}

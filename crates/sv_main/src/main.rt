@@ -27,18 +27,18 @@ use std::rt::{Clock, Stdin};
 use std::sync::Wait;
 use std::thread::Threads;
 use std::{env, io};
-use sv_app::run;
 use sv_audit::run_check;
 use sv_bytes::{Files, OsFiles, OsSink, Sink};
-use sv_command::{Ending, status_of, tell};
 use sv_door::TcpDoor;
+use sv_ending::{Ending, status_of, tell};
 use sv_host::{Doors, Folders, Place, run_host};
 use sv_join::run_join;
 use sv_link::{OpenGate, TcpNet, ThreadCrew};
+use sv_looks::run_looks;
 use sv_mio::OsClock;
 use sv_ports::Clock as Times;
+use sv_run::run;
 use sv_serve::run_serve;
-use sv_snapshot::run_looks;
 use sv_witness::run_witness;
 
 /// A call of the program: the words that it is given, and the memory that it works in.

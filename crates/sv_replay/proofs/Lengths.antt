@@ -13,8 +13,8 @@ use Rattle.sv_scenario.specs.declared.scenario.Scenario.{Scenario}
 use Rattle.sv_scenario.specs.Limits.{IsGoodScenario}
 use Rattle.sv_scenario.specs.Sessions.{session_count}
 use Rattle.sv_script.proofs.Asked.{few-asked}
-use Rattle.sv_system.specs.Fits.{requests_in, IsEndLast}
-use Rattle.sv_system.proofs.Entered.{is_of}
+use Rattle.law_system.specs.Fits.{requests_in, IsEndLast}
+use Rattle.law_system.proofs.Entered.{is_of}
 use Rattle.law_schedule.specs.Players.{Player}
 use Rattle.law_schedule.specs.Serving.{Run, Server}
 use Rattle.law_schedule.specs.Sound.{has_joined}

@@ -10,9 +10,9 @@ use Rattle.sv_journal.specs.declared.entry.Entry.{Entry}
 use Rattle.sv_journal.specs.History.{accepted, full_reply, logged_of}
 use Rattle.sv_journal.specs.Sessions.{is_end, is_ended}
 use Rattle.sv_journal.specs.Answer.{reply_to}
-use Rattle.sv_system.specs.Fits.{replies_in}
-use Rattle.sv_system.proofs.Fronts.{fronts-same}
-use Rattle.sv_system.proofs.Entered.{as-many, replies-one}
+use Rattle.law_system.specs.Fits.{replies_in}
+use Rattle.law_system.proofs.Fronts.{fronts-same}
+use Rattle.law_system.proofs.Entered.{as-many, replies-one}
 use Rattle.law_schedule.specs.Serving.{Server, served}
 use Rattle.law_schedule.specs.Schedule.{plain_server}
 use Rattle.law_schedule.specs.Served.{RepliesNameAccepted}

@@ -4,19 +4,19 @@ use Rattle.std.specs.Prelude.{string_bytes, option_map, IfSome, IsErrAnd, OnErr,
 use Rattle.std.specs.declared.alloc.Global.{Global}
 use Rattle.std.proofs.lemmas.Option.{none-some}
 use Rattle.sv_bytes.specs.Writing.{Grew, GrewByPart}
-use Rattle.sv_command.specs.declared.ending.Ending.{Ending}
-use Rattle.sv_command.specs.declared.ending.Ending.TheVariants as endings
-use Rattle.sv_command.specs.Endings.{Ends, IsCutShort, IsPrinted, OrWords}
-use Rattle.sv_command.specs.Reading.{read_limit, held_by_file, IsRefused, IsNoScenario, HoldsScenario}
-use Rattle.sv_command.specs.Statuses.{status_of, Counts, Raises, NoneRose}
-use Rattle.sv_command.proofs.Statuses.{link_is, range_is as plain_range}
-use Rattle.sv_command.proofs.Held.{Faulty, read_is, holds_none, always, unheld, unnamed}
-use Rattle.sv_command.proofs.Left.{printed_by, cut_by, ends_early, or_words, unranged, printed_is as left_printed, part_is as left_part, nothing_is as left_nothing, refused_is as left_refused}
+use Rattle.sv_ending.specs.declared.ending.Ending.{Ending}
+use Rattle.sv_ending.specs.declared.ending.Ending.TheVariants as endings
+use Rattle.sv_ending.specs.Endings.{Ends, IsCutShort, IsPrinted, OrWords}
+use Rattle.sv_ending.specs.Reading.{read_limit, held_by_file, IsRefused, IsNoScenario, HoldsScenario}
+use Rattle.sv_ending.specs.Statuses.{status_of, Counts, Raises, NoneRose}
+use Rattle.sv_ending.proofs.Statuses.{link_is, range_is as plain_range}
+use Rattle.sv_ending.proofs.Held.{Faulty, read_is, holds_none, always, unheld, unnamed}
+use Rattle.sv_ending.proofs.Left.{printed_by, cut_by, ends_early, or_words, unranged, printed_is as left_printed, part_is as left_part, nothing_is as left_nothing, refused_is as left_refused}
 use Rattle.sv_sequencer.specs.Step.{SequencerView}
-use Rattle.sv_play.specs.declared.outcome.PlayFault.{PlayFault}
-use Rattle.sv_play.specs.declared.outcome.PlayFault.TheVariants as faults
-use Rattle.sv_play.specs.Moved.{Moved}
-use Rattle.sv_play.specs.Endings.{ending_of_fault}
+use Rattle.sv_threads.specs.declared.outcome.PlayFault.{PlayFault}
+use Rattle.sv_threads.specs.declared.outcome.PlayFault.TheVariants as faults
+use Rattle.sv_threads.specs.Moved.{Moved}
+use Rattle.sv_threads.specs.Endings.{ending_of_fault}
 use Rattle.sv_door.specs.Doors.{Passage}
 use Rattle.sv_serve.specs.declared.words.ServeCommand.{ServeCommand}
 use Rattle.sv_serve.specs.Words.{Asked, asked_by, named_by}

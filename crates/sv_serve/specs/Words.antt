@@ -1,7 +1,7 @@
 -- What the words that the call is given ask for.
 use Rattle.std.specs.Prelude.{ℕ, List, [], ◌∷◌, Option, None, option_map, codes, if◌then◌else◌}
 use Rattle.std.specs.Str.{bytes_eq}
-use Rattle.sv_command.specs.Numbers.{number_between}
+use Rattle.sv_ending.specs.Numbers.{number_between}
 use Rattle.sv_serve.specs.declared.words.ServeCommand.{ServeCommand}
 
 -- To serve the scenario of a file at a port.

@@ -1,9 +1,9 @@
 //! The top call of a server by itself.
 ghost use Rattle.std.specs.Prelude.{◌≡◌, ◌≢◌, ◌↔◌, ◌⊎◌, ◌≤◌, ℕ, take, map, option_map, string_bytes, None, IfSome};
-ghost use Rattle.sv_command.specs.Endings.{Ends, IsCutShort, IsPrinted, OrWords};
-ghost use Rattle.sv_command.specs.Reading.{read_limit, held_by_file, HoldsScenario, IsNoScenario};
-ghost use Rattle.sv_command.specs.Statuses.{counts, NoneRose, Raises, TellsFaults, TellsStatus, status_of};
-ghost use Rattle.sv_play.specs.Moved.{moved};
+ghost use Rattle.sv_ending.specs.Endings.{Ends, IsCutShort, IsPrinted, OrWords};
+ghost use Rattle.sv_ending.specs.Reading.{read_limit, held_by_file, HoldsScenario, IsNoScenario};
+ghost use Rattle.sv_ending.specs.Statuses.{counts, NoneRose, Raises, TellsFaults, TellsStatus, status_of};
+ghost use Rattle.sv_threads.specs.Moved.{moved};
 ghost use Rattle.sv_serve.specs.Words.{asked_by, command_of, named_by, words_line};
 ghost use Rattle.sv_serve.specs.Giving.{doorway};
 ghost use Rattle.sv_serve.specs.Statuses.{EndsEarly, GivesBackBut, IsText, LeavesAlone};
@@ -14,8 +14,8 @@ use std::alloc::Global;
 use std::sync::Wait;
 use std::thread::Threads;
 use sv_bytes::{Files, Sink, write_all};
-use sv_command::{Ending, PlayStage, status_of, tell};
 use sv_door::Door;
+use sv_ending::{Ending, PlayStage, status_of, tell};
 use sv_link::{Crew, Gate};
 
 /// Serves what is asked for, and tells how it ended.

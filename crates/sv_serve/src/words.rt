@@ -3,7 +3,7 @@ ghost use Rattle.std.specs.Prelude.{◌≡◌, map, string_bytes, option_map};
 ghost use Rattle.std.specs.Option.{option_copied};
 ghost use Rattle.sv_serve.specs.Words.{asked_by, command_of, named_by};
 
-use sv_command::number_in;
+use sv_ending::number_in;
 
 /// The scenario of a file is to be served at a port.
 #[derive(Clone, Copy, Debug, Drop)]

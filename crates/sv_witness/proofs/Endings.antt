@@ -5,14 +5,14 @@ use Rattle.std.specs.declared.alloc.Global.{Global}
 use Rattle.sv_bytes.specs.Writing.{Grew, GrewByPart, GrewOrRose}
 use Rattle.sv_scenario.specs.declared.scenario.Scenario.{Scenario}
 use Rattle.sv_scenario.specs.Scenarios.{scenario_of}
-use Rattle.sv_command.specs.declared.ending.Ending.{Ending}
-use Rattle.sv_command.specs.declared.ending.Ending.TheVariants as endings
-use Rattle.sv_command.specs.Endings.{Ends}
-use Rattle.sv_command.specs.Reading.{IsRead, IsRefused, HoldsScenario, held_by_file, read_limit}
-use Rattle.sv_command.specs.Statuses.{Counts, Raises, NoneRose, TellsStatus, ending_line, status_of}
-use Rattle.sv_command.proofs.Held.{Faulty, always, both, same_scenario, read_is, holds_none}
-use Rattle.sv_command.proofs.Statuses.{file_is, told_is as plain_told}
-use Rattle.sv_command.proofs.Left.{printed_by, cut_by, ends_early, refused_is}
+use Rattle.sv_ending.specs.declared.ending.Ending.{Ending}
+use Rattle.sv_ending.specs.declared.ending.Ending.TheVariants as endings
+use Rattle.sv_ending.specs.Endings.{Ends}
+use Rattle.sv_ending.specs.Reading.{IsRead, IsRefused, HoldsScenario, held_by_file, read_limit}
+use Rattle.sv_ending.specs.Statuses.{Counts, Raises, NoneRose, TellsStatus, ending_line, status_of}
+use Rattle.sv_ending.proofs.Held.{Faulty, always, both, same_scenario, read_is, holds_none}
+use Rattle.sv_ending.proofs.Statuses.{file_is, told_is as plain_told}
+use Rattle.sv_ending.proofs.Left.{printed_by, cut_by, ends_early, refused_is}
 use Rattle.sv_witness.specs.declared.words.Witnessing.{Witnessing}
 use Rattle.sv_witness.specs.Words.{Asked, asked_by, named_by}
 use Rattle.sv_witness.specs.Statuses.{IsLiarWithin, IsLiarOver, IsText, LacksLiar, EndsEarly, Leaves}

@@ -5,10 +5,10 @@ use Rattle.sv_journal.specs.declared.entry.Entry.{Entry}
 use Rattle.sv_client.specs.declared.trace.Trace.{Trace}
 use Rattle.sv_scenario.specs.declared.scenario.Scenario.{Scenario}
 use Rattle.sv_scenario.specs.Scenarios.{scenario_of}
-use Rattle.sv_command.specs.declared.ending.Ending.{Ending}
-use Rattle.sv_command.specs.declared.ending.Ending.TheVariants as endings
-use Rattle.sv_command.specs.Endings.{IsPrinted, IsCutShort}
-use Rattle.sv_command.specs.Reading.{IsRead, IsRefused, IsNoScenario, read_limit}
+use Rattle.sv_ending.specs.declared.ending.Ending.{Ending}
+use Rattle.sv_ending.specs.declared.ending.Ending.TheVariants as endings
+use Rattle.sv_ending.specs.Endings.{IsPrinted, IsCutShort}
+use Rattle.sv_ending.specs.Reading.{IsRead, IsRefused, IsNoScenario, read_limit}
 use Rattle.sv_witness.specs.Run.{IsWitnessedRun}
 use Rattle.sv_witness.specs.Lines.{witness_text}
 use Rattle.sv_witness.specs.Words.{Asked}

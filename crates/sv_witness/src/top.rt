@@ -1,8 +1,8 @@
 //! The top call of a witnessed run.
 ghost use Rattle.std.specs.Prelude.{◌≡◌, ◌≢◌, ◌↔◌, ◌⊎◌, ◌≤◌, ℕ, true, false, map, option_map, string_bytes, None, Err, IfSome};
-ghost use Rattle.sv_command.specs.Endings.{Ends, IsMade};
-ghost use Rattle.sv_command.specs.Reading.{held_by_file, HoldsScenario};
-ghost use Rattle.sv_command.specs.Statuses.{counts, ending_of, NoneRose, Raises, TellsFaults, TellsStatus};
+ghost use Rattle.sv_ending.specs.Endings.{Ends, IsMade};
+ghost use Rattle.sv_ending.specs.Reading.{held_by_file, HoldsScenario};
+ghost use Rattle.sv_ending.specs.Statuses.{counts, ending_of, NoneRose, Raises, TellsFaults, TellsStatus};
 ghost use Rattle.sv_witness.specs.Statuses.{EndsEarly, IsLiarOver, IsText, IsLiarWithin, Leaves};
 ghost use Rattle.sv_witness.specs.Words.{asked_by, named_by, witnessing_of, words_line};
 
@@ -10,7 +10,7 @@ use crate::running::run_text;
 use crate::words::{Witnessing, file_of, witnessing_of};
 use std::alloc::Global;
 use sv_bytes::{Files, Sink, write_all};
-use sv_command::{Ending, scenario_in, status_of, tell};
+use sv_ending::{Ending, scenario_in, status_of, tell};
 
 /// Whether the liar is one of so many clients, if there is one.
 fn is_within(clients: usize, liar: Option<u16>) -> bool

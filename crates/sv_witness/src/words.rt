@@ -1,10 +1,10 @@
 //! What the words of a call ask for.
 ghost use Rattle.std.specs.Prelude.{◌≡◌, map, string_bytes, option_map};
 ghost use Rattle.std.specs.Option.{option_copied};
-ghost use Rattle.sv_command.specs.Numbers.{number_between};
+ghost use Rattle.sv_ending.specs.Numbers.{number_between};
 ghost use Rattle.sv_witness.specs.Words.{asked_by, named_by, with_liar, witnessing_of};
 
-use sv_command::number_in;
+use sv_ending::number_in;
 
 /// A witnessed run of a file's scenario, with a client that lies or with none.
 #[derive(Clone, Copy, Debug, Drop)]

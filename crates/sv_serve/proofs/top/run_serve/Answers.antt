@@ -1,5 +1,5 @@
 -- Each clause of the call, from what was decided.
-use Rattle.sv_command.proofs.Statuses.{words_is, sure_is, faults_are, told_is}
+use Rattle.sv_ending.proofs.Statuses.{words_is, sure_is, faults_are, told_is}
 use Rattle.sv_serve.proofs.Endings.{certain_is, range_is, printed_is, part_is, nothing_is, refused_is, faulty_is, complete_is}
 use Rattle.sv_serve.proofs.top.run_serve.Goals as goal
 

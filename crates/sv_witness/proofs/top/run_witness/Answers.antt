@@ -1,5 +1,5 @@
 -- Each clause of the call, from what was decided.
-use Rattle.sv_command.proofs.Statuses.{words_is, faults_are}
+use Rattle.sv_ending.proofs.Statuses.{words_is, faults_are}
 use Rattle.sv_witness.proofs.Endings.{range_is, sure_is, left_is, told_is, complete_is}
 use Rattle.sv_witness.proofs.top.run_witness.Goals as goal
 

@@ -1,7 +1,7 @@
 -- What the check leaves to prove of `Reports::agrees`.
 use Rattle.std.proofs.Common.{Bool, ◌||◌, sym, ap, ◌∙◌}
 use Rattle.std.specs.List.{list_any}
-use Rattle.sv_system.proofs.Asked.{any-reversed}
+use Rattle.law_system.proofs.Asked.{any-reversed}
 use Rattle.sv_witness.specs.Reports.{gives}
 use Rattle.sv_witness.specs.Kept.{kept_at}
 use Rattle.sv_witness.proofs.reports.Reports.agrees.Goals as goal

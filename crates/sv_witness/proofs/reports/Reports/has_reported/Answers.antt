@@ -1,7 +1,7 @@
 -- What the check leaves to prove of `Reports::has_reported`.
 use Rattle.std.proofs.Common.{ap, ◌∙◌}
 use Rattle.std.specs.List.{list_any}
-use Rattle.sv_system.proofs.Asked.{any-reversed}
+use Rattle.law_system.proofs.Asked.{any-reversed}
 use Rattle.sv_witness.specs.Reports.{is_by}
 use Rattle.sv_witness.specs.Kept.{kept_at}
 use Rattle.sv_witness.proofs.reports.Reports.has_reported.Goals as goal

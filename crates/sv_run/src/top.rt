@@ -1,0 +1,101 @@
+//! The top call of runs: played, replayed or made up.
+ghost use Rattle.std.specs.Prelude.{◌≡◌, ◌≢◌, ◌↔◌, ◌⊎◌, ◌≤◌, ℕ, take, map, option_map, string_bytes, None, IfSome};
+ghost use Rattle.sv_threads.specs.Moved.{moved};
+ghost use Rattle.sv_threads.specs.Pairs.{pairing, SomeDiffered};
+ghost use Rattle.sv_run.specs.Words.{IsSized, asked_by, command_of, named_by};
+ghost use Rattle.sv_ending.specs.Endings.{Ends, IsCutShort, IsPrinted, OrWords};
+ghost use Rattle.sv_ending.specs.Reading.{read_limit, held_by_file, IsNoScenario};
+ghost use Rattle.sv_ending.specs.Statuses.{counts, NoneRose, Raises, TellsFaults, TellsStatus, status_of};
+ghost use Rattle.sv_run.specs.Runs.{IsTextFor};
+ghost use Rattle.sv_run.specs.Statuses.{CanRun, EndsEarly, LeavesAlone, SettlesPairs, words_line};
+
+use crate::texts::text_for;
+use crate::words::{RunCommand, command_of, file_of};
+use std::alloc::Global;
+use std::sync::Wait;
+use std::thread::Threads;
+use sv_bytes::{Files, Sink, write_all};
+use sv_ending::{Ending, PlayStage, status_of, tell};
+use sv_link::{Crew, Gate, Net};
+
+/// The line that tells which words there are.
+const WORDS_LINE: &[u8] = b"words: play FILE [--brief | --watch] | replay FILE | load N\n";
+
+/// Does what is asked for, and tells how it ended.
+fn decide<F: Files, N: Net, C: Crew, G: Gate + Sync, K: Sink, R: Threads + Wait + Sync>(
+    stage: &PlayStage<'_, R, G>,
+    command: Option<RunCommand<'_>>,
+    files: &mut F,
+    net: &mut N,
+    crew: &mut C,
+    out: &mut K,
+) -> Ending
+    requires sized { IfSome command IsSized }
+    ensures words { (result ≡ Ending.Words) ↔ (option_map asked_by command.entry ≡ None) }
+    ensures ends { Ends (IsTextFor (option_map asked_by command.entry) (held_by_file (F.contents files.old) (named_by (option_map asked_by command.entry)))
+        (moved (N.settled net.old) (N.settled net.new) (C.ran crew.old) (C.ran crew.new)))
+        (OrWords (EndsEarly (option_map asked_by command.entry) (held_by_file (F.contents files.old) (named_by (option_map asked_by command.entry))))) (K.taken out.old) (K.taken out.new) result }
+    ensures raises { Raises (counts (F.faults files.old) (C.faults crew.old) (N.faults net.old) (K.faults out.old))
+        (counts (F.faults files.new) (C.faults crew.new) (N.faults net.new) (K.faults out.new)) result }
+    ensures sure { IfSome (named_by (option_map asked_by command.entry)) (λ name. F.sure files.old name → result ≢ Ending.File) }
+    ensures apart { LeavesAlone (option_map asked_by command.entry) (status_of result) files.old files.new net.old net.new crew.old crew.new }
+    ensures pairs { SettlesPairs (status_of result) (pairing (N.settled net.old) (N.unmatched net.old) (N.made net.old) (N.owed net.old)) (pairing (N.settled net.new) (N.unmatched net.new) (N.made net.new) (N.owed net.new)) }
+    ensures calm { N.calm net.old → result ≡ Ending.Link → SomeDiffered (pairing (N.settled net.old) (N.unmatched net.old) (N.made net.old) (N.owed net.old)) (pairing (N.settled net.new) (N.unmatched net.new) (N.made net.new) (N.owed net.new)) }
+{
+    let Some(command) = command else {
+        return Ending::Words;
+    };
+    match text_for(stage, command, files, net, crew) {
+        Ok(text) if write_all(out, text.as_bytes()) => Ending::Done,
+        Ok(_) => Ending::Out,
+        Err(ending) => ending,
+    }
+}
+
+/// Does what the words ask for, and answers the status with which the program ends.
+///
+/// The words leave out the program's own name. They are `play FILE`, `play FILE --brief`, `play FILE --watch`, `replay FILE`, or `load N` with
+/// N from 1 to 192. A file is read up to one byte more than a scenario may have.
+///
+/// The status is the first of these that applies: 2 where the words are others, 4 where the file can't be read, 3 where it is no scenario, 7
+/// where a thread can't be started, 6 where a link failed, and 5 where the output failed; else it is 0, or 8 where memory ran out. So a fault
+/// is told as what it is, and never as "out of memory". All of the text is made before any of it is printed.
+pub fn run<F: Files, N: Net, C: Crew, G: Gate + Sync, K: Sink, E: Sink, R: Threads + Wait + Sync>(
+    rt: &R,
+    alloc: Global,
+    words: &[String],
+    files: &mut F,
+    net: &mut N,
+    crew: &mut C,
+    gate: &G,
+    out: &mut K,
+    err: &mut E,
+) -> u8
+    ensures range { (result ≡ 0) ⊎ ((2 ≤ result) × (result ≤ 8)) }
+    ensures words { (result ≡ 2) ↔ (command_of (map string_bytes words.now) ≡ None) }
+    ensures faults { TellsFaults result (counts (F.faults files.old) (C.faults crew.old) (N.faults net.old) (K.faults out.old))
+        (counts (F.faults files.new) (C.faults crew.new) (N.faults net.new) (K.faults out.new)) }
+    ensures sure { IfSome (named_by (command_of (map string_bytes words.now))) (λ name. F.sure files.old name → result ≢ 4) }
+    ensures apart { LeavesAlone (command_of (map string_bytes words.now)) result files.old files.new net.old net.new crew.old crew.new }
+    ensures pairs { SettlesPairs result (pairing (N.settled net.old) (N.unmatched net.old) (N.made net.old) (N.owed net.old)) (pairing (N.settled net.new) (N.unmatched net.new) (N.made net.new) (N.owed net.new)) }
+    ensures calm { N.calm net.old → result ≡ 6 → SomeDiffered (pairing (N.settled net.old) (N.unmatched net.old) (N.made net.old) (N.owed net.old)) (pairing (N.settled net.new) (N.unmatched net.new) (N.made net.new) (N.owed net.new)) }
+    ensures faulty { IfSome (held_by_file (F.contents files.old) (named_by (command_of (map string_bytes words.now))))
+        (λ all. IsNoScenario (take read_limit all) → (result ≡ 3) ⊎ (result ≡ 4) ⊎ (result ≡ 8)) }
+    ensures printed { result ≡ 0 → IsPrinted (IsTextFor (command_of (map string_bytes words.now)) (held_by_file (F.contents files.old) (named_by (command_of (map string_bytes words.now))))
+        (moved (N.settled net.old) (N.settled net.new) (C.ran crew.old) (C.ran crew.new))) (K.taken out.old) (K.taken out.new) }
+    ensures part { result ≡ 5 → IsCutShort (IsTextFor (command_of (map string_bytes words.now)) (held_by_file (F.contents files.old) (named_by (command_of (map string_bytes words.now))))
+        (moved (N.settled net.old) (N.settled net.new) (C.ran crew.old) (C.ran crew.new))) (K.taken out.old) (K.taken out.new) }
+    ensures nothing { result ≢ 0 → result ≢ 5 → K.taken out.new ≡ K.taken out.old }
+    ensures told { TellsStatus words_line result (held_by_file (F.contents files.old) (named_by (command_of (map string_bytes words.now)))) (named_by (command_of (map string_bytes words.now)))
+        (E.taken err.old) (E.taken err.new) (E.faults err.old) (E.faults err.new) }
+    ensures complete { CanRun (command_of (map string_bytes words.now)) (held_by_file (F.contents files.old) (named_by (command_of (map string_bytes words.now))))
+        → NoneRose (counts (F.faults files.old) (C.faults crew.old) (N.faults net.old) (K.faults out.old))
+        (counts (F.faults files.new) (C.faults crew.new) (N.faults net.new) (K.faults out.new))
+        → (result ≡ 0) ⊎ (result ≡ 8) }
+{
+    let command = command_of(words);
+    let stage = PlayStage { rt, alloc, gate };
+    let ending = decide(&stage, command, files, net, crew, out);
+    tell(&ending, WORDS_LINE, file_of(command), err);
+    status_of(&ending)
+}
