@@ -79,6 +79,7 @@ pub fn listed(alloc: Global, found: Found) -> Result<Closure, AllocError>
 
 /// Takes the greatest wanted position, until there is none. What it makes wanted lies below it, so each comes once. The greatest is held
 /// apart from the others, so that a single position is never put among them.
+#[inline(always)]
 fn expand_all<L: Ledger>(
     alloc: Global,
     queue: &Queue,

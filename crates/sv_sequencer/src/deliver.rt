@@ -146,6 +146,7 @@ fn answer_of(seq: u32, commit: u32, relayed: Relayed) -> Answer
 }
 
 /// Sends a session what a relay has: the answer to its request.
+#[inline(always)]
 fn send(queue: &mut Queue, slot: u16, seq: u32, relayed: Relayed) -> Answer
     requires positions { All (IsUncommitted queue.old) relayed.positions }
     requires objects { All (λ (x : ObjectValue). x.object.0 < queue.old.shape.objects) relayed.head }
