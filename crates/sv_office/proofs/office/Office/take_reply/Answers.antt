@@ -27,16 +27,16 @@ returns-clause-followed g c = followed_end c.in_ok-report_at_once.ensures.follow
 pub returns-clause-added : goal.returns-clause-added
 returns-clause-added g c = follows_reported _ _ c.in_ok-report_at_once.ensures.added
 
-pub returns-then-stops-clause-added : goal.returns-then-stops-clause-added
-returns-then-stops-clause-added g c =
+pub returns-then-is_stopping-clause-added : goal.returns-then-is_stopping-clause-added
+returns-then-is_stopping-clause-added g c =
     follows_ended _ _ (c.close.ensures.session ∙ c.tell.ensures.session) c.in_ok-report_at_once.ensures.added c.end.ensures.added
 
-pub returns-then-stops-clause-followed : goal.returns-then-stops-clause-followed
-returns-then-stops-clause-followed g c =
+pub returns-then-is_stopping-clause-followed : goal.returns-then-is_stopping-clause-followed
+returns-then-is_stopping-clause-followed g c =
     followed_end_ok c.end.result (session_of c.args.self.now.steward) c.args.guest.now.session c.close.new.self.session c.end.new.guest.session
     c.args.self.now.manners.authority c.args.before.last c.args.self.now.keeper.world.history c.report_at_once.new.self.keeper.world.history
     c.end.new.self.keeper.world.history (c.close.ensures.session ∙ c.tell.ensures.session) c.in_ok-report_at_once.ensures.followed c.end.ensures.ended
 
-pub returns-then-stops-clause-still : goal.returns-then-stops-clause-still
-returns-then-stops-clause-still g c = λ lives.
+pub returns-then-is_stopping-clause-still : goal.returns-then-is_stopping-clause-still
+returns-then-is_stopping-clause-still g c = λ lives.
     c.end.ensures.session ∙ sym (c.end.ensures.open lives).1 ∙ c.close.ensures.session ∙ c.tell.ensures.session
