@@ -3,55 +3,27 @@
 python3 bench/libraries.py REPOSITORY PEER [ROUNDS]
 """
 import os
-import re
 import statistics
-import subprocess
 import sys
 import tempfile
 
+from corpora import STEP_MIXES, TEXT_MEGABYTES, output, write_corpora
 from peers import built_peer
 
 REPOSITORY, PEER = (os.path.abspath(path) for path in sys.argv[1:3])
 ROUNDS = int(sys.argv[3]) if len(sys.argv) > 3 else 25
 # A run takes some milliseconds, so that on a loaded machine the best of many runs was not interrupted.
-TEXT_MEGABYTES = 1
 EVAL_TURNS = 20
 WIRE_TURNS = 500
 QUEUES = [(10, 0), (10, 7), (100, 0), (100, 7), (100, 32), (1000, 0), (1000, 7), (1000, 32), (10_000, 0), (10_000, 7), (10_000, 32)]
 CLOSURE_TURNS = 100
 # How often the requests of a mix are stepped through.
 STEP_TURNS = 4
-STEP_MIXES = ("step", "step_deep")
 SESSIONS = 64
-
-
-def output(*words, **options):
-    return subprocess.run(words, stdout=subprocess.PIPE, check=True, **options).stdout.decode()
 
 
 def built_bench():
     return output(os.path.join(REPOSITORY, "bench", "build.sh"), "bench_libraries").strip()
-
-
-def corpora(peer, work):
-    """Writes the corpora, and tells how many bytes the action texts have."""
-    def write(name, text):
-        with open(os.path.join(work, name), "w") as file:
-            file.write(text)
-
-    texts = output(peer, "corpus", "text", str(TEXT_MEGABYTES))
-    write("texts", texts)
-    actions, values = [], []
-    for line in output(peer, "corpus", "eval").splitlines():
-        end = line.rindex("}") + 1
-        actions.append(line[:end] + "\n")
-        values.append(re.sub("[(),]", " ", line[end:]) + "\n")
-    write("actions", "".join(actions))
-    write("values", "".join(values))
-    write("messages", output(peer, "corpus", "wire"))
-    for mix in STEP_MIXES:
-        write(mix, output(peer, "corpus", mix))
-    return len(texts) - texts.count("\n")
 
 
 class Figures:
@@ -144,7 +116,7 @@ def measure_steps(figures, peer, bench, work):
 def main():
     with tempfile.TemporaryDirectory() as work:
         peer, bench = built_peer(work, PEER), built_bench()
-        size = corpora(peer, work)
+        size = write_corpora(peer, work)
         figures = Figures()
         for _ in range(ROUNDS):
             measure_text(figures, peer, bench, work, size)

@@ -115,4 +115,5 @@ def main(program, rounds):
             print(f"| {name} | {max(found):.1f} | {statistics.median(found):.1f} |")
 
 
-main(sys.argv[1], int(sys.argv[2]))
+if __name__ == "__main__":
+    main(sys.argv[1], int(sys.argv[2]))
