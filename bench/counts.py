@@ -106,7 +106,7 @@ def library_rows(libraries, peer, take):
         yield f"{mix}, the journal alone", "entry", timed(STEPS, libraries, "journal", mix, 1), None
     for others in (0, 32):
         here, there = (libraries, "sent", 10_000, others, 1), (peer, "bench", "closure", 10_000, others, CALLS)
-        yield f"closure and notes, {others + 1} items", "call", timed(CALLS, *here), timed(CALLS, *there)
+        yield f"closure and notes of {others + 1}", "call", timed(CALLS, *here), timed(CALLS, *there)
     for items, turns in ((1, 400), (33, 20)):
         yield f"take of {items}", "turn", timed(turns, libraries, "take", items, turns), timed(turns, take, items, turns)
 
