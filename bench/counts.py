@@ -64,9 +64,11 @@ class Runs:
             of_run = [word.replace("PORT", port).replace("TURNS", str(turns)) for word in words]
             server = subprocess.Popen([*TOOL, f"--callgrind-out-file={out}", *of_run], cwd=self.work, stdin=subprocess.PIPE, **QUIET)
             time.sleep(STARTS)
-            subprocess.run([peer, "drive", port, str(CLIENTS), str(turns)], check=True, timeout=1000, **QUIET)
-            server.terminate()
-            server.wait()
+            try:
+                subprocess.run([peer, "drive", port, str(CLIENTS), str(turns)], check=True, timeout=1000, **QUIET)
+            finally:
+                server.terminate()
+                server.wait()
             found.append(instructions(out))
         return found[1] - found[0]
 
