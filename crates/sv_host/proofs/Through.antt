@@ -32,6 +32,8 @@ none_written v told guests nothing none =
       known = λ n guest at. never at;
       gone = λ n differ low out. absurd (omega (arith, low));
       unused = λ n high. refl;
+      come = λ n guest at. never at;
+      unheard = λ n high. refl;
     }))
 
 -- Nothing was told.

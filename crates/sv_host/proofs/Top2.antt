@@ -11,7 +11,7 @@ use Rattle.sv_keeper.specs.Opened.{IsOpened, OpenCause, WhyNotOpened}
 use Rattle.sv_keeper.specs.Views.{KeeperView}
 use Rattle.sv_keeper.specs.declared.fault.OpenFault.{OpenFault}
 use Rattle.sv_keeper.specs.declared.fault.OpenFault.TheVariants as faults
-use Rattle.sv_ports.specs.Told.{Told}
+use Rattle.sv_ports.specs.Told.{Told, nothing_told}
 use Rattle.sv_ports.specs.declared.numbered.Place.{Place}
 use Rattle.sv_office.specs.declared.guest.Guest.{Guest}
 use Rattle.sv_worldfile.specs.declared.world_file.WorldFile.{WorldFile}
@@ -166,15 +166,15 @@ module _ {F : Type 0} (disk : F → Disk) (is_honest : F → Type 0) where
 
     module _ (before after : Told) (file : WorldFile) (bytes : List ℕ) (folder : F) (first : KeeperView F) (read : IsPrepared (contents asked.world) asked file bytes)
         (opened : opens asked.folder folder) (begun : IsOpened disk is_honest (disk folder) bytes (start_in file) first) where
-      pub served_as : (stopped : Stopped) → HasStopped disk is_honest (MayJoin contents asked.keys) first before after asked.folder stopped
+      pub served_as : (stopped : Stopped) → HasStopped disk is_honest (MayJoin contents asked.keys (before ≡ nothing_told) after) first before after asked.folder stopped
           → WasServed disk is_honest opens contents before after asked stopped
       served_as stopped last = record { log = log_opened file bytes folder first read opened begun; last = last }
 
       -- What was written until it broke off.
-      broke_first : BreaksOff (MayJoin contents asked.keys) before after first.world → WasServedFirst disk is_honest opens contents before after asked
+      broke_first : BreaksOff (MayJoin contents asked.keys (before ≡ nothing_told) after) before after first.world → WasServedFirst disk is_honest opens contents before after asked
       broke_first broke = record { log = log_opened file bytes folder first read opened begun; broke = broke }
 
-      pub broke_as : BreaksOff (MayJoin contents asked.keys) before after first.world → WroteFirst disk is_honest opens contents before after asked
+      pub broke_as : BreaksOff (MayJoin contents asked.keys (before ≡ nothing_told) after) before after first.world → WroteFirst disk is_honest opens contents before after asked
       broke_as broke = inr (broke_first broke)
 
     module _ (before after : Told) (count : F → ℕ) (closed_by : List ℕ → FolderFault → Type 0) (barred_by : List ℕ → DoorFault → Type 0) where
@@ -209,7 +209,7 @@ module _ {F : Type 0} (disk : F → Disk) (is_honest : F → Type 0) where
 
       -- It was served first.
       pub stopped_behind : (file : WorldFile) (bytes : List ℕ) (folder : F) (first : KeeperView F) → IsPrepared (contents asked.world) asked file bytes
-          → opens asked.folder folder → IsOpened disk is_honest (disk folder) bytes (start_in file) first → BreaksOff (MayJoin contents asked.keys) before after first.world
+          → opens asked.folder folder → IsOpened disk is_honest (disk folder) bytes (start_in file) first → BreaksOff (MayJoin contents asked.keys (before ≡ nothing_told) after) before after first.world
           → (e : HostEnd) → WhyStopped (barred_by asked.at) asked.at e → WhyBehind disk is_honest opens contents before after count closed_by barred_by asked e
       stopped_behind file bytes folder first read opened begun broke (endings.Busy which) why =
           inr (why, broke_first before after file bytes folder first read opened begun broke)

@@ -1,5 +1,5 @@
 -- What is written to connections is what they handed over.
-use Rattle.std.proofs.Common.{◌≡◌, ◌≢◌, ◌⊎◌, inl, inr, ℕ, suc, ◌+◌, ◌<◌, ◌≤◌, false, true, nat_eq, List, [], ◌∷◌, ◌++◌, length, take, drop, Option, Some, None, refl, sym, ap, ◌∙◌, subst, arith, append_assoc, eq-eqb, ne_eqb}
+use Rattle.std.proofs.Common.{◌≡◌, ◌≢◌, ◌⊎◌, inl, inr, ℕ, suc, ◌+◌, ◌<◌, ◌≤◌, Bool, false, true, nat_eq, List, [], ◌∷◌, ◌++◌, length, take, drop, Option, Some, None, refl, sym, ap, ◌∙◌, subst, arith, append_assoc, eq-eqb, ne_eqb}
 use Rattle.std.specs.Prelude.{Result, Ok, Err, MatchOption, OnErr, OnOk, is_err}
 use Rattle.std.proofs.lemmas.Bool.{cases_lt, cond-false}
 use Rattle.std.proofs.lemmas.List.{append-nil, take-append-drop}
@@ -16,14 +16,16 @@ use Rattle.sv_ports.specs.declared.ports.PortRead.TheVariants as reads
 use Rattle.sv_ports.specs.declared.numbered.Place.{Place}
 use Rattle.sv_ports.specs.Numbered.{IsAbove, item_of, with_item, without}
 use Rattle.sv_ports.proofs.Bytes.{bytes-more, own_more}
+use Rattle.sv_office.specs.Coming.{HasCome}
 use Rattle.sv_office.specs.Entering.{GoesOn}
 use Rattle.sv_office.specs.Guests.{OnlyHeard}
 use Rattle.sv_office.specs.Telling.{IsServed}
 use Rattle.sv_office.specs.declared.guest.Guest.{Guest}
 use Rattle.sv_office.specs.declared.guest.Standing.TheVariants as standing
 use Rattle.sv_office.proofs.Adding.{goes_as, goes_nowhere, goes_then}
+use Rattle.sv_office.proofs.Coming.{come_rests, new_come}
 use Rattle.sv_office.proofs.Served.{served_stays}
-use Rattle.sv_host.specs.Rooms.{AllWereWritten, AnyEntry, AreServed, AreWritten, AreWrittenBut, Continues, HasGone, IsNew, IsWritten, KeepsOut, LeftInput, Sends, WasWritten, WereWritten, WroteNothing}
+use Rattle.sv_host.specs.Rooms.{AllWereWritten, AnyEntry, AreServed, AreWritten, AreWrittenBut, Continues, HasGone, IsNew, IsWritten, KeepsOut, LeftInput, Sends, WasSent, WasWritten, WereWritten, WroteNothing}
 use Rattle.sv_host.proofs.Guests.{IsPart, emptied, fewer, never, one, put_at}
 use Rattle.sv_host.proofs.Places.{kept_number, left_item, number_of_item, other_item, own_item, pushed_item, pushed_none, pushed_own, put_item, same_or_not}
 
@@ -141,6 +143,8 @@ part_written within gone are = record {
   known = λ n guest at. are.known n guest (within n guest at);
   gone = gone;
   unused = are.unused;
+  come = λ n guest at. are.come n guest (within n guest at);
+  unheard = are.unheard;
 }
 
 module _ {v : WorldView} {told : Told} (n : ℕ) (ps qs : List (Place Guest)) where
@@ -162,6 +166,7 @@ module _ {v : WorldView} {told : Told} (n : ℕ) (ps qs : List (Place Guest)) wh
     place = kept_number n None ps ∙ number_of_item n ps guest is;
     sent = are.sent n guest is;
     known = are.known n guest is;
+    come = are.come n guest is;
   })
     where
       gone : (m : ℕ) → Some n ≢ Some m → m < told.next → item_of m (with_item n None ps) ≡ None → (m ≡ n) ⊎ (nat_eq m n ≡ false) → HasGone v told m
@@ -180,11 +185,18 @@ module _ {v : WorldView} {told : Told} (n : ℕ) (ps qs : List (Place Guest)) wh
     known = λ m b at. known m b (put_at n guest ps m b at);
     gone = λ m differ low none. gone m low none (same_or_not m n);
     unused = out.others.unused;
+    come = λ m b at. come m b (put_at n guest ps m b at);
+    unheard = out.others.unheard;
   })
     where
       sent : (m : ℕ) (b : Guest) → ((m ≡ n) × (b ≡ guest)) ⊎ (item_of m ps ≡ Some b) → bytes_of m told.written ≡ b.peer.sent
       sent m b (inl (same, is)) = ap (λ (k : ℕ). bytes_of k told.written) same ∙ out.sent ∙ ap (λ (g : Guest). g.peer.sent) (sym is)
       sent m b (inr there) = out.others.sent m b there
+
+      come : (m : ℕ) (b : Guest) → ((m ≡ n) × (b ≡ guest)) ⊎ (item_of m ps ≡ Some b) → HasCome (bytes_of m told.heard) b
+      come m b (inl (same, is)) =
+          subst (λ (k : ℕ). HasCome (bytes_of k told.heard) b) (sym same) (subst (λ (g : Guest). HasCome (bytes_of n told.heard) g) (sym is) out.come)
+      come m b (inr there) = out.others.come m b there
 
       in_step : (m : ℕ) (b : Guest) → ((m ≡ n) × (b ≡ guest)) ⊎ (item_of m ps ≡ Some b) → IsInStep b.peer
       in_step m b (inl (same, is)) = subst (λ (g : Guest). IsInStep g.peer) (sym is) steps
@@ -212,10 +224,19 @@ module _ {v : WorldView} {told : Told} (n : ℕ) (ps qs : List (Place Guest)) wh
       gone m low none (inl same) = subst (λ (k : ℕ). HasGone v told k) (sym same) own
       gone m low none (inr unlike) = out.others.gone m (not_left n m unlike) low (sym (left_item n m ps unlike) ∙ none)
 
+-- Nothing more was heard of it.
+sent_come : (bytes : List ℕ) (old new : Guest) → WasSent old new → HasCome bytes old → HasCome bytes new
+sent_come bytes old new was =
+    come_rests bytes old new (lives was.standing) (record { manner = was.manner; heard = was.heard; shown = was.shown }) was.key was.spoken
+  where
+    lives : (new.standing ≡ old.standing) ⊎ (new.standing ≡ standing.Gone) → new.standing ≡ standing.Open → old.standing ≡ standing.Open
+    lives (inl same) is = sym same ∙ is
+    lives (inr gone) is = let clash : standing.Gone ≡ standing.Open = sym gone ∙ is in cc
+
 -- It handed over just what was written to it.
-pub written_to : {v : WorldView} (n : ℕ) (ps : List (Place Guest)) (old new : Guest) (before now : Told) → Sends n old.peer new.peer before now
-    → IsWritten v before ps n old → IsWritten v now ps n new
-written_to n ps old new before now w out = record {
+pub written_to : {v : WorldView} (n : ℕ) (ps : List (Place Guest)) (old new : Guest) (before now : Told) → WasSent old new
+    → Sends n old.peer new.peer before now → IsWritten v before ps n old → IsWritten v now ps n new
+written_to n ps old new before now was w out = record {
   others = record {
     sent = λ m b at. w.others m (differ m b at) ∙ out.others.sent m b at;
     in_step = out.others.in_step;
@@ -223,15 +244,21 @@ written_to n ps old new before now w out = record {
     gone = λ m unlike low none.
         gone_as m (w.others m (λ same. unlike (ap Some (sym same)))) (out.others.gone m unlike (subst (λ (k : ℕ). m < k) next low) none);
     unused = λ m le. w.others m (later m le) ∙ out.others.unused m (subst (λ (k : ℕ). k ≤ m) next le);
+    come = λ m b at. subst (λ (bytes : List ℕ). HasCome bytes b) (sym (heard m)) (out.others.come m b at);
+    unheard = λ m le. heard m ∙ out.others.unheard m (subst (λ (k : ℕ). k ≤ m) next le);
   };
   alone = out.alone;
   place = out.place;
   sent = w.own ∙ ap (λ (xs : List ℕ). xs ++ w.more) out.sent ∙ sym w.sent;
   known = subst (λ (k : ℕ). n < k) (sym next) out.known;
+  come = subst (λ (bytes : List ℕ). HasCome bytes new) (sym (heard n)) (sent_come (bytes_of n before.heard) old new was out.come);
 }
   where
     next : now.next ≡ before.next
     next = ap (λ (t : Told). t.next) w.rest
+
+    heard : (m : ℕ) → bytes_of m now.heard ≡ bytes_of m before.heard
+    heard m = ap (λ (t : Told). bytes_of m t.heard) w.rest
 
     differ : (m : ℕ) (b : Guest) → item_of m ps ≡ Some b → m ≢ n
     differ m b at same = never (sym (subst (λ (k : ℕ). item_of k ps ≡ None) (sym same) out.alone) ∙ at)
@@ -240,31 +267,57 @@ written_to n ps old new before now w out = record {
     later m le same = let known : n < before.next = out.known in omega (arith, known, le, next, same)
 
 -- Its bytes are as they were.
-pub written_as : {v : WorldView} (n : ℕ) (ps : List (Place Guest)) (old new : Guest) (told : Told) → new.peer.sent ≡ old.peer.sent → IsWritten v told ps n old
-    → IsWritten v told ps n new
-written_as n ps old new told same out = record { others = out.others; alone = out.alone; place = out.place; sent = out.sent ∙ sym same; known = out.known }
+pub written_as : {v : WorldView} (n : ℕ) (ps : List (Place Guest)) (old new : Guest) (told : Told) → new.peer.sent ≡ old.peer.sent
+    → ((bytes : List ℕ) → HasCome bytes old → HasCome bytes new) → IsWritten v told ps n old → IsWritten v told ps n new
+written_as n ps old new told same come out = record {
+  others = out.others;
+  alone = out.alone;
+  place = out.place;
+  sent = out.sent ∙ sym same;
+  known = out.known;
+  come = come (bytes_of n told.heard) out.come;
+}
 
 -- Each stays as it was.
-pub out_as_written : (v : WorldView) (ps qs : List (Place Guest)) (old new : Guest) → qs ≡ ps → new.peer.sent ≡ old.peer.sent → KeepsOut v ps old v qs new
-out_as_written v ps qs old new same sent told n out = subst (λ (xs : List (Place Guest)). IsWritten v told xs n new) (sym same) (written_as n ps old new told sent out)
+pub out_as_written : (v : WorldView) (ps qs : List (Place Guest)) (old new : Guest) → qs ≡ ps → new.peer.sent ≡ old.peer.sent
+    → ((bytes : List ℕ) → HasCome bytes old → HasCome bytes new) → KeepsOut v ps old v qs new
+out_as_written v ps qs old new same sent come told n out =
+    subst (λ (xs : List (Place Guest)). IsWritten v told xs n new) (sym same) (written_as n ps old new told sent come out)
 
 -- Nothing was written to any, and no number was given.
 pub written_still : {but : Option ℕ} {v : WorldView} (ps : List (Place Guest)) (before now : Told) → now.written ≡ before.written → now.next ≡ before.next
-    → AreWrittenBut but v before ps → AreWrittenBut but v now ps
-written_still ps before now same next are = record {
+    → now.heard ≡ before.heard → AreWrittenBut but v before ps → AreWrittenBut but v now ps
+written_still ps before now same next heard are = record {
   sent = λ n guest at. ap (bytes_of n) same ∙ are.sent n guest at;
   in_step = are.in_step;
   known = λ n guest at. subst (λ (k : ℕ). n < k) (sym next) (are.known n guest at);
   gone = λ n differ low none. gone_as n (ap (bytes_of n) same) (are.gone n differ (subst (λ (k : ℕ). n < k) next low) none);
   unused = λ n le. ap (bytes_of n) same ∙ are.unused n (subst (λ (k : ℕ). k ≤ n) next le);
+  come = λ n guest at. subst (λ (bytes : List ℕ). HasCome bytes guest) (sym (ap (bytes_of n) heard)) (are.come n guest at);
+  unheard = λ n le. ap (bytes_of n) heard ∙ are.unheard n (subst (λ (k : ℕ). k ≤ n) next le);
 }
+
+read_as : (before now : Told) {input : List ℕ} {ended : Bool} → now ≡ record before { input = input; input_ended = ended }
+    → now ≡ record before { input = now.input; input_ended = now.input_ended }
+read_as before now is = is
+    ∙ ap (λ (t : Told). record before { input = t.input; input_ended = t.input_ended }) (sym is)
+
+read_rest : (before now : Told) (into : List ℕ) (r : PortRead) → ReadsInput before into r now
+    → now ≡ record before { input = now.input; input_ended = now.input_ended }
+read_rest before now into (reads.Got n) (some, few, is) = read_as before now is
+read_rest before now into reads.NotYet is = read_as before now is
+read_rest before now into reads.Ended is = read_as before now is
+read_rest before now into reads.Failed is = read_as before now is
+
+-- The input was read, and of no connection was heard.
+pub read_heard : (before now : Told) (into : List ℕ) (r : PortRead) → ReadsInput before into r now → now.heard ≡ before.heard
+read_heard before now into r is = ap (λ (t : Told). t.heard) (read_rest before now into r is)
 
 pub written_read : {v : WorldView} (ps : List (Place Guest)) (before now : Told) (into : List ℕ) (r : PortRead) → ReadsInput before into r now → AreWritten v before ps
     → AreWritten v now ps
-written_read ps before now into (reads.Got n) (some, few, is) are = written_still ps before now (ap (λ (t : Told). t.written) is) (ap (λ (t : Told). t.next) is) are
-written_read ps before now into reads.NotYet is are = written_still ps before now (ap (λ (t : Told). t.written) is) (ap (λ (t : Told). t.next) is) are
-written_read ps before now into reads.Ended is are = written_still ps before now (ap (λ (t : Told). t.written) is) (ap (λ (t : Told). t.next) is) are
-written_read ps before now into reads.Failed is are = written_still ps before now (ap (λ (t : Told). t.written) is) (ap (λ (t : Told). t.next) is) are
+written_read ps before now into r is are =
+    written_still ps before now (ap (λ (t : Told). t.written) (read_rest before now into r is)) (ap (λ (t : Told). t.next) (read_rest before now into r is))
+    (read_heard before now into r is) are
 
 module _ {may : Entry → Type 0} {v w : WorldView} (order : AreInOrder w.history) (on : GoesOn may v w) where
   -- The world went on.
@@ -275,26 +328,53 @@ module _ {may : Entry → Type 0} {v w : WorldView} (order : AreInOrder w.histor
     known = are.known;
     gone = λ n differ low none. gone_stays n order on (are.gone n differ low none);
     unused = are.unused;
+    come = are.come;
+    unheard = are.unheard;
   }
 
-  pub out_later : {told : Told} (n : ℕ) (ps : List (Place Guest)) (old new : Guest) → new.peer.sent ≡ old.peer.sent → IsWritten v told ps n old → IsWritten w told ps n new
-  out_later n ps old new same out = record {
+  pub out_later : {told : Told} (n : ℕ) (ps : List (Place Guest)) (old new : Guest) → new.peer.sent ≡ old.peer.sent
+      → ((bytes : List ℕ) → HasCome bytes old → HasCome bytes new) → IsWritten v told ps n old → IsWritten w told ps n new
+  out_later n ps old new same come out = record {
     others = written_later ps out.others;
     alone = out.alone;
     place = out.place;
     sent = out.sent ∙ sym same;
     known = out.known;
+    come = come _ out.come;
   }
 
-pub out_still : {v : WorldView} (n : ℕ) (ps : List (Place Guest)) (guest : Guest) (before now : Told) → WroteNothing before now → IsWritten v before ps n guest
-    → IsWritten v now ps n guest
-out_still n ps guest before now still out = record {
-  others = written_still ps before now still.written still.next out.others;
-  alone = out.alone;
-  place = out.place;
-  sent = ap (bytes_of n) still.written ∙ out.sent;
-  known = subst (λ (k : ℕ). n < k) (sym still.next) out.known;
-}
+  -- More was heard of one, and it was answered.
+  pub out_heard : (n : ℕ) (ps : List (Place Guest)) (old new : Guest) (before now : Told) → OnlyHeard n before now → new.peer.sent ≡ old.peer.sent
+      → (HasCome (bytes_of n before.heard) old → HasCome (bytes_of n now.heard) new) → IsWritten v before ps n old → IsWritten w now ps n new
+  out_heard n ps old new before now heard same come out = record {
+    others = record {
+      sent = λ m b at. ap (bytes_of m) written ∙ out.others.sent m b at;
+      in_step = out.others.in_step;
+      known = λ m b at. subst (λ (k : ℕ). m < k) (sym next) (out.others.known m b at);
+      gone = λ m differ low none.
+          gone_as m (ap (bytes_of m) written) (gone_stays m order on (out.others.gone m differ (subst (λ (k : ℕ). m < k) next low) none));
+      unused = λ m le. ap (bytes_of m) written ∙ out.others.unused m (subst (λ (k : ℕ). k ≤ m) next le);
+      come = λ m b at. subst (λ (bytes : List ℕ). HasCome bytes b) (sym (heard.others m (differ m b at))) (out.others.come m b at);
+      unheard = λ m le. heard.others m (later m le) ∙ out.others.unheard m (subst (λ (k : ℕ). k ≤ m) next le);
+    };
+    alone = out.alone;
+    place = out.place;
+    sent = ap (bytes_of n) written ∙ out.sent ∙ sym same;
+    known = subst (λ (k : ℕ). n < k) (sym next) out.known;
+    come = come out.come;
+  }
+    where
+      written : now.written ≡ before.written
+      written = ap (λ (t : Told). t.written) heard.rest
+
+      next : now.next ≡ before.next
+      next = ap (λ (t : Told). t.next) heard.rest
+
+      differ : (m : ℕ) (b : Guest) → item_of m ps ≡ Some b → m ≢ n
+      differ m b at is = never (sym (subst (λ (k : ℕ). item_of k ps ≡ None) (sym is) out.alone) ∙ at)
+
+      later : (m : ℕ) → now.next ≤ m → m ≢ n
+      later m le is = let known : n < before.next = out.known in omega (arith, known, le, next, is)
 
 -- No input was read.
 pub left_as : {old new : Told} {next : ℕ} {written heard : List (ℕ × List ℕ)} → new ≡ record old { next = next; written = written; heard = heard } → LeftInput old new
@@ -314,6 +394,14 @@ left_accepted before now (accepts.One n) (above, is) = left_as is
 left_accepted before now accepts.NotYet is = left_as is
 left_accepted before now accepts.Failed is = left_as is
 
+pub accepted_heard : (before now : Told) (a : Accepted) → Accepts before a now → now.heard ≡ before.heard
+accepted_heard before now (accepts.One n) (above, is) = ap (λ (t : Told). t.heard) is
+accepted_heard before now accepts.NotYet is = ap (λ (t : Told). t.heard) is
+accepted_heard before now accepts.Failed is = ap (λ (t : Told). t.heard) is
+
+pub told_heard : {before now : Told} → now ≡ before → now.heard ≡ before.heard
+told_heard is = ap (λ (t : Told). t.heard) is
+
 pub heard_nothing : (n : ℕ) (before now : Told) → OnlyHeard n before now → WroteNothing before now
 heard_nothing n before now heard = record { written = ap (λ (t : Told). t.written) heard.rest; next = ap (λ (t : Told). t.next) heard.rest; left = left_as heard.rest }
 
@@ -327,8 +415,11 @@ accepted_new {v} ps before now n (above, is) are = subst (λ (t : Told). IsNew v
     known = λ m guest at. let known : m < before.next = are.known m guest at in omega (arith, known, above);
     gone = λ m differ low none. gone m none (cases_lt m before.next);
     unused = λ m le. are.unused m (omega (arith, le, above));
+    come = are.come;
+    unheard = λ m le. are.unheard m (omega (arith, le, above));
   };
   nothing = are.unused n above;
+  silent = are.unheard n above;
   known = omega arith;
 })
   where
@@ -340,14 +431,17 @@ accepted_new {v} ps before now n (above, is) are = subst (λ (t : Told). IsNew v
     gone m none (inr high) = nothing_gone v (record before { next = n + 1 }) m (are.unused m high)
 
 pub new_written : {E : Type 0} {v : WorldView} (told : Told) (n : ℕ) (guest : Guest) (ps qs : List (Place Guest)) (r : Result Unit E) → is_err r ≡ false
-    → OnOk r (qs ≡ ps ++ record { number = n; item = Some guest } ∷ []) → OnOk r (IsAbove n ps) → guest.peer ≡ new_peer → IsNew v told ps n → AreWritten v told qs
-new_written told n guest ps qs (Err e) went is above same new = let clash : true ≡ false = went in cc
-new_written {v = v} told n guest ps qs (Ok u) went is above same new = subst (λ (xs : List (Place Guest)). AreWritten v told xs) (sym is) (record {
+    → OnOk r (qs ≡ ps ++ record { number = n; item = Some guest } ∷ []) → OnOk r (IsAbove n ps) → guest.peer ≡ new_peer → guest.key ≡ None → IsNew v told ps n
+    → AreWritten v told qs
+new_written told n guest ps qs (Err e) went is above same shown new = let clash : true ≡ false = went in cc
+new_written {v = v} told n guest ps qs (Ok u) went is above same shown new = subst (λ (xs : List (Place Guest)). AreWritten v told xs) (sym is) (record {
   sent = λ m b at. sent m b (pushed_item m place ps b at);
   in_step = λ m b at. in_step m b (pushed_item m place ps b at);
   known = λ m b at. known m b (pushed_item m place ps b at);
   gone = λ m differ low none. gone m low none (same_or_not m n);
   unused = new.others.unused;
+  come = λ m b at. come m b (pushed_item m place ps b at);
+  unheard = new.others.unheard;
 })
   where
     place : Place Guest
@@ -357,6 +451,11 @@ new_written {v = v} told n guest ps qs (Ok u) went is above same new = subst (λ
     sent m b (inl there) = new.others.sent m b there
     sent m b (inr (here, is)) =
         ap (λ (k : ℕ). bytes_of k told.written) here ∙ new.nothing ∙ sym (ap (λ (p : PeerView). p.sent) same) ∙ ap (λ (g : Guest). g.peer.sent) (one is)
+
+    come : (m : ℕ) (b : Guest) → (item_of m ps ≡ Some b) ⊎ ((m ≡ n) × (Some guest ≡ Some b)) → HasCome (bytes_of m told.heard) b
+    come m b (inl there) = new.others.come m b there
+    come m b (inr (here, is)) =
+        subst (λ (g : Guest). HasCome (bytes_of m told.heard) g) (one is) (new_come _ guest (ap (λ (k : ℕ). bytes_of k told.heard) here ∙ new.silent) same shown)
 
     in_step : (m : ℕ) (b : Guest) → (item_of m ps ≡ Some b) ⊎ ((m ≡ n) × (Some guest ≡ Some b)) → IsInStep b.peer
     in_step m b (inl there) = new.others.in_step m b there
@@ -380,6 +479,8 @@ closed_new {v} n ps qs before now still same new =
       known = new.others.known;
       gone = λ m differ low none. gone m low none (same_or_not m n);
       unused = new.others.unused;
+      come = new.others.come;
+      unheard = new.others.unheard;
     }))
   where
     gone : (m : ℕ) → m < before.next → item_of m ps ≡ None → (m ≡ n) ⊎ (nat_eq m n ≡ false) → HasGone v before m

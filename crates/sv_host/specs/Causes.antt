@@ -294,12 +294,12 @@ module _ {F : Type 0} (disk : F → Disk) (is_honest : F → Type 0) where
       -- The log of the folder was opened, and its world served until it was to stop.
       pub record WasServed (asked : Asked) (stopped : Stopped) : Type 0 where
         pub log : HasOpened asked
-        pub last : HasStopped (MayJoin contents asked.keys) log.first before after asked.folder stopped
+        pub last : HasStopped (MayJoin contents asked.keys (before ≡ nothing_told) after) log.first before after asked.folder stopped
 
       -- The log of the folder was opened, and its world served until it broke off.
       pub record WasServedFirst (asked : Asked) : Type 0 where
         pub log : HasOpened asked
-        pub broke : BreaksOff (MayJoin contents asked.keys) before after log.first.world
+        pub broke : BreaksOff (MayJoin contents asked.keys (before ≡ nothing_told) after) before after log.first.world
 
       -- What was written where it was not told to stop: nothing through any door, or what connections of the folder's world were told.
       abbrev pub WroteFirst : Asked → Type 0

@@ -8,6 +8,7 @@ use Rattle.sv_ports.specs.declared.numbered.Place.{Place}
 use Rattle.sv_ports.specs.Numbered.{item_of, has_number}
 use Rattle.sv_ports.specs.Told.{Told, bytes_of}
 use Rattle.sv_peer.specs.View.{PeerView, IsInStep}
+use Rattle.sv_office.specs.Coming.{HasCome}
 use Rattle.sv_office.specs.Entering.{GoesOn}
 use Rattle.sv_office.specs.Offices.{AreApart}
 use Rattle.sv_office.specs.Telling.{IsServed, IsTold}
@@ -40,11 +41,16 @@ pub record AreTold (v : WorldView) (guests : List (Place Guest)) : Type 0 where
 abbrev pub IsAnEnd : Entry → Type 0
 IsAnEnd e = is_end e.request ≡ true
 
--- A connection was sent to, or it broke. It was told nothing more.
+-- A connection was sent to, or it broke. It was told nothing more, and nothing more was heard of it.
 pub record WasSent (old new : Guest) : Type 0 where
   pub told : new.peer.told ≡ old.peer.told
   pub session : new.session ≡ old.session
   pub standing : (new.standing ≡ old.standing) ⊎ (new.standing ≡ standing.Gone)
+  pub key : new.key ≡ old.key
+  pub spoken : new.has_spoken ≡ old.has_spoken
+  pub manner : new.peer.manner ≡ old.peer.manner
+  pub heard : new.peer.heard ≡ old.peer.heard
+  pub shown : new.peer.shown ≡ old.peer.shown
 
 abbrev pub AnyEntry : Entry → Type 0
 AnyEntry e = Unit {0}
@@ -98,13 +104,15 @@ pub record HasGone (v : WorldView) (told : Told) (n : ℕ) : Type 0 where
   pub over : was.guest.session ≡ None
 
 -- To each connection just the bytes were written that it handed over, in order, also to those that are gone. The number that is given is left out. No
--- number of a later one was used.
+-- number of a later one was used. What was heard of each that is here it took, or has still to take.
 pub record AreWrittenBut (but : Option ℕ) (v : WorldView) (told : Told) (guests : List (Place Guest)) : Type 0 where
   pub sent : (n : ℕ) (guest : Guest) → item_of n guests ≡ Some guest → bytes_of n told.written ≡ guest.peer.sent
   pub in_step : (n : ℕ) (guest : Guest) → item_of n guests ≡ Some guest → IsInStep guest.peer
   pub known : (n : ℕ) (guest : Guest) → item_of n guests ≡ Some guest → n < told.next
   pub gone : (n : ℕ) → but ≢ Some n → n < told.next → item_of n guests ≡ None → HasGone v told n
   pub unused : (n : ℕ) → told.next ≤ n → bytes_of n told.written ≡ []
+  pub come : (n : ℕ) (guest : Guest) → item_of n guests ≡ Some guest → HasCome (bytes_of n told.heard) guest
+  pub unheard : (n : ℕ) → told.next ≤ n → bytes_of n told.heard ≡ []
 
 abbrev pub AreWritten : WorldView → Told → List (Place Guest) → Type 0
 AreWritten v told guests = AreWrittenBut None v told guests
@@ -116,11 +124,13 @@ pub record IsWritten (v : WorldView) (told : Told) (guests : List (Place Guest))
   pub place : has_number n guests ≡ true
   pub sent : bytes_of n told.written ≡ guest.peer.sent
   pub known : n < told.next
+  pub come : HasCome (bytes_of n told.heard) guest
 
--- A number was given to a connection, which is not among these, and to which nothing was written.
+-- A number was given to a connection, which is not among these, and to which nothing was written. Nothing was heard of it.
 pub record IsNew (v : WorldView) (told : Told) (guests : List (Place Guest)) (n : ℕ) : Type 0 where
   pub others : AreWrittenBut (Some n) v told guests
   pub nothing : bytes_of n told.written ≡ []
+  pub silent : bytes_of n told.heard ≡ []
   pub known : n < told.next
 
 -- So it stays, whatever was written before.

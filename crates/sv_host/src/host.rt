@@ -115,7 +115,9 @@ impl<F: Folder> Host<F> {
         ensures written { OnOk result (IsWritten self.old.office.keeper.world (P.told outside.old.ports.now) self.old.room.guests number guest.old
             → IsWritten self.new.office.keeper.world (P.told outside.new.ports.now) self.new.room.guests number guest.new) }
         ensures goes { Continues self.old.office.keeper.world self.new.office.keeper.world }
-        ensures joins { LetsIn (L.contents outside.old.files.now) (L.contents outside.new.files.now) self.old.office.keys self.new.office.keys self.old.office.keeper.world self.new.office.keeper.world }
+        ensures joins { LetsIn (L.contents outside.old.files.now) (L.contents outside.new.files.now) self.old.office.keys self.new.office.keys
+            (IsWritten self.old.office.keeper.world (P.told outside.old.ports.now) self.old.room.guests number guest.old) (P.told outside.old.ports.now)
+            (P.told outside.new.ports.now) self.old.office.keeper.world self.new.office.keeper.world }
         ensures still { WroteNothing (P.told outside.old.ports.now) (P.told outside.new.ports.now) }
         ensures lent { outside.new.ports.ghost_name ≡ outside.old.ports.ghost_name }
     {

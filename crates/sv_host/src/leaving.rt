@@ -26,6 +26,7 @@ impl<F: Folder> Host<F> {
         ensures world { self.new.office.keeper ≡ self.old.office.keeper }
         ensures keys { self.new.office.keys ≡ self.old.office.keys }
         ensures input { LeftInput (P.told ports.old) (P.told ports.new) }
+        ensures heard { (P.told ports.new).heard ≡ (P.told ports.old).heard }
     {
         if self.room.guests.len() >= MOST_GUESTS {
             let office = &mut self.office;
@@ -52,6 +53,7 @@ impl<F: Folder> Host<F> {
         ensures world { self.new.office.keeper ≡ self.old.office.keeper }
         ensures keys { self.new.office.keys ≡ self.old.office.keys }
         ensures input { LeftInput (P.told ports.old) (P.told ports.new) }
+        ensures heard { (P.told ports.new).heard ≡ (P.told ports.old).heard }
     {
         if !self.room.ready.door {
             return;
@@ -83,6 +85,7 @@ impl<F: Folder> Host<F> {
         ensures goes { Continues self.old.office.keeper.world self.new.office.keeper.world }
         ensures nobody { LetsNobodyIn self.old.office.keys self.new.office.keys self.old.office.keeper.world self.new.office.keeper.world }
         ensures still { WroteNothing (P.told ports.old) (P.told ports.new) }
+        ensures heard { (P.told ports.new).heard ≡ (P.told ports.old).heard }
     {
         let Some(mut guest) = self.take_out(number) else {
             return Ok(());

@@ -97,6 +97,7 @@ fn send_to<P: Ports>(
     ensures served { (v : WorldView) (steward : Option ℕ) → AreServed v steward guests.old → AreServed v steward guests.new }
     ensures written { (v : WorldView) → AreWritten v (P.told ports.old) guests.old → AreWritten v (P.told ports.new) guests.new }
     ensures input { LeftInput (P.told ports.old) (P.told ports.new) }
+    ensures heard { (P.told ports.new).heard ≡ (P.told ports.old).heard }
 {
     let Some(mut guest) = guests.take(number) else {
         return Then::Waits;
@@ -119,6 +120,7 @@ fn send_each<P: Ports>(
     ensures served { (v : WorldView) (steward : Option ℕ) → AreServed v steward room.old.guests → AreServed v steward room.new.guests }
     ensures written { (v : WorldView) → AreWritten v (P.told ports.old) room.old.guests → AreWritten v (P.told ports.new) room.new.guests }
     ensures input { LeftInput (P.told ports.old) (P.told ports.new) }
+    ensures heard { (P.told ports.new).heard ≡ (P.told ports.old).heard }
 {
     let mut gone = Vec::new(alloc);
     for number in numbers {
@@ -155,6 +157,7 @@ impl<F: Folder> Host<F> {
         ensures world { self.new.office.keeper ≡ self.old.office.keeper }
         ensures keys { self.new.office.keys ≡ self.old.office.keys }
         ensures input { LeftInput (P.told ports.old) (P.told ports.new) }
+        ensures heard { (P.told ports.new).heard ≡ (P.told ports.old).heard }
     {
         let mut counts = self.office.counts;
         let office = &self.office;
@@ -183,6 +186,7 @@ impl<F: Folder> Host<F> {
         ensures goes { Continues self.old.office.keeper.world self.new.office.keeper.world }
         ensures nobody { LetsNobodyIn self.old.office.keys self.new.office.keys self.old.office.keeper.world self.new.office.keeper.world }
         ensures still { WroteNothing (P.told ports.old) (P.told ports.new) }
+        ensures heard { (P.told ports.new).heard ≡ (P.told ports.old).heard }
     {
         for number in numbers {
             self.depart(ports, *number)?;
@@ -199,6 +203,7 @@ impl<F: Folder> Host<F> {
         ensures nobody { LetsNobodyIn self.old.office.keys self.new.office.keys self.old.office.keeper.world self.new.office.keeper.world }
         ensures past { AreWritten self.old.office.keeper.world (P.told ports.old) self.old.room.guests → WereWritten AnyEntry (P.told ports.new) self.old.office.keeper.world self.new.office.keeper.world }
         ensures input { OnOk result (LeftInput (P.told ports.old) (P.told ports.new)) }
+        ensures heard { (P.told ports.new).heard ≡ (P.told ports.old).heard }
     {
         self.settle()?;
         let mut touched = std::mem::replace(&mut self.room.touched, Vec::new(self.alloc));

@@ -80,7 +80,9 @@ impl<F: Folder> Host<F> {
         ensures told { OnOk result (AreTold self.new.office.keeper.world self.new.room.guests) }
         ensures written { OnOk result (AreWritten self.old.office.keeper.world (P.told outside.old.ports.now) self.old.room.guests → AreWritten self.new.office.keeper.world (P.told outside.new.ports.now) self.new.room.guests) }
         ensures goes { Continues self.old.office.keeper.world self.new.office.keeper.world }
-        ensures joins { JoinByKeys (L.contents outside.old.files.now) self.old.office.keys self.old.office.keeper.world self.new.office.keeper.world }
+        ensures joins { JoinByKeys (L.contents outside.old.files.now) self.old.office.keys
+            (AreWritten self.old.office.keeper.world (P.told outside.old.ports.now) self.old.room.guests) (P.told outside.new.ports.now)
+            self.old.office.keeper.world self.new.office.keeper.world }
         ensures lent { outside.new.ports.ghost_name ≡ outside.old.ports.ghost_name }
         ensures past { AreWritten self.old.office.keeper.world (P.told outside.old.ports.now) self.old.room.guests
             → WereWritten AnyEntry (P.told outside.new.ports.now) self.old.office.keeper.world self.new.office.keeper.world }
@@ -128,6 +130,7 @@ impl<F: Folder> Host<F> {
         ensures nobody { LetsNobodyIn self.old.office.keys self.new.office.keys self.old.office.keeper.world self.new.office.keeper.world }
         ensures past { AreWritten self.old.office.keeper.world (P.told ports.old) self.old.room.guests → WereWritten AnyEntry (P.told ports.new) self.old.office.keeper.world self.new.office.keeper.world }
         ensures input { OnOk result (LeftInput (P.told ports.old) (P.told ports.new)) }
+        ensures heard { (P.told ports.new).heard ≡ (P.told ports.old).heard }
     {
         for _ in 0..LAST_TURNS {
             let waits = self.touch_all()?;
@@ -153,6 +156,7 @@ impl<F: Folder> Host<F> {
         ensures past { AreWritten self.old.office.keeper.world (P.told ports.old) self.old.room.guests → WereWritten AnyEntry (P.told ports.new) self.old.office.keeper.world self.new.office.keeper.world }
         ensures last { OnOk result (AreWritten self.old.office.keeper.world (P.told ports.old) self.old.room.guests → WereWritten IsAnEnd (P.told ports.new) self.old.office.keeper.world self.new.office.keeper.world) }
         ensures input { OnOk result (LeftInput (P.told ports.old) (P.told ports.new)) }
+        ensures heard { (P.told ports.new).heard ≡ (P.told ports.old).heard }
     {
         self.send_rest(ports)?;
         let office = &mut self.office;

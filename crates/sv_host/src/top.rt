@@ -112,7 +112,7 @@ fn serve_over<R: Wait, P: Ports, C: Clock, L: Files, E: Sink, F: Folder>(
     requires nobody { host.old.room.guests ≡ [] }
     ensures done { OnOk result (IsAtEnd F.disk F.is_honest host.new.office.keeper) }
     ensures goes { Continues host.old.office.keeper.world host.new.office.keeper.world }
-    ensures joins { JoinByKeys (L.contents files.old) host.old.office.keys host.old.office.keeper.world host.new.office.keeper.world }
+    ensures joins { JoinByKeys (L.contents files.old) host.old.office.keys (P.told ports.old ≡ nothing_told) (P.told ports.new) host.old.office.keeper.world host.new.office.keeper.world }
     ensures last { OnOk result (OnlyWrote IsAnEnd (P.told ports.old) (P.told ports.new) host.old.office.keeper.world host.new.office.keeper.world) }
     ensures asked { OnOk result (P.told ports.old ≡ nothing_told → WasToldToStop (P.told ports.new)) }
     ensures sent { OnlyWrote AnyEntry (P.told ports.old) (P.told ports.new) host.old.office.keeper.world host.new.office.keeper.world }
@@ -153,7 +153,8 @@ fn serve_door<R: Wait, D: Doors, S, C: Clock, L: Files, E: Sink, F: Folder>(
     requires nobody { host.old.room.guests ≡ [] }
     ensures done { OnOk result (IsAtEnd F.disk F.is_honest host.new.office.keeper) }
     ensures goes { Continues host.old.office.keeper.world host.new.office.keeper.world }
-    ensures joins { JoinByKeys (L.contents place.old.files.now) host.old.office.keys host.old.office.keeper.world host.new.office.keeper.world }
+    ensures joins { JoinByKeys (L.contents place.old.files.now) host.old.office.keys (D.P.told ports.old ≡ nothing_told) (D.P.told ports.new)
+        host.old.office.keeper.world host.new.office.keeper.world }
     ensures last { OnOk result (OnlyWrote IsAnEnd (D.P.told ports.old) (D.P.told ports.new) host.old.office.keeper.world host.new.office.keeper.world) }
     ensures asked { OnOk result (D.P.told ports.old ≡ nothing_told → WasToldToStop (D.P.told ports.new)) }
     ensures sent { OnlyWrote AnyEntry (D.P.told ports.old) (D.P.told ports.new) host.old.office.keeper.world host.new.office.keeper.world }
@@ -179,7 +180,7 @@ fn serve_door<R: Wait, D: Doors, S, C: Clock, L: Files, E: Sink, F: Folder>(
 }
 
 // The door is opened, it is served, and the door is closed.
-#[tactic(auto, using(crate::proofs::Top2::halted_why, crate::proofs::Through::nothing_wrote, crate::proofs::Through::between_wrote, crate::proofs::Through::between_asked, crate::proofs::Written::continues_same, crate::proofs::Joined::join_same))]
+#[tactic(auto, using(crate::proofs::Top2::halted_why, crate::proofs::Through::nothing_wrote, crate::proofs::Through::between_wrote, crate::proofs::Through::between_asked, crate::proofs::Written::continues_same, crate::proofs::Joined::between_joins, crate::proofs::Joined::join_same))]
 fn serve_between<R: Wait, D: Doors, S, C: Clock, L: Files, E: Sink, F: Folder>(
     place: &mut Place<'_, '_, '_, '_, '_, '_, R, D, S, C, L, E>,
     options: &Options<'_>,
@@ -190,7 +191,8 @@ fn serve_between<R: Wait, D: Doors, S, C: Clock, L: Files, E: Sink, F: Folder>(
     ensures done { OnOk result (IsAtEnd F.disk F.is_honest host.new.office.keeper) }
     ensures why { IfErr result (WhyStopped (D.refuses place.old.doors.now options.now.at.now) options.now.at.now) }
     ensures goes { Continues host.old.office.keeper.world host.new.office.keeper.world }
-    ensures joins { JoinByKeys (L.contents place.old.files.now) host.old.office.keys host.old.office.keeper.world host.new.office.keeper.world }
+    ensures joins { JoinByKeys (L.contents place.old.files.now) host.old.office.keys (D.told place.old.doors.now ≡ nothing_told) (D.told place.new.doors.now)
+        host.old.office.keeper.world host.new.office.keeper.world }
     ensures last { OnOk result (OnlyWrote IsAnEnd (D.told place.old.doors.now) (D.told place.new.doors.now) host.old.office.keeper.world host.new.office.keeper.world) }
     ensures asked { OnOk result (D.told place.old.doors.now ≡ nothing_told → WasToldToStop (D.told place.new.doors.now)) }
     ensures sent { OnlyWrote AnyEntry (D.told place.old.doors.now) (D.told place.new.doors.now) host.old.office.keeper.world host.new.office.keeper.world }
@@ -215,7 +217,8 @@ fn serve_at<R: Wait, D: Doors, S, C: Clock, L: Files, E: Sink, F: Folder>(
     ensures done { OnOk result (IsAtEnd F.disk F.is_honest host.new.office.keeper) }
     ensures why { IfErr result (WhyStopped (D.refuses place.old.doors.now options.now.at.now) options.now.at.now) }
     ensures goes { Continues host.old.office.keeper.world host.new.office.keeper.world }
-    ensures joins { JoinByKeys (L.contents place.old.files.now) host.old.office.keys host.old.office.keeper.world host.new.office.keeper.world }
+    ensures joins { JoinByKeys (L.contents place.old.files.now) host.old.office.keys (D.told place.old.doors.now ≡ nothing_told) (D.told place.new.doors.now)
+        host.old.office.keeper.world host.new.office.keeper.world }
     ensures last { OnOk result (OnlyWrote IsAnEnd (D.told place.old.doors.now) (D.told place.new.doors.now) host.old.office.keeper.world host.new.office.keeper.world) }
     ensures asked { OnOk result (D.told place.old.doors.now ≡ nothing_told → WasToldToStop (D.told place.new.doors.now)) }
     ensures sent { OnlyWrote AnyEntry (D.told place.old.doors.now) (D.told place.new.doors.now) host.old.office.keeper.world host.new.office.keeper.world }
@@ -238,11 +241,12 @@ fn serve_host<R: Wait, D: Doors, S, C: Clock, L: Files, E: Sink, F: Folder>(
     requires ended { open_sessions host.old.office.keeper.world.history ≡ [] }
     requires order { AreInOrder host.old.office.keeper.world.history }
     ensures done { (named : Option (List ℕ)) → AreHeldFor (L.contents place.old.files.now) named host.old.office.keys
-        → IfOk result (HasStopped F.disk F.is_honest (MayJoin (L.contents place.old.files.now) named) host.old.office.keeper
+        → IfOk result (HasStopped F.disk F.is_honest (MayJoin (L.contents place.old.files.now) named (D.told place.old.doors.now ≡ nothing_told) (D.told place.new.doors.now)) host.old.office.keeper
         (D.told place.old.doors.now) (D.told place.new.doors.now) options.now.folder.now) }
     ensures why { IfErr result (WhyStopped (D.refuses place.old.doors.now options.now.at.now) options.now.at.now) }
     ensures goes { Continues host.old.office.keeper.world host.new.office.keeper.world }
-    ensures joins { JoinByKeys (L.contents place.old.files.now) host.old.office.keys host.old.office.keeper.world host.new.office.keeper.world }
+    ensures joins { JoinByKeys (L.contents place.old.files.now) host.old.office.keys (D.told place.old.doors.now ≡ nothing_told) (D.told place.new.doors.now)
+        host.old.office.keeper.world host.new.office.keeper.world }
     ensures sent { OnlyWrote AnyEntry (D.told place.old.doors.now) (D.told place.new.doors.now) host.old.office.keeper.world host.new.office.keeper.world }
 {
     let folder = owned(place.alloc, options.folder)?;
@@ -267,11 +271,11 @@ fn serve_kept<R: Wait, D: Doors, S, C: Clock, L: Files, E: Sink, F: Folder + Dro
     requires ended { open_sessions keeper.world.history ≡ [] }
     requires staff { IsStaffFor (asked_by options.now) staff }
     ensures done { (named : Option (List ℕ)) → AreHeldFor (L.contents place.old.files.now) named staff.keys
-        → IfOk result (HasStopped F.disk F.is_honest (MayJoin (L.contents place.old.files.now) named) keeper
+        → IfOk result (HasStopped F.disk F.is_honest (MayJoin (L.contents place.old.files.now) named (D.told place.old.doors.now ≡ nothing_told) (D.told place.new.doors.now)) keeper
         (D.told place.old.doors.now) (D.told place.new.doors.now) options.now.folder.now) }
     ensures why { IfErr result (WhyStopped (D.refuses place.old.doors.now options.now.at.now) options.now.at.now) }
     ensures broke { (named : Option (List ℕ)) → AreHeldFor (L.contents place.old.files.now) named staff.keys
-        → BreaksOff (MayJoin (L.contents place.old.files.now) named) (D.told place.old.doors.now) (D.told place.new.doors.now) keeper.world }
+        → BreaksOff (MayJoin (L.contents place.old.files.now) named (D.told place.old.doors.now ≡ nothing_told) (D.told place.new.doors.now)) (D.told place.old.doors.now) (D.told place.new.doors.now) keeper.world }
 {
     tell_keeper("start", options.folder, &keeper, place.err);
     keeper.is_lawful();

@@ -24,7 +24,7 @@ pub enum Turned {
 
 impl<F: Folder> Host<F> {
     // Waits until there is something to do.
-    #[tactic(auto, using(crate::proofs::Written::wrote_same, crate::proofs::Written::closed_written))]
+    #[tactic(auto, using(crate::proofs::Written::wrote_same, crate::proofs::Written::told_heard, crate::proofs::Written::closed_written))]
     fn wait<P: Ports, C: Clock>(&mut self, ports: &mut P, clock: &mut C) -> Result<(), Halt>
         requires served { AreServed self.old.office.keeper.world (session_of self.old.office.steward) self.old.room.guests }
         ensures served { AreServed self.new.office.keeper.world (session_of self.new.office.steward) self.new.room.guests }
@@ -32,6 +32,7 @@ impl<F: Folder> Host<F> {
         ensures world { self.new.office.keeper ≡ self.old.office.keeper }
         ensures keys { self.new.office.keys ≡ self.old.office.keys }
         ensures still { WroteNothing (P.told ports.old) (P.told ports.new) }
+        ensures heard { (P.told ports.new).heard ≡ (P.told ports.old).heard }
     {
         let limit = self.limit();
         self.room.ready.numbers.clear();
@@ -56,6 +57,7 @@ impl<F: Folder> Host<F> {
         ensures written { AreWritten self.old.office.keeper.world (P.told ports.old) self.old.room.guests → AreWritten self.new.office.keeper.world (P.told ports.new) self.new.room.guests }
         ensures world { self.new.office.keeper ≡ self.old.office.keeper }
         ensures keys { self.new.office.keys ≡ self.old.office.keys }
+        ensures heard { (P.told ports.new).heard ≡ (P.told ports.old).heard }
         ensures stops { IsReadTo (P.told ports.old) input.old → IfOk result (λ stops. MatchBool stops (WasToldToStop (P.told ports.new)) (IsReadTo (P.told ports.new) input.new)) }
     {
         if !self.office.manners.stops || !self.room.ready.input {
@@ -81,7 +83,9 @@ impl<F: Folder> Host<F> {
         ensures served { OnOk result (AreServed self.new.office.keeper.world (session_of self.new.office.steward) self.new.room.guests) }
         ensures written { OnOk result (AreWritten self.old.office.keeper.world (P.told outside.old.ports.now) self.old.room.guests → AreWritten self.new.office.keeper.world (P.told outside.new.ports.now) self.new.room.guests) }
         ensures goes { Continues self.old.office.keeper.world self.new.office.keeper.world }
-        ensures joins { LetsIn (L.contents outside.old.files.now) (L.contents outside.new.files.now) self.old.office.keys self.new.office.keys self.old.office.keeper.world self.new.office.keeper.world }
+        ensures joins { LetsIn (L.contents outside.old.files.now) (L.contents outside.new.files.now) self.old.office.keys self.new.office.keys
+            (AreWritten self.old.office.keeper.world (P.told outside.old.ports.now) self.old.room.guests) (P.told outside.old.ports.now) (P.told outside.new.ports.now)
+            self.old.office.keeper.world self.new.office.keeper.world }
         ensures still { WroteNothing (P.told outside.old.ports.now) (P.told outside.new.ports.now) }
         ensures lent { outside.new.ports.ghost_name ≡ outside.old.ports.ghost_name }
     {
@@ -123,7 +127,9 @@ impl<F: Folder> Host<F> {
         ensures served { OnOk result (AreServed self.new.office.keeper.world (session_of self.new.office.steward) self.new.room.guests) }
         ensures written { OnOk result (AreWritten self.old.office.keeper.world (P.told outside.old.ports.now) self.old.room.guests → AreWritten self.new.office.keeper.world (P.told outside.new.ports.now) self.new.room.guests) }
         ensures goes { Continues self.old.office.keeper.world self.new.office.keeper.world }
-        ensures joins { LetsIn (L.contents outside.old.files.now) (L.contents outside.new.files.now) self.old.office.keys self.new.office.keys self.old.office.keeper.world self.new.office.keeper.world }
+        ensures joins { LetsIn (L.contents outside.old.files.now) (L.contents outside.new.files.now) self.old.office.keys self.new.office.keys
+            (AreWritten self.old.office.keeper.world (P.told outside.old.ports.now) self.old.room.guests) (P.told outside.old.ports.now) (P.told outside.new.ports.now)
+            self.old.office.keeper.world self.new.office.keeper.world }
         ensures lent { outside.new.ports.ghost_name ≡ outside.old.ports.ghost_name }
         ensures past { AreWritten self.old.office.keeper.world (P.told outside.old.ports.now) self.old.room.guests
             → WereWritten AnyEntry (P.told outside.new.ports.now) self.old.office.keeper.world self.new.office.keeper.world }
@@ -147,7 +153,9 @@ impl<F: Folder> Host<F> {
         ensures served { OnOk result (AreServed self.new.office.keeper.world (session_of self.new.office.steward) self.new.room.guests) }
         ensures written { OnOk result (AreWritten self.old.office.keeper.world (P.told outside.old.ports.now) self.old.room.guests → AreWritten self.new.office.keeper.world (P.told outside.new.ports.now) self.new.room.guests) }
         ensures goes { Continues self.old.office.keeper.world self.new.office.keeper.world }
-        ensures joins { LetsIn (L.contents outside.old.files.now) (L.contents outside.new.files.now) self.old.office.keys self.new.office.keys self.old.office.keeper.world self.new.office.keeper.world }
+        ensures joins { LetsIn (L.contents outside.old.files.now) (L.contents outside.new.files.now) self.old.office.keys self.new.office.keys
+            (AreWritten self.old.office.keeper.world (P.told outside.old.ports.now) self.old.room.guests) (P.told outside.old.ports.now) (P.told outside.new.ports.now)
+            self.old.office.keeper.world self.new.office.keeper.world }
         ensures lent { outside.new.ports.ghost_name ≡ outside.old.ports.ghost_name }
         ensures past { AreWritten self.old.office.keeper.world (P.told outside.old.ports.now) self.old.room.guests
             → WereWritten AnyEntry (P.told outside.new.ports.now) self.old.office.keeper.world self.new.office.keeper.world }

@@ -23,3 +23,6 @@ pub mod Alone
 pub mod Knowing
 pub mod Admitting
 pub mod Getting
+pub mod Joins
+pub mod Coming
+pub mod Came

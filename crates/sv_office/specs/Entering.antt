@@ -62,6 +62,10 @@ IsOf session e = session ≡ Some e.session
 abbrev pub IsEndOf : Option ℕ → Entry → Type 0
 IsEndOf session e = IsOf session e × (is_end e.request ≡ true)
 
+-- An entry is no Join.
+abbrev pub IsNoJoin : Entry → Type 0
+IsNoJoin e = number_in e.request ≡ None
+
 -- A Poll or a Done.
 abbrev pub is_report : Request → Bool
 is_report requests.Poll = true

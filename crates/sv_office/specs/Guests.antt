@@ -21,6 +21,15 @@ pub record Closes (old new : Guest) : Type 0 where
   pub spoken : new.has_spoken ≡ old.has_spoken
   pub standing : new.standing ≡ closed old.standing
   pub held : new.held ≡ None
+  pub manner : new.peer.manner ≡ old.peer.manner
+  pub heard : new.peer.heard ≡ old.peer.heard
+  pub shown : new.peer.shown ≡ old.peer.shown
+
+-- Nothing more was heard of it, and nothing was taken.
+pub record Rests (old new : Guest) : Type 0 where
+  pub manner : new.peer.manner ≡ old.peer.manner
+  pub heard : new.peer.heard ≡ old.peer.heard
+  pub shown : new.peer.shown ≡ old.peer.shown
 
 -- It showed the key that it showed, handed no byte over, and nothing new of it is held.
 pub record Stays (old new : Guest) : Type 0 where

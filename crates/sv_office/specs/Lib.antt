@@ -5,6 +5,7 @@ pub mod Trusting
 pub mod Entering
 pub mod Taking
 pub mod Guests
+pub mod Coming
 pub mod Telling
 pub mod Holding
 pub mod Offices

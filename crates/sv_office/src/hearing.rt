@@ -1,8 +1,13 @@
 //! A connection's turn: requests are taken of it, at most so many, and read on.
-ghost use Rattle.std.specs.Prelude.{◌≡◌, ◌≢◌, ◌⊎◌, ◌≤◌, ℕ, List, false, Some, IfOk, OnOk, IsTrue, length};
+ghost use Rattle.std.specs.Prelude.{◌≡◌, ◌≢◌, ◌⊎◌, ◌≤◌, ◌++◌, ℕ, List, false, None, Some, IfOk, OnOk, IsTrue, length, take};
 ghost use Rattle.sv_journal.specs.Sessions.{is_end};
 ghost use Rattle.sv_living.specs.World.{WorldView};
-ghost use Rattle.sv_office.specs.Entering.{GoesOn, KeepsOwn, AsksInOne, MayEnter, MayHold};
+ghost use Rattle.sv_ports.specs.Told.{bytes_of};
+ghost use Rattle.sv_peer.specs.View.{Hears};
+ghost use Rattle.sv_peer.specs.declared.heard.Heard.TheVariants as heards;
+ghost use Rattle.sv_office.specs.Admitting.{number_in};
+ghost use Rattle.sv_office.specs.Coming.{Comes, HasCome, HasRoom, IsTaken};
+ghost use Rattle.sv_office.specs.Entering.{AreAdded, GoesOn, IsNoJoin, KeepsOwn, AsksInOne, MayEnter, MayHold};
 ghost use Rattle.sv_office.specs.Guests.{HasYetToAsk, IsHeardOf, OnlyHeard};
 ghost use Rattle.sv_office.specs.Offices.{AreApart, session_of};
 ghost use Rattle.sv_office.specs.Renewing.{KeepsKeys};
@@ -61,6 +66,9 @@ pub enum Half {
 /// Reads what comes, and closes a connection of which no more will come. The answer is how many bytes came.
 fn read_piece<P: Ports>(ports: &mut P, number: u64, guest: &mut Guest, piece: &mut [u8]) -> usize
     ensures count { result ≤ length piece.new }
+    ensures room { HasRoom guest.old.peer.manner guest.old.peer.heard result }
+    ensures piece { bytes_of number (P.told ports.new).heard ≡ bytes_of number (P.told ports.old).heard ++ take result piece.new }
+    ensures same { guest.new.standing ≡ standing.Open → guest.new ≡ guest.old }
     ensures told { OnlyHeard number (P.told ports.old) (P.told ports.new) }
     ensures served { (v : WorldView) → IsServed v guest.old → IsServed v guest.new }
     ensures guest { IsHeardOf guest.old guest.new }
@@ -86,6 +94,7 @@ fn read_piece<P: Ports>(ports: &mut P, number: u64, guest: &mut Guest, piece: &m
 /// Reads what comes of a connection that is closing, and throws it away.
 #[inline(never)]
 fn drain<P: Ports>(ports: &mut P, number: u64, guest: &mut Guest, piece: &mut [u8])
+    ensures shut { guest.new.standing ≡ standing.Open → guest.old.standing ≡ standing.Open }
     ensures told { OnlyHeard number (P.told ports.old) (P.told ports.new) }
     ensures served { (v : WorldView) → IsServed v guest.old → IsServed v guest.new }
     ensures guest { IsHeardOf guest.old guest.new }
@@ -105,7 +114,8 @@ fn drain<P: Ports>(ports: &mut P, number: u64, guest: &mut Guest, piece: &mut [u
 
 /// What a request asks. An End is none that a connection may make.
 fn asked(request: Request) -> Request
-    ensures { is_end result ≡ false }
+    ensures end { is_end result ≡ false }
+    ensures same { (result ≡ request) ⊎ (number_in result ≡ None) }
 {
     match request {
         Request::End => Request::Bad,
@@ -135,6 +145,7 @@ impl<F: Folder> Office<F> {
         ensures steward { session_of self.new.steward ≡ session_of self.old.steward }
         ensures manners { self.new.manners ≡ self.old.manners }
         ensures told { OnlyHeard number (P.told outside.old.ports.now) (P.told outside.new.ports.now) }
+        ensures came { Comes (bytes_of number (P.told outside.old.ports.now).heard) (bytes_of number (P.told outside.new.ports.now).heard) guest.old guest.new self.old.keeper.world self.new.keeper.world }
         ensures lent { AreLent outside.old outside.new }
         ensures sent { guest.new.peer.sent ≡ guest.old.peer.sent }
         ensures kept { KeepsKeys (L.contents outside.old.files.now) (L.contents outside.new.files.now) self.old.keys self.new.keys }
@@ -167,6 +178,7 @@ impl<F: Folder> Office<F> {
         ensures turn { TakesTurn self.old self.new guest.old guest.new }
         ensures shut { guest.old.standing ≢ standing.Open → self.new.keeper.world ≡ self.old.keeper.world }
         ensures told { OnlyHeard number (P.told outside.old.ports.now) (P.told outside.new.ports.now) }
+        ensures came { Comes (bytes_of number (P.told outside.old.ports.now).heard) (bytes_of number (P.told outside.new.ports.now).heard) guest.old guest.new self.old.keeper.world self.new.keeper.world }
         ensures lent { AreLent outside.old outside.new }
         ensures sent { guest.new.peer.sent ≡ guest.old.peer.sent }
         ensures kept { KeepsKeys (L.contents outside.old.files.now) (L.contents outside.new.files.now) self.old.keys self.new.keys }
@@ -181,6 +193,7 @@ impl<F: Folder> Office<F> {
     // Answers the HTTP requests that wait. Whether more may be taken of the connection.
     fn take_waiting<L: Files>(&self, files: &mut L, guest: &mut Guest) -> bool
         ensures open { IsTrue result → guest.new.standing ≡ standing.Open }
+        ensures come { (bytes : List ℕ) → HasCome bytes guest.old → HasCome bytes guest.new }
         ensures served { (v : WorldView) → IsServed v guest.old → IsServed v guest.new }
         ensures guest { IsHeardOf guest.old guest.new }
         ensures files { (name : List ℕ) → L.contents files.new name ≡ L.contents files.old name }
@@ -209,6 +222,7 @@ impl<F: Folder> Office<F> {
         ensures turn { TakesTurn self.old self.new guest.old guest.new }
         ensures idle { OnOk result (HasYetToAsk guest.old guest.new self.old.keeper.world self.new.keeper.world) }
         ensures told { OnlyHeard number (P.told outside.old.ports.now) (P.told outside.new.ports.now) }
+        ensures came { Comes (bytes_of number (P.told outside.old.ports.now).heard) (bytes_of number (P.told outside.new.ports.now).heard) guest.old guest.new self.old.keeper.world self.new.keeper.world }
         ensures lent { AreLent outside.old outside.new }
         ensures sent { guest.new.peer.sent ≡ guest.old.peer.sent }
         ensures kept { KeepsKeys (L.contents outside.old.files.now) (L.contents outside.new.files.now) self.old.keys self.new.keys }
@@ -241,6 +255,7 @@ impl<F: Folder> Office<F> {
         ensures turn { TakesTurn self.old self.new guest.old guest.new }
         ensures idle { OnOk result (HasYetToAsk guest.old guest.new self.old.keeper.world self.new.keeper.world) }
         ensures told { OnlyHeard number (P.told outside.old.ports.now) (P.told outside.new.ports.now) }
+        ensures came { Comes (bytes_of number (P.told outside.old.ports.now).heard) (bytes_of number (P.told outside.new.ports.now).heard) guest.old guest.new self.old.keeper.world self.new.keeper.world }
         ensures lent { AreLent outside.old outside.new }
         ensures sent { guest.new.peer.sent ≡ guest.old.peer.sent }
         ensures kept { KeepsKeys (L.contents outside.old.files.now) (L.contents outside.new.files.now) self.old.keys self.new.keys }
@@ -268,6 +283,7 @@ impl<F: Folder> Office<F> {
         ensures turn { TakesTurn self.old self.new guest.old guest.new }
         ensures idle { OnOk result (HasYetToAsk guest.old guest.new self.old.keeper.world self.new.keeper.world) }
         ensures told { OnlyHeard number (P.told ports.old) (P.told ports.new) }
+        ensures came { Comes (bytes_of number (P.told ports.old).heard) (bytes_of number (P.told ports.new).heard) guest.old guest.new self.old.keeper.world self.new.keeper.world }
         ensures sent { guest.new.peer.sent ≡ guest.old.peer.sent }
         ensures kept { KeepsKeys (L.contents files.old) (L.contents files.new) self.old.keys self.new.keys }
     {
@@ -296,6 +312,7 @@ impl<F: Folder> Office<F> {
         ensures served { (v : WorldView) → IsServed v guest.old → IsServed v guest.new }
         ensures guest { IsHeardOf guest.old guest.new }
         ensures told { OnlyHeard number (P.told ports.old) (P.told ports.new) }
+        ensures come { HasCome (bytes_of number (P.told ports.old).heard) guest.old → HasCome (bytes_of number (P.told ports.new).heard) guest.new }
         ensures files { (name : List ℕ) → L.contents files.new name ≡ L.contents files.old name }
     {
         let count = read_piece(ports, number, guest, room);
@@ -308,6 +325,8 @@ impl<F: Folder> Office<F> {
 
     // Takes bytes in that came. HTTP requests are answered at once.
     fn take_piece<L: Files>(&self, files: &mut L, guest: &mut Guest, piece: &[u8])
+        ensures shut { guest.new.standing ≡ standing.Open → guest.old.standing ≡ standing.Open }
+        ensures hears { guest.new.standing ≡ standing.Open → Hears guest.old.peer piece.now guest.new.peer }
         ensures served { (v : WorldView) → IsServed v guest.old → IsServed v guest.new }
         ensures guest { IsHeardOf guest.old guest.new }
         ensures files { (name : List ℕ) → L.contents files.new name ≡ L.contents files.old name }
@@ -344,6 +363,7 @@ impl<F: Folder> Office<F> {
         ensures served { OnOk result (IsServed self.new.keeper.world guest.new) }
         ensures turn { TakesTurn self.old self.new guest.old guest.new }
         ensures idle { OnOk result (HasYetToAsk guest.old guest.new self.old.keeper.world self.new.keeper.world) }
+        ensures came { (bytes : List ℕ) → Comes bytes bytes guest.old guest.new self.old.keeper.world self.new.keeper.world }
         ensures sent { guest.new.peer.sent ≡ guest.old.peer.sent }
         ensures kept { KeepsKeys (L.contents files.old) (L.contents files.new) self.old.keys self.new.keys }
     {
@@ -378,6 +398,7 @@ impl<F: Folder> Office<F> {
         ensures served { OnOk result (IsServed self.new.keeper.world guest.new) }
         ensures turn { TakesTurn self.old self.new guest.old guest.new }
         ensures idle { OnOk result (HasYetToAsk guest.old guest.new self.old.keeper.world self.new.keeper.world) }
+        ensures came { (bytes : List ℕ) → Comes bytes bytes guest.old guest.new self.old.keeper.world self.new.keeper.world }
         ensures sent { guest.new.peer.sent ≡ guest.old.peer.sent }
         ensures key { HasHeardKey guest.old.peer guest.old.key guest.new.key }
         ensures kept { KeepsKeys (L.contents files.old) (L.contents files.new) self.old.keys self.new.keys }
@@ -410,6 +431,7 @@ impl<F: Folder> Office<F> {
         ensures served { OnOk result (IsServed self.new.keeper.world guest.new) }
         ensures turn { TakesTurn self.old self.new guest.old guest.new }
         ensures idle { OnOk result (HasYetToAsk guest.old guest.new self.old.keeper.world self.new.keeper.world) }
+        ensures came { (bytes : List ℕ) → Comes bytes bytes guest.old guest.new self.old.keeper.world self.new.keeper.world }
         ensures sent { guest.new.peer.sent ≡ guest.old.peer.sent }
         ensures key { HasHeardKey guest.old.peer guest.old.key guest.new.key }
         ensures kept { KeepsKeys (L.contents files.old) (L.contents files.new) self.old.keys self.new.keys }
@@ -450,6 +472,8 @@ impl<F: Folder> Office<F> {
         ensures served { OnOk result (IsServed self.new.keeper.world guest.new) }
         ensures turn { TakesTurn self.old self.new guest.old guest.new }
         ensures idle { OnOk result (HasYetToAsk guest.old guest.new self.old.keeper.world self.new.keeper.world) }
+        ensures come { (bytes : List ℕ) → IsTaken (heards.Hello digest) bytes guest.old → HasCome bytes guest.new }
+        ensures nobody { AreAdded IsNoJoin self.old.keeper.world.history self.new.keeper.world.history }
         ensures sent { guest.new.peer.sent ≡ guest.old.peer.sent }
         ensures key { (guest.new.key ≡ guest.old.key) ⊎ (guest.new.key ≡ Some digest) }
         ensures kept { KeepsKeys (L.contents files.old) (L.contents files.new) self.old.keys self.new.keys }

@@ -1,7 +1,7 @@
 //! Observes that wait for news.
 ghost use Rattle.std.specs.Prelude.{◌≡◌, ◌≤◌, ◌<◌, ℕ, false, None, Some, IfSome, OnOk};
 ghost use Rattle.sv_office.specs.Entering.{GoesOn, KeepsOwn, AsksInOne, CameOfHeld, MayEnter, MayHold, WasReleased};
-ghost use Rattle.sv_office.specs.Guests.{HasYetToAsk};
+ghost use Rattle.sv_office.specs.Guests.{HasYetToAsk, Rests};
 ghost use Rattle.sv_office.specs.Holding.{IsHeld, IsWaiting};
 ghost use Rattle.sv_office.specs.Offices.{AreApart, session_of};
 ghost use Rattle.sv_office.specs.Telling.{IsServed};
@@ -48,6 +48,7 @@ impl<F: Folder> Office<F> {
         ensures manners { self.new.manners ≡ self.old.manners }
         ensures key { guest.new.key ≡ guest.old.key }
         ensures spoken { guest.new.has_spoken ≡ guest.old.has_spoken }
+        ensures rests { Rests guest.old guest.new }
         ensures sent { guest.new.peer.sent ≡ guest.old.peer.sent }
     {
         match guest.held.take() {

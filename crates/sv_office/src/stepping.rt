@@ -13,7 +13,7 @@ ghost use Rattle.sv_wire.specs.declared.message.Reply.{Reply};
 ghost use Rattle.sv_wire.specs.declared.message.Request.{Request};
 ghost use Rattle.sv_office.specs.Admitting.{is_admitted, is_stewards_number, number_in, shows_key};
 ghost use Rattle.sv_office.specs.Entering.{GoesOn, KeepsOwn, AsksInOne, IsEndOf, IsEnded, Follows, CameOf, CameOfAsking, MayHold, WasFollowed, WasAnswered, IsReport};
-ghost use Rattle.sv_office.specs.Guests.{HasYetToAsk, Stays};
+ghost use Rattle.sv_office.specs.Guests.{HasYetToAsk, Rests, Stays};
 ghost use Rattle.sv_office.specs.Offices.{AreApart, session_of};
 ghost use Rattle.sv_office.specs.Taking.{WasTaken};
 ghost use Rattle.sv_office.specs.Telling.{IsServed, IsOwed, WouldShowNothing, ShowsSomething};
@@ -120,6 +120,7 @@ fn tell(guest: &mut Guest, reply: &Reply)
     ensures served { (v : WorldView) → IsOwed v guest.old reply.now → IsServed v guest.new }
     ensures session { guest.new.session ≡ guest.old.session }
     ensures guest { Stays guest.old guest.new }
+    ensures rests { Rests guest.old guest.new }
 {
     read_reply(reply);
     if guest.peer.say(reply).is_err() {
@@ -158,6 +159,7 @@ impl<F: Folder> Office<F> {
         ensures spoken { guest.new.has_spoken ≡ true }
         ensures held { IfSome guest.new.held (λ held. held.request ≡ request) }
         ensures may_hold { MayHold self.old.keys guest.old.key guest.new.held }
+        ensures rests { Rests guest.old guest.new }
     {
         guest.heard = self.time;
         guest.has_spoken = true;
@@ -194,6 +196,7 @@ impl<F: Folder> Office<F> {
         ensures keys { self.new.keys ≡ self.old.keys }
         ensures manners { self.new.manners ≡ self.old.manners }
         ensures guest { Stays guest.old guest.new }
+        ensures rests { Rests guest.old guest.new }
         // An Observe that would show nothing is not entered.
         ensures quiet { self.old.keeper.is_broken ≡ false → (reply : Reply) → WouldShowNothing self.old.keeper.world guest.old request.now reply
             → self.new.keeper.world ≡ self.old.keeper.world }
@@ -235,6 +238,7 @@ impl<F: Folder> Office<F> {
         ensures keys { self.new.keys ≡ self.old.keys }
         ensures manners { self.new.manners ≡ self.old.manners }
         ensures guest { Stays guest.old guest.new }
+        ensures rests { Rests guest.old guest.new }
     {
         let session = asking_session(&self.keeper, guest.session);
         answers_are_messages(&self.keeper);
@@ -315,6 +319,7 @@ impl<F: Folder> Office<F> {
         ensures keys { self.new.keys ≡ self.old.keys }
         ensures manners { self.new.manners ≡ self.old.manners }
         ensures guest { Stays guest.old guest.new }
+        ensures rests { Rests guest.old guest.new }
     {
         let is_new = self.has_new_outcome(guest.client, before);
         count(&mut self.counts, is_new, reply);
@@ -343,6 +348,7 @@ impl<F: Folder> Office<F> {
         ensures keys { self.new.keys ≡ self.old.keys }
         ensures manners { self.new.manners ≡ self.old.manners }
         ensures guest { Stays guest.old guest.new }
+        ensures rests { Rests guest.old guest.new }
     {
         let Some(session) = guest.session else {
             return Ok(());

@@ -21,5 +21,6 @@ returns-clause-served g c =
 pub returns-clause-written : goal.returns-clause-written
 returns-clause-written g c v are =
     written_in c.args.number c.take.new.self _ c.send_out-then.new.guest c.put.ensures (subst (λ (guest : Guest). IsInStep guest.peer) c.get.ensures c.output.ensures.in_step)
-    (written_to c.args.number c.take.new.self c.in-Some.guest c.send_out-then.new.guest _ _ (lent_sends c.args.number _ _ _ _ _ c.get_mut.ensures.value c.send_out-then.ensures.bytes)
+    (written_to c.args.number c.take.new.self c.in-Some.guest c.send_out-then.new.guest _ _
+    (subst (λ (guest : Guest). WasSent guest c.send_out-then.new.guest) c.get_mut.ensures.value c.send_out-then.ensures.guest) (lent_sends c.args.number _ _ _ _ _ c.get_mut.ensures.value c.send_out-then.ensures.bytes)
     (written_out c.args.number c.args.guests.now _ c.in-Some.guest (sym c.take.ensures.item ∙ c.in-Some.is) c.take.ensures.left are))

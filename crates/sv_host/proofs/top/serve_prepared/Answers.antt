@@ -13,7 +13,7 @@ returns-in-Ok-clause-done g c = λ contents prepared read. ok_as c.serve_kept.re
     (asked_by c.args.options.now) _ _ c.args.prepared.file c.args.prepared.bytes.items c.in_ok-folder.folder c.in-Ok.keeper prepared
     c.in_ok-folder.ensures.opened c.in-Ok.ensures.opened)
     (ok_as c.serve_kept.result
-    (stopped_before (asked_by c.args.options.now).keys read.files g.S.F.Folder.disk g.S.F.Folder.is_honest c.in-Ok.keeper _ _ c.args.options.now.folder.now)
+    (stopped_before (asked_by c.args.options.now).keys read.files _ _ g.S.F.Folder.disk g.S.F.Folder.is_honest c.in-Ok.keeper _ _ c.args.options.now.folder.now)
     (c.serve_kept.ensures.done (asked_by c.args.options.now).keys (held_now (asked_by c.args.options.now).keys c.args.staff.keys read)))
 
 pub returns-in-Ok-clause-why : goal.returns-in-Ok-clause-why
@@ -22,7 +22,7 @@ returns-in-Ok-clause-why g c = λ contents prepared read. err_as c.serve_kept.re
     _ _ g.S.F.Folder.faults (g.S.Folders.refuses c.args.place.now.folders.now) (g.D.Doors.refuses c.args.place.now.doors.now)
     c.args.prepared.file c.args.prepared.bytes.items c.in_ok-folder.folder c.in-Ok.keeper prepared
     c.in_ok-folder.ensures.opened c.in-Ok.ensures.opened
-    (broke_before (asked_by c.args.options.now).keys read.files _ _ _ (c.serve_kept.ensures.broke (asked_by c.args.options.now).keys (held_now (asked_by c.args.options.now).keys c.args.staff.keys read))))
+    (broke_before (asked_by c.args.options.now).keys read.files _ _ _ _ _ (c.serve_kept.ensures.broke (asked_by c.args.options.now).keys (held_now (asked_by c.args.options.now).keys c.args.staff.keys read))))
     c.serve_kept.ensures.why
 
 pub returns-in-Ok-clause-wrote : goal.returns-in-Ok-clause-wrote
@@ -30,7 +30,7 @@ returns-in-Ok-clause-wrote g c = λ contents prepared read. on_err c.serve_kept.
     (broke_as g.S.F.Folder.disk g.S.F.Folder.is_honest (g.S.Folders.opens c.args.place.now.folders.now) contents
     (asked_by c.args.options.now) _ _ c.args.prepared.file c.args.prepared.bytes.items c.in_ok-folder.folder c.in-Ok.keeper prepared
     c.in_ok-folder.ensures.opened c.in-Ok.ensures.opened
-    (broke_before (asked_by c.args.options.now).keys read.files _ _ _ (c.serve_kept.ensures.broke (asked_by c.args.options.now).keys (held_now (asked_by c.args.options.now).keys c.args.staff.keys read))))
+    (broke_before (asked_by c.args.options.now).keys read.files _ _ _ _ _ (c.serve_kept.ensures.broke (asked_by c.args.options.now).keys (held_now (asked_by c.args.options.now).keys c.args.staff.keys read))))
 
 pub returns-in-Err-clause-why : goal.returns-in-Err-clause-why
 returns-in-Err-clause-why g c = λ contents prepared read. log_behind g.S.F.Folder.disk g.S.F.Folder.is_honest

@@ -10,6 +10,7 @@ invariant-loop g l = record {
   written : AreWritten l.fn.self.office.keeper.world (g.P.Ports.told l.fn.ports) l.fn.self.room.guests
       → AreWritten l.self.office.keeper.world (g.P.Ports.told l.ports) l.self.room.guests;
   input : LeftInput (g.P.Ports.told l.fn.ports) (g.P.Ports.told l.ports);
+  heard : (g.P.Ports.told l.ports).heard ≡ (g.P.Ports.told l.fn.ports).heard;
   world : l.self.office.keeper ≡ l.fn.self.office.keeper;
   keys : l.self.office.keys ≡ l.fn.self.office.keys;
 }

@@ -27,3 +27,4 @@ pub returns-else-is_err-clause-written : goal.returns-else-is_err-clause-written
 returns-else-is_err-clause-written g c =
     new_written _ c.args.number c.in-Ok.boxed c.args.self.now.room.guests _ c.push.result (sym c.is_err.ensures.value ∙ c.if-is_err.false) c.push.ensures.ok
     c.push.ensures.above (ap (λ (guest : Guest). guest.peer) c.in-Ok.ensures ∙ c.new-guest.ensures.peer)
+    (ap (λ (guest : Guest). guest.key) c.in-Ok.ensures ∙ c.new-guest.ensures.key)

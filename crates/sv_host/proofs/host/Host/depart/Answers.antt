@@ -1,6 +1,6 @@
 -- It is gone, and nothing was written to any.
 use Rattle.sv_host.proofs.Boxes.{lent_written}
-use Rattle.sv_host.proofs.Written.{closed_written}
+use Rattle.sv_host.proofs.Written.{closed_written, told_heard}
 use Rattle.sv_host.proofs.Joined.{nobody_office}
 use Rattle.sv_host.proofs.host.Host.depart.Goals as goal
 
@@ -11,3 +11,6 @@ returns-clause-written g c are =
 
 pub returns-in_default-clause-nobody : goal.returns-in_default-clause-nobody
 returns-in_default-clause-nobody g c = nobody_office c.in_default.ensures.office
+
+pub returns-clause-heard : goal.returns-clause-heard
+returns-clause-heard g c = told_heard c.close.ensures

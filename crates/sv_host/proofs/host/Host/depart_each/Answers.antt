@@ -1,5 +1,5 @@
 -- One after the other.
-use Rattle.std.proofs.Common.{refl}
+use Rattle.std.proofs.Common.{refl, ◌∙◌}
 use Rattle.sv_host.proofs.Joined.{nobody_same, nobody_then}
 use Rattle.sv_host.proofs.Written.{continues_same, continues_then, wrote_same, wrote_then}
 use Rattle.sv_host.proofs.host.Host.depart_each.Goals as goal
@@ -11,6 +11,7 @@ loop-number-init g c = record {
   goes = continues_same refl;
   nobody = nobody_same refl refl;
   still = wrote_same refl;
+  heard = refl;
 }
 
 pub returns-in_err-depart-clause-nobody : goal.returns-in_err-depart-clause-nobody
@@ -23,4 +24,5 @@ loop-number-preserved g c = record {
   goes = continues_then c.loop-number.invariant.goes c.in_ok-depart.ensures.goes;
   nobody = nobody_then c.loop-number.invariant.nobody c.in_ok-depart.ensures.nobody;
   still = wrote_then c.loop-number.invariant.still c.in_ok-depart.ensures.still;
+  heard = c.in_ok-depart.ensures.heard ∙ c.loop-number.invariant.heard;
 }

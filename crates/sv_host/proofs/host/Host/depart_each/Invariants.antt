@@ -1,4 +1,5 @@
 -- The connections so far are gone.
+use Rattle.std.proofs.Common.{◌≡◌}
 use Rattle.sv_office.specs.Offices.{session_of}
 use Rattle.sv_host.specs.Joining.{LetsNobodyIn}
 use Rattle.sv_host.specs.Rooms.{AreServed, AreWritten, Continues, WroteNothing}
@@ -12,4 +13,5 @@ invariant-loop-number g l = record {
   goes : Continues l.fn.self.office.keeper.world l.self.office.keeper.world;
   nobody : LetsNobodyIn l.fn.self.office.keys l.self.office.keys l.fn.self.office.keeper.world l.self.office.keeper.world;
   still : WroteNothing (g.P.Ports.told l.fn.ports) (g.P.Ports.told l.ports);
+  heard : (g.P.Ports.told l.ports).heard ≡ (g.P.Ports.told l.fn.ports).heard;
 }

@@ -11,8 +11,9 @@ invariant-loop-number g l = record {
   written : AreWritten l.fn.self.office.keeper.world (g.P.Ports.told l.fn.outside.ports.now) l.fn.self.room.guests
       → AreWritten l.self.office.keeper.world (g.P.Ports.told l.outside.ports.now) l.self.room.guests;
   goes : Continues l.fn.self.office.keeper.world l.self.office.keeper.world;
-  joins : LetsIn (g.L.Files.contents l.fn.outside.files.now) (g.L.Files.contents l.outside.files.now) l.fn.self.office.keys l.self.office.keys l.fn.self.office.keeper.world
-      l.self.office.keeper.world;
+  joins : LetsIn (g.L.Files.contents l.fn.outside.files.now) (g.L.Files.contents l.outside.files.now) l.fn.self.office.keys l.self.office.keys
+      (AreWritten l.fn.self.office.keeper.world (g.P.Ports.told l.fn.outside.ports.now) l.fn.self.room.guests) (g.P.Ports.told l.fn.outside.ports.now)
+      (g.P.Ports.told l.outside.ports.now) l.fn.self.office.keeper.world l.self.office.keeper.world;
   still : WroteNothing (g.P.Ports.told l.fn.outside.ports.now) (g.P.Ports.told l.outside.ports.now);
   lent : l.outside.ports.ghost_name ≡ l.fn.outside.ports.ghost_name;
 }

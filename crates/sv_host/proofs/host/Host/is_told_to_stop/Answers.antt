@@ -2,7 +2,7 @@
 use Rattle.std.proofs.Common.{inl, take, ap}
 use Rattle.sv_ports.specs.Told.{Told}
 use Rattle.sv_host.proofs.Behind.{read_as, read_on}
-use Rattle.sv_host.proofs.Written.{left_equal, written_read}
+use Rattle.sv_host.proofs.Written.{left_equal, read_heard, written_read}
 use Rattle.sv_host.proofs.host.Host.is_told_to_stop.Goals as goal
 
 pub returns-in-Got-clause-written : goal.returns-in-Got-clause-written
@@ -27,3 +27,15 @@ returns-in-Ended-clause-stops g c read = inl (ap (λ (t : Told). t.input_ended) 
 
 pub returns-in-Failed-clause-written : goal.returns-in-Failed-clause-written
 returns-in-Failed-clause-written g c = written_read c.args.self.now.room.guests _ _ c.read_input.new.into c.read_input.result c.read_input.ensures
+
+pub returns-in-Got-clause-heard : goal.returns-in-Got-clause-heard
+returns-in-Got-clause-heard g c = read_heard _ _ c.read_input.new.into c.read_input.result c.read_input.ensures
+
+pub returns-in-NotYet-clause-heard : goal.returns-in-NotYet-clause-heard
+returns-in-NotYet-clause-heard g c = read_heard _ _ c.read_input.new.into c.read_input.result c.read_input.ensures
+
+pub returns-in-Ended-clause-heard : goal.returns-in-Ended-clause-heard
+returns-in-Ended-clause-heard g c = read_heard _ _ c.read_input.new.into c.read_input.result c.read_input.ensures
+
+pub returns-in-Failed-clause-heard : goal.returns-in-Failed-clause-heard
+returns-in-Failed-clause-heard g c = read_heard _ _ c.read_input.new.into c.read_input.result c.read_input.ensures

@@ -1,6 +1,7 @@
 -- What was held is answered.
 use Rattle.std.proofs.Common.{refl}
 use Rattle.sv_office.specs.Offices.{session_of}
+use Rattle.sv_office.proofs.Coming.{come_rests}
 use Rattle.sv_host.proofs.Joined.{nobody_released, nobody_same}
 use Rattle.sv_host.proofs.Loop1.{released_out}
 use Rattle.sv_host.proofs.Written.{continues, out_later}
@@ -13,7 +14,9 @@ returns-clause-taken g c =
 
 pub returns-clause-written : goal.returns-clause-written
 returns-clause-written g c told n =
-    out_later c.is_lawful.ensures.order c.in_ok-release.ensures.added n c.args.self.now.room.guests c.args.guest.now _ c.in_ok-release.ensures.sent
+    out_later c.is_lawful.ensures.order c.in_ok-release.ensures.added n c.args.self.now.room.guests c.args.guest.now _ c.in_ok-release.ensures.sent (λ bytes.
+    come_rests bytes c.args.guest.now c.release.new.guest (λ lives. c.is_open.ensures.0 c.if-not-is_open.false) c.in_ok-release.ensures.rests
+    c.in_ok-release.ensures.key c.in_ok-release.ensures.spoken)
 
 pub returns-in_err-release-clause-goes : goal.returns-in_err-release-clause-goes
 returns-in_err-release-clause-goes g c = continues c.release.ensures.added

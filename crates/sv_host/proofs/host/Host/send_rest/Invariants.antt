@@ -1,4 +1,5 @@
 -- Some was sent.
+use Rattle.std.proofs.Common.{◌≡◌}
 use Rattle.sv_office.specs.Offices.{session_of}
 use Rattle.sv_host.specs.Joining.{LetsNobodyIn}
 use Rattle.sv_host.specs.Rooms.{AreServed, AreWritten, Continues, LeftInput}
@@ -10,6 +11,7 @@ invariant-loop g l = record {
   written : AreWritten l.fn.self.office.keeper.world (g.P.Ports.told l.fn.ports) l.fn.self.room.guests
       → AreWritten l.self.office.keeper.world (g.P.Ports.told l.ports) l.self.room.guests;
   input : LeftInput (g.P.Ports.told l.fn.ports) (g.P.Ports.told l.ports);
+  heard : (g.P.Ports.told l.ports).heard ≡ (g.P.Ports.told l.fn.ports).heard;
   goes : Continues l.fn.self.office.keeper.world l.self.office.keeper.world;
   nobody : LetsNobodyIn l.fn.self.office.keys l.self.office.keys l.fn.self.office.keeper.world l.self.office.keeper.world;
 }

@@ -34,7 +34,7 @@ loop-init g c = record {
   served = c.requires.served;
   written = λ are. are;
   goes = continues_same refl;
-  joins = lets_same refl refl refl;
+  joins = lets_same refl refl refl refl;
   input = λ fresh. read_nothing _ _ c.new-input.ensures fresh;
   lent = refl;
 }
@@ -46,13 +46,15 @@ loop-preserved g c = record {
   served = c.in_ok-turn.ensures.served;
   written = λ are. c.in_ok-turn.ensures.written (c.loop.invariant.written are);
   goes = continues_then c.loop.invariant.goes c.turn.ensures.goes;
-  joins = lets_then c.loop.invariant.joins c.turn.ensures.joins;
+  joins = lets_then c.loop.invariant.written c.loop.invariant.joins c.turn.ensures.joins;
   input = λ fresh. c.in_ok-turn.ensures.on (c.loop.invariant.input fresh) c.in-On.is;
   lent = c.turn.ensures.lent ∙ c.loop.invariant.lent;
 }
 
 pub returns-in_err-turn-clause-joins : goal.returns-in_err-turn-clause-joins
-returns-in_err-turn-clause-joins g c = (lets_then c.loop.invariant.joins c.turn.ensures.joins).join
+returns-in_err-turn-clause-joins g c = (lets_then c.loop.invariant.written c.loop.invariant.joins c.turn.ensures.joins).join
 
 pub returns-in-Stops-clause-joins : goal.returns-in-Stops-clause-joins
-returns-in-Stops-clause-joins g c = (lets_then c.loop.invariant.joins (lets_then c.turn.ensures.joins (lets_nobody _ c.stop.ensures.nobody))).join
+returns-in-Stops-clause-joins g c =
+    (lets_then c.loop.invariant.written c.loop.invariant.joins
+    (lets_then c.in_ok-turn.ensures.written c.turn.ensures.joins (lets_nobody _ c.stop.ensures.heard c.stop.ensures.nobody))).join

@@ -15,8 +15,9 @@ invariant-loop g l = record {
   written : AreWritten l.fn.self.office.keeper.world (g.P.Ports.told l.fn.outside.ports.now) l.fn.self.room.guests
       → AreWritten l.self.office.keeper.world (g.P.Ports.told l.outside.ports.now) l.self.room.guests;
   goes : Continues l.fn.self.office.keeper.world l.self.office.keeper.world;
-  joins : LetsIn (g.L.Files.contents l.fn.outside.files.now) (g.L.Files.contents l.outside.files.now) l.fn.self.office.keys l.self.office.keys l.fn.self.office.keeper.world
-      l.self.office.keeper.world;
+  joins : LetsIn (g.L.Files.contents l.fn.outside.files.now) (g.L.Files.contents l.outside.files.now) l.fn.self.office.keys l.self.office.keys
+      (AreWritten l.fn.self.office.keeper.world (g.P.Ports.told l.fn.outside.ports.now) l.fn.self.room.guests) (g.P.Ports.told l.fn.outside.ports.now)
+      (g.P.Ports.told l.outside.ports.now) l.fn.self.office.keeper.world l.self.office.keeper.world;
   input : g.P.Ports.told l.fn.outside.ports.now ≡ nothing_told → IsReadTo (g.P.Ports.told l.outside.ports.now) l.input;
   lent : l.outside.ports.ghost_name ≡ l.fn.outside.ports.ghost_name;
 }

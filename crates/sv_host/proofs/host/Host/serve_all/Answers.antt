@@ -39,14 +39,15 @@ returns-clause-past g c are =
 
 pub returns-in_err-hear_all-clause-joins : goal.returns-in_err-hear_all-clause-joins
 returns-in_err-hear_all-clause-joins g c =
-    lets_then (lets_nobody _ (nobody_kept c.accept.ensures.keys c.accept.ensures.world)) c.hear_all.ensures.joins
+    lets_then c.accept.ensures.written (lets_nobody _ c.accept.ensures.heard (nobody_kept c.accept.ensures.keys c.accept.ensures.world)) c.hear_all.ensures.joins
 
 pub returns-in_err-do_due-clause-joins : goal.returns-in_err-do_due-clause-joins
 returns-in_err-do_due-clause-joins g c =
-    lets_then (lets_nobody _ (nobody_kept c.accept.ensures.keys c.accept.ensures.world))
-    (lets_then c.hear_all.ensures.joins (lets_nobody _ c.do_due.ensures.nobody))
+    lets_then c.accept.ensures.written (lets_nobody _ c.accept.ensures.heard (nobody_kept c.accept.ensures.keys c.accept.ensures.world))
+    (lets_then c.in_ok-hear_all.ensures.written c.hear_all.ensures.joins (lets_nobody _ refl c.do_due.ensures.nobody))
 
 pub returns-clause-joins : goal.returns-clause-joins
 returns-clause-joins g c =
-    lets_then (lets_nobody _ (nobody_kept c.accept.ensures.keys c.accept.ensures.world))
-    (lets_then c.hear_all.ensures.joins (lets_then (lets_nobody _ c.do_due.ensures.nobody) (lets_nobody _ c.send.ensures.nobody)))
+    lets_then c.accept.ensures.written (lets_nobody _ c.accept.ensures.heard (nobody_kept c.accept.ensures.keys c.accept.ensures.world))
+    (lets_then c.in_ok-hear_all.ensures.written c.hear_all.ensures.joins
+    (lets_then (c.in_ok-do_due.ensures.written _) (lets_nobody _ refl c.do_due.ensures.nobody) (lets_nobody _ c.send.ensures.heard c.send.ensures.nobody)))

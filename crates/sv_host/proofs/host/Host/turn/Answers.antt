@@ -53,24 +53,24 @@ returns-clause-on g c read is =
     read_as _ _ _ c.in_ok-serve_all.ensures.input (match_false _ _ c.if-branch.false (c.in_ok-is_told_to_stop.ensures.stops (read_as _ _ c.args.input.now c.wait.ensures.still.left read)))
 
 pub returns-in_err-wait-clause-joins : goal.returns-in_err-wait-clause-joins
-returns-in_err-wait-clause-joins g c = lets_nobody _ (nobody_kept c.wait.ensures.keys c.wait.ensures.world)
+returns-in_err-wait-clause-joins g c = lets_nobody _ c.wait.ensures.heard (nobody_kept c.wait.ensures.keys c.wait.ensures.world)
 
 pub returns-in_err-is_told_to_stop-clause-joins : goal.returns-in_err-is_told_to_stop-clause-joins
 returns-in_err-is_told_to_stop-clause-joins g c =
-    lets_then (lets_nobody _ (nobody_kept c.wait.ensures.keys c.wait.ensures.world))
-    (lets_nobody _ (nobody_kept c.is_told_to_stop.ensures.keys c.is_told_to_stop.ensures.world))
+    lets_then c.wait.ensures.written (lets_nobody _ c.wait.ensures.heard (nobody_kept c.wait.ensures.keys c.wait.ensures.world))
+    (lets_nobody _ c.is_told_to_stop.ensures.heard (nobody_kept c.is_told_to_stop.ensures.keys c.is_told_to_stop.ensures.world))
 
 pub returns-then-branch-clause-joins : goal.returns-then-branch-clause-joins
 returns-then-branch-clause-joins g c =
-    lets_then (lets_nobody _ (nobody_kept c.wait.ensures.keys c.wait.ensures.world))
-    (lets_nobody _ (nobody_kept c.is_told_to_stop.ensures.keys c.is_told_to_stop.ensures.world))
+    lets_then c.wait.ensures.written (lets_nobody _ c.wait.ensures.heard (nobody_kept c.wait.ensures.keys c.wait.ensures.world))
+    (lets_nobody _ c.is_told_to_stop.ensures.heard (nobody_kept c.is_told_to_stop.ensures.keys c.is_told_to_stop.ensures.world))
 
 pub returns-in_err-serve_all-clause-joins : goal.returns-in_err-serve_all-clause-joins
 returns-in_err-serve_all-clause-joins g c =
-    lets_then (lets_nobody _ (nobody_kept c.wait.ensures.keys c.wait.ensures.world))
-    (lets_then (lets_nobody _ (nobody_kept c.is_told_to_stop.ensures.keys c.is_told_to_stop.ensures.world)) c.serve_all.ensures.joins)
+    lets_then c.wait.ensures.written (lets_nobody _ c.wait.ensures.heard (nobody_kept c.wait.ensures.keys c.wait.ensures.world))
+    (lets_then c.is_told_to_stop.ensures.written (lets_nobody _ c.is_told_to_stop.ensures.heard (nobody_kept c.is_told_to_stop.ensures.keys c.is_told_to_stop.ensures.world)) c.serve_all.ensures.joins)
 
 pub returns-clause-joins : goal.returns-clause-joins
 returns-clause-joins g c =
-    lets_then (lets_nobody _ (nobody_kept c.wait.ensures.keys c.wait.ensures.world))
-    (lets_then (lets_nobody _ (nobody_kept c.is_told_to_stop.ensures.keys c.is_told_to_stop.ensures.world)) c.serve_all.ensures.joins)
+    lets_then c.wait.ensures.written (lets_nobody _ c.wait.ensures.heard (nobody_kept c.wait.ensures.keys c.wait.ensures.world))
+    (lets_then c.is_told_to_stop.ensures.written (lets_nobody _ c.is_told_to_stop.ensures.heard (nobody_kept c.is_told_to_stop.ensures.keys c.is_told_to_stop.ensures.world)) c.serve_all.ensures.joins)

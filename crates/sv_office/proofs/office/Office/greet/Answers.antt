@@ -1,11 +1,14 @@
 -- It was asked what is misshapen, or nothing; or the keys were looked at.
 use Rattle.std.proofs.Common.{Some, inl, inr, refl, sym, ap, ◌∙◌}
 use Rattle.sv_wire.specs.declared.message.Request.TheVariants as requests
+use Rattle.sv_peer.specs.declared.heard.Heard.TheVariants as heard
 use Rattle.sv_office.specs.declared.guest.Guest.{Guest}
 use Rattle.sv_office.proofs.Asking.{may_hold_with}
 use Rattle.sv_office.proofs.Hearing2.{turn_asked, turn_looked, turn_nowhere}
 use Rattle.sv_office.proofs.Stepping1.{gone_shut, may_hold_none, yet_same, yet_shut}
 use Rattle.sv_office.proofs.Renewed.{kept_same}
+use Rattle.sv_office.proofs.Came.{nobody_asked, nobody_same}
+use Rattle.sv_office.proofs.Coming.{come_asked, come_passed, come_shown, come_shut}
 use Rattle.sv_office.proofs.office.Office.greet.Goals as goal
 
 pub returns-then-guest-clause-turn : goal.returns-then-guest-clause-turn
@@ -53,3 +56,34 @@ returns-then-look-clause-key g c = inr refl
 
 pub returns-clause-key : goal.returns-clause-key
 returns-clause-key g c = inl (ap (λ (guest : Guest). guest.key) c.leave.ensures)
+
+pub returns-then-guest-clause-come : goal.returns-then-guest-clause-come
+returns-then-guest-clause-come g c = λ bytes is.
+    come_asked (heard.Hello c.args.digest) bytes c.args.guest.now c.take_request.new.guest c.requires.open c.take_request.ensures.rests c.take_request.ensures.key
+    c.take_request.ensures.spoken is
+
+pub returns-then-guest-clause-nobody : goal.returns-then-guest-clause-nobody
+returns-then-guest-clause-nobody g c =
+    nobody_asked _ _ _ c.args.guest.now requests.Bad refl c.take_request.ensures.added.added
+
+pub returns-in_default-clause-come : goal.returns-in_default-clause-come
+returns-in_default-clause-come g c = λ bytes is. come_passed c.args.digest bytes c.args.guest.now is
+
+pub returns-in_default-clause-nobody : goal.returns-in_default-clause-nobody
+returns-in_default-clause-nobody g c =
+    nobody_same refl
+
+pub returns-then-look-clause-come : goal.returns-then-look-clause-come
+returns-then-look-clause-come g c = λ bytes is.
+    come_shown c.args.digest bytes c.args.guest.now _ c.requires.open (record { manner = refl; heard = refl; shown = refl }) refl refl c.if-guest.false is
+
+pub returns-then-look-clause-nobody : goal.returns-then-look-clause-nobody
+returns-then-look-clause-nobody g c =
+    nobody_same refl
+
+pub returns-clause-come : goal.returns-clause-come
+returns-clause-come g c = λ bytes is. come_shut bytes _ (gone_shut (ap (λ (guest : Guest). guest.standing) c.leave.ensures))
+
+pub returns-clause-nobody : goal.returns-clause-nobody
+returns-clause-nobody g c =
+    nobody_same refl

@@ -6,6 +6,9 @@ use Rattle.sv_office.proofs.Hearing2.{holds_still, shows_same, turn_heard}
 use Rattle.sv_office.proofs.Leaving.{served_still}
 use Rattle.sv_office.proofs.Turning.{keeps_one, one_nowhere}
 use Rattle.sv_office.proofs.Renewed.{kept_same, kept_then}
+use Rattle.sv_office.proofs.Came.{comes_from, comes_nobody, nobody_same}
+use Rattle.sv_office.proofs.Coming.{come_rests, come_shut}
+use Rattle.sv_office.proofs.Stepping1.{not_open}
 use Rattle.sv_office.proofs.office.Office.hear.Goals as goal
 
 pub returns-then-not-is_open-clause-served : goal.returns-then-not-is_open-clause-served
@@ -116,3 +119,18 @@ returns-then-not-take_waiting-clause-kept g c = kept_same c.take_waiting.ensures
 
 pub returns-clause-kept : goal.returns-clause-kept
 returns-clause-kept g c = kept_then (kept_same c.take_waiting.ensures.files refl) c.take_all.ensures.kept
+
+pub returns-then-not-is_open-clause-came : goal.returns-then-not-is_open-clause-came
+returns-then-not-is_open-clause-came g c =
+    comes_nobody _ _ c.args.guest.now _ (λ before.
+    come_shut _ _ (λ lives. not_open c.if-not-is_open.true c.is_open.ensures.1 (c.drain.ensures.shut lives))) (nobody_same refl)
+
+pub returns-then-not-take_waiting-clause-came : goal.returns-then-not-take_waiting-clause-came
+returns-then-not-take_waiting-clause-came g c =
+    comes_nobody _ _ c.args.guest.now _ (λ before. c.take_waiting.ensures.come _
+    (come_rests _ c.args.guest.now _ (λ lives. lives) (record { manner = refl; heard = refl; shown = refl }) refl refl before)) (nobody_same refl)
+
+pub returns-clause-came : goal.returns-clause-came
+returns-clause-came g c =
+    comes_from c.args.guest.now c.take_waiting.new.guest _ (λ before. c.take_waiting.ensures.come _
+    (come_rests _ c.args.guest.now _ (λ lives. lives) (record { manner = refl; heard = refl; shown = refl }) refl refl before)) c.take_all.ensures.came

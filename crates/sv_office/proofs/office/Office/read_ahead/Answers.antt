@@ -2,6 +2,7 @@
 use Rattle.std.proofs.Common.{inl, refl}
 use Rattle.sv_office.proofs.Hearing2.{turn_nowhere}
 use Rattle.sv_office.proofs.Renewed.{kept_same}
+use Rattle.sv_office.proofs.Came.{comes_nowhere}
 use Rattle.sv_office.proofs.office.Office.read_ahead.Goals as goal
 
 pub returns-then-guest-clause-turn : goal.returns-then-guest-clause-turn
@@ -10,3 +11,7 @@ returns-then-guest-clause-turn g c =
 
 pub returns-then-guest-clause-kept : goal.returns-then-guest-clause-kept
 returns-then-guest-clause-kept g c = kept_same (λ name. refl) refl
+
+pub returns-then-guest-clause-came : goal.returns-then-guest-clause-came
+returns-then-guest-clause-came g c =
+    comes_nowhere _ _

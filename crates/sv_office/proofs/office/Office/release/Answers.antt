@@ -48,3 +48,7 @@ returns-in-None-clause-idle g c = yet_same refl refl
 
 pub answer-requires-clause-another : goal.answer-requires-clause-another
 answer-requires-clause-another g c = observes_another _ c.in-Some.held.observes
+
+pub returns-in-Some-clause-rests : goal.returns-in-Some-clause-rests
+returns-in-Some-clause-rests g c =
+    record { manner = c.answer.ensures.rests.manner; heard = c.answer.ensures.rests.heard; shown = c.answer.ensures.rests.shown }

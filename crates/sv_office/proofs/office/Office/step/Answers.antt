@@ -120,3 +120,7 @@ returns-in-Err-clause-answered g c =
     answered_ended c.end.result (session_of c.args.self.now.steward) c.args.self.now.manners.authority c.args.guest.now.session c.leave-in-Err.new.self.session
     c.end.new.guest.session c.args.self.now.keeper.world c.enter.new.keeper.world c.end.new.self.keeper.world c.args.request.now
     (ap (λ (x : Guest). x.session) c.leave-in-Err.ensures) (first_of (grind (arith, common_steps), search rules)) c.end.ensures.ended
+
+pub returns-in-Ok-clause-rests : goal.returns-in-Ok-clause-rests
+returns-in-Ok-clause-rests g c =
+    record { manner = c.take_reply.ensures.rests.manner; heard = c.take_reply.ensures.rests.heard; shown = c.take_reply.ensures.rests.shown }

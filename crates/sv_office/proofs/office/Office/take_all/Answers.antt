@@ -1,8 +1,10 @@
 -- One read after the other.
-use Rattle.std.proofs.Common.{inl, refl, ◌∙◌}
+use Rattle.std.proofs.Common.{inl, refl, ◌∙◌, [], sym, append-nil}
 use Rattle.sv_office.proofs.Hearing2.{heard_nothing, heard_then, lent_then, turn_apart, turn_nowhere, turn_then}
 use Rattle.sv_office.proofs.Stepping1.{yet_same, yet_then}
 use Rattle.sv_office.proofs.Renewed.{kept_same, kept_then}
+use Rattle.sv_office.proofs.Came.{comes_nowhere, comes_then, comes_then_nobody, nobody_same}
+use Rattle.sv_office.proofs.Coming.{come_rests}
 use Rattle.sv_office.proofs.office.Office.take_all.Goals as goal
 
 pub loop-init : goal.loop-init
@@ -13,6 +15,7 @@ loop-init g c = record {
   kept = kept_same (λ name. refl) refl;
   idle = yet_same refl refl;
   told = heard_nothing _ _ _ refl;
+  came = comes_nowhere _ _;
   sent = refl;
   lent = record { ports = refl; files = refl; err = refl };
 }
@@ -45,6 +48,8 @@ loop-preserved g c = record {
   kept = kept_then c.loop.invariant.kept c.take_and_read.ensures.kept;
   idle = yet_then c.loop.invariant.idle c.loop.invariant.open_still c.in_ok-take_and_read.ensures.idle;
   told = heard_then _ _ _ _ c.loop.invariant.told c.take_and_read.ensures.told;
+  came = comes_then c.args.self.now c.loop.self _ c.args.guest.now c.loop.guest _ c.loop.invariant.turn c.take_and_read.ensures.turn
+      c.take_and_read.ensures.told.more c.take_and_read.ensures.told.own c.loop.invariant.came c.take_and_read.ensures.came;
   sent = c.take_and_read.ensures.sent ∙ c.loop.invariant.sent;
   lent = lent_then _ _ _ c.loop.invariant.lent c.take_and_read.ensures.lent;
 }
@@ -54,3 +59,18 @@ returns-in_err-take_and_read-clause-kept g c = kept_then c.loop.invariant.kept c
 
 pub returns-in-Over-clause-kept : goal.returns-in-Over-clause-kept
 returns-in-Over-clause-kept g c = kept_then c.loop.invariant.kept c.take_and_read.ensures.kept
+
+pub returns-in_err-take_and_read-clause-came : goal.returns-in_err-take_and_read-clause-came
+returns-in_err-take_and_read-clause-came g c =
+    comes_then c.args.self.now c.loop.self _ c.args.guest.now c.loop.guest _ c.loop.invariant.turn c.take_and_read.ensures.turn
+    c.take_and_read.ensures.told.more c.take_and_read.ensures.told.own c.loop.invariant.came c.take_and_read.ensures.came
+
+pub returns-in-Over-clause-came : goal.returns-in-Over-clause-came
+returns-in-Over-clause-came g c =
+    comes_then c.args.self.now c.loop.self _ c.args.guest.now c.loop.guest _ c.loop.invariant.turn c.take_and_read.ensures.turn
+    c.take_and_read.ensures.told.more c.take_and_read.ensures.told.own c.loop.invariant.came c.take_and_read.ensures.came
+
+pub returns-clause-came : goal.returns-clause-came
+returns-clause-came g c =
+    comes_then_nobody c.args.guest.now c.loop.guest _ [] (sym (append-nil _)) c.loop.invariant.came
+    (come_rests _ c.loop.guest _ (λ lives. lives) (record { manner = refl; heard = refl; shown = refl }) refl refl) refl (nobody_same refl)

@@ -2,6 +2,7 @@
 use Rattle.sv_office.proofs.Hearing2.{turn_apart, turn_then}
 use Rattle.sv_office.proofs.Stepping1.{yet_then_ok}
 use Rattle.sv_office.proofs.Renewed.{kept_then}
+use Rattle.sv_office.proofs.Came.{comes_then}
 use Rattle.sv_office.proofs.office.Office.take_and_read.Goals as goal
 
 pub read_guest-requires-clause-apart : goal.read_guest-requires-clause-apart
@@ -20,3 +21,16 @@ returns-in-On-clause-idle g c =
 
 pub returns-in-On-clause-kept : goal.returns-in-On-clause-kept
 returns-in-On-clause-kept g c = kept_then c.take_requests.ensures.kept c.read_guest.ensures.kept
+
+pub returns-in-On-clause-came : goal.returns-in-On-clause-came
+returns-in-On-clause-came g c =
+    comes_then _ c.take_requests.new.self _ _ c.take_requests.new.guest _ c.take_requests.ensures.turn c.read_guest.ensures.turn c.read_guest.ensures.told.more
+    c.read_guest.ensures.told.own (c.take_requests.ensures.came _) c.read_guest.ensures.came
+
+pub returns-in_err-take_requests-clause-came : goal.returns-in_err-take_requests-clause-came
+returns-in_err-take_requests-clause-came g c =
+    c.take_requests.ensures.came _
+
+pub returns-in-Over-clause-came : goal.returns-in-Over-clause-came
+returns-in-Over-clause-came g c =
+    c.take_requests.ensures.came _

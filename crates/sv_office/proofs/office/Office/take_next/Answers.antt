@@ -1,9 +1,11 @@
 -- It was answered, and maybe its session has its End.
 use Rattle.sv_office.proofs.Hearing2.{turn_then_ended}
 use Rattle.sv_office.proofs.Stepping1.{end_shut, not_open, yet_shut}
-use Rattle.std.proofs.Common.{refl}
+use Rattle.std.proofs.Common.{refl, [], sym, append-nil}
 use Rattle.sv_office.proofs.Showing.{heard_still}
 use Rattle.sv_office.proofs.Renewed.{kept_same, kept_then}
+use Rattle.sv_office.proofs.Came.{comes_then_nobody, nobody_ends}
+use Rattle.sv_office.proofs.Coming.{come_rests}
 use Rattle.sv_office.proofs.office.Office.take_next.Goals as goal
 
 pub returns-in_err-end-clause-turn : goal.returns-in_err-end-clause-turn
@@ -30,3 +32,15 @@ returns-in_err-end-clause-key g c = heard_still _ c.end.ensures.guest.key c.take
 
 pub returns-then-not-is_open-clause-key : goal.returns-then-not-is_open-clause-key
 returns-then-not-is_open-clause-key g c = heard_still _ c.end.ensures.guest.key c.take_one.ensures.key
+
+pub returns-in_err-end-clause-came : goal.returns-in_err-end-clause-came
+returns-in_err-end-clause-came g c = λ bytes.
+    comes_then_nobody c.args.guest.now c.take_one.new.guest c.end.new.guest [] (sym (append-nil bytes)) (c.take_one.ensures.came bytes)
+    (come_rests bytes c.take_one.new.guest c.end.new.guest (λ lives. (c.end.ensures.open lives).0) c.end.ensures.rests c.end.ensures.guest.key c.end.ensures.guest.spoken)
+    c.end.ensures.guest.key (nobody_ends c.end.ensures.added.added)
+
+pub returns-then-not-is_open-clause-came : goal.returns-then-not-is_open-clause-came
+returns-then-not-is_open-clause-came g c = λ bytes.
+    comes_then_nobody c.args.guest.now c.take_one.new.guest c.end.new.guest [] (sym (append-nil bytes)) (c.take_one.ensures.came bytes)
+    (come_rests bytes c.take_one.new.guest c.end.new.guest (λ lives. (c.end.ensures.open lives).0) c.end.ensures.rests c.end.ensures.guest.key c.end.ensures.guest.spoken)
+    c.end.ensures.guest.key (nobody_ends c.end.ensures.added.added)

@@ -1,10 +1,14 @@
 -- It was asked something, or nothing.
-use Rattle.std.proofs.Common.{inl, inr, refl, ap}
+use Rattle.std.proofs.Common.{inl, inr, refl, ap, sym, ◌∙◌}
+use Rattle.sv_peer.specs.declared.heard.Heard.TheVariants as heard
 use Rattle.sv_office.specs.declared.guest.Guest.{Guest}
 use Rattle.sv_office.proofs.Hearing2.{turn_asked, turn_nowhere}
 use Rattle.sv_office.proofs.Showing.{heard_key}
-use Rattle.sv_office.proofs.Stepping1.{yet_same}
+use Rattle.sv_office.proofs.Stepping1.{yet_same, gone_shut}
 use Rattle.sv_office.proofs.Renewed.{kept_same}
+use Rattle.sv_office.proofs.Came.{comes_asked, comes_nobody, nobody_same}
+use Rattle.sv_office.proofs.Coming.{come_shut, next_quiet, next_taken}
+use Rattle.sv_office.proofs.Served.{closed_shut}
 use Rattle.sv_office.proofs.office.Office.take_one.Goals as goal
 
 pub returns-in_err-take_request-in-Request-clause-turn : goal.returns-in_err-take_request-in-Request-clause-turn
@@ -75,3 +79,29 @@ returns-in_err-greet-in-Hello-clause-key g c = heard_key _ _ c.in-Hello.digest c
 
 pub returns-in_ok-greet-in-Hello-clause-key : goal.returns-in_ok-greet-in-Hello-clause-key
 returns-in_ok-greet-in-Hello-clause-key g c = heard_key _ _ c.in-Hello.digest c.in-Hello.ensures.next c.greet.ensures.key
+
+pub returns-in_err-take_request-in-Request-clause-came : goal.returns-in_err-take_request-in-Request-clause-came
+returns-in_err-take_request-in-Request-clause-came g c = λ bytes. comes_asked bytes c.args.guest.now c.take_request.new.guest _ _ _ _ c.in-Request.request c.asked.result c.requires.open c.in-Request.ensures.next
+    c.asked.ensures.same c.take_request.ensures.added.added c.take_request.ensures.rests c.take_request.ensures.key c.take_request.ensures.spoken
+
+pub returns-in_ok-take_request-in-Request-clause-came : goal.returns-in_ok-take_request-in-Request-clause-came
+returns-in_ok-take_request-in-Request-clause-came g c = λ bytes. comes_asked bytes c.args.guest.now c.take_request.new.guest _ _ _ _ c.in-Request.request c.asked.result c.requires.open c.in-Request.ensures.next
+    c.asked.ensures.same c.take_request.ensures.added.added c.take_request.ensures.rests c.take_request.ensures.key c.take_request.ensures.spoken
+
+pub returns-in_err-greet-in-Hello-clause-came : goal.returns-in_err-greet-in-Hello-clause-came
+returns-in_err-greet-in-Hello-clause-came g c = λ bytes. comes_nobody bytes bytes c.args.guest.now _ (λ before.
+    c.greet.ensures.come bytes (next_taken bytes c.args.guest.now _ (heard.Hello c.in-Hello.digest) tt c.in-Hello.ensures.next before)) c.greet.ensures.nobody
+
+pub returns-in_ok-greet-in-Hello-clause-came : goal.returns-in_ok-greet-in-Hello-clause-came
+returns-in_ok-greet-in-Hello-clause-came g c = λ bytes. comes_nobody bytes bytes c.args.guest.now _ (λ before.
+    c.greet.ensures.come bytes (next_taken bytes c.args.guest.now _ (heard.Hello c.in-Hello.digest) tt c.in-Hello.ensures.next before)) c.greet.ensures.nobody
+
+pub returns-in-NotYet-clause-came : goal.returns-in-NotYet-clause-came
+returns-in-NotYet-clause-came g c = λ bytes. comes_nobody bytes bytes c.args.guest.now _ (next_quiet bytes c.args.guest.now _ c.in-NotYet.ensures.next) (nobody_same refl)
+
+pub returns-in-Memory-clause-came : goal.returns-in-Memory-clause-came
+returns-in-Memory-clause-came g c = λ bytes. comes_nobody bytes bytes c.args.guest.now _ (λ before. come_shut bytes _ (gone_shut (ap (λ (guest : Guest). guest.standing) c.leave.ensures))) (nobody_same refl)
+
+pub returns-in-Closed-clause-came : goal.returns-in-Closed-clause-came
+returns-in-Closed-clause-came g c = λ bytes.
+    comes_nobody bytes bytes c.args.guest.now _ (λ before. come_shut bytes _ (λ lives. closed_shut _ (sym c.close.ensures.standing ∙ lives))) (nobody_same refl)
