@@ -33,6 +33,9 @@ pub const MOST_REQUESTS: u32 = 16;
 /// How many reads of one connection are made before another's turn.
 const MOST_READS: u32 = 64;
 
+/// How many bytes are read at once at most: as many as the longest frame has, so that all that comes first is taken in.
+const MOST_BYTES: usize = 65_540;
+
 /// While so many bytes wait to be sent to a connection, nothing is taken of it.
 pub const FULL: usize = 65_536;
 
@@ -73,7 +76,7 @@ fn read_piece<P: Ports>(ports: &mut P, number: u64, guest: &mut Guest, piece: &m
     ensures served { (v : WorldView) → IsServed v guest.old → IsServed v guest.new }
     ensures guest { IsHeardOf guest.old guest.new }
 {
-    let room = guest.peer.spare().min(piece.len());
+    let room = guest.peer.spare().min(piece.len()).min(MOST_BYTES);
     if room == 0 {
         return 0;
     }

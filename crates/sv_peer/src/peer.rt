@@ -1,5 +1,5 @@
 //! A connection, whichever way it is spoken.
-ghost use Rattle.std.specs.Prelude.{◌≡◌, ◌⊎◌, ◌≤◌, ◌+◌, ◌-◌, ◌++◌, [], length, take, drop, IfOk, OnOk, OnErr, IsTrue};
+ghost use Rattle.std.specs.Prelude.{◌≡◌, ◌⊎◌, ◌+◌, ◌-◌, ◌++◌, [], length, take, drop, IfOk, OnOk, OnErr, IsTrue};
 ghost use Rattle.sv_wire.specs.Laws.{IsReply};
 ghost use Rattle.sv_frame.specs.Frames.{greatest_frame, FitsFrame};
 ghost use Rattle.sv_peer.specs.View.{new_peer, is_letter, begun, IsInStep, Keeps, Tells, Upgrades, Answers, TakesIn, Hears, Nexts, TakesFrame, Puts, after_sent};
@@ -178,7 +178,6 @@ impl Peer {
     /// How many bytes may come now.
     pub fn spare(&self) -> usize
         ensures frames { self.now.manner ≡ Manner.Frames → result + length self.now.heard ≡ greatest_frame }
-        ensures first { self.now.manner ≡ Manner.Unknown → result ≤ greatest_frame }
     {
         match &self.voice {
             Voice::Unknown => PIECE,

@@ -1,5 +1,5 @@
 -- It was asked what is misshapen, or nothing; or the keys were looked at.
-use Rattle.std.proofs.Common.{Some, inl, inr, refl, sym, ap, ◌∙◌}
+use Rattle.std.proofs.Common.{true, Some, inl, inr, refl, sym, ap, ◌∙◌}
 use Rattle.sv_wire.specs.declared.message.Request.TheVariants as requests
 use Rattle.sv_peer.specs.declared.heard.Heard.TheVariants as heard
 use Rattle.sv_office.specs.declared.guest.Guest.{Guest}
@@ -8,7 +8,7 @@ use Rattle.sv_office.proofs.Hearing2.{turn_asked, turn_looked, turn_nowhere}
 use Rattle.sv_office.proofs.Stepping1.{gone_shut, may_hold_none, yet_same, yet_shut}
 use Rattle.sv_office.proofs.Renewed.{kept_same}
 use Rattle.sv_office.proofs.Came.{nobody_asked, nobody_same}
-use Rattle.sv_office.proofs.Coming.{come_asked, come_passed, come_shown, come_shut}
+use Rattle.sv_office.proofs.Coming.{come_asked, come_passed, come_shown}
 use Rattle.sv_office.proofs.office.Office.greet.Goals as goal
 
 pub returns-then-guest-clause-turn : goal.returns-then-guest-clause-turn
@@ -75,14 +75,15 @@ returns-in_default-clause-nobody g c =
 
 pub returns-then-look-clause-come : goal.returns-then-look-clause-come
 returns-then-look-clause-come g c = λ bytes is.
-    come_shown c.args.digest bytes c.args.guest.now _ c.requires.open (record { manner = refl; heard = refl; shown = refl }) refl refl c.if-guest.false is
+    come_shown c.args.digest bytes c.args.guest.now (record c.args.guest.now { has_spoken = true; key = Some c.args.digest }) c.requires.open
+    (record { manner = refl; heard = refl; shown = refl }) refl refl c.if-guest.false is
 
 pub returns-then-look-clause-nobody : goal.returns-then-look-clause-nobody
 returns-then-look-clause-nobody g c =
     nobody_same refl
 
 pub returns-clause-come : goal.returns-clause-come
-returns-clause-come g c = λ bytes is. come_shut bytes _ (gone_shut (ap (λ (guest : Guest). guest.standing) c.leave.ensures))
+returns-clause-come g c = λ bytes is lives. absurd (gone_shut (ap (λ (guest : Guest). guest.standing) c.leave.ensures) lives)
 
 pub returns-clause-nobody : goal.returns-clause-nobody
 returns-clause-nobody g c =

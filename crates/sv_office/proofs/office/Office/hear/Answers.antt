@@ -6,8 +6,8 @@ use Rattle.sv_office.proofs.Hearing2.{holds_still, shows_same, turn_heard}
 use Rattle.sv_office.proofs.Leaving.{served_still}
 use Rattle.sv_office.proofs.Turning.{keeps_one, one_nowhere}
 use Rattle.sv_office.proofs.Renewed.{kept_same, kept_then}
+use Rattle.sv_ports.specs.Told.{bytes_of}
 use Rattle.sv_office.proofs.Came.{comes_from, comes_nobody, nobody_same}
-use Rattle.sv_office.proofs.Coming.{come_rests, come_shut}
 use Rattle.sv_office.proofs.Stepping1.{not_open}
 use Rattle.sv_office.proofs.office.Office.hear.Goals as goal
 
@@ -122,15 +122,15 @@ returns-clause-kept g c = kept_then (kept_same c.take_waiting.ensures.files refl
 
 pub returns-then-not-is_open-clause-came : goal.returns-then-not-is_open-clause-came
 returns-then-not-is_open-clause-came g c =
-    comes_nobody _ _ c.args.guest.now _ (λ before.
-    come_shut _ _ (λ lives. not_open c.if-not-is_open.true c.is_open.ensures.1 (c.drain.ensures.shut lives))) (nobody_same refl)
+    comes_nobody _ _ c.args.guest.now _ (λ before lives.
+    absurd (not_open c.if-not-is_open.true c.is_open.ensures.1 (c.drain.ensures.shut lives))) (nobody_same refl)
 
 pub returns-then-not-take_waiting-clause-came : goal.returns-then-not-take_waiting-clause-came
 returns-then-not-take_waiting-clause-came g c =
-    comes_nobody _ _ c.args.guest.now _ (λ before. c.take_waiting.ensures.come _
-    (come_rests _ c.args.guest.now _ (λ lives. lives) (record { manner = refl; heard = refl; shown = refl }) refl refl before)) (nobody_same refl)
+    comes_nobody _ _ c.args.guest.now _
+    (c.take_waiting.ensures.come (bytes_of c.args.number (g.P.Ports.told c.args.outside.now.ports.now).heard)) (nobody_same refl)
 
 pub returns-clause-came : goal.returns-clause-came
 returns-clause-came g c =
-    comes_from c.args.guest.now c.take_waiting.new.guest _ (λ before. c.take_waiting.ensures.come _
-    (come_rests _ c.args.guest.now _ (λ lives. lives) (record { manner = refl; heard = refl; shown = refl }) refl refl before)) c.take_all.ensures.came
+    comes_from c.args.guest.now c.take_waiting.new.guest _
+    (c.take_waiting.ensures.come (bytes_of c.args.number (g.P.Ports.told c.args.outside.now.ports.now).heard)) c.take_all.ensures.came

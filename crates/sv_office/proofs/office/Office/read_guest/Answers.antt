@@ -4,6 +4,7 @@ use Rattle.sv_office.proofs.Hearing2.{turn_ended_as, turn_nowhere}
 use Rattle.sv_office.proofs.Leaving.{served_still}
 use Rattle.sv_office.proofs.Stepping1.{end_shut, not_open, yet_same, yet_shut}
 use Rattle.sv_office.proofs.Renewed.{kept_same}
+use Rattle.sv_ports.specs.Told.{bytes_of}
 use Rattle.sv_office.proofs.Came.{comes_nobody, nobody_ends, nobody_same}
 use Rattle.sv_office.proofs.Coming.{come_rests}
 use Rattle.sv_office.proofs.office.Office.read_guest.Goals as goal
@@ -63,21 +64,19 @@ returns-clause-kept g c = kept_same c.read_and_take-count.ensures.files refl
 pub returns-in_err-end-clause-came : goal.returns-in_err-end-clause-came
 returns-in_err-end-clause-came g c =
     comes_nobody _ _ c.args.guest.now c.end.new.guest (λ before.
-    come_rests _ c.read_and_take-count.new.guest c.end.new.guest (λ lives. (c.end.ensures.open lives).0) c.end.ensures.rests c.end.ensures.guest.key
+    come_rests (bytes_of c.args.number (g.P.Ports.told c.read_and_take-count.new.ports).heard) c.read_and_take-count.new.guest c.end.new.guest (λ lives. (c.end.ensures.open lives).0) c.end.ensures.rests c.end.ensures.guest.key
     c.end.ensures.guest.spoken (c.read_and_take-count.ensures.come before)) (nobody_ends c.end.ensures.added.added)
 
 pub returns-then-not-is_open-clause-came : goal.returns-then-not-is_open-clause-came
 returns-then-not-is_open-clause-came g c =
     comes_nobody _ _ c.args.guest.now c.end.new.guest (λ before.
-    come_rests _ c.read_and_take-count.new.guest c.end.new.guest (λ lives. (c.end.ensures.open lives).0) c.end.ensures.rests c.end.ensures.guest.key
+    come_rests (bytes_of c.args.number (g.P.Ports.told c.read_and_take-count.new.ports).heard) c.read_and_take-count.new.guest c.end.new.guest (λ lives. (c.end.ensures.open lives).0) c.end.ensures.rests c.end.ensures.guest.key
     c.end.ensures.guest.spoken (c.read_and_take-count.ensures.come before)) (nobody_ends c.end.ensures.added.added)
 
 pub returns-then-count-eq0-clause-came : goal.returns-then-count-eq0-clause-came
 returns-then-count-eq0-clause-came g c =
-    comes_nobody _ _ c.args.guest.now _ (λ before.
-    come_rests _ c.read_and_take-count.new.guest _ (λ lives. lives) (record { manner = refl; heard = refl; shown = refl }) refl refl (c.read_and_take-count.ensures.come before)) (nobody_same refl)
+    comes_nobody _ _ c.args.guest.now _ c.read_and_take-count.ensures.come (nobody_same refl)
 
 pub returns-clause-came : goal.returns-clause-came
 returns-clause-came g c =
-    comes_nobody _ _ c.args.guest.now _ (λ before.
-    come_rests _ c.read_and_take-count.new.guest _ (λ lives. lives) (record { manner = refl; heard = refl; shown = refl }) refl refl (c.read_and_take-count.ensures.come before)) (nobody_same refl)
+    comes_nobody _ _ c.args.guest.now _ c.read_and_take-count.ensures.come (nobody_same refl)

@@ -4,7 +4,6 @@ use Rattle.sv_office.proofs.Hearing2.{heard_nothing, heard_then, lent_then, turn
 use Rattle.sv_office.proofs.Stepping1.{yet_same, yet_then}
 use Rattle.sv_office.proofs.Renewed.{kept_same, kept_then}
 use Rattle.sv_office.proofs.Came.{comes_nowhere, comes_then, comes_then_nobody, nobody_same}
-use Rattle.sv_office.proofs.Coming.{come_rests}
 use Rattle.sv_office.proofs.office.Office.take_all.Goals as goal
 
 pub loop-init : goal.loop-init
@@ -73,4 +72,4 @@ returns-in-Over-clause-came g c =
 pub returns-clause-came : goal.returns-clause-came
 returns-clause-came g c =
     comes_then_nobody c.args.guest.now c.loop.guest _ [] (sym (append-nil _)) c.loop.invariant.came
-    (come_rests _ c.loop.guest _ (λ lives. lives) (record { manner = refl; heard = refl; shown = refl }) refl refl) refl (nobody_same refl)
+    (λ before. before) refl (nobody_same refl)

@@ -7,7 +7,7 @@ use Rattle.sv_office.proofs.Showing.{heard_key}
 use Rattle.sv_office.proofs.Stepping1.{yet_same, gone_shut}
 use Rattle.sv_office.proofs.Renewed.{kept_same}
 use Rattle.sv_office.proofs.Came.{comes_asked, comes_nobody, nobody_same}
-use Rattle.sv_office.proofs.Coming.{come_shut, next_quiet, next_taken}
+use Rattle.sv_office.proofs.Coming.{next_quiet, next_taken}
 use Rattle.sv_office.proofs.Served.{closed_shut}
 use Rattle.sv_office.proofs.office.Office.take_one.Goals as goal
 
@@ -100,8 +100,9 @@ pub returns-in-NotYet-clause-came : goal.returns-in-NotYet-clause-came
 returns-in-NotYet-clause-came g c = λ bytes. comes_nobody bytes bytes c.args.guest.now _ (next_quiet bytes c.args.guest.now _ c.in-NotYet.ensures.next) (nobody_same refl)
 
 pub returns-in-Memory-clause-came : goal.returns-in-Memory-clause-came
-returns-in-Memory-clause-came g c = λ bytes. comes_nobody bytes bytes c.args.guest.now _ (λ before. come_shut bytes _ (gone_shut (ap (λ (guest : Guest). guest.standing) c.leave.ensures))) (nobody_same refl)
+returns-in-Memory-clause-came g c = λ bytes. comes_nobody bytes bytes c.args.guest.now _ (λ before lives.
+    absurd (gone_shut (ap (λ (guest : Guest). guest.standing) c.leave.ensures) lives)) (nobody_same refl)
 
 pub returns-in-Closed-clause-came : goal.returns-in-Closed-clause-came
 returns-in-Closed-clause-came g c = λ bytes.
-    comes_nobody bytes bytes c.args.guest.now _ (λ before. come_shut bytes _ (λ lives. closed_shut _ (sym c.close.ensures.standing ∙ lives))) (nobody_same refl)
+    comes_nobody bytes bytes c.args.guest.now _ (λ before lives. absurd (closed_shut _ (sym c.close.ensures.standing ∙ lives))) (nobody_same refl)

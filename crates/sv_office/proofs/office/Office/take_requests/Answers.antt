@@ -4,7 +4,6 @@ use Rattle.sv_office.proofs.Hearing2.{none_other, turn_apart, turn_nowhere, turn
 use Rattle.sv_office.proofs.Stepping1.{yet_same, yet_then}
 use Rattle.sv_office.proofs.Renewed.{kept_same, kept_then}
 use Rattle.sv_office.proofs.Came.{comes_again, comes_nowhere, comes_then_nobody, nobody_same}
-use Rattle.sv_office.proofs.Coming.{come_rests}
 use Rattle.sv_office.proofs.office.Office.take_requests.Goals as goal
 
 pub loop-init : goal.loop-init
@@ -70,4 +69,4 @@ returns-in-Some-clause-came g c = λ bytes.
 pub returns-clause-came : goal.returns-clause-came
 returns-clause-came g c = λ bytes.
     comes_then_nobody c.args.guest.now c.loop.guest _ [] (sym (append-nil bytes)) (c.loop.invariant.came bytes)
-    (come_rests bytes c.loop.guest _ (λ lives. lives) (record { manner = refl; heard = refl; shown = refl }) refl refl) refl (nobody_same refl)
+    (λ before. before) refl (nobody_same refl)
