@@ -145,13 +145,16 @@ frames_taken bytes guest after answer is comes (Some first) e (inl (heard_so, re
   has = comes.has;
 })
 frames_taken bytes guest after answer is comes (Some first) e (inr (memory, rest)) none = absurd (no_message answer heard.Memory memory is)
-frames_taken bytes guest after answer is comes None e (same, rest) none = inr (long_or_not _ answer is same, record {
-  shown = none;
-  taken = comes.taken;
-  whole = comes.whole ∙ ap (λ (l : List ℕ). with_taken comes.taken (split_frames l)) (sym rest);
-  silent = comes.silent;
-  has = comes.has;
-})
+frames_taken bytes guest after answer is comes None e (same, rest) none = inr (
+  long_or_not _ answer is same,
+  record {
+    shown = none;
+    taken = comes.taken;
+    whole = comes.whole ∙ ap (λ (l : List ℕ). with_taken comes.taken (split_frames l)) (sym rest);
+    silent = comes.silent;
+    has = comes.has;
+  },
+)
 
 next_by : (bytes : List ℕ) (guest : Guest) (after : PeerView) (answer : Heard) → IsMessage answer → (m : Manner) → guest.peer.manner ≡ m → ComesAs m bytes guest
     → Nexts guest.peer answer after → TakenAs after.manner answer bytes (with_peer guest after)
@@ -246,7 +249,7 @@ next_quiet bytes guest after next come lives = quiet_by bytes guest after guest.
 frames_told : {answer : Heard} (bytes : List ℕ) (guest next : Guest) → TakenFrameAs answer bytes guest → next.peer.shown ≡ guest.peer.shown
     → next.peer.heard ≡ guest.peer.heard → (next.has_spoken ≡ false → (guest.has_spoken ≡ false) × ((payload : List ℕ) → heard_in payload ≡ answer → IsHello payload))
     → ((taken : List (List ℕ)) (payload : List ℕ) → heard_in payload ≡ answer → (guest.has_spoken ≡ false → AllByRecursion IsHello taken)
-      → IfSome guest.key (λ (digest : List ℕ). IsShownIn taken digest) → IfSome next.key (λ (digest : List ℕ). IsShownIn (taken ++ payload ∷ []) digest))
+    → IfSome guest.key (λ (digest : List ℕ). IsShownIn taken digest) → IfSome next.key (λ (digest : List ℕ). IsShownIn (taken ++ payload ∷ []) digest))
     → FramesAs bytes next
 frames_told bytes guest next is shown same silent key = record {
   shown = shown ∙ is.shown;
