@@ -1,3 +1,4 @@
 -- The definitions of this crate, file by file.
 pub mod States
 pub mod WellFormed
+pub mod Text
