@@ -2,3 +2,4 @@
 pub mod States
 pub mod WellFormed
 pub mod Text
+pub mod Judging

@@ -5,4 +5,4 @@ use Rattle.sv_state.proofs.print.put_values.Given as goal
 
 -- the text so far and that of the values left are the whole
 abbrev pub invariant-loop-object : goal.invariant-loop-object
-invariant-loop-object l = string_bytes l.out ++ value_lines l.object-counter (drop l.object-counter l.values) ≡ string_bytes l.fn.out ++ value_lines 0 l.values
+invariant-loop-object l = string_bytes l.out ++ value_lines l.object (drop l.object l.values) ≡ string_bytes l.fn.out ++ value_lines 0 l.values
