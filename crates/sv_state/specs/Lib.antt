@@ -2,4 +2,3 @@
 pub mod States
 pub mod WellFormed
 pub mod Text
-pub mod Judging

@@ -1,8 +1,6 @@
 //! What a living world's core holds after some entries, as a text: printing it, and reading it again.
 #![tactic(auto)]
 
-mod agree;
-mod checks;
 mod print;
 mod state;
 

@@ -8,7 +8,6 @@ ghost use Rattle.sv_state.specs.declared.state.ClientState.{ClientState};
 ghost use Rattle.sv_state.specs.WellFormed.{position_of};
 ghost use Rattle.sv_state.specs.Text.{entries_line, sessions_line, positions_line, value_line, value_lines, result_part, above_line, above_lines, outcome_text, numbered_text, more_outcomes, outcome_list, client_line, positions_text, member_part, over_part, open_line, first_lines, IsPrintable, state_lines, state_text};
 
-use crate::checks::first_kept;
 use crate::state::{Above, ClientState, OpenSession, State};
 use itoa::Buffer;
 use std::alloc::{AllocError, Global};
@@ -160,6 +159,13 @@ fn put_outcomes(seq: u64, outcomes: &[Outcome], out: &mut String) -> Result<(), 
     };
     put_numbered(seq, first, out)?;
     put_more_outcomes(seq + 1, rest, out)
+}
+
+/// The number of the first outcome that is kept.
+fn first_kept(client: &ClientState) -> u64
+    ensures { result ≡ client.now.next - length client.now.kept }
+{
+    (client.next as u64).saturating_sub(client.kept.len() as u64)
 }
 
 pub(crate) fn put_client(client: &ClientState, out: &mut String) -> Result<(), AllocError>
