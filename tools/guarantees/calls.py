@@ -34,7 +34,7 @@ REFUSES = re.compile(r"^(Result|Option)<|^(io::Result|Begun|Read|Wrote|EndRead|E
 REFUSED = re.compile(r"\b(OnErr|IfErr|IsErr|Err|None|IsNone|Memory|Failed|Match\w*|IsOk|IsSome|Rose|faults|Is\w*Cause|option_\w+|Refus\w*|"
                      r"refus\w*|fault\w*|\w*Cause\w*)\b")
 # Clauses that say more of the refusals, or of what is left, than their words show: of the calls that answer a status, and of these.
-OF_STATUSES = ("left", "faulty", "sure", "sure_file", "sure_door", "certain", "calm")
+OF_STATUSES = ("answers", "pairs")
 MORE_REFUSED = {"serve_session": ("served",), "play_client": ("exact",), "takes_room": ("room",)}
 MORE_LEFT = {"play_all": ("lines",)}
 

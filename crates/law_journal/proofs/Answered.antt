@@ -17,7 +17,7 @@ use Rattle.sv_client.specs.declared.trace.Event.TheVariants as events
 use Rattle.sv_client.specs.Traces.{makes, held_of, with_reply, head_held, results_of, last_values, are_same, without_front, settled_by, has_news, pending_with, pending_of}
 use Rattle.sv_client.specs.Taking.{Identity, outstanding, allows, is_out_of_order, is_bad_head, is_for_front, ends_with_front, is_good_relay, is_bad_relay, has_bad_item, Unasked, fault_after}
 use Rattle.sv_client.proofs.Faultless.{kind-of, good-of}
-use Rattle.sv_system.specs.Clients.{AreClientEvents}
+use Rattle.law_system.specs.Clients.{AreClientEvents}
 use Rattle.law_journal.specs.Entries.{ForOldest, EachTaken}
 use Rattle.law_journal.specs.Numbered.{IsZeroForPolls, TakenRelaysOfZeroAnswerPolls}
 use Rattle.law_journal.specs.Brought.{HasItems, TakenRelaysHaveItems}

@@ -24,9 +24,9 @@ use Rattle.sv_journal.proofs.Kept.{accepted-kept}
 use Rattle.sv_journal.proofs.Replies.{each_row}
 use Rattle.sv_journal.proofs.Results.{some_good}
 use Rattle.sv_journal.proofs.Stewards.{heed-next}
-use Rattle.sv_system.specs.Journals.{serial_result, IsSerialResult, ResultsAreSerial}
-use Rattle.sv_system.specs.Told.{ReportsSerial}
-use Rattle.sv_system.proofs.Serials.{serial-step}
+use Rattle.law_system.specs.Journals.{serial_result, IsSerialResult, ResultsAreSerial}
+use Rattle.law_system.specs.Told.{ReportsSerial}
+use Rattle.law_system.proofs.Serials.{serial-step}
 use Rattle.law_journal.specs.Trusted.{SerialResultsStay, OthersBringNothing, WorldsBeginSerial, StewardsJoin, UnbegunIsNobodys}
 use Rattle.law_journal.proofs.Staying.{added}
 use Rattle.law_journal.proofs.Stewarding.{some-serial, none-serial, of-request, with-entry, counts-stewards}

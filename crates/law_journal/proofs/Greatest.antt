@@ -4,7 +4,7 @@ use Rattle.std.proofs.lemmas.Bool.{cases_eq}
 use Rattle.sv_journal.specs.declared.entry.Entry.{Entry}
 use Rattle.sv_journal.specs.History.{accepted, result_at, commit_of}
 use Rattle.sv_journal.proofs.Commits.{committed_has, commit_within}
-use Rattle.sv_system.proofs.Commits.{run-least}
+use Rattle.law_system.proofs.Commits.{run-least}
 use Rattle.law_journal.specs.Committed.{AllHaveResults, CommitIsTheGreatest, NextHasNoResult}
 
 -- ---- The commit

@@ -12,9 +12,9 @@ use Rattle.sv_journal.specs.History.{is_relay, client_of, is_client, is_submit_o
 use Rattle.sv_journal.specs.Sessions.{outcome_at, kept_outcome}
 use Rattle.sv_journal.proofs.Stays.{authored_stays, authored_last}
 use Rattle.sv_journal.proofs.Named.{client_is, submit_is}
-use Rattle.sv_system.proofs.Asked.{get-append_cases}
-use Rattle.sv_system.proofs.Histories.{kept-is}
-use Rattle.sv_system.proofs.Own.{accepted-new}
+use Rattle.law_system.proofs.Asked.{get-append_cases}
+use Rattle.law_system.proofs.Histories.{kept-is}
+use Rattle.law_system.proofs.Own.{accepted-new}
 use Rattle.law_journal.specs.Brought.{IsMadeBy}
 use Rattle.law_journal.proofs.Staying.{added}
 

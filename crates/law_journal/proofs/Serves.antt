@@ -12,15 +12,15 @@ use Rattle.sv_client.specs.declared.trace.Trace.{Trace}
 use Rattle.sv_client.specs.Traces.{current_session, held_of, got}
 use Rattle.sv_client.specs.Taking.{first_fault_of_reply}
 use Rattle.sv_client.specs.Proper.{identity_of}
-use Rattle.sv_system.specs.Cuts.{AreCuts}
-use Rattle.sv_system.specs.Fits.{replies_in}
-use Rattle.sv_system.specs.Served.{OwnsSessions, FitsButValues}
-use Rattle.sv_system.specs.Journals.{ResultsAreSerial}
-use Rattle.sv_system.specs.Serial.{AreSerial, AreSufficient, reply_held}
-use Rattle.sv_system.specs.Within.{KeepsLimits}
+use Rattle.law_system.specs.Cuts.{AreCuts}
+use Rattle.law_system.specs.Fits.{replies_in}
+use Rattle.law_system.specs.Served.{OwnsSessions, FitsButValues}
+use Rattle.law_system.specs.Journals.{ResultsAreSerial}
+use Rattle.law_system.specs.Serial.{AreSerial, AreSufficient, reply_held}
+use Rattle.law_system.specs.Within.{KeepsLimits}
 use Rattle.law_journal.specs.Stewarded.{ServesSerialValues}
 
--- The laws of sv_system on which this rests.
+-- The laws of law_system on which this rests.
 pub record Laws : Type 0 where
   pub world : (k : Keeping) (r : Rules) (h : List Entry) → IsKeeping k → length r.world.values ≡ r.world.shape.objects → LegalFor k r h →
       ResultsAreSerial r.world.values (actions_of h) (k.kept h) →

@@ -18,11 +18,11 @@ use Rattle.sv_journal.specs.Serving.{Keeping, with_results, IsKeeping, LegalFor}
 use Rattle.sv_journal.specs.Living.{Stewardship, is_stewards, counts, heeded, living}
 use Rattle.sv_journal.proofs.Stewards.{heed-next}
 use Rattle.sv_client.specs.declared.trace.Trace.{Trace}
-use Rattle.sv_system.specs.Fits.{has_session, is_owned, FitsOne, Fits}
-use Rattle.sv_system.specs.Journals.{serial_result, IsSerialResult, ResultsAreSerial}
+use Rattle.law_system.specs.Fits.{has_session, is_owned, FitsOne, Fits}
+use Rattle.law_system.specs.Journals.{serial_result, IsSerialResult, ResultsAreSerial}
 use Rattle.law_journal.specs.Stewarded.{HasHonestSteward}
 
--- A law of sv_system: honest clients report serial results.
+-- A law of law_system: honest clients report serial results.
 abbrev pub HonestReportsAreSerial : Type 0
 HonestReportsAreSerial = (k : Keeping) (r : Rules) (later : List Entry) (e : Entry) (h : List Entry) (L : Trace) (results : List Done1) → IsKeeping k →
     length r.world.values ≡ r.world.shape.objects → LegalFor k r (later ++ e ∷ h) → FitsOne r.world.shape (later ++ e ∷ h) L →

@@ -13,7 +13,7 @@ use Rattle.sv_journal.specs.Sessions.{kept_outcome}
 use Rattle.sv_journal.specs.Answer.{Rules}
 use Rattle.sv_journal.specs.Serving.{Keeping, is_poll, reply_for, IsKeeping}
 use Rattle.sv_journal.proofs.Replies.{is_seen, each_reply}
-use Rattle.sv_system.proofs.Histories.{kept-is}
+use Rattle.law_system.proofs.Histories.{kept-is}
 use Rattle.law_journal.specs.Numbered.{IsNumberFor, TellsNumber, IsZeroForPolls, OfEntry, ServedRelaysTellTheirNumbers, ServedRelaysOfZeroAnswerPolls}
 use Rattle.law_journal.proofs.EveryEntry.{entry_of, each-entry, each-map}
 

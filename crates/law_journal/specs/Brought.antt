@@ -17,7 +17,7 @@ use Rattle.sv_journal.specs.Sessions.{sent_to}
 use Rattle.sv_journal.specs.Serving.{Keeping, plain}
 use Rattle.sv_client.specs.declared.trace.Event.{Event}
 use Rattle.sv_client.specs.Taking.{Identity}
-use Rattle.sv_system.specs.Clients.{AreClientEvents}
+use Rattle.law_system.specs.Clients.{AreClientEvents}
 use Rattle.law_journal.specs.Entries.{HoldsInLegal, HoldsInServed, EachTaken}
 
 -- ---- Positions

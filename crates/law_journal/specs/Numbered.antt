@@ -8,7 +8,7 @@ use Rattle.sv_journal.specs.declared.entry.Entry.{Entry}
 use Rattle.sv_journal.specs.History.{accepted, full_reply}
 use Rattle.sv_client.specs.declared.trace.Event.{Event}
 use Rattle.sv_client.specs.Taking.{Identity}
-use Rattle.sv_system.specs.Clients.{AreClientEvents}
+use Rattle.law_system.specs.Clients.{AreClientEvents}
 use Rattle.law_journal.specs.Entries.{HoldsInLegal, HoldsInServed, EachTaken}
 
 -- The number that a relay tells is that of the Submit that it answers, which is not 0, or 0 where it answers a Poll. Nothing else is answered by

@@ -4,7 +4,7 @@ use Rattle.sv_journal.specs.Laws.{AreWithinLimits}
 use Rattle.sv_scenario.specs.declared.scenario.Scenario.{Scenario}
 use Rattle.sv_scenario.specs.Limits.{IsGoodScenario}
 use Rattle.sv_scenario.specs.Scenarios.{scenario_of}
-use Rattle.sv_system.specs.Records.{rules_of}
+use Rattle.law_system.specs.Records.{rules_of}
 
 -- The rules of a scenario that keeps its limits are within those of rules.
 abbrev pub GoodScenariosOpenWithinLimits : Type 0

@@ -15,12 +15,12 @@ use Rattle.sv_client.specs.declared.trace.Trace.{Trace}
 use Rattle.sv_client.specs.Traces.{current_session, held_of, got}
 use Rattle.sv_client.specs.Taking.{first_fault_of_reply}
 use Rattle.sv_client.specs.Proper.{identity_of}
-use Rattle.sv_system.specs.Cuts.{AreCuts}
-use Rattle.sv_system.specs.Fits.{replies_in, FitsOne, Fits}
-use Rattle.sv_system.specs.Served.{OwnsSessions, FitsButValues}
-use Rattle.sv_system.specs.Journals.{ResultsAreSerial}
-use Rattle.sv_system.specs.Serial.{AreSerial, AreSufficient, reply_held}
-use Rattle.sv_system.specs.Within.{KeepsLimits}
+use Rattle.law_system.specs.Cuts.{AreCuts}
+use Rattle.law_system.specs.Fits.{replies_in, FitsOne, Fits}
+use Rattle.law_system.specs.Served.{OwnsSessions, FitsButValues}
+use Rattle.law_system.specs.Journals.{ResultsAreSerial}
+use Rattle.law_system.specs.Serial.{AreSerial, AreSufficient, reply_held}
+use Rattle.law_system.specs.Within.{KeepsLimits}
 
 -- A client has no fault to find with the next reply of the session that it began last, while it keeps the limits of the rules and a position is left.
 abbrev pub FindsNoFault : Rules → List Entry → Trace → Type 0

@@ -8,7 +8,7 @@ use Rattle.sv_journal.specs.History.{joining, actions_of, commit_of, committed_o
 use Rattle.sv_journal.specs.Answer.{Rules}
 use Rattle.sv_journal.specs.Serving.{LegalFor}
 use Rattle.sv_journal.specs.Living.{Stewardship, is_stewards, counts, heeded, living}
-use Rattle.sv_system.specs.Told.{ReportsSerial, GoesBySerial}
+use Rattle.law_system.specs.Told.{ReportsSerial, GoesBySerial}
 
 -- ---- Results
 

@@ -1,8 +1,8 @@
 //! Laws of living worlds that go by results of the serial execution alone, entry by entry: of the runs before they ask only that those results are.
 ghost use Rattle.law_journal.specs.Trusted.{OthersBringNothing, SerialResultsMakeSerialWorlds, SerialResultsStay, StewardsJoin, UnbegunIsNobodys, WorldsBeginSerial};
 
+use law_system::served_values_are_serial;
 use sv_journal::living_worlds_are_served;
-use sv_system::served_values_are_serial;
 
 /// A living world that goes by results of the serial execution alone goes on so with each entry but one whose session's reports count and which
 /// reports another result. Where the steward's reports alone count, that is one of the steward; and what it reports of a reply is serial, if it

@@ -18,8 +18,8 @@ use Rattle.sv_session.specs.Requests.{stop_of}
 use Rattle.sv_client.specs.declared.trace.Event.{Event}
 use Rattle.sv_client.specs.declared.trace.Event.TheVariants as events
 use Rattle.sv_client.specs.Traces.{submit_of, pending_of, held_of, done_for, is_session, current_session, makes, joins, asked_by_event, asked}
-use Rattle.sv_system.specs.Fits.{requests_in}
-use Rattle.sv_system.proofs.Every.{each-append, each-if}
+use Rattle.law_system.specs.Fits.{requests_in}
+use Rattle.law_system.proofs.Every.{each-append, each-if}
 use Rattle.law_schedule.specs.Players.{Player, asked_in_run, has_closed}
 use Rattle.law_schedule.specs.Serving.{Server, served, is_stopped, session_served, all_served, sessions_served}
 use Rattle.law_schedule.proofs.DoneGiven.{HearsEnds}

@@ -1,13 +1,11 @@
 -- Once all clients have closed, a round ends all sessions, and a further one changes nothing.
-use Rattle.std.proofs.Common.{◌≡◌, ℕ, suc, ◌+◌, ◌-◌, ◌≤◌, ◌<◌, true, false, ◌&&◌, ◌==◌, not, inl, inr, List, [], ◌∷◌, map, Option, Some, slice_get, refl, sym, ap, ◌∙◌, subst, arith, eqb-true, true≢false}
+use Rattle.std.proofs.Common.{◌≡◌, ℕ, suc, ◌+◌, ◌-◌, ◌≤◌, ◌<◌, true, false, not, inl, inr, List, [], ◌∷◌, map, Option, Some, slice_get, refl, sym, ap, ◌∙◌, subst, arith, true≢false}
 use Rattle.std.specs.List.{list_any}
-use Rattle.std.proofs.lemmas.Bool.{cond-true, cond-false, cases_Bool, cases_lt, and_parts, and_from, or_cases, or_parts}
+use Rattle.std.proofs.lemmas.Bool.{cases_lt, and_from}
 use Rattle.std.proofs.lemmas.List.Elements.{All-from_recursion}
 use Rattle.sv_world.specs.declared.world.Shape.{Shape}
 use Rattle.sv_world.specs.Control.{below}
 use Rattle.sv_world.proofs.Bases.{is_in-below}
-use Rattle.sv_journal.specs.declared.entry.Entry.{Entry}
-use Rattle.sv_journal.specs.Sessions.{is_end, is_ended}
 use Rattle.sv_client.specs.Traces.{is_session}
 use Rattle.sv_scenario.specs.declared.scenario.Plan.{Plan}
 use Rattle.sv_scenario.specs.declared.scenario.Scenario.{Scenario}
@@ -15,21 +13,21 @@ use Rattle.sv_scenario.specs.Limits.{IsGoodPlan, IsGoodScenario}
 use Rattle.sv_scenario.specs.Sessions.{sessions_of_plan, sessions_in, session_count}
 use Rattle.sv_script.proofs.Ends.{none-left}
 use Rattle.sv_script.proofs.Places.{finished-first}
-use Rattle.sv_system.specs.Fits.{IsEndLast, is_join_of}
+use Rattle.sv_script.proofs.Begun.{all-joined}
+use Rattle.law_system.specs.Fits.{is_join_of}
 use Rattle.law_schedule.specs.Players.{Player, open_session, has_closed, player_turn, take_turns, repeated}
 use Rattle.law_schedule.specs.Serving.{Run, Server, after_clients, after_served, round_served}
 use Rattle.law_schedule.specs.Served.{IsSoundOver}
 use Rattle.law_schedule.specs.Sound.{IsPlaying, ArePlaying}
-use Rattle.sv_system.specs.Records.{ends_in}
-use Rattle.sv_system.proofs.Places.{unmap_at}
-use Rattle.sv_system.proofs.Every.{each-at, each-place}
+use Rattle.law_system.proofs.Places.{unmap_at}
+use Rattle.law_system.proofs.Every.{each-at, each-place}
+use Rattle.law_system.proofs.Joined.{low-joined}
 use Rattle.law_schedule.specs.Done.{IsRunDone, NextRepliesAreTaken}
 use Rattle.law_schedule.proofs.DoneGiven.{StaySound}
 use Rattle.law_schedule.proofs.DoneLists.{repeated-sum, repeated-still, any-there}
 use Rattle.law_schedule.proofs.DoneSessions.{quiet-round}
 use Rattle.law_schedule.proofs.DoneStill.{round-still}
 use Rattle.law_schedule.proofs.DoneFacts.{following}
-use Rattle.law_schedule.proofs.DoneCounts.{low-joined, all-joined}
 use Rattle.law_schedule.proofs.DoneShut.{open-closed, turn-closed, stays-closed}
 use Rattle.law_schedule.proofs.DoneRounds.{IsGoing, going-clients, going-round, going-rounds, falling-first, falling-rounds, fallen-closed}
 
@@ -146,25 +144,3 @@ rounds-done server scenario good honest stay run g n l =
     let there : repeated n f run ≡ f closing =
     ap (λ (k : ℕ). repeated k f run) split ∙ repeated-sum 775 (suc (n - 777)) f first ∙ repeated-still (n - 777) f (f closing) (round-still server scenario (f closing) done) in
     subst (IsRunDone scenario) (sym there) done
-
--- ---- Ends
-
-pub none-ended : (h : List Entry) (s : ℕ) → is_ended h s ≡ false → ends_in h s ≡ 0
-none-ended [] s e = refl
-none-ended (d ∷ h) s e =
-    let now = cond-false (d.session == s && is_end d.request) (suc (ends_in h s)) (ends_in h s) (or_parts (d.session == s && is_end d.request) (is_ended h s) e).0 in
-    now ∙ none-ended h s (or_parts (d.session == s && is_end d.request) (is_ended h s) e).1
-
--- A session that had its End had one.
-pub one-end : (h : List Entry) (s : ℕ) → IsEndLast h s → is_ended h s ≡ true → ends_in h s ≡ 1
-one-end [] s l e = cc
-one-end (d ∷ h) s l e =
-    let later = one-end h s l.1 in
-    elim (cases_Bool (d.session == s && is_end d.request)) [
-      | inl x ↦
-          (let p = and_parts (d.session == s) (is_end d.request) x in
-          cond-true (d.session == s && is_end d.request) (suc (ends_in h s)) (ends_in h s) x ∙ ap suc (none-ended h s (l.0 (eqb-true d.session s p.0))))
-      | inr x ↦
-          cond-false (d.session == s && is_end d.request) (suc (ends_in h s)) (ends_in h s) x
-          ∙ later (elim (or_cases (d.session == s && is_end d.request) (is_ended h s) e) [ inl y ↦ absurd (true≢false (sym y ∙ x)) | inr y ↦ y ])
-    ]

@@ -1,5 +1,5 @@
 -- What soundness says of one player of a run.
-use Rattle.std.proofs.Common.{◌≡◌, ℕ, zero, suc, ◌+◌, ◌<◌, ◌≤◌, Bool, true, List, [], ◌∷◌, map, length, reverse, Some, None, slice_get, refl, sym, ap, ◌∙◌, subst, arith}
+use Rattle.std.proofs.Common.{◌≡◌, ℕ, zero, suc, ◌+◌, ◌≤◌, true, List, [], ◌∷◌, map, length, reverse, Some, slice_get, refl, sym, ap, ◌∙◌, subst, arith}
 use Rattle.std.specs.List.{list_any}
 use Rattle.std.proofs.lemmas.List.{reverse-reverse}
 use Rattle.std.proofs.lemmas.List.Elements.{recursion_from_All}
@@ -17,11 +17,11 @@ use Rattle.sv_scenario.specs.declared.scenario.Step.{Step}
 use Rattle.sv_scenario.specs.Limits.{quits_last, IsGoodPlan, IsGoodScenario}
 use Rattle.sv_scenario.specs.Sessions.{sessions_of_plan, sessions_in, session_count}
 use Rattle.sv_script.specs.Following.{FollowsTo, is_finished}
-use Rattle.sv_system.specs.Fronts.{IsFront}
-use Rattle.sv_system.specs.Fits.{replies_in, IsEndLast, is_join_of, AreApart, AreAllApart}
-use Rattle.sv_system.proofs.Asked.{any-reverse}
-use Rattle.sv_system.proofs.Places.{map_at}
-use Rattle.sv_system.proofs.Every.{each-at}
+use Rattle.law_system.specs.Fronts.{IsFront}
+use Rattle.law_system.specs.Fits.{replies_in, IsEndLast, is_join_of, AreApart, AreAllApart}
+use Rattle.law_system.proofs.Asked.{any-turned}
+use Rattle.law_system.proofs.Places.{map_at}
+use Rattle.law_system.proofs.Every.{each-at}
 use Rattle.law_schedule.specs.Players.{Player, trace_of_player}
 use Rattle.law_schedule.specs.Serving.{Run, Server, traces_of}
 use Rattle.law_schedule.specs.Served.{FitsServer, IsSoundOver}
@@ -74,9 +74,6 @@ pub record IsFollowing (scenario : Scenario) (h : List Entry) (p : Player) : Typ
   pub finished : p.closed ≡ true → is_finished p.events ≡ true
   pub within : p.first + sessions_of_plan plan ≤ session_count scenario
   pub fits : (s : ℕ) → list_any (is_join_of s) p.events ≡ true → IsFit h p s
-
-pub any-turned : (t : Event → Bool) (xs : List Event) → list_any t xs ≡ true → list_any t (reverse xs) ≡ true
-any-turned t xs h = any-reverse t (reverse xs) (ap (list_any t) (reverse-reverse xs) ∙ h)
 
 pub same-who : (shape : Shape) (p : Player) → p.who.shape ≡ shape → identity_of shape (trace_of_player p) ≡ p.who
 same-who shape p e = ap (λ (x : Shape). record { client = p.who.client; interest = p.who.interest; shape = x }) (sym e)

@@ -6,7 +6,7 @@ use Rattle.std.proofs.lemmas.Bool.{or_cases, or_left, or_right}
 use Rattle.std.proofs.lemmas.List.{length-append}
 use Rattle.std.proofs.lemmas.List.Concat.{flat_map-cons}
 use Rattle.std.proofs.lemmas.Option.{none-some, same_Some}
-use Rattle.sv_system.proofs.Places.{map_at}
+use Rattle.law_system.proofs.Places.{map_at}
 use Rattle.law_schedule.specs.Players.{Player, at_player, repeated}
 
 -- ---- Repetition

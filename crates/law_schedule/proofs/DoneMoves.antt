@@ -13,13 +13,13 @@ use Rattle.sv_scenario.specs.declared.scenario.Step.{Step}
 use Rattle.sv_scenario.specs.declared.scenario.Step.TheVariants as steps
 use Rattle.sv_scenario.specs.Sessions.{cuts_by, cuts_in}
 use Rattle.sv_script.specs.Following.{must_join, is_welcomed}
-use Rattle.sv_system.proofs.Aligned.{aligned}
-use Rattle.sv_system.proofs.Clients.{proper-events}
-use Rattle.sv_system.proofs.Pendings.{key_of, keys, submits}
+use Rattle.sv_script.proofs.Counts.{one_if}
+use Rattle.law_system.proofs.Aligned.{aligned}
+use Rattle.law_system.proofs.Clients.{proper-events}
+use Rattle.law_system.proofs.Pendings.{key_of, keys, submits}
 use Rattle.law_schedule.specs.Players.{Player, does, if_free, is_calm, is_settled, last_steps, next_step, player_turn}
 use Rattle.law_schedule.proofs.DoneTakes.{IsOpen}
 use Rattle.law_schedule.proofs.DoneShut.{turn-joins, turn-steps}
-use Rattle.law_schedule.proofs.DoneCounts.{one_if}
 
 -- The Leave and the closing, or the closing alone.
 abbrev pub last_to_go : Bool → Bool → ℕ

@@ -1,7 +1,6 @@
 -- No client refuses a reply of the server that answers by the table.
 use Rattle.std.proofs.Common.{◌≡◌, ℕ, ◌<◌, ◌≤◌, true, List, length, reverse, None, Some, slice_get, refl, sym, subst, arith}
 use Rattle.std.specs.List.{list_any}
-use Rattle.sv_wire.specs.declared.message.Reply.{Reply}
 use Rattle.sv_journal.specs.History.{accepted}
 use Rattle.sv_client.specs.declared.trace.Event.{Event}
 use Rattle.sv_client.specs.Traces.{current_session, asked, got}
@@ -10,20 +9,21 @@ use Rattle.sv_client.specs.Proper.{Proper}
 use Rattle.sv_scenario.specs.declared.scenario.Scenario.{Scenario}
 use Rattle.sv_scenario.specs.Limits.{IsGoodScenario}
 use Rattle.sv_scenario.specs.Sessions.{session_count}
-use Rattle.sv_asked.proofs.Spent.{accepted-few}
-use Rattle.sv_system.specs.Fronts.{IsFront}
-use Rattle.sv_system.specs.Fits.{requests_in, replies_in, is_join_of, FitsOne}
-use Rattle.sv_system.proofs.Places.{map_at}
-use Rattle.sv_system.specs.Laws.{NeverRefusedInScenarios}
-use Rattle.sv_system.proofs.Every.{each-at}
+use Rattle.law_system.specs.Fronts.{IsFront}
+use Rattle.law_system.specs.Fits.{requests_in, replies_in, is_join_of, FitsOne}
+use Rattle.law_system.proofs.Places.{map_at}
+use Rattle.law_system.specs.Laws.{NeverRefusedInScenarios}
+use Rattle.law_system.proofs.Every.{each-at}
 use Rattle.std.proofs.lemmas.List.Elements.{recursion_from_All}
+use Rattle.sv_journal.proofs.Spent.{accepted-few}
+use Rattle.sv_script.proofs.Asked.{asked-few}
+use Rattle.law_system.proofs.Asked.{any-turned}
 use Rattle.law_schedule.specs.Players.{Player, trace_of_player}
 use Rattle.law_schedule.specs.Serving.{Run, traces_of}
 use Rattle.law_schedule.specs.Schedule.{rules_of, plain_server}
 use Rattle.law_schedule.specs.Sound.{IsSound}
 use Rattle.law_schedule.specs.Done.{NextRepliesAreTaken}
-use Rattle.law_schedule.proofs.DoneFacts.{following, who-is, trace-at, same-events, any-turned}
-use Rattle.law_schedule.proofs.DoneCounts.{asked-few}
+use Rattle.law_schedule.proofs.DoneFacts.{following, who-is, trace-at, same-events}
 use Rattle.law_schedule.proofs.SoundPlain.{sound-plain}
 
 pub plain-taken : NeverRefusedInScenarios → (scenario : Scenario) → IsGoodScenario scenario → NextRepliesAreTaken (plain_server (rules_of scenario)) scenario

@@ -12,9 +12,10 @@ use Rattle.sv_scenario.specs.Limits.{IsGoodScenario}
 use Rattle.sv_scenario.specs.Sessions.{sessions_of_plan, session_count}
 use Rattle.sv_script.specs.Following.{FollowsTo, FollowsToEnd, is_finished}
 use Rattle.sv_script.specs.Laws.{EndsDoAllSteps}
-use Rattle.sv_system.specs.Records.{AreTracesOf, IsRecordOf, ScriptsAreFollowed, ScriptsAreDone, ends_in}
-use Rattle.sv_system.proofs.Full.{scripts-done}
-use Rattle.sv_system.proofs.Every.{each-at}
+use Rattle.law_system.specs.Records.{AreTracesOf, IsRecordOf, ScriptsAreFollowed, ScriptsAreDone, ends_in}
+use Rattle.law_system.proofs.Full.{scripts-done}
+use Rattle.law_system.proofs.Every.{each-at}
+use Rattle.law_system.proofs.Ends.{one-end}
 use Rattle.law_schedule.specs.Players.{Player, repeated, trace_of_player}
 use Rattle.law_schedule.specs.Serving.{Run, Server, opening_run, turns_served, round_served, run_served, most_rounds, traces_of}
 use Rattle.law_schedule.specs.Schedule.{rules_of, plain_server, scheduled_run}
@@ -24,7 +25,7 @@ use Rattle.law_schedule.specs.Done.{IsRunDone, NextRepliesAreTaken}
 use Rattle.law_schedule.proofs.DoneGiven.{StaySound}
 use Rattle.law_schedule.proofs.DoneFacts.{following, same-who, same-events}
 use Rattle.law_schedule.proofs.DoneRounds.{IsGoing, going-turned, going-rounds}
-use Rattle.law_schedule.proofs.DoneEnds.{was-joined, rounds-done, one-end}
+use Rattle.law_schedule.proofs.DoneEnds.{was-joined, rounds-done}
 
 -- ---- What a done run says
 

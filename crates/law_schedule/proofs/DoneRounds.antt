@@ -13,7 +13,7 @@ use Rattle.sv_scenario.specs.declared.scenario.Turn.TheVariants as turns
 use Rattle.sv_scenario.specs.Limits.{IsGoodScenario, IsGoodTurn}
 use Rattle.sv_scenario.specs.Sessions.{cuts_in, session_count}
 use Rattle.sv_script.specs.Following.{must_join, is_welcomed}
-use Rattle.sv_system.proofs.Places.{map_at, unmap_at}
+use Rattle.law_system.proofs.Places.{map_at, unmap_at}
 use Rattle.law_schedule.specs.Players.{Player, is_settled, has_closed, player_turn, take_turn, take_turns, repeated}
 use Rattle.law_schedule.specs.Serving.{Run, Server, turn_served, turns_served, after_clients, after_served, after_takes, round_served}
 use Rattle.law_schedule.specs.Served.{IsSoundOver}
@@ -23,7 +23,9 @@ use Rattle.law_schedule.proofs.DoneGiven.{StaySound}
 use Rattle.law_schedule.proofs.DoneLists.{repeated-keeps}
 use Rattle.law_schedule.proofs.DoneDue.{EndsAreDue, due-turn, due-round}
 use Rattle.law_schedule.proofs.DoneFacts.{following}
-use Rattle.law_schedule.proofs.DoneCounts.{left-less, cuts-less, current-there, one_if}
+use Rattle.sv_script.proofs.Asked.{left-less}
+use Rattle.sv_script.proofs.Begun.{cuts-less, current-there}
+use Rattle.sv_script.proofs.Counts.{one_if}
 use Rattle.law_schedule.proofs.DoneTakes.{AreDones, IsOpen, takes-none}
 use Rattle.law_schedule.proofs.DoneWaits.{HasWaited, has-waited}
 use Rattle.law_schedule.proofs.DoneShut.{open-closed, open-none, stays-closed, shut-turn, shut-take, due-mapped, due-at}

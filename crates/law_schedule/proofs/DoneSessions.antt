@@ -11,8 +11,8 @@ use Rattle.sv_wire.specs.declared.message.Request.TheVariants as requests
 use Rattle.sv_journal.specs.declared.entry.Entry.{Entry}
 use Rattle.sv_journal.specs.Sessions.{is_end, is_ended}
 use Rattle.sv_session.specs.Requests.{stop_of}
-use Rattle.sv_system.specs.Fits.{requests_in}
-use Rattle.sv_system.proofs.Places.{drop-none}
+use Rattle.law_system.specs.Fits.{requests_in}
+use Rattle.law_system.proofs.Places.{drop-none}
 use Rattle.law_schedule.specs.Players.{Player, asked_in_run, has_closed, repeated}
 use Rattle.law_schedule.specs.Serving.{Server, served, serves_next, is_stopped, session_served, all_served, sessions_served}
 use Rattle.law_schedule.proofs.DoneGiven.{HearsEnds}

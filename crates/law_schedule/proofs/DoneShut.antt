@@ -12,11 +12,11 @@ use Rattle.sv_client.specs.Proper.{AreProper, in_session}
 use Rattle.sv_scenario.specs.declared.scenario.Step.{Step}
 use Rattle.sv_scenario.specs.declared.scenario.Step.TheVariants as steps
 use Rattle.sv_script.specs.Following.{must_join, is_welcomed}
-use Rattle.sv_system.specs.Fits.{is_join_of}
+use Rattle.law_system.specs.Fits.{is_join_of}
+use Rattle.law_system.proofs.Joined.{joined-low}
 use Rattle.law_schedule.specs.Players.{Player, does, is_settled, next_step, player_turn, open_session, takes_if, takes, take_in, take_turn, take_turns, has_closed, at_player}
 use Rattle.law_schedule.proofs.DoneLists.{any-mapped, any-at}
 use Rattle.law_schedule.proofs.DoneDue.{EndsAreDue}
-use Rattle.law_schedule.proofs.DoneCounts.{joined-low}
 use Rattle.law_schedule.proofs.DoneTakes.{takes-none}
 
 -- ---- What opens no session

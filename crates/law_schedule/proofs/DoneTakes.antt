@@ -24,9 +24,9 @@ use Rattle.sv_scenario.specs.declared.scenario.Turn.TheVariants as turns
 use Rattle.sv_scenario.specs.Limits.{IsGoodScenario}
 use Rattle.sv_client.proofs.Faultless.{kind-of}
 use Rattle.sv_script.specs.Following.{must_join}
-use Rattle.sv_system.specs.Fits.{requests_in, replies_in}
-use Rattle.sv_system.proofs.Entered.{as-many}
-use Rattle.sv_system.proofs.Every.{each-append}
+use Rattle.law_system.specs.Fits.{requests_in, replies_in}
+use Rattle.law_system.proofs.Entered.{as-many}
+use Rattle.law_system.proofs.Every.{each-append}
 use Rattle.law_schedule.specs.Players.{Player, does, open_session, takes, takes_if, take_in, take_turn, take_turns, repeated}
 use Rattle.law_schedule.specs.Serving.{Run, Server, turn_served}
 use Rattle.law_schedule.specs.Served.{IsSoundOver}

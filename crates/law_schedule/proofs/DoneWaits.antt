@@ -10,33 +10,32 @@ use Rattle.sv_world.proofs.Bases.{is_in-below}
 use Rattle.sv_wire.specs.declared.message.Request.{Request}
 use Rattle.sv_wire.specs.declared.message.Request.TheVariants as requests
 use Rattle.sv_wire.specs.declared.message.Reply.{Reply}
-use Rattle.sv_wire.specs.declared.message.Reply.TheVariants as replies
 use Rattle.sv_journal.specs.declared.entry.Entry.{Entry}
 use Rattle.sv_journal.specs.declared.entry.Logged.{Logged}
 use Rattle.sv_journal.specs.History.{accepted, full_reply}
-use Rattle.sv_sequencer.specs.Shared.{logged_of}
-use Rattle.sv_sequencer.proofs.Shared.{logged-back}
 use Rattle.sv_session.specs.Requests.{stop_of}
 use Rattle.sv_client.specs.declared.trace.Event.{Event}
 use Rattle.sv_client.specs.declared.trace.Event.TheVariants as events
 use Rattle.sv_client.specs.Traces.{current_session, is_session, asked, got}
-use Rattle.sv_client.specs.Taking.{Identity, outstanding, allows}
+use Rattle.sv_client.specs.Taking.{Identity, outstanding}
 use Rattle.sv_client.specs.Proper.{AreProper, in_session}
 use Rattle.sv_client.proofs.Outstanding.{outstanding_in}
 use Rattle.sv_scenario.specs.declared.scenario.Scenario.{Scenario}
 use Rattle.sv_scenario.specs.Limits.{IsGoodScenario}
 use Rattle.sv_scenario.specs.Sessions.{session_count}
+use Rattle.sv_journal.proofs.Stays.{logged-back}
+use Rattle.sv_session.proofs.Stops.{stops-kinds}
 use Rattle.sv_script.specs.Following.{must_join, is_welcomed}
-use Rattle.sv_system.specs.Fronts.{IsFront}
-use Rattle.sv_system.specs.Fits.{requests_in, replies_in, is_join_of}
-use Rattle.sv_system.proofs.Fronts.{get-last}
-use Rattle.sv_system.proofs.Histories.{IsEarlier, same, after}
-use Rattle.sv_system.proofs.Entered.{is_of, as-many, replies-earlier}
-use Rattle.sv_system.proofs.Asked.{part-rest, asked-part, got-when, got-answers, begun-or_not, current-joined}
-use Rattle.sv_system.proofs.Clients.{proper-events}
-use Rattle.sv_system.proofs.Leaving.{leave-last}
-use Rattle.sv_system.proofs.Order.{leave-only, never-refused}
-use Rattle.sv_system.proofs.Places.{map_at, at_place}
+use Rattle.law_system.specs.Fronts.{IsFront}
+use Rattle.law_system.specs.Fits.{requests_in, replies_in, is_join_of}
+use Rattle.law_system.proofs.Fronts.{get-last}
+use Rattle.law_system.proofs.Histories.{IsEarlier, same, after}
+use Rattle.law_system.proofs.Entered.{is_of, as-many, replies-earlier}
+use Rattle.law_system.proofs.Asked.{part-rest, asked-part, got-when, got-answers, begun-or_not, current-joined}
+use Rattle.law_system.proofs.Clients.{proper-events}
+use Rattle.law_system.proofs.Leaving.{leave-last}
+use Rattle.law_system.proofs.Order.{leave-stopped}
+use Rattle.law_system.proofs.Places.{map_at, at_place}
 use Rattle.law_schedule.specs.Players.{Player, open_session, has_closed, take_turns}
 use Rattle.law_schedule.specs.Serving.{Run, Server, after_served, after_takes}
 use Rattle.law_schedule.specs.Served.{IsSoundOver}
@@ -46,8 +45,9 @@ use Rattle.law_schedule.proofs.DoneLists.{any-found, piece-shorter}
 use Rattle.law_schedule.proofs.DoneSessions.{is_spent, IsQuiet, quiet-round}
 use Rattle.law_schedule.proofs.DoneDue.{EndsAreDue, due-round}
 use Rattle.law_schedule.proofs.DoneFacts.{IsFollowing, IsFit, following, one-owner}
-use Rattle.law_schedule.proofs.DoneCounts.{joins-few, joined-low, got-welcomed}
 use Rattle.law_schedule.proofs.DoneTakes.{AreDones, dones-drop, IsOpen, open-from, asks, IsTaken, takes-all}
+use Rattle.sv_script.proofs.Begun.{joins-few, got-welcomed}
+use Rattle.law_system.proofs.Joined.{joined-low}
 
 -- ---- Lists
 
@@ -80,19 +80,6 @@ spent-by (e ∷ h) s x =
       | inr y ↦ (let w = later y in record { entry = w.entry; before = w.before; earlier = after e w.earlier; of_it = w.of_it; stop = w.stop })
     ]
 
--- A reply that a client takes and that stops its session answers a Leave.
-pub stops-leave : (q : Request) (w : Reply) → is_some (stop_of (logged_of w)) ≡ true → allows q w ≡ true → q ≡ requests.Leave
-stops-leave q replies.Bye l a = leave-only q a
-stops-leave q (replies.Refused code detail) l a = absurd (true≢false (sym a ∙ never-refused q code detail))
-stops-leave q (replies.Welcome commit head) l a = cc
-stops-leave q (replies.Relay seq commit head items) l a = cc
-stops-leave q (replies.Dropped seq chain far) l a = cc
-stops-leave q (replies.Denied seq object) l a = cc
-stops-leave q (replies.Seen last commit head items) l a = cc
-stops-leave q (replies.Settled seq pos) l a = cc
-stops-leave q (replies.Noted commit) l a = cc
-stops-leave q replies.Idle l a = cc
-
 -- Where all replies of a session were taken and one of them stopped it, all that was asked in it was answered.
 spent-answered : (who : Identity) (first : ℕ) (t : List Event) (h : List Entry) (s : ℕ) → AreProper who first t → IsFront (got t s) (replies_in (accepted h) h s) →
     length (replies_in (accepted h) h s) ≤ length (got t s) → IsSpentBy h s → length (asked who.client who.interest t s) ≤ length (requests_in h s)
@@ -109,7 +96,7 @@ spent-answered who first t h s proper front all w =
     let own = proper-events who first t proper in
     let g = got-when who t s n reply took in
     let a = got-answers who t own s n reply g in
-    let leave : a.request ≡ requests.Leave = stops-leave a.request reply (ap (λ (l : Logged). is_some (stop_of l)) (logged-back A w.entry.reply) ∙ w.stop) a.kind in
+    let leave : a.request ≡ requests.Leave = leave-stopped a.request reply (stops-kinds reply (ap (λ (l : Logged). is_some (stop_of l)) (logged-back A w.entry.reply) ∙ w.stop)) a.kind in
     let at : slice_get (asked who.client who.interest t s) n ≡ Some requests.Leave =
     asked-part who g.before t (part-rest g.before (events.Got s reply) t g.part) s n requests.Leave
     (ap (slice_get (asked who.client who.interest g.before s)) g.place ∙ a.asked_there ∙ ap Some leave) in

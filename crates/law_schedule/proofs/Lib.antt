@@ -1,6 +1,4 @@
 -- The lemmas of this crate, file by file.
-pub mod Asking
-pub mod DoneCounts
 pub mod DoneDue
 pub mod DoneEnds
 pub mod DoneFacts

@@ -18,8 +18,9 @@ use Rattle.sv_scenario.specs.declared.scenario.Step.TheVariants as steps
 use Rattle.sv_scenario.specs.Limits.{IsGoodPlan, IsGoodScenario}
 use Rattle.sv_scenario.specs.Sessions.{sessions_of_plan, sessions_in, session_count}
 use Rattle.sv_script.specs.Following.{must_join, is_welcomed}
-use Rattle.sv_script.proofs.Counts.{events-few}
+use Rattle.sv_script.proofs.Counts.{events-few, one_if}
 use Rattle.sv_script.proofs.Places.{joined_once}
+use Rattle.sv_script.proofs.Begun.{joins-counted}
 use Rattle.law_schedule.specs.Players.{Player, is_calm, is_settled, player_turn, take_turn}
 use Rattle.law_schedule.specs.Serving.{Run, Server}
 use Rattle.law_schedule.specs.Sound.{IsPlaying, ArePlaying, has_joined}
@@ -28,7 +29,6 @@ use Rattle.law_schedule.proofs.SoundPlayers.{IsFitting, IsKept, IsUnused, may-jo
 use Rattle.law_schedule.proofs.SoundEntries.{begun_by, unused-unless_begun}
 use Rattle.law_schedule.proofs.SoundRuns.{AreOwn, all-own}
 use Rattle.law_schedule.proofs.SoundLaws.{sound-stands}
-use Rattle.law_schedule.proofs.DoneCounts.{joins-counted, one_if}
 
 -- A player of a run with so many sessions, with its number, its first session and its plan. No entry is of a session that it did not join yet.
 pub record IsPlayer (server : Server) (shape : Shape) (sessions : ℕ) (h : List Entry) (p : Player) : Type 0 where

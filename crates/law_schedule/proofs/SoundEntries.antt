@@ -10,8 +10,8 @@ use Rattle.sv_journal.specs.Sessions.{is_end, is_ended}
 use Rattle.sv_session.specs.Requests.{stop_of}
 use Rattle.sv_client.specs.Traces.{asked, got}
 use Rattle.sv_client.proofs.Sessions.{both_empty}
-use Rattle.sv_system.specs.Fits.{requests_in, replies_in}
-use Rattle.sv_system.proofs.Fronts.{front-then}
+use Rattle.law_system.specs.Fits.{requests_in, replies_in}
+use Rattle.law_system.proofs.Fronts.{front-then}
 use Rattle.law_schedule.specs.Players.{Player, asked_in_run, has_closed}
 use Rattle.law_schedule.specs.Serving.{Server, entry_by, served, is_stopped}
 use Rattle.law_schedule.specs.Sound.{has_joined}

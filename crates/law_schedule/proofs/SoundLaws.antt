@@ -1,10 +1,7 @@
 -- A run over a server is sound at each moment: its players' traces fit its journal.
-use Rattle.std.proofs.Common.{◌≡◌, ℕ, suc, ◌+◌, ◌<◌, ◌≤◌, Bool, true, false, ◌||◌, inl, List, [], ◌∷◌, map, reverse, length, refl, sym, ap, subst, ◌∙◌, arith, true≢false}
+use Rattle.std.proofs.Common.{◌≡◌, ℕ, suc, ◌+◌, ◌<◌, ◌≤◌, true, false, inl, List, [], ◌∷◌, map, reverse, length, refl, sym, ap, subst, ◌∙◌, arith, true≢false}
 use Rattle.std.specs.List.{list_any, AllByRecursion}
-use Rattle.std.proofs.lemmas.List.{reverse-append}
 use Rattle.std.proofs.lemmas.List.Elements.{All-from_recursion, recursion_from_All}
-use Rattle.std.proofs.lemmas.List.Folds.{list_any-append}
-use mathlib.Core.Bool.{or-false, or_comm}
 use Rattle.sv_world.specs.Control.{below}
 use Rattle.sv_world.specs.declared.world.ClientId.{ClientId}
 use Rattle.sv_world.specs.declared.world.ObjectId.{ObjectId}
@@ -21,8 +18,9 @@ use Rattle.sv_scenario.specs.declared.scenario.Scenario.{Scenario}
 use Rattle.sv_scenario.specs.declared.scenario.Turn.{Turn}
 use Rattle.sv_scenario.specs.Limits.{IsGoodPlan, IsGoodScenario, IsGoodTurn}
 use Rattle.sv_scenario.specs.Sessions.{sessions_of_plan, session_count}
-use Rattle.sv_system.specs.Fronts.{IsFront}
-use Rattle.sv_system.specs.Fits.{is_join_of, has_session, replies_in, AreApart, AreAllApart}
+use Rattle.law_system.specs.Fronts.{IsFront}
+use Rattle.law_system.specs.Fits.{is_join_of, has_session, replies_in, AreApart, AreAllApart}
+use Rattle.law_system.proofs.Asked.{any-reversed}
 use Rattle.law_schedule.specs.Players.{Player, players_from, repeated, trace_of_player}
 use Rattle.law_schedule.specs.Serving.{Run, Server, turn_served, turns_served, after_clients, after_served, after_takes, round_served, opening_run, most_rounds, run_served, traces_of}
 use Rattle.law_schedule.specs.Sound.{IsPlaying, ArePlaying, has_joined}
@@ -35,14 +33,8 @@ use Rattle.law_schedule.proofs.DoneFacts.{same-events}
 
 -- ---- A player and its trace
 
-any-reverse : (test : Event → Bool) (t : List Event) → list_any test (reverse t) ≡ list_any test t
-any-reverse test [] = refl
-any-reverse test (e ∷ t) =
-    ap (list_any test) (reverse-append (e ∷ []) t) ∙ list_any-append test (reverse t) (e ∷ []) ∙ or_comm (list_any test (reverse t)) (test e || false)
-    ∙ ap (λ (b : Bool). b || list_any test (reverse t)) (or-false (test e)) ∙ ap (λ (b : Bool). test e || b) (any-reverse test t)
-
 trace-has : (p : Player) (n : ℕ) → has_session (trace_of_player p) n ≡ has_joined p n
-trace-has p n = any-reverse (is_join_of n) p.events
+trace-has p n = any-reversed (is_join_of n) p.events
 
 pub traces-have : (ps : List Player) (n : ℕ) → list_any (λ (L : Trace). has_session L n) (map trace_of_player ps) ≡ begun_by ps n
 traces-have [] n = refl

@@ -21,9 +21,9 @@ use Rattle.sv_client.specs.declared.trace.Event.TheVariants as events
 use Rattle.sv_client.specs.Traces.{current_session, is_session, pending_of, held_of, submit_of, done_for, asked, asked_by_event}
 use Rattle.sv_scenario.specs.declared.scenario.Scenario.{Scenario}
 use Rattle.sv_scenario.specs.Limits.{IsGoodScenario}
-use Rattle.sv_system.specs.Fits.{requests_in, AreApart, AreAllApart}
-use Rattle.sv_system.proofs.Every.{each-if, each-append, each-at}
-use Rattle.sv_system.proofs.Places.{map_at}
+use Rattle.law_system.specs.Fits.{requests_in, AreApart, AreAllApart}
+use Rattle.law_system.proofs.Every.{each-if, each-append, each-at}
+use Rattle.law_system.proofs.Places.{map_at}
 use Rattle.law_schedule.specs.Players.{Player, trace_of_player}
 use Rattle.law_schedule.specs.Serving.{Run, Server}
 use Rattle.law_schedule.specs.Sound.{has_joined}

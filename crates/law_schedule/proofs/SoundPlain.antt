@@ -17,12 +17,12 @@ use Rattle.sv_scenario.specs.declared.scenario.Scenario.{Scenario}
 use Rattle.sv_scenario.specs.declared.scenario.Turn.{Turn}
 use Rattle.sv_scenario.specs.Limits.{IsGoodScenario, IsGoodTurn}
 use Rattle.sv_scenario.specs.Sessions.{session_count}
-use Rattle.sv_system.specs.Fronts.{IsFront}
-use Rattle.sv_system.specs.Fits.{requests_in, FitsOne, is_owned, has_session}
-use Rattle.sv_system.proofs.Clients.{client-trace}
-use Rattle.sv_system.proofs.Fronts.{front-then}
-use Rattle.sv_system.proofs.Histories.{same}
-use Rattle.sv_system.proofs.Entered.{is_of, requests-one, request-there}
+use Rattle.law_system.specs.Fronts.{IsFront}
+use Rattle.law_system.specs.Fits.{requests_in, FitsOne, is_owned, has_session}
+use Rattle.law_system.proofs.Clients.{client-trace}
+use Rattle.law_system.proofs.Fronts.{front-then}
+use Rattle.law_system.proofs.Histories.{same}
+use Rattle.law_system.proofs.Entered.{is_of, requests-one, request-there}
 use Rattle.law_schedule.specs.Players.{Player, trace_of_player}
 use Rattle.law_schedule.specs.Serving.{Run, after_clients, after_takes, opening_run, traces_of}
 use Rattle.law_schedule.specs.Schedule.{rules_of, plain_server, turned, after_sessions, round, scheduled_run}

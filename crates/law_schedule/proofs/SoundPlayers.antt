@@ -29,15 +29,17 @@ use Rattle.sv_scenario.specs.declared.scenario.Step.TheVariants as steps
 use Rattle.sv_scenario.specs.Limits.{IsGoodPlan, IsGoodStep}
 use Rattle.sv_scenario.specs.Sessions.{sessions_of_plan}
 use Rattle.sv_script.specs.Following.{DoesStep, MayCome, must_join, is_welcomed, is_finished, after_syncs, passed_syncs, unsynced, event_of}
-use Rattle.sv_system.specs.Fronts.{IsFront}
-use Rattle.sv_system.specs.Fits.{is_join_of, requests_in, replies_in, IsEndLast}
-use Rattle.sv_system.proofs.Fronts.{front-append, get-push_cases}
+use Rattle.law_system.specs.Fronts.{IsFront}
+use Rattle.law_system.specs.Fits.{is_join_of, requests_in, replies_in, IsEndLast}
+use Rattle.law_system.proofs.Fronts.{front-append, get-push_cases}
 use Rattle.law_schedule.specs.Players.{Player, does, is_calm, is_settled, last_steps, next_step, player_turn, open_session, takes_if, takes, take_in, take_turn, take_turns, repeated}
 use Rattle.law_schedule.specs.Serving.{Server}
 use Rattle.law_schedule.specs.Sound.{ArePassed, none, sync, IsPlaying, has_joined}
 use Rattle.law_schedule.specs.Served.{AreHeard}
-use Rattle.law_schedule.proofs.SoundTraces.{IsNoQuit, nothing-left, left-or_finished, finished-settled, makes-within, all-left, joined-within}
-use Rattle.law_schedule.proofs.DoneCounts.{joins-counted, one_if}
+use Rattle.law_schedule.proofs.SoundTraces.{IsNoQuit, nothing-left, left-or_finished, finished-settled, makes-within, all-left}
+use Rattle.sv_script.proofs.Begun.{joins-counted}
+use Rattle.sv_script.proofs.Counts.{one_if}
+use Rattle.law_system.proofs.Joined.{joined-within}
 use Rattle.law_schedule.proofs.DoneLists.{open-by}
 
 -- ---- What is true of a player beside the history

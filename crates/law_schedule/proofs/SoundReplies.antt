@@ -19,12 +19,12 @@ use Rattle.sv_journal.specs.Answer.{Rules, Legal}
 use Rattle.sv_journal.specs.Text.{NamesAccepted}
 use Rattle.sv_journal.proofs.Stays.{over_more}
 use Rattle.sv_journal.proofs.Named.{all_names_later}
-use Rattle.sv_system.specs.Fronts.{IsFront}
-use Rattle.sv_system.specs.Fits.{replies_in}
-use Rattle.sv_system.proofs.Entered.{replies-one}
-use Rattle.sv_system.proofs.Every.{each-member}
-use Rattle.sv_system.proofs.Histories.{same, after, accepted-grows, actions-count}
-use Rattle.sv_system.proofs.Replies.{Tells, new_of, legal-tells}
+use Rattle.law_system.specs.Fronts.{IsFront}
+use Rattle.law_system.specs.Fits.{replies_in}
+use Rattle.law_system.proofs.Entered.{replies-one}
+use Rattle.law_system.proofs.Every.{each-member}
+use Rattle.law_system.proofs.Histories.{same, after, accepted-grows, actions-count}
+use Rattle.law_system.proofs.Replies.{Tells, new_of, legal-tells}
 use Rattle.law_schedule.specs.Served.{RepliesNameAccepted}
 
 -- ---- Positions that a reply names

@@ -9,13 +9,14 @@ use Rattle.sv_client.specs.Traces.{asked}
 use Rattle.sv_scenario.specs.declared.scenario.Plan.{Plan}
 use Rattle.sv_scenario.specs.Limits.{IsGoodPlan}
 use Rattle.sv_scenario.specs.Sessions.{sessions_of_plan, sessions_in}
+use Rattle.sv_script.proofs.Begun.{joins-counted}
+use Rattle.law_system.proofs.Joined.{joined-within}
 use Rattle.law_schedule.specs.Players.{Player, asked_in_run, at_player}
 use Rattle.law_schedule.specs.Serving.{Server}
 use Rattle.law_schedule.specs.Sound.{IsPlaying, ArePlaying, has_joined}
-use Rattle.law_schedule.proofs.SoundTraces.{joined-within, none-asked}
+use Rattle.law_schedule.proofs.SoundTraces.{none-asked}
 use Rattle.law_schedule.proofs.SoundPlayers.{IsFitting, IsKept}
 use Rattle.law_schedule.proofs.SoundEntries.{begun_by, none-asked_in}
-use Rattle.law_schedule.proofs.DoneCounts.{joins-counted}
 
 -- ---- Players have sessions of their own
 

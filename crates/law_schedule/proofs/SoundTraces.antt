@@ -1,8 +1,8 @@
 -- What a proper trace that follows a script is like after its Leave and at its end, and how often it joins and makes.
-use Rattle.std.proofs.Common.{◌≡◌, ℕ, suc, ◌+◌, ◌<◌, ◌≤◌, Bool, true, false, ◌==◌, ◌⊎◌, inl, inr, List, [], ◌∷◌, ◌++◌, drop, length, Option, None, refl, sym, ap, subst, ◌∙◌, arith, eqb-true, true≢false}
+use Rattle.std.proofs.Common.{◌≡◌, ℕ, suc, ◌+◌, ◌≤◌, Bool, true, false, ◌==◌, ◌⊎◌, inl, inr, List, [], ◌∷◌, ◌++◌, drop, length, Option, None, refl, sym, ap, subst, ◌∙◌, arith, true≢false}
 use Rattle.std.specs.Prelude.{if◌then◌else◌}
 use Rattle.std.specs.List.{list_any, AllByRecursion}
-use Rattle.std.proofs.lemmas.Bool.{or_cases, or_parts}
+use Rattle.std.proofs.lemmas.Bool.{or_parts}
 use Rattle.std.proofs.lemmas.List.{append-nil}
 use Rattle.sv_wire.specs.declared.message.Reply.{Reply}
 use Rattle.sv_wire.specs.declared.message.Reply.TheVariants as replies
@@ -10,7 +10,7 @@ use Rattle.sv_wire.specs.declared.message.Request.{Request}
 use Rattle.sv_wire.specs.declared.message.Request.TheVariants as requests
 use Rattle.sv_client.specs.declared.trace.Event.{Event}
 use Rattle.sv_client.specs.declared.trace.Event.TheVariants as events
-use Rattle.sv_client.specs.Traces.{joins, makes, current_session, is_session, held_of, pending_of, done_for, asked}
+use Rattle.sv_client.specs.Traces.{makes, current_session, is_session, held_of, pending_of, done_for, asked}
 use Rattle.sv_client.specs.Taking.{Identity, outstanding, allows, fault_after}
 use Rattle.sv_client.specs.Proper.{AreProper, in_session}
 use Rattle.sv_client.proofs.Outstanding.{outstanding_joined, outstanding_made, outstanding_polled, outstanding_observed, outstanding_left, outstanding_cut, outstanding_quit, outstanding_shown, outstanding_got}
@@ -19,7 +19,7 @@ use Rattle.sv_client.proofs.Faultless.{kind-of}
 use Rattle.sv_script.specs.Following.{FollowsTo, must_join, is_finished}
 use Rattle.sv_script.proofs.Beginnings.{step-less, event-less, all-after}
 use Rattle.sv_script.proofs.Ends.{has_leave, leave-append, leave-rest, no-submit, no-done, bye-after, no-step}
-use Rattle.sv_system.specs.Fits.{is_join_of}
+use Rattle.law_system.specs.Fits.{is_join_of}
 
 -- ---- After a Leave
 
@@ -158,23 +158,6 @@ all-left P who script [] left f a = subst (AllByRecursion P) (sym f) a
 all-left P who script (e ∷ t) left f a = all-after P who t f.0 e left f.1.1 (all-left P who script t f.0 f.1.0 a)
 
 -- ---- Sessions
-
--- The sessions that a trace joined are those from its first one on.
-pub joined-within : (who : Identity) (first : ℕ) (t : List Event) (n : ℕ) → AreProper who first t → list_any (is_join_of n) t ≡ true → (first ≤ n) × (n < first + joins t)
-joined-within who first [] n p h = absurd (true≢false (sym h))
-joined-within who first (events.Join s ∷ t) n p h =
-    elim (or_cases (s == n) (list_any (is_join_of n) t) h) [
-      | inl e ↦ (omega (arith, eqb-true s n e, p.0.next), omega (arith, eqb-true s n e, p.0.next))
-      | inr e ↦ (let b = joined-within who first t n p.1 e in (b.0, omega (arith, b.1)))
-    ]
-joined-within who first (events.Make action ∷ t) n p h = joined-within who first t n p.1 h
-joined-within who first (events.Poll ∷ t) n p h = joined-within who first t n p.1 h
-joined-within who first (events.Observe objects wait ∷ t) n p h = joined-within who first t n p.1 h
-joined-within who first (events.Leave ∷ t) n p h = joined-within who first t n p.1 h
-joined-within who first (events.Got s reply ∷ t) n p h = joined-within who first t n p.1 h
-joined-within who first (events.Cut ∷ t) n p h = joined-within who first t n p.1 h
-joined-within who first (events.Quit ∷ t) n p h = joined-within who first t n p.1 h
-joined-within who first (events.Show objects ∷ t) n p h = joined-within who first t n p.1 h
 
 pub not-current : (t : List Event) (n : ℕ) → list_any (is_join_of n) t ≡ false → is_session (current_session t) n ≡ false
 not-current [] n h = refl

@@ -15,8 +15,8 @@ use Rattle.sv_scenario.specs.declared.scenario.Turn.{Turn}
 use Rattle.sv_scenario.specs.declared.scenario.Turn.TheVariants as turns
 use Rattle.sv_scenario.specs.Limits.{IsGoodScenario, IsGoodTurn}
 use Rattle.sv_scenario.specs.Sessions.{session_count}
-use Rattle.sv_system.specs.Fits.{requests_in}
-use Rattle.sv_system.proofs.Every.{each-push}
+use Rattle.law_system.specs.Fits.{requests_in}
+use Rattle.law_system.proofs.Every.{each-push}
 use Rattle.law_schedule.specs.Players.{Player, player_turn, take_turn, take_turns, asked_in_run, has_closed, repeated, at_player}
 use Rattle.law_schedule.specs.Serving.{Run, Server, served, serves_next, is_stopped, session_served, all_served, sessions_served, turn_served, turns_served, after_clients, after_served, round_served}
 use Rattle.law_schedule.specs.Sound.{ArePlaying}

@@ -8,7 +8,7 @@ use Rattle.sv_client.specs.Traces.{current_session, got}
 use Rattle.sv_client.specs.Taking.{first_fault_of_reply}
 use Rattle.sv_scenario.specs.declared.scenario.Scenario.{Scenario}
 use Rattle.sv_scenario.specs.Sessions.{session_count}
-use Rattle.sv_system.specs.Fits.{replies_in}
+use Rattle.law_system.specs.Fits.{replies_in}
 use Rattle.law_schedule.specs.Players.{Player}
 use Rattle.law_schedule.specs.Serving.{Run, Server}
 use Rattle.law_schedule.specs.Served.{IsSoundOver}

@@ -19,7 +19,7 @@ use Rattle.sv_scenario.specs.declared.scenario.Step.{Step}
 use Rattle.sv_scenario.specs.declared.scenario.Step.TheVariants as steps
 use Rattle.sv_scenario.specs.Sessions.{sessions_of_plan}
 use Rattle.sv_script.specs.Following.{must_join, is_welcomed}
-use Rattle.sv_system.specs.Fits.{is_join_of, replies_in}
+use Rattle.law_system.specs.Fits.{is_join_of, replies_in}
 
 -- One client so far: what it did, the steps that are left, and whether it closed its last link.
 pub record Player : Type 0 where

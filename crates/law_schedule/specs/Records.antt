@@ -4,7 +4,7 @@ use Rattle.std.specs.Prelude.{◌≡◌, List}
 use Rattle.sv_journal.specs.declared.entry.Entry.{Entry}
 use Rattle.sv_client.specs.declared.trace.Trace.{Trace}
 use Rattle.sv_scenario.specs.declared.scenario.Scenario.{Scenario}
-use Rattle.sv_system.specs.Records.{IsFullRecord}
+use Rattle.law_system.specs.Records.{IsFullRecord}
 use Rattle.law_schedule.specs.Serving.{traces_of}
 use Rattle.law_schedule.specs.Schedule.{scheduled_run}
 

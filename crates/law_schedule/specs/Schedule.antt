@@ -9,7 +9,7 @@ use Rattle.sv_scenario.specs.declared.scenario.Turn.{Turn}
 use Rattle.sv_scenario.specs.Sessions.{session_count}
 use Rattle.law_schedule.specs.Players.{Player}
 use Rattle.law_schedule.specs.Serving.{Run, Server, served, serves_next, session_served, turn_served, turns_served, all_served, sessions_served, after_served, round_served, run_served}
-pub use Rattle.sv_system.specs.Records.{rules_of}
+pub use Rattle.law_system.specs.Records.{rules_of}
 
 -- It hears what is asked, and answers by the table.
 abbrev pub plain_server : Rules → Server

@@ -15,8 +15,8 @@ use Rattle.sv_client.specs.Traces.{got, requests_of}
 use Rattle.sv_client.specs.Proper.{Proper}
 use Rattle.sv_scenario.specs.declared.scenario.Scenario.{Scenario}
 use Rattle.sv_scenario.specs.Sessions.{session_count}
-use Rattle.sv_system.specs.Fronts.{IsFront}
-use Rattle.sv_system.specs.Fits.{requests_in, replies_in, IsEndLast, has_session, AreAllApart}
+use Rattle.law_system.specs.Fronts.{IsFront}
+use Rattle.law_system.specs.Fits.{requests_in, replies_in, IsEndLast, has_session, AreAllApart}
 use Rattle.law_schedule.specs.Players.{Player}
 use Rattle.law_schedule.specs.Serving.{Run, Server, entry_by, traces_of}
 use Rattle.law_schedule.specs.Sound.{ArePlaying, has_joined}

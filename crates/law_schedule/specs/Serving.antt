@@ -14,7 +14,7 @@ use Rattle.sv_scenario.specs.declared.scenario.Scenario.{Scenario}
 use Rattle.sv_scenario.specs.declared.scenario.Turn.{Turn}
 use Rattle.sv_scenario.specs.declared.scenario.Turn.TheVariants as turns
 use Rattle.sv_scenario.specs.Sessions.{session_count}
-use Rattle.sv_system.specs.Fits.{requests_in}
+use Rattle.law_system.specs.Fits.{requests_in}
 use Rattle.law_schedule.specs.Players.{Player, player_turn, take_turn, take_turns, asked_in_run, has_closed, at_player, repeated, players_from, trace_of_player}
 
 pub record Run : Type 0 where

@@ -15,7 +15,7 @@ use Rattle.sv_scenario.specs.declared.scenario.Step.{Step}
 use Rattle.sv_scenario.specs.declared.scenario.Step.TheVariants as steps
 use Rattle.sv_scenario.specs.Sessions.{sessions_of_plan, session_count}
 use Rattle.sv_script.specs.Following.{FollowsTo, must_join, is_finished}
-use Rattle.sv_system.specs.Fits.{is_join_of, Fits}
+use Rattle.law_system.specs.Fits.{is_join_of, Fits}
 use Rattle.law_schedule.specs.Players.{Player}
 use Rattle.law_schedule.specs.Serving.{Run, traces_of}
 use Rattle.law_schedule.specs.Schedule.{rules_of}

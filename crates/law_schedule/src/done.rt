@@ -3,7 +3,7 @@ ghost use Rattle.std.specs.Prelude.{◌≡◌, ℕ, ◌<◌};
 ghost use Rattle.sv_scenario.specs.declared.scenario.Scenario.{Scenario};
 ghost use Rattle.sv_scenario.specs.Limits.{IsGoodScenario};
 ghost use Rattle.sv_scenario.specs.Sessions.{session_count};
-ghost use Rattle.sv_system.specs.Records.{IsRecordOf, ScriptsAreDone, ScriptsAreFollowed, ends_in};
+ghost use Rattle.law_system.specs.Records.{IsRecordOf, ScriptsAreDone, ScriptsAreFollowed, ends_in};
 ghost use Rattle.law_schedule.specs.Serving.{Run, Server, run_served, traces_of};
 ghost use Rattle.law_schedule.specs.Schedule.{round, rules_of, scheduled_run};
 ghost use Rattle.law_schedule.specs.Sound.{IsSound};

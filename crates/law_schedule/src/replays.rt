@@ -6,7 +6,7 @@ ghost use Rattle.law_schedule.specs.Schedule.{scheduled_run};
 ghost use Rattle.law_schedule.specs.Records.{IsReplay};
 
 use crate::done::scheduled_runs_end;
-use sv_system::runs_leave_full_records;
+use law_system::runs_leave_full_records;
 
 /// The headline, of the scheduled run of any scenario: its journal and its traces are the record of the run's traffic; each value at a
 /// position, and the committed world, is the serial execution's; each relay brought what its items read; each client did all of its script;

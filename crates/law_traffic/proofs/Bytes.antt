@@ -25,15 +25,15 @@ use Rattle.sv_session.specs.Requests.{due_frames}
 use Rattle.sv_session.specs.Serving.{ExplainsOut, ended_by}
 use Rattle.sv_session.specs.declared.outcome.SessionOut.{SessionOut}
 use Rattle.sv_session.specs.declared.outcome.SessionOut.TheVariants as outs
-use Rattle.sv_system.specs.Fronts.{IsFront}
-use Rattle.sv_system.specs.Fits.{requests_in, replies_in, FitsIn}
-use Rattle.sv_system.proofs.Fronts.{front-append}
+use Rattle.law_system.specs.Fronts.{IsFront}
+use Rattle.law_system.specs.Fits.{requests_in, replies_in, FitsIn}
+use Rattle.law_system.proofs.Fronts.{front-append}
 use Rattle.sv_player.specs.Carried.{request_frames}
 use Rattle.sv_player.specs.Stops.{is_cut}
 use Rattle.sv_player.specs.Played.{replies_of}
 use Rattle.sv_player.proofs.Linking.{frames_append}
-use Rattle.sv_system.specs.Records.{ends_in}
-use Rattle.sv_system.proofs.Every.{each-left}
+use Rattle.law_system.specs.Records.{ends_in}
+use Rattle.law_system.proofs.Every.{each-left}
 use Rattle.law_traffic.specs.Sessions.{Over, transcript, IsSessionDone}
 use Rattle.law_traffic.specs.Traffic.{reply_frames, EndsWithStop, TookAll, IsTraffic}
 use Rattle.law_traffic.proofs.Ours.{mine, end_is_last}

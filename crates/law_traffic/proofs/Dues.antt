@@ -16,7 +16,7 @@ use Rattle.sv_journal.specs.Laws.{FullRepliesStay, LegalRelaysNameAccepted}
 use Rattle.sv_session.specs.Requests.{reply_payload, due_frames}
 use Rattle.sv_session.specs.Rounds.{AllNameAccepted}
 use Rattle.sv_session.proofs.Replies.{frames_on}
-use Rattle.sv_system.proofs.Every.{each-left}
+use Rattle.law_system.proofs.Every.{each-left}
 use Rattle.law_traffic.specs.Traffic.{reply_frames}
 use Rattle.law_traffic.proofs.Ours.{mine}
 

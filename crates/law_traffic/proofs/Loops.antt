@@ -15,14 +15,14 @@ use Rattle.sv_journal.specs.History.{accepted, full_reply}
 use Rattle.sv_journal.specs.Sessions.{is_end}
 use Rattle.sv_journal.specs.Laws.{FullRepliesStay, LegalRelaysNameAccepted}
 use Rattle.sv_sequencer.specs.Step.{entry_of}
-use Rattle.sv_sequencer.proofs.Shared.{logged-back}
 use Rattle.sv_lock.specs.Passes.{session_number}
+use Rattle.sv_journal.proofs.Stays.{logged-back}
 use Rattle.sv_session.specs.Requests.{stop_of, StopsFor, due_frames}
 use Rattle.sv_session.specs.Serving.{ExplainsOut, ended_by}
 use Rattle.sv_session.specs.declared.outcome.SessionOut.{SessionOut}
 use Rattle.sv_session.specs.declared.outcome.SessionOut.TheVariants as outs
-use Rattle.sv_system.specs.Fits.{requests_in, replies_in}
-use Rattle.sv_system.specs.Records.{ends_in}
+use Rattle.law_system.specs.Fits.{requests_in, replies_in}
+use Rattle.law_system.specs.Records.{ends_in}
 use Rattle.law_traffic.specs.Sessions.{IsSessionServed}
 use Rattle.law_traffic.specs.Traffic.{reply_frames, EndsWithStop}
 use Rattle.law_traffic.proofs.Ours.{mine, requests_are, replies_are, one_end}

@@ -18,7 +18,7 @@ use Rattle.sv_exchange.proofs.Sizes.{request_short, reply_short, request_back, r
 use Rattle.sv_session.specs.Requests.{read_or_bad, request_for, requests_read}
 use Rattle.law_traffic.specs.Cuts.{IsCutStream}
 use Rattle.sv_player.specs.Carried.{request_frames, was_read, BeginsWithReplies}
-use Rattle.sv_system.proofs.Every.{each-left}
+use Rattle.law_system.proofs.Every.{each-left}
 use Rattle.law_traffic.specs.Traffic.{reply_frames}
 use Rattle.law_traffic.proofs.Cuts.{cut_frames_are_front_frames}
 

@@ -15,9 +15,9 @@ use Rattle.sv_journal.specs.History.{Authored, full_reply}
 use Rattle.sv_journal.specs.Sessions.{is_end, is_ended}
 use Rattle.sv_sequencer.specs.Step.{entry_of}
 use Rattle.sv_lock.specs.Histories.{entries_of}
-use Rattle.sv_system.specs.Fits.{requests_in, replies_in, IsEndLast}
-use Rattle.sv_system.specs.Records.{ends_in}
-use Rattle.sv_system.proofs.Every.{each-left, each-reverse}
+use Rattle.law_system.specs.Fits.{requests_in, replies_in, IsEndLast}
+use Rattle.law_system.specs.Records.{ends_in}
+use Rattle.law_system.proofs.Every.{each-left, each-reverse}
 
 abbrev pub mine : ℕ → List Entry → List Entry
 mine s h = entries_of (λ (e : Entry). e.session) s h

@@ -12,11 +12,11 @@ use Rattle.sv_client.specs.Proper.{Proper, identity_of}
 use Rattle.sv_scenario.specs.declared.scenario.Plan.{Plan}
 use Rattle.sv_scenario.specs.Sessions.{sessions_of_plan, sessions_in}
 use Rattle.sv_script.specs.Following.{Follows}
-use Rattle.sv_system.specs.Fits.{is_join_of, has_session, AreApart, AreAllApart}
-use Rattle.sv_system.specs.Records.{AreTracesOf, EachTrace}
-use Rattle.sv_system.proofs.Asked.{any-reverse}
-use Rattle.law_schedule.proofs.SoundTraces.{joined-within}
-use Rattle.law_schedule.proofs.DoneCounts.{joins-counted}
+use Rattle.sv_script.proofs.Begun.{joins-counted}
+use Rattle.law_system.specs.Fits.{is_join_of, has_session, AreApart, AreAllApart}
+use Rattle.law_system.specs.Records.{AreTracesOf, EachTrace}
+use Rattle.law_system.proofs.Asked.{any-reverse}
+use Rattle.law_system.proofs.Joined.{joined-within}
 
 -- The trace that a session is one of, with what holds of it.
 pub record IsOwner (P : Plan → Trace → Type 0) (Ls : List Trace) (s : ℕ) : Type 0 where

@@ -17,13 +17,13 @@ use Rattle.sv_client.specs.Proper.{Proper, identity_of}
 use Rattle.sv_scenario.specs.declared.scenario.Plan.{Plan}
 use Rattle.sv_scenario.specs.declared.scenario.Scenario.{Scenario}
 use Rattle.sv_scenario.specs.Sessions.{session_count}
-use Rattle.sv_system.specs.Fits.{is_join_of, has_session, is_owned, FitsIn, FitsOne, Fits}
-use Rattle.sv_system.specs.Records.{ends_in, EachTrace, IsRecordOf}
-use Rattle.sv_system.proofs.Asked.{begun-or_not, any-reverse}
-use Rattle.sv_system.proofs.Clients.{proper-events, client-trace}
-use Rattle.sv_system.proofs.Joined.{at-joined}
-use Rattle.sv_asked.specs.Asked.{RepliesAreMessages}
-use Rattle.sv_system.proofs.Every.{each-append, each-reverse}
+use Rattle.law_system.specs.Fits.{is_join_of, has_session, is_owned, FitsIn, FitsOne, Fits}
+use Rattle.law_system.specs.Records.{ends_in, EachTrace, IsRecordOf}
+use Rattle.law_system.proofs.Asked.{begun-or_not, any-reverse}
+use Rattle.law_system.proofs.Clients.{proper-events, client-trace}
+use Rattle.law_system.proofs.Joined.{at-joined}
+use Rattle.law_asked.specs.Asked.{RepliesAreMessages}
+use Rattle.law_system.proofs.Every.{each-append, each-reverse}
 use Rattle.law_traffic.specs.Sessions.{Over, IsSessionDone}
 use Rattle.law_traffic.specs.Runs.{IsRun, IsGoodRun}
 use Rattle.law_traffic.proofs.Ours.{mine, IsOurs, all_ours}

@@ -19,14 +19,14 @@ use Rattle.sv_scenario.specs.declared.scenario.Scenario.{Scenario}
 use Rattle.sv_scenario.specs.Limits.{IsGoodPlan}
 use Rattle.sv_scenario.specs.Sessions.{session_count}
 use Rattle.sv_script.specs.Following.{Follows}
-use Rattle.sv_system.specs.Fits.{replies_in}
-use Rattle.sv_system.specs.Records.{rules_of, EachTrace}
+use Rattle.law_system.specs.Fits.{replies_in}
+use Rattle.law_system.specs.Records.{rules_of, EachTrace}
 use Rattle.sv_world.specs.Limits.{most_positions}
-use Rattle.sv_asked.specs.Asked.{RepliesAreMessages}
-use Rattle.sv_asked.proofs.Facts.{accepted-short}
-use Rattle.sv_system.proofs.Every.{each-append, each-reverse}
-use Rattle.sv_system.proofs.Limits.{limits_of, objects_few}
-use Rattle.law_schedule.proofs.Asking.{few-asked}
+use Rattle.sv_script.proofs.Asked.{few-asked}
+use Rattle.law_asked.specs.Asked.{RepliesAreMessages}
+use Rattle.law_asked.proofs.Facts.{accepted-short}
+use Rattle.law_system.proofs.Every.{each-append, each-reverse}
+use Rattle.law_system.proofs.Limits.{limits_of, objects_few}
 use Rattle.law_traffic.specs.Sessions.{Over, IsSessionDone}
 use Rattle.law_traffic.specs.Runs.{EachSession, IsRun, IsGoodRun}
 use Rattle.law_traffic.proofs.Ours.{mine}

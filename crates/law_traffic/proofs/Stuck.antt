@@ -21,15 +21,15 @@ use Rattle.sv_client.specs.Traces.{requests_of, got, asked}
 use Rattle.sv_client.specs.Taking.{first_fault_of_reply}
 use Rattle.sv_client.specs.Proper.{Proper, identity_of}
 use Rattle.sv_world.specs.declared.world.Shape.{Shape}
-use Rattle.sv_system.proofs.Asked.{got-when, got-answers, part-rest, asked-part}
-use Rattle.sv_system.proofs.Clients.{proper-events}
-use Rattle.sv_system.proofs.Fronts.{get-last}
-use Rattle.sv_system.proofs.Leaving.{leave-last}
+use Rattle.law_system.proofs.Asked.{got-when, got-answers, part-rest, asked-part}
+use Rattle.law_system.proofs.Clients.{proper-events}
+use Rattle.law_system.proofs.Fronts.{get-last}
+use Rattle.law_system.proofs.Leaving.{leave-last}
 use Rattle.sv_client.specs.declared.trace.Event.TheVariants as events
-use Rattle.sv_system.proofs.Every.{each-right}
-use Rattle.law_schedule.proofs.DoneWaits.{stops-leave}
+use Rattle.law_system.proofs.Every.{each-right}
 use Rattle.sv_session.specs.declared.outcome.SessionOut.TheVariants as outs
 use Rattle.sv_exchange.proofs.Sizes.{reply_short}
+use Rattle.sv_session.proofs.Stops.{stops-kinds}
 use Rattle.sv_player.specs.Carried.{BeginsWithReplies}
 use Rattle.sv_player.specs.Stops.{NoneCame, is_cut}
 use Rattle.sv_player.specs.Played.{replies_of}
@@ -40,6 +40,7 @@ use Rattle.law_traffic.proofs.Cuts.{empty_short}
 use Rattle.law_traffic.proofs.Messages.{requests_fit, request_frames_are, reply_frames_both, AreGot, got_first}
 use Rattle.law_traffic.proofs.Bytes.{answered, steps, all, messages, received_part, sent_whole, no_fault_open, how_ended}
 use Rattle.law_traffic.proofs.Takeable.{one_frame, takeable_by}
+use Rattle.law_system.proofs.Order.{leave-stopped}
 
 -- ---- Frames of replies
 
@@ -70,7 +71,7 @@ none_awaited shape L s proper stop =
     let own = proper-events who L.first whole proper.events in
     let g = got-when who whole s n stop.last is in
     let a = got-answers who whole own s n stop.last g in
-    let leave : a.request ≡ requests.Leave = stops-leave a.request stop.last stop.stop a.kind in
+    let leave : a.request ≡ requests.Leave = leave-stopped a.request stop.last (stops-kinds stop.last stop.stop) a.kind in
     let part = part-rest g.before (events.Got s stop.last) whole g.part in
     let there : slice_get (asked L.client L.interest g.before s) n ≡ Some requests.Leave =
     ap (slice_get (asked L.client L.interest g.before s)) g.place ∙ (a.asked_there ∙ ap Some leave) in

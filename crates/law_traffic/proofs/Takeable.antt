@@ -17,7 +17,7 @@ use Rattle.sv_client.specs.declared.trace.Trace.{Trace}
 use Rattle.sv_client.specs.Taking.{Identity, first_fault_of_reply}
 use Rattle.sv_client.specs.Answers.{IsTakeFault}
 use Rattle.sv_client.specs.Proper.{identity_of}
-use Rattle.sv_system.proofs.Every.{each-right}
+use Rattle.law_system.proofs.Every.{each-right}
 use Rattle.sv_exchange.proofs.Sizes.{reply_short, reply_back}
 use Rattle.sv_player.specs.Stops.{IsBadRest, first_payload}
 use Rattle.sv_player.specs.declared.outcome.ReplyFault.{ReplyFault}

@@ -15,18 +15,18 @@ use Rattle.sv_client.specs.Proper.{identity_of}
 use Rattle.sv_scenario.specs.declared.scenario.Plan.{Plan}
 use Rattle.sv_scenario.specs.declared.scenario.Scenario.{Scenario}
 use Rattle.sv_scenario.specs.Sessions.{session_count}
-use Rattle.sv_system.specs.Fits.{is_join_of, has_session}
-use Rattle.sv_system.specs.Records.{EachTrace, ScriptsAreFollowed}
+use Rattle.law_system.specs.Fits.{is_join_of, has_session}
+use Rattle.law_system.specs.Records.{EachTrace, ScriptsAreFollowed}
 use Rattle.sv_script.specs.Following.{FollowsToEnd}
-use Rattle.sv_system.proofs.Asked.{any-reverse, current-joined}
-use Rattle.sv_asked.specs.Asked.{RepliesAreMessages}
-use Rattle.sv_system.specs.Laws.{NeverRefusedInScenarios}
+use Rattle.sv_script.proofs.Asked.{few-asked}
+use Rattle.law_system.proofs.Asked.{any-reverse, current-joined}
+use Rattle.law_asked.specs.Asked.{RepliesAreMessages}
+use Rattle.law_system.specs.Laws.{NeverRefusedInScenarios}
 use Rattle.sv_player.specs.Carried.{BeginsWithReplies}
 use Rattle.sv_player.specs.Stops.{IsShut}
 use Rattle.sv_player.specs.Played.{replies_of}
-use Rattle.sv_system.proofs.Limits.{limits_of}
-use Rattle.sv_system.proofs.Places.{map_at}
-use Rattle.law_schedule.proofs.Asking.{few-asked}
+use Rattle.law_system.proofs.Limits.{limits_of}
+use Rattle.law_system.proofs.Places.{map_at}
 use Rattle.law_traffic.specs.Sessions.{Over, transcript, IsSessionDone}
 use Rattle.law_traffic.specs.Traffic.{IsTraffic}
 use Rattle.law_traffic.specs.Stuck.{IsStopped, IsTakeable}

@@ -5,8 +5,8 @@ use Rattle.sv_wire.specs.Laws.{IsReply}
 use Rattle.sv_journal.specs.declared.entry.Entry.{Entry}
 use Rattle.sv_journal.specs.History.{accepted}
 use Rattle.sv_client.specs.declared.trace.Trace.{Trace}
-use Rattle.sv_system.specs.Fits.{replies_in, FitsIn}
-use Rattle.sv_system.specs.Records.{ends_in}
+use Rattle.law_system.specs.Fits.{replies_in, FitsIn}
+use Rattle.law_system.specs.Records.{ends_in}
 use Rattle.law_traffic.specs.Sessions.{Over, transcript, IsSessionDone}
 use Rattle.law_traffic.specs.Traffic.{IsTraffic}
 

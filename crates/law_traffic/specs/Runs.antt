@@ -13,7 +13,7 @@ use Rattle.sv_scenario.specs.declared.scenario.Scenario.{Scenario}
 use Rattle.sv_scenario.specs.Limits.{IsGoodScenario}
 use Rattle.sv_scenario.specs.Sessions.{sessions_of_plan, session_count}
 use Rattle.sv_script.specs.Following.{Follows, FollowsToEnd}
-use Rattle.sv_system.specs.Records.{rules_of, AreTracesOf, EachTrace, ScriptsAreFollowed, IsRecordOf, IsFullRecord}
+use Rattle.law_system.specs.Records.{rules_of, AreTracesOf, EachTrace, ScriptsAreFollowed, IsRecordOf, IsFullRecord}
 use Rattle.sv_player.specs.Carried.{BeginsWithReplies}
 use Rattle.sv_player.specs.Stops.{is_cut, IsShut}
 use Rattle.sv_player.specs.Played.{replies_of, IsOpenSession}

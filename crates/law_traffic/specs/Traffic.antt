@@ -10,12 +10,11 @@ use Rattle.sv_wire.specs.declared.message.Request.{Request}
 use Rattle.sv_wire.specs.declared.message.Reply.{Reply}
 use Rattle.sv_wire.specs.Spelling.{request_bytes, reply_bytes}
 use Rattle.sv_journal.specs.declared.entry.Entry.{Entry}
-use Rattle.sv_journal.specs.History.{accepted}
-use Rattle.sv_sequencer.specs.Shared.{logged_of}
+use Rattle.sv_journal.specs.History.{accepted, logged_of}
 use Rattle.sv_session.specs.Requests.{stop_of}
 use Rattle.sv_client.specs.declared.trace.Trace.{Trace}
 use Rattle.sv_client.specs.Traces.{requests_of}
-use Rattle.sv_system.specs.Fits.{requests_in, replies_in}
+use Rattle.law_system.specs.Fits.{requests_in, replies_in}
 use Rattle.sv_player.specs.Carried.{request_frames}
 use Rattle.sv_player.specs.Stops.{is_cut}
 use Rattle.sv_player.specs.Played.{replies_of}

@@ -1,9 +1,9 @@
 //! Laws of whole runs.
 ghost use Rattle.law_traffic.specs.Runs.{NoClientIsShut, NextRepliesAreTaken, PlayersComeToTheirEnds, RunsLeaveRecords, RunsLeaveFullRecords, RunsMoveTheirTraffic, UncutSessionsHaveNoFault};
 
-use sv_asked::replies_are_messages;
+use law_asked::replies_are_messages;
+use law_system::{honest_clients_are_never_refused, runs_leave_full_records};
 use sv_journal::{full_replies_stay, legal_relays_name_accepted};
-use sv_system::{honest_clients_are_never_refused, runs_leave_full_records};
 
 /// What is left of a run's threads is its record: the journal fits the traces, each session's transcript has the traffic of both, and where
 /// each player stopped for its script, or because its server failed it, the record is full.

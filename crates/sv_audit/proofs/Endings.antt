@@ -3,19 +3,21 @@ use Rattle.std.proofs.Common.{◌≡◌, ◌≢◌, ◌↔◌, ◌⊎◌, inl, i
 use Rattle.std.specs.Prelude.{string_bytes, IfSome}
 use Rattle.std.proofs.lemmas.List.{length-take-le}
 use Rattle.sv_scenario.specs.declared.scenario.Scenario.{Scenario}
-use Rattle.sv_system.specs.declared.played.Played.{Played}
-use Rattle.sv_bytes.specs.Faults.{Rose}
+use Rattle.law_system.specs.declared.played.Played.{Played}
 use Rattle.sv_bytes.specs.Writing.{GrewOrRose}
-use Rattle.sv_command.specs.declared.ending.Ending.TheVariants as plain
-use Rattle.sv_command.specs.Reading.{HoldsScenario, IsNoScenario, read_limit}
-use Rattle.sv_command.specs.Lines.{file_line}
-use Rattle.sv_command.specs.Statuses.{Counts, NoneRose, status_line}
-use Rattle.sv_command.proofs.Held.{Faulty, always, read_is, holds_none}
-use Rattle.sv_command.proofs.Statuses.{words_is as plain_words_is, file_is as plain_file_is, faults_are as plain_faults, untold}
+use Rattle.sv_ending.specs.declared.ending.Ending.TheVariants as plain
+use Rattle.sv_ending.specs.Calls.{Leaves, Moment}
+use Rattle.sv_ending.specs.Reading.{HoldsScenario, IsNoScenario, held_by_file, read_limit}
+use Rattle.sv_ending.specs.Lines.{file_line}
+use Rattle.sv_ending.specs.Statuses.{Counts, NoneRose, TellsFaults, status_line}
+use Rattle.sv_ending.proofs.Held.{Faulty, always, read_is, holds_none}
+use Rattle.sv_ending.proofs.Left.{leaves_is}
+use Rattle.sv_ending.proofs.Statuses.{words_is as plain_words_is, file_is as plain_file_is, faults_are as plain_faults, none_told}
 use Rattle.sv_audit.specs.declared.ending.AuditEnding.{AuditEnding}
 use Rattle.sv_audit.specs.declared.ending.AuditEnding.TheVariants as endings
-use Rattle.sv_audit.specs.Judging.{IsReportFront, IsApproved, report_size, report_limit}
-use Rattle.sv_audit.specs.Statuses.{status_of, Raises, Ends, Leaves, IsPlaceOutside, audit_line, wrong_line, TellsStatus}
+use Rattle.sv_audit.specs.Judging.{IsReportFront, IsApproved, IsText, report_size, report_limit}
+use Rattle.sv_audit.specs.Statuses.{status_of, Raises, Ends, EndsEarly, IsPlaceOutside, IsReportRead, audit_line, wrong_line, TellsStatus}
+use Rattle.sv_audit.specs.Answers.{Answers, IsTextFor, Judges}
 use Rattle.sv_audit.specs.Words.{Asked, Question, Right, World, Why, scenario_named}
 
 -- ---- Statuses
@@ -35,22 +37,17 @@ unread_is (endings.Wrong line) s = absurd (omega arith)
 
 module _ (sure : List ℕ → Type 0) where
   -- Where both files are sure to be read, none is told as unread.
-  pub sure_is : (a : Option Asked) (e : AuditEnding) → IfSome a (λ (x : Asked). sure x.scenario → e ≢ endings.Plain plain.File) →
+  sure_is : (a : Option Asked) (e : AuditEnding) → IfSome a (λ (x : Asked). sure x.scenario → e ≢ endings.Plain plain.File) →
       IfSome a (λ (x : Asked). sure x.report → e ≢ endings.Report) → IfSome a (λ (x : Asked). sure x.scenario → sure x.report → status_of e ≢ 4)
   sure_is None e s r = tt
   sure_is (Some x) e s r = λ p q four. elim (unread_is e four) [ inl f ↦ s p f | inr g ↦ r q g ]
 
 -- ---- Faults
 
-pub file_is : (before now : Counts) (e : AuditEnding) → Raises before now e → (status_of e ≡ 4) ↔ Rose before.files now.files
-file_is before now (endings.Plain e) h = (plain_faults before now e h).file
-file_is before now endings.Report h = (λ s. h.0, λ rose. refl)
-file_is before now (endings.Wrong line) h = untold 9 4 _ _ (λ s. absurd (omega arith)) (ap (λ (k : Counts). k.files) h)
-
-pub output_is : (before now : Counts) (e : AuditEnding) → Raises before now e → (status_of e ≡ 5) ↔ Rose before.out now.out
-output_is before now (endings.Plain e) h = (plain_faults before now e h).out
-output_is before now endings.Report h = untold 4 5 _ _ (λ s. absurd (omega arith)) (ap (λ (k : Counts). k.out) h.1)
-output_is before now (endings.Wrong line) h = untold 9 5 _ _ (λ s. absurd (omega arith)) (ap (λ (k : Counts). k.out) h)
+faults_are : (before now : Counts) (e : AuditEnding) → Raises before now e → TellsFaults (status_of e) before now
+faults_are before now (endings.Plain e) h = plain_faults before now e h
+faults_are before now endings.Report h = plain_faults before now plain.File h
+faults_are before now (endings.Wrong line) h = none_told before now 9 (inr (omega arith)) h
 
 -- ---- What was read
 
@@ -71,18 +68,6 @@ module _ (held told : Option (List ℕ)) (question : Question) (old new : Option
   abbrev Long : ℕ → Type 0
   Long n = (n ≡ 3) ⊎ (n ≡ 4) ⊎ (n ≡ 8) ⊎ (n ≡ 9)
 
-  -- An ending that tells of nothing but its own status, and of nothing that was judged.
-  early : (n : ℕ) → (n ≡ 0 → ⊥) → (n ≡ 5 → ⊥) → (n ≡ 9 → ⊥) → (n ≡ 10 → ⊥) → new ≡ old → Faulty n → Long n → Leaves held told question old new n
-  early n a b c d same faulty long = record {
-    printed = λ s. absurd (a s);
-    part = λ s. absurd (b s);
-    nothing = λ z f. same;
-    wrong = λ s. absurd (c s);
-    outside = λ s. absurd (d s);
-    faulty = always (Faulty n) (λ all. IsNoScenario (take read_limit all)) held faulty;
-    long = always (Long n) (λ all. report_size < length all) told long;
-  }
-
   -- The scenario was read, and the report approved.
   module _ (n : ℕ) (scenario : Scenario) (played : Played) (approved : IsApproved held told scenario played) where
     judged_faulty : IfSome held (λ all. IsNoScenario (take read_limit all) → Faulty n)
@@ -91,61 +76,57 @@ module _ (held told : Option (List ℕ)) (question : Question) (old new : Option
     judged_long : IfSome told (λ all. report_size < length all → Long n)
     judged_long = not_long (Long n) told approved.bytes approved.are_read.report_is approved.short
 
-  outside_is : (p : Question) → IsPlaceOutside held told p → new ≡ old → Leaves held told p old new 10
-  outside_is Right h same = absurd h
-  outside_is World h same = absurd h
-  outside_is (Why asking) h same = record {
-    printed = λ s. absurd (omega arith);
-    part = λ s. absurd (omega arith);
-    nothing = λ z f. same;
-    wrong = λ s. absurd (omega arith);
-    outside = λ s. h;
-    faulty = judged_faulty 10 h.scenario h.played h.approved;
-    long = judged_long 10 h.scenario h.played h.approved;
-  }
+  -- The run has no such place.
+  outside_faulty : (p : Question) → IsPlaceOutside held told p → IfSome held (λ all. IsNoScenario (take read_limit all) → Faulty 10)
+  outside_faulty Right h = absurd h
+  outside_faulty World h = absurd h
+  outside_faulty (Why asking) h = judged_faulty 10 h.scenario h.played h.approved
 
-  leaves_is : (e : AuditEnding) → Ends held told question old new e → Leaves held told question old new (status_of e)
-  leaves_is (endings.Plain plain.Done) h = record {
-    printed = λ s. h;
-    part = λ s. absurd (omega arith);
-    nothing = λ z f. absurd (z refl);
-    wrong = λ s. absurd (omega arith);
-    outside = λ s. absurd (omega arith);
-    faulty = judged_faulty 0 h.told.scenario h.told.played h.told.approved;
-    long = judged_long 0 h.told.scenario h.told.played h.told.approved;
-  }
-  leaves_is (endings.Plain plain.Out) h = record {
-    printed = λ s. absurd (omega arith);
-    part = λ s. h;
-    nothing = λ z f. absurd (f refl);
-    wrong = λ s. absurd (omega arith);
-    outside = λ s. absurd (omega arith);
-    faulty = judged_faulty 5 h.told.scenario h.told.played h.told.approved;
-    long = judged_long 5 h.told.scenario h.told.played h.told.approved;
-  }
-  leaves_is (endings.Plain (plain.Scenario line)) h =
-      early 3 (λ s. omega arith) (λ s. omega arith) (λ s. omega arith) (λ s. omega arith) h.1 (inl refl) (inl refl)
-  leaves_is (endings.Plain plain.File) h =
-      early 4 (λ s. omega arith) (λ s. omega arith) (λ s. omega arith) (λ s. omega arith) h.1 (inr (inl refl)) (inr (inl refl))
-  leaves_is endings.Report h =
-      early 4 (λ s. omega arith) (λ s. omega arith) (λ s. omega arith) (λ s. omega arith) h.1 (inr (inl refl)) (inr (inl refl))
-  leaves_is (endings.Plain plain.Memory) h =
-      early 8 (λ s. omega arith) (λ s. omega arith) (λ s. omega arith) (λ s. omega arith) h.1 (inr (inr refl)) (inr (inr (inl refl)))
-  leaves_is (endings.Wrong line) h =
+  outside_long : (p : Question) → IsPlaceOutside held told p → IfSome told (λ all. report_size < length all → Long 10)
+  outside_long Right h = absurd h
+  outside_long World h = absurd h
+  outside_long (Why asking) h = judged_long 10 h.scenario h.played h.approved
+
+  faulty_of : (e : AuditEnding) → Ends held told question old new e → IfSome held (λ all. IsNoScenario (take read_limit all) → Faulty (status_of e))
+  faulty_of (endings.Plain plain.Done) h = judged_faulty 0 h.told.scenario h.told.played h.told.approved
+  faulty_of (endings.Plain plain.Out) h = judged_faulty 5 h.told.scenario h.told.played h.told.approved
+  faulty_of (endings.Plain (plain.Scenario line)) h = always (Faulty 3) _ held (inl refl)
+  faulty_of (endings.Plain plain.File) h = always (Faulty 4) _ held (inr (inl refl))
+  faulty_of endings.Report h = always (Faulty 4) _ held (inr (inl refl))
+  faulty_of (endings.Plain plain.Memory) h = always (Faulty 8) _ held (inr (inr refl))
+  faulty_of (endings.Wrong line) h = read_is held (Faulty 9) h.0.scenario h.0.are_read.scenario_is
+  faulty_of (endings.Plain plain.Range) h = outside_faulty question h.0
+  faulty_of (endings.Plain plain.Words) h = absurd h.0
+  faulty_of (endings.Plain plain.Start) h = absurd h.0
+  faulty_of (endings.Plain plain.Link) h = absurd h.0
+
+  -- At any status but 0 and 5 nothing is printed.
+  silent : (n : ℕ) → (n ≡ 0 → ⊥) → (n ≡ 5 → ⊥) → new ≡ old → IfSome held (λ all. IsNoScenario (take read_limit all) → Faulty n) → Leaves (IsText held told question) held old new n
+  silent n zero five same faulty = record { printed = λ s. absurd (zero s); part = λ s. absurd (five s); nothing = λ z f. same; faulty = faulty }
+
+  leaves_of : (e : AuditEnding) → Ends held told question old new e → Leaves (IsText held told question) held old new (status_of e)
+  leaves_of (endings.Plain e) h = leaves_is (IsText held told question) (λ x. EndsEarly held told question (endings.Plain x)) old new held e h (faulty_of (endings.Plain e) h)
+  leaves_of endings.Report h = silent 4 (λ s. omega arith) (λ s. omega arith) h.1 (faulty_of endings.Report h)
+  leaves_of (endings.Wrong line) h = silent 9 (λ s. omega arith) (λ s. omega arith) h.1 (faulty_of (endings.Wrong line) h)
+
+  -- At any status but 9 and 10 nothing is said but that the report is not too long.
+  judges_by : (n : ℕ) → (n ≡ 9 → ⊥) → (n ≡ 10 → ⊥) → IfSome told (λ all. report_size < length all → Long n) → Judges held told question n
+  judges_by n nine ten long = record { wrong = λ s. absurd (nine s); outside = λ s. absurd (ten s); long = long }
+
+  judges_of : (e : AuditEnding) → Ends held told question old new e → Judges held told question (status_of e)
+  judges_of (endings.Plain plain.Done) h = judges_by 0 (λ s. omega arith) (λ s. omega arith) (judged_long 0 h.told.scenario h.told.played h.told.approved)
+  judges_of (endings.Plain plain.Out) h = judges_by 5 (λ s. omega arith) (λ s. omega arith) (judged_long 5 h.told.scenario h.told.played h.told.approved)
+  judges_of (endings.Plain (plain.Scenario line)) h = judges_by 3 (λ s. omega arith) (λ s. omega arith) (always (Long 3) _ told (inl refl))
+  judges_of (endings.Plain plain.File) h = judges_by 4 (λ s. omega arith) (λ s. omega arith) (always (Long 4) _ told (inr (inl refl)))
+  judges_of endings.Report h = judges_by 4 (λ s. omega arith) (λ s. omega arith) (always (Long 4) _ told (inr (inl refl)))
+  judges_of (endings.Plain plain.Memory) h = judges_by 8 (λ s. omega arith) (λ s. omega arith) (always (Long 8) _ told (inr (inr (inl refl))))
+  judges_of (endings.Wrong line) h =
       let w = h.0 in
-      record {
-        printed = λ s. absurd (omega arith);
-        part = λ s. absurd (omega arith);
-        nothing = λ z f. h.1;
-        wrong = λ s. record { number = line; wrong = w };
-        outside = λ s. absurd (omega arith);
-        faulty = read_is held (Faulty 9) w.scenario w.are_read.scenario_is;
-        long = always (Long 9) (λ all. report_size < length all) told (inr (inr (inr refl)));
-      }
-  leaves_is (endings.Plain plain.Range) h = outside_is question h.0 h.1
-  leaves_is (endings.Plain plain.Words) h = absurd h.0
-  leaves_is (endings.Plain plain.Start) h = absurd h.0
-  leaves_is (endings.Plain plain.Link) h = absurd h.0
+      record { wrong = λ s. record { number = line; wrong = w }; outside = λ s. absurd (omega arith); long = always (Long 9) (λ all. report_size < length all) told (inr (inr (inr refl))) }
+  judges_of (endings.Plain plain.Range) h = let out = h.0 in record { wrong = λ s. absurd (omega arith); outside = λ s. out; long = outside_long question out }
+  judges_of (endings.Plain plain.Words) h = absurd h.0
+  judges_of (endings.Plain plain.Start) h = absurd h.0
+  judges_of (endings.Plain plain.Link) h = absurd h.0
 
   abbrev Range : ℕ → Type 0
   Range n = (n ≡ 0) ⊎ ((2 ≤ n) × (n ≤ 5)) ⊎ ((8 ≤ n) × (n ≤ 10))
@@ -184,24 +165,27 @@ abbrev AllEnds : (List ℕ → Option (List ℕ)) → (old new : Option (List �
 AllEnds contents old new a e = IfSome a (λ (x : Asked). Ends (contents x.scenario) (contents x.report) x.question old new e)
 
 module _ (contents : List ℕ → Option (List ℕ)) (old new : Option (List ℕ)) where
-  pub left_is : (a : Option Asked) (e : AuditEnding) → AllEnds contents old new a e → IfSome a (λ (x : Asked). Leaves (contents x.scenario) (contents x.report) x.question old new (status_of e))
-  left_is None e h = tt
-  left_is (Some x) e h = leaves_is (contents x.scenario) (contents x.report) x.question old new e h
+  left_is : (a : Option Asked) (e : AuditEnding) → ((e ≡ endings.Plain plain.Words) ↔ (a ≡ None)) → AllEnds contents old new a e → (a ≡ None → new ≡ old)
+      → Leaves (IsTextFor a contents) (held_by_file contents (scenario_named a)) old new (status_of e)
+  left_is None e w h alone =
+      let two : status_of e ≡ 2 = ap status_of (w.1 refl) in
+      record { printed = λ s. absurd (omega (arith, two, s)); part = λ s. absurd (omega (arith, two, s)); nothing = λ z f. alone refl; faulty = tt }
+  left_is (Some x) e w h alone = leaves_of (contents x.scenario) (contents x.report) x.question old new e h
 
-  pub range_is : (a : Option Asked) (e : AuditEnding) → ((e ≡ endings.Plain plain.Words) ↔ (a ≡ None)) → AllEnds contents old new a e → (status_of e ≡ 0) ⊎ ((2 ≤ status_of e) × (status_of e ≤ 5)) ⊎ ((8 ≤ status_of e) × (status_of e ≤ 10))
+  judged_is : (a : Option Asked) (e : AuditEnding) → AllEnds contents old new a e → IfSome a (λ (x : Asked). Judges (contents x.scenario) (contents x.report) x.question (status_of e))
+  judged_is None e h = tt
+  judged_is (Some x) e h = judges_of (contents x.scenario) (contents x.report) x.question old new e h
+
+  range_is : (a : Option Asked) (e : AuditEnding) → ((e ≡ endings.Plain plain.Words) ↔ (a ≡ None)) → AllEnds contents old new a e → (status_of e ≡ 0) ⊎ ((2 ≤ status_of e) × (status_of e ≤ 5)) ⊎ ((8 ≤ status_of e) × (status_of e ≤ 10))
   range_is None e w h =
       let two : status_of e ≡ 2 = ap status_of (w.1 refl) in
       inr (inl (omega (arith, two), omega (arith, two)))
   range_is (Some x) e w h = range_of (contents x.scenario) (contents x.report) x.question old new e h
 
-  pub nothing_is : (a : Option Asked) (e : AuditEnding) → AllEnds contents old new a e → (a ≡ None → new ≡ old) → status_of e ≢ 0 → status_of e ≢ 5 → new ≡ old
-  nothing_is None e h alone z f = alone refl
-  nothing_is (Some x) e h alone z f = (leaves_is (contents x.scenario) (contents x.report) x.question old new e h).nothing z f
-
-  pub complete_is : (b c : Counts) (a : Option Asked) (e : AuditEnding) → AllEnds contents old new a e → Raises b c e →
-      IfSome a (λ (x : Asked). HoldsScenario (contents x.scenario) → NoneRose b c → (status_of e ≡ 0) ⊎ ((8 ≤ status_of e) × (status_of e ≤ 10)))
-  complete_is b c None e h r = tt
-  complete_is b c (Some x) e h r = λ can none. complete_of (contents x.scenario) (contents x.report) x.question old new b c e h r can none
+  complete_is : (b c : Counts) (a : Option Asked) (e : AuditEnding) → AllEnds contents old new a e → Raises b c e → HoldsScenario (held_by_file contents (scenario_named a)) → NoneRose b c
+      → (status_of e ≡ 0) ⊎ ((8 ≤ status_of e) × (status_of e ≤ 10))
+  complete_is b c None e h r can none = absurd can
+  complete_is b c (Some x) e h r can none = complete_of (contents x.scenario) (contents x.report) x.question old new b c e h r can none
 
 -- ---- The line
 
@@ -261,7 +245,7 @@ module _ (sure : List ℕ → Type 0) (contents : List ℕ → Option (List ℕ)
     told_of (endings.Plain plain.Start) h p q t = absurd h.0
     told_of (endings.Plain plain.Link) h p q t = absurd h.0
 
-  pub told_is : (a : Option Asked) (e : AuditEnding) → ((e ≡ endings.Plain plain.Words) ↔ (a ≡ None)) → AllEnds contents old new a e → IfSome a (λ (x : Asked). sure x.scenario → e ≢ endings.Plain plain.File) →
+  told_is : (a : Option Asked) (e : AuditEnding) → ((e ≡ endings.Plain plain.Words) ↔ (a ≡ None)) → AllEnds contents old new a e → IfSome a (λ (x : Asked). sure x.scenario → e ≢ endings.Plain plain.File) →
       IfSome a (λ (x : Asked). sure x.report → e ≢ endings.Report) → GrewOrRose t0 t1 n0 n1 (audit_line words_line a e) → TellsStatus sure contents words_line a (status_of e) t0 t1 n0 n1
   told_is None e w h p q t = no_words e (w.1 refl) t
     where
@@ -270,3 +254,23 @@ module _ (sure : List ℕ → Type 0) (contents : List ℕ → Option (List ℕ)
           let two : status_of e ≡ 2 = ap status_of is in
           told_plain None e (λ s. omega (arith, two, s)) (λ s. omega (arith, two, s)) (λ s. omega (arith, two, s)) (rw is refl) t
   told_is (Some x) e w h p q t = told_of x e h p q t
+
+-- ---- The answer
+
+module _ (asked : Option Asked) (contents : List ℕ → Option (List ℕ)) (is_sure : List ℕ → Type 0) (words_line : List ℕ) (rest : Option (List ℕ)) (before now : Moment) where
+  pub answers_is : (e : AuditEnding) → ((e ≡ endings.Plain plain.Words) ↔ (asked ≡ None)) → AllEnds contents before.out now.out asked e
+      → (asked ≡ None → now.out ≡ before.out) → Raises before.faults now.faults e → IfSome asked (λ (x : Asked). is_sure x.scenario → e ≢ endings.Plain plain.File)
+      → IfSome asked (λ (x : Asked). is_sure x.report → e ≢ endings.Report)
+      → (status_of e ≢ 2 → status_of e ≢ 4 → status_of e ≢ 8 → IfSome asked (λ (x : Asked). IsReportRead (contents x.report) rest))
+      → GrewOrRose before.err now.err before.err_faults now.err_faults (audit_line words_line asked e) → Answers asked contents is_sure words_line rest before now (status_of e)
+  answers_is e w h alone r p q read t = record {
+    range = range_is contents before.out now.out asked e w h;
+    words = words_is e w;
+    faults = faults_are before.faults now.faults e r;
+    sure = sure_is is_sure asked e p q;
+    read = read;
+    left = left_is contents before.out now.out asked e w h alone;
+    judged = judged_is contents before.out now.out asked e h;
+    told = told_is is_sure contents words_line before.out now.out before.err now.err before.err_faults now.err_faults asked e w h p q t;
+    complete = complete_is contents before.out now.out before.faults now.faults asked e h r;
+  }

@@ -9,7 +9,7 @@ use Rattle.sv_world.proofs.Writers.{last_writer-most}
 use Rattle.sv_world.proofs.Members.{all-members}
 use Rattle.sv_journal.specs.History.{accepted, actions_of}
 use Rattle.sv_scenario.specs.declared.scenario.Scenario.{Scenario}
-use Rattle.sv_system.specs.declared.played.Played.{Played}
+use Rattle.law_system.specs.declared.played.Played.{Played}
 use Rattle.sv_why.specs.Reasons.{writer_by, Explains}
 use Rattle.sv_audit.specs.Judging.{IsExplained}
 use Rattle.sv_audit.specs.Texts.{why_text}

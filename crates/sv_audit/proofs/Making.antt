@@ -4,13 +4,13 @@ use Rattle.std.specs.Prelude.{IsErrAnd, IfErr, Result, Ok, Err, String}
 use Rattle.std.specs.declared.alloc.Global.{Global}
 use Rattle.sv_scenario.specs.declared.scenario.Scenario.{Scenario}
 use Rattle.sv_scenario.specs.Scenarios.{scenario_of}
-use Rattle.sv_system.specs.declared.played.Played.{Played}
-use Rattle.sv_command.specs.declared.ending.Ending.{Ending}
-use Rattle.sv_command.specs.declared.ending.Ending.TheVariants as plain
-use Rattle.sv_command.specs.Endings.{IsMade}
-use Rattle.sv_command.specs.Reading.{IsFileFront}
-use Rattle.sv_command.specs.Statuses.{Counts, IsGiven, IsUnread}
-use Rattle.sv_command.proofs.Counts.{came}
+use Rattle.law_system.specs.declared.played.Played.{Played}
+use Rattle.sv_ending.specs.declared.ending.Ending.{Ending}
+use Rattle.sv_ending.specs.declared.ending.Ending.TheVariants as plain
+use Rattle.sv_ending.specs.Endings.{IsMade}
+use Rattle.sv_ending.specs.Reading.{IsFileFront}
+use Rattle.sv_ending.specs.Statuses.{Counts, IsGiven, IsUnread}
+use Rattle.sv_ending.proofs.Counts.{came}
 use Rattle.sv_audit.specs.declared.ending.AuditEnding.{AuditEnding}
 use Rattle.sv_audit.specs.declared.ending.AuditEnding.TheVariants as endings
 use Rattle.sv_audit.specs.Judging.{IsReportFront, AreRead, IsApproved, IsJudged, AnswersOrEnds, IsOverAt, IsText}

@@ -2,12 +2,12 @@
 use Rattle.std.specs.Prelude.{◌≡◌, ◌⊎◌, ℕ, ◌+◌, ◌<◌, ◌≤◌, ℤ, List, length, reverse, take, Option, Some, None, codes, Result, Ok, Err, String, string_bytes}
 use Rattle.std.specs.declared.alloc.Global.{Global}
 use Rattle.sv_scenario.specs.declared.scenario.Scenario.{Scenario}
-use Rattle.sv_system.specs.declared.played.Played.{Played}
+use Rattle.law_system.specs.declared.played.Played.{Played}
 use Rattle.sv_journal.specs.declared.entry.Entry.{Entry}
 use Rattle.sv_report.specs.Report.{world_text}
 use Rattle.sv_journal.specs.History.{accepted, actions_of}
-use Rattle.sv_command.specs.declared.ending.Ending.TheVariants as plain
-use Rattle.sv_command.specs.Reading.{IsRead}
+use Rattle.sv_ending.specs.declared.ending.Ending.TheVariants as plain
+use Rattle.sv_ending.specs.Reading.{IsRead}
 use Rattle.sv_check.specs.Either.{IsRightOf}
 use Rattle.sv_check.specs.Wrong.{IsFirstWrong}
 use Rattle.sv_why.specs.Reasons.{Explains, end_world}

@@ -3,3 +3,4 @@ pub mod Words
 pub mod Texts
 pub mod Judging
 pub mod Statuses
+pub mod Answers

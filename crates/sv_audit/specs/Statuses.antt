@@ -1,15 +1,15 @@
 -- How a call ends, and what each status says. `held` is what the scenario's file holds and `told` what the report's does, where that is told.
-use Rattle.std.specs.Prelude.{◌≡◌, ◌≢◌, ◌⊎◌, ℕ, ◌<◌, Bool, true, false, List, [], ◌++◌, length, take, drop, Option, Some, None, codes, unwrap_or, Result, Ok, Err, string_bytes, IfSome}
+use Rattle.std.specs.Prelude.{◌≡◌, ◌≢◌, ◌⊎◌, ℕ, Bool, true, false, List, [], ◌++◌, drop, Option, Some, None, codes, unwrap_or, Result, Ok, Err, string_bytes, IfSome}
 use Rattle.std.specs.Fmt.{decimal}
 use Rattle.sv_bytes.specs.Writing.{GrewOrRose}
-use Rattle.sv_command.specs.declared.ending.Ending.TheVariants as plain
-use Rattle.sv_command.specs.Endings.{IsPrinted, IsCutShort, Ends as PlainEnds}
-use Rattle.sv_command.specs.Lines.{file_line}
-use Rattle.sv_command.specs.Reading.{IsRefused, IsNoScenario, read_limit}
-use Rattle.sv_command.specs.Statuses.{Counts, IsUnread, Raises as PlainRaises, status_of as plain_status, ending_line, status_line}
+use Rattle.sv_ending.specs.declared.ending.Ending.TheVariants as plain
+use Rattle.sv_ending.specs.Endings.{Ends as PlainEnds}
+use Rattle.sv_ending.specs.Lines.{file_line}
+use Rattle.sv_ending.specs.Reading.{IsRefused}
+use Rattle.sv_ending.specs.Statuses.{Counts, IsUnread, Raises as PlainRaises, status_of as plain_status, ending_line, status_line}
 use Rattle.sv_audit.specs.declared.ending.AuditEnding.{AuditEnding}
 use Rattle.sv_audit.specs.declared.ending.AuditEnding.TheVariants as endings
-use Rattle.sv_audit.specs.Judging.{IsText, IsWrong, IsOutside, report_size, report_limit}
+use Rattle.sv_audit.specs.Judging.{IsText, IsWrong, IsOutside, report_limit}
 use Rattle.sv_audit.specs.Words.{Asked, Question, Why, scenario_named, report_named}
 
 -- ---- Endings
@@ -80,18 +80,6 @@ Ends held told question old new ending = EndsEarly held told question ending × 
 pub record HasWrong (held told : Option (List ℕ)) : Type 0 where
   pub number : ℕ
   pub wrong : IsWrong held told number
-
--- What each status says of what is asked.
-pub record Leaves (held told : Option (List ℕ)) (question : Question) (old new : Option (List ℕ)) (status : ℕ) : Type 0 where
-  pub printed : status ≡ 0 → IsPrinted (IsText held told question) old new
-  pub part : status ≡ 5 → IsCutShort (IsText held told question) old new
-  pub nothing : status ≢ 0 → status ≢ 5 → new ≡ old
-  pub wrong : status ≡ 9 → HasWrong held told
-  pub outside : status ≡ 10 → IsPlaceOutside held told question
-  -- where the scenario's file is told to hold none
-  pub faulty : IfSome held (λ all. IsNoScenario (take read_limit all) → (status ≡ 3) ⊎ (status ≡ 4) ⊎ (status ≡ 8))
-  -- where the report is told to have too many bytes
-  pub long : IfSome told (λ all. report_size < length all → (status ≡ 3) ⊎ (status ≡ 4) ⊎ (status ≡ 8) ⊎ (status ≡ 9))
 
 -- ---- The line beside the output
 

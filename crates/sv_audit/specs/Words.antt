@@ -1,7 +1,7 @@
 -- What the words that the call is given ask for.
 use Rattle.std.specs.Prelude.{ℕ, List, [], ◌∷◌, Option, Some, None, option_map, codes, if◌then◌else◌}
 use Rattle.std.specs.Str.{bytes_eq}
-use Rattle.sv_command.specs.Numbers.{number_between}
+use Rattle.sv_ending.specs.Numbers.{number_between}
 use Rattle.sv_audit.specs.declared.words.Audit.{Audit}
 use Rattle.sv_audit.specs.declared.words.Place.{Place}
 use Rattle.sv_audit.specs.declared.words.Question.{Question as Asks}

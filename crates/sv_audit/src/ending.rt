@@ -8,7 +8,7 @@ ghost use Rattle.sv_audit.specs.Words.{asked_by};
 use crate::words::{Audit, report_named, scenario_named};
 use std::alloc::AllocError;
 use sv_bytes::Sink;
-use sv_command::{Ending, tell_file, tell_number};
+use sv_ending::{Ending, tell_file, tell_number};
 
 /// How a call ends.
 #[derive(Debug, Drop)]
@@ -36,7 +36,7 @@ impl From<Ending> for AuditEnding {
 
 impl From<AllocError> for AuditEnding {
     ghost use Rattle.std.specs.Prelude.{◌≡◌};
-    ghost use Rattle.sv_command.specs.declared.ending.Ending.TheVariants as plain;
+    ghost use Rattle.sv_ending.specs.declared.ending.Ending.TheVariants as plain;
     ghost use Rattle.sv_audit.specs.declared.ending.AuditEnding.TheVariants as endings;
 
     ghost from_gives = { λ _ e. e ≡ endings.Plain plain.Memory };
@@ -63,7 +63,7 @@ pub(crate) fn tell<E: Sink>(
 {
     match ending {
         AuditEnding::Plain(ending) => {
-            sv_command::tell(ending, words_line, scenario_named(audit), err)
+            sv_ending::tell(ending, words_line, scenario_named(audit), err)
         }
         AuditEnding::Report => tell_file(report_named(audit).unwrap_or(""), err),
         AuditEnding::Wrong(line) => tell_wrong(*line, err),
@@ -75,7 +75,7 @@ pub(crate) fn status_of(ending: &AuditEnding) -> u8
     ensures { result ≡ status_of ending.now }
 {
     match ending {
-        AuditEnding::Plain(ending) => sv_command::status_of(ending),
+        AuditEnding::Plain(ending) => sv_ending::status_of(ending),
         AuditEnding::Report => 4,
         AuditEnding::Wrong(_) => 9,
     }

@@ -7,12 +7,12 @@ ghost use Rattle.sv_audit.specs.Words.{Why, place_by, question_by};
 use crate::ending::AuditEnding;
 use crate::texts::why_text;
 use crate::words::{Place, Question};
+use law_system::Played;
 use std::alloc::{AllocError, Global};
 use sv_check::{Verdict, check};
-use sv_command::Ending;
+use sv_ending::Ending;
 use sv_report::append_world;
 use sv_scenario::Scenario;
-use sv_system::Played;
 use sv_why::{why, world_at_end};
 
 /// The most bytes that a report may have.

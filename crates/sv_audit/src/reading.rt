@@ -1,8 +1,8 @@
 //! Both files are read before any of them is judged.
 ghost use Rattle.std.specs.Prelude.{◌≢◌, ℕ, ◌≤◌, Err, IfOk, IfErr, length};
-ghost use Rattle.sv_command.specs.Reading.{IsFileFront};
-ghost use Rattle.sv_command.specs.Statuses.{counts};
-ghost use Rattle.sv_command.specs.declared.ending.Ending.TheVariants as plain;
+ghost use Rattle.sv_ending.specs.Reading.{IsFileFront};
+ghost use Rattle.sv_ending.specs.Statuses.{counts};
+ghost use Rattle.sv_ending.specs.declared.ending.Ending.TheVariants as plain;
 ghost use Rattle.sv_audit.specs.Judging.{report_limit, IsReportFront};
 ghost use Rattle.sv_audit.specs.Statuses.{AreUnread, IsReportRead, Raises, ending_of};
 ghost use Rattle.sv_audit.specs.declared.ending.AuditEnding.TheVariants as endings;
@@ -12,7 +12,7 @@ use crate::judging::REPORT_SIZE;
 use crate::words::Audit;
 use std::alloc::Global;
 use sv_bytes::{FileFault, Files, read_all};
-use sv_command::{Ending, scenario_bytes};
+use sv_ending::{Ending, scenario_bytes};
 
 /// A report is read so far and no further: one byte more than one may have.
 const REPORT_LIMIT: usize = REPORT_SIZE + 1;

@@ -1,12 +1,12 @@
 //! The top call of the checker of reports.
-ghost use Rattle.std.specs.Prelude.{◌≡◌, ◌≢◌, ◌↔◌, ◌⊎◌, ℕ, ◌≤◌, true, map, option_map, string_bytes, None, Err, IfSome};
-ghost use Rattle.sv_bytes.specs.Faults.{Rose};
-ghost use Rattle.sv_command.specs.Endings.{IsMade};
-ghost use Rattle.sv_command.specs.Reading.{HoldsScenario};
-ghost use Rattle.sv_command.specs.Statuses.{counts, NoneRose};
-ghost use Rattle.sv_command.specs.declared.ending.Ending.TheVariants as plain;
+ghost use Rattle.std.specs.Prelude.{◌≡◌, ◌≢◌, ◌↔◌, ℕ, true, map, option_map, string_bytes, None, Err, IfSome};
+ghost use Rattle.sv_ending.specs.Calls.{moment};
+ghost use Rattle.sv_ending.specs.Endings.{IsMade};
+ghost use Rattle.sv_ending.specs.Statuses.{counts};
+ghost use Rattle.sv_ending.specs.declared.ending.Ending.TheVariants as plain;
+ghost use Rattle.sv_audit.specs.Answers.{Answers};
 ghost use Rattle.sv_audit.specs.Judging.{IsText};
-ghost use Rattle.sv_audit.specs.Statuses.{Ends, EndsEarly, IsReportRead, Leaves, Raises, TellsStatus, ending_of, is_of_both};
+ghost use Rattle.sv_audit.specs.Statuses.{Ends, EndsEarly, IsReportRead, Raises, ending_of, is_of_both};
 ghost use Rattle.sv_audit.specs.Words.{asked_by, asked_of, words_line};
 ghost use Rattle.sv_audit.specs.declared.ending.AuditEnding.TheVariants as endings;
 
@@ -16,7 +16,7 @@ use crate::reading::read_both;
 use crate::words::{Audit, audit_of, words_line};
 use std::alloc::Global;
 use sv_bytes::{Files, Sink, write_all};
-use sv_command::{Ending, given_scenario};
+use sv_ending::{Ending, given_scenario};
 
 /// The text that answers what is asked. It is whole before any of it is printed.
 fn text_for<F: Files>(alloc: Global, audit: Audit<'_>, files: &mut F) -> Result<String, AuditEnding>
@@ -78,21 +78,10 @@ pub fn run_check<F: Files, K: Sink, E: Sink>(
     out: &mut K,
     err: &mut E,
 ) -> u8
-    ensures range { (result ≡ 0) ⊎ ((2 ≤ result) × (result ≤ 5)) ⊎ ((8 ≤ result) × (result ≤ 10)) }
-    ensures words { (result ≡ 2) ↔ (asked_of (map string_bytes words.now) ≡ None) }
-    ensures file { (result ≡ 4) ↔ Rose (F.faults files.old) (F.faults files.new) }
-    ensures output { (result ≡ 5) ↔ Rose (K.faults out.old) (K.faults out.new) }
-    ensures sure { IfSome (asked_of (map string_bytes words.now)) (λ a. F.sure files.old a.scenario → F.sure files.old a.report → result ≢ 4) }
-    // The report is read before anything is said of the scenario or of it.
-    ensures read { result ≢ 2 → result ≢ 4 → result ≢ 8 → IfSome (asked_of (map string_bytes words.now)) (λ a. IsReportRead (F.contents files.old a.report) (F.left files.new)) }
+    ensures answers { Answers (asked_of (map string_bytes words.now)) (F.contents files.old) (F.sure files.old) (words_line (map string_bytes words.now)) (F.left files.new)
+        (moment (counts (F.faults files.old) 0 0 (K.faults out.old)) (K.taken out.old) (E.taken err.old) (E.faults err.old))
+        (moment (counts (F.faults files.new) 0 0 (K.faults out.new)) (K.taken out.new) (E.taken err.new) (E.faults err.new)) result }
     ensures apart { result ≡ 2 → files.new ≡ files.old }
-    ensures nothing { result ≢ 0 → result ≢ 5 → K.taken out.new ≡ K.taken out.old }
-    ensures left { IfSome (asked_of (map string_bytes words.now)) (λ a. Leaves (F.contents files.old a.scenario) (F.contents files.old a.report) a.question (K.taken out.old) (K.taken out.new) result) }
-    ensures told { TellsStatus (F.sure files.old) (F.contents files.old) (words_line (map string_bytes words.now)) (asked_of (map string_bytes words.now)) result
-        (E.taken err.old) (E.taken err.new) (E.faults err.old) (E.faults err.new) }
-    ensures complete { IfSome (asked_of (map string_bytes words.now)) (λ a. HoldsScenario (F.contents files.old a.scenario)
-        → NoneRose (counts (F.faults files.old) 0 0 (K.faults out.old)) (counts (F.faults files.new) 0 0 (K.faults out.new))
-        → (result ≡ 0) ⊎ ((8 ≤ result) × (result ≤ 10))) }
 {
     let audit = audit_of(words);
     let ending = decide(alloc, audit, files, out);

@@ -1,11 +1,14 @@
 //! What the words of a call ask for.
 ghost use Rattle.std.specs.Prelude.{◌≡◌, map, string_bytes, option_map};
 ghost use Rattle.std.specs.Option.{option_copied};
-ghost use Rattle.sv_command.specs.Numbers.{number_between};
+ghost use Rattle.sv_ending.specs.Numbers.{number_between};
 ghost use Rattle.sv_audit.specs.Words.{asked_by, asked_if, asked_of, line_for, place_by, place_if, plain_question, question_by, report_named, scenario_named, why_if, words_line};
 
-use sv_command::number_in;
+use sv_ending::number_in;
 use sv_world::ObjectId;
+
+/// The line that tells which words there are.
+const WORDS_LINE: &[u8] = b"words: check SCENARIO REPORT\n";
 
 /// An object, and a position among the accepted actions.
 #[derive(Clone, Copy, Debug, Drop)]
@@ -113,7 +116,7 @@ fn line_for(word: &str) -> &'static [u8]
     match word {
         "why" => b"words: why SCENARIO REPORT OBJECT POSITION\n",
         "world" => b"words: world SCENARIO REPORT\n",
-        _ => b"words: check SCENARIO REPORT\n",
+        _ => WORDS_LINE,
     }
 }
 
@@ -123,6 +126,6 @@ pub(crate) fn words_line(words: &[String]) -> &'static [u8]
 {
     match words {
         [word, ..] => line_for(word.as_str()),
-        [] => b"words: check SCENARIO REPORT\n",
+        [] => WORDS_LINE,
     }
 }

@@ -19,8 +19,8 @@ use Rattle.sv_scenario.specs.declared.scenario.Plan.{Plan}
 use Rattle.sv_scenario.specs.declared.scenario.Step.{Step}
 use Rattle.sv_scenario.specs.Limits.{IsGoodPlan}
 use Rattle.sv_script.specs.Following.{FollowsTo, Follows, is_finished}
-use Rattle.sv_player.proofs.Raised.{up_follows, up_finished}
-use Rattle.sv_system.specs.Fronts.{IsFront}
+use Rattle.sv_script.proofs.Shifted.{up_follows, up_finished}
+use Rattle.law_system.specs.Fronts.{IsFront}
 use Rattle.sv_lines.specs.declared.stop.LineStop.{LineStop}
 use Rattle.sv_lines.specs.declared.stop.LineStop.TheVariants as stop
 use Rattle.sv_report.specs.Report.{event_text, event_lines, trace_text}

@@ -23,18 +23,17 @@ use Rattle.sv_report.proofs.Seeking.{next_place}
 use Rattle.sv_scenario.specs.declared.scenario.Step.{Step}
 use Rattle.sv_script.specs.Laws.{is_got}
 use Rattle.sv_script.specs.Following.{FollowsTo, MayCome, must_join, is_welcomed, is_finished}
-use Rattle.sv_system.specs.Fits.{is_join_of, replies_in}
-use Rattle.sv_system.specs.Fronts.{IsFront}
-use Rattle.sv_system.specs.Outcomes.{is_quit}
-use Rattle.sv_system.proofs.Entered.{replies-one}
-use Rattle.sv_system.proofs.Fronts.{front-all, front-then}
-use Rattle.law_schedule.proofs.SoundTraces.{joined-within}
+use Rattle.law_system.specs.Fits.{is_join_of, replies_in}
+use Rattle.law_system.specs.Fronts.{IsFront}
+use Rattle.law_system.specs.Outcomes.{is_quit}
+use Rattle.law_system.proofs.Entered.{replies-one}
+use Rattle.law_system.proofs.Fronts.{front-all, front-then}
 use Rattle.sv_replay.proofs.Events.{asks_up, asks_got}
 use Rattle.sv_client.specs.Seen.{ClientView}
-use Rattle.sv_player.proofs.Going.{bye_finishes}
-use Rattle.sv_player.proofs.Onward.{or_none}
-use Rattle.sv_system.proofs.Places.{map_at}
-use Rattle.sv_system.proofs.Asked.{current-joined}
+use Rattle.sv_script.proofs.Shifted.{bye_finishes, or_none}
+use Rattle.law_system.proofs.Places.{map_at}
+use Rattle.law_system.proofs.Asked.{current-joined}
+use Rattle.law_system.proofs.Joined.{joined-within}
 use Rattle.sv_replay.proofs.Machines.{read_at}
 use Rattle.sv_check.specs.declared.actor.Actor.{Actor}
 use Rattle.sv_check.specs.Serving.{full_replies}

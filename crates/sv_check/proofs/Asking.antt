@@ -27,17 +27,17 @@ use Rattle.sv_scenario.specs.Limits.{IsGoodScenario}
 use Rattle.sv_scenario.specs.Sessions.{session_count}
 use Rattle.sv_script.specs.Following.{FollowsToEnd, is_step, steps_done, events_of, event_of, led_by}
 use Rattle.sv_script.specs.Laws.{StepsAreDoneInOrder}
-use Rattle.sv_system.specs.Fits.{requests_in, has_session, is_owned, FitsOne}
-use Rattle.sv_system.specs.Records.{rules_of, ends_in, EachTrace, ScriptsAreFollowed, IsRecordOf}
-use Rattle.sv_system.proofs.Histories.{IsEarlier, same, after, earlier-rest, earlier-legal}
-use Rattle.sv_system.proofs.Entered.{of-from, request-there}
-use Rattle.sv_asked.specs.Asked.{EventFits, HasNumbers, RequestsAreMessages, AcceptedAreFew}
-use Rattle.sv_asked.specs.Numbers.{StepFits, PlanFits, ScenarioFits}
-use Rattle.sv_system.proofs.Every.{each-at, each-left, each-reverse}
-use Rattle.sv_system.proofs.Limits.{limits_of, objects_few}
-use Rattle.sv_asked.proofs.Owned.{entry-at}
-use Rattle.sv_asked.proofs.Counts.{counts-each}
-use Rattle.sv_asked.proofs.Made.{Makes, Asks, asked-have}
+use Rattle.law_system.specs.Fits.{requests_in, has_session, is_owned, FitsOne}
+use Rattle.law_system.specs.Records.{rules_of, ends_in, EachTrace, ScriptsAreFollowed, IsRecordOf}
+use Rattle.law_system.proofs.Histories.{IsEarlier, same, after, earlier-rest, earlier-legal}
+use Rattle.law_system.proofs.Entered.{of-from, request-there}
+use Rattle.law_asked.specs.Asked.{EventFits, HasNumbers, RequestsAreMessages, AcceptedAreFew}
+use Rattle.law_asked.specs.Numbers.{StepFits, PlanFits, ScenarioFits}
+use Rattle.law_system.proofs.Every.{each-at, each-left, each-reverse}
+use Rattle.law_system.proofs.Limits.{limits_of, objects_few}
+use Rattle.law_asked.proofs.Owned.{entry-at}
+use Rattle.law_asked.proofs.Counts.{counts-each}
+use Rattle.law_asked.proofs.Made.{Makes, Asks, asked-have}
 use Rattle.sv_replay.proofs.Scripts.{event_fits}
 use Rattle.sv_lines.specs.Told.{IsTold}
 use Rattle.sv_check.specs.Parts.{IsEntryAfter, AreEntries}

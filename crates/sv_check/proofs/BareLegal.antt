@@ -9,7 +9,7 @@ use Rattle.sv_journal.specs.Answer.{Legal}
 use Rattle.sv_journal.specs.Sessions.{is_end, is_ended}
 use Rattle.sv_scenario.specs.declared.scenario.Scenario.{Scenario}
 use Rattle.sv_scenario.specs.Sessions.{session_count}
-use Rattle.sv_system.specs.Records.{rules_of, ends_in}
+use Rattle.law_system.specs.Records.{rules_of, ends_in}
 use Rattle.sv_lines.specs.Told.{IsTold}
 use Rattle.sv_check.specs.Bare.{IsBare, bare_text}
 use Rattle.sv_check.specs.Parts.{AreEntries}

@@ -14,10 +14,10 @@ use Rattle.sv_client.specs.declared.trace.Trace.{Trace}
 use Rattle.sv_scenario.specs.declared.scenario.Scenario.{Scenario}
 use Rattle.sv_scenario.specs.Limits.{IsGoodScenario}
 use Rattle.sv_script.specs.Laws.{StepsAreDoneInOrder}
-use Rattle.sv_system.specs.declared.played.Played.{Played}
-use Rattle.sv_system.specs.Records.{rules_of}
-use Rattle.sv_asked.specs.Asked.{RequestsAreMessages, AcceptedAreFew}
-use Rattle.sv_asked.specs.Numbers.{ScenarioFits}
+use Rattle.law_system.specs.declared.played.Played.{Played}
+use Rattle.law_system.specs.Records.{rules_of}
+use Rattle.law_asked.specs.Asked.{RequestsAreMessages, AcceptedAreFew}
+use Rattle.law_asked.specs.Numbers.{ScenarioFits}
 use Rattle.sv_report.specs.Report.{trace_text}
 use Rattle.sv_lines.specs.declared.stop.LineStop.{LineStop}
 use Rattle.sv_lines.specs.declared.stop.LineStop.TheVariants as stop

@@ -19,7 +19,7 @@ use Rattle.sv_journal.specs.Pieces.{joined, bracketed, head_text}
 use Rattle.sv_journal.specs.Text.{NamesAccepted, item_text, request_text, reply_text, entry_line, entry_lines}
 use Rattle.sv_scenario.specs.declared.scenario.Scenario.{Scenario}
 use Rattle.sv_scenario.specs.Sessions.{session_count}
-use Rattle.sv_system.specs.Records.{rules_of}
+use Rattle.law_system.specs.Records.{rules_of}
 use Rattle.sv_lines.proofs.Splitting.{others_are, number_split}
 use Rattle.sv_lines.proofs.Requests.{arrow, request_tells}
 use Rattle.sv_check.specs.Parts.{IsEntryAfter, AreEntries}

@@ -1,5 +1,5 @@
 -- From whole traces and a whole journal to the record of a run.
-use Rattle.std.proofs.Common.{◌≡◌, ℕ, zero, suc, ◌+◌, ◌<◌, ◌≤◌, ◌⊎◌, inl, inr, true, false, ◌&&◌, ◌||◌, eqb, List, [], ◌∷◌, ◌++◌, map, length, take, drop, get_or, reverse, refl, sym, ap, subst, ◌∙◌, arith, true≢false, append-nil}
+use Rattle.std.proofs.Common.{◌≡◌, ℕ, suc, ◌+◌, ◌<◌, ◌≤◌, inl, inr, true, List, [], ◌∷◌, ◌++◌, length, take, get_or, reverse, refl, sym, ap, subst, ◌∙◌, arith}
 use Rattle.std.specs.Prelude.{All}
 use Rattle.std.specs.List.{list_any, AllByRecursion}
 use Rattle.std.proofs.lemmas.Bool.{cases_lt, or_left, or_right}
@@ -12,24 +12,23 @@ use Rattle.sv_journal.specs.Sessions.{is_end}
 use Rattle.sv_journal.specs.Answer.{Legal}
 use Rattle.sv_client.specs.declared.trace.Trace.{Trace}
 use Rattle.sv_client.specs.Traces.{joins}
-use Rattle.sv_client.specs.Taking.{Identity}
-use Rattle.sv_client.specs.Proper.{Proper, AreProper, identity_of}
+use Rattle.sv_client.specs.Proper.{Proper, identity_of}
 use Rattle.sv_scenario.specs.declared.scenario.Plan.{Plan}
 use Rattle.sv_scenario.specs.declared.scenario.Scenario.{Scenario}
 use Rattle.sv_scenario.specs.declared.scenario.Step.{Step}
 use Rattle.sv_scenario.specs.declared.scenario.Step.TheVariants as steps
 use Rattle.sv_scenario.specs.Limits.{IsGoodScenario, IsGoodPlan, quits_last}
-use Rattle.sv_scenario.specs.Sessions.{cuts_by, cuts_in, sessions_of_plan, sessions_in, session_count}
-use Rattle.sv_script.specs.Following.{FollowsTo, FollowsToEnd, IsCarriedOut, steps_done, events_of, event_of, led_by, must_join, is_finished}
+use Rattle.sv_scenario.specs.Sessions.{cuts_in, sessions_of_plan, sessions_in, session_count}
+use Rattle.sv_script.specs.Following.{FollowsToEnd, steps_done, events_of}
 use Rattle.sv_script.specs.Laws.{StepsAreDoneInOrder, EndsDoAllSteps}
 use Rattle.sv_script.proofs.Places.{finished-first}
-use Rattle.sv_system.specs.Fits.{is_join_of, has_session, is_owned, FitsIn, FitsOne, Fits, AreApart, AreAllApart}
-use Rattle.sv_system.specs.Records.{AreTracesOf, EachTrace, IsRecordOf, ScriptsAreFollowed, rules_of, ends_in}
-use Rattle.sv_system.proofs.Asked.{any-reverse}
-use Rattle.sv_system.proofs.Clients.{client-trace}
-use Rattle.law_schedule.proofs.DoneCounts.{joins-counted, joins-few, low-joined, one_if}
-use Rattle.law_schedule.proofs.DoneFacts.{any-turned}
-use Rattle.law_schedule.proofs.SoundTraces.{joined-within}
+use Rattle.law_system.specs.Fits.{is_join_of, has_session, is_owned, FitsOne, AreApart, AreAllApart}
+use Rattle.law_system.specs.Records.{AreTracesOf, EachTrace, IsRecordOf, ScriptsAreFollowed, rules_of, ends_in}
+use Rattle.law_system.proofs.Asked.{any-reverse, any-turned}
+use Rattle.law_system.proofs.Clients.{client-trace}
+use Rattle.sv_script.proofs.Begun.{joins-counted, joins-few}
+use Rattle.sv_script.proofs.Counts.{one_if}
+use Rattle.law_system.proofs.Joined.{low-joined, joined-within}
 use Rattle.sv_check.specs.Parts.{IsWholeTrace, AreFirstTraces, IsOf}
 
 -- ---- The sessions of a trace

@@ -18,9 +18,9 @@ use Rattle.sv_scenario.specs.declared.scenario.Scenario.{Scenario}
 use Rattle.sv_scenario.specs.declared.scenario.Step.{Step}
 use Rattle.sv_scenario.specs.Sessions.{sessions_of_plan, sessions_in}
 use Rattle.sv_script.specs.Following.{is_finished}
-use Rattle.sv_system.specs.Fits.{is_join_of}
-use Rattle.sv_system.specs.Records.{AreTracesOf, EachTrace}
-use Rattle.law_schedule.proofs.DoneFacts.{any-turned}
+use Rattle.law_system.specs.Fits.{is_join_of}
+use Rattle.law_system.specs.Records.{AreTracesOf, EachTrace}
+use Rattle.law_system.proofs.Asked.{any-turned}
 use Rattle.sv_report.specs.Report.{event_text, event_lines, trace_text}
 use Rattle.sv_report.specs.Again.{lines_after}
 use Rattle.sv_check.specs.Next.{ComesNext, journal_replies}

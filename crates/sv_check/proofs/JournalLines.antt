@@ -19,7 +19,7 @@ use Rattle.sv_journal.specs.Text.{entry_line, entry_lines, journal_text, reply_t
 use Rattle.sv_sequencer.specs.Step.{entry_of}
 use Rattle.sv_scenario.specs.declared.scenario.Scenario.{Scenario}
 use Rattle.sv_scenario.specs.Sessions.{session_count}
-use Rattle.sv_system.specs.Records.{rules_of}
+use Rattle.law_system.specs.Records.{rules_of}
 use Rattle.sv_lines.specs.declared.request.Asked.{Asked}
 use Rattle.sv_lines.specs.declared.stop.Unread.{Unread}
 use Rattle.sv_lines.specs.declared.stop.Unread.TheVariants as unread

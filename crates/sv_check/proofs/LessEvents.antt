@@ -12,9 +12,9 @@ use Rattle.sv_client.specs.Proper.{AreProper, identity_of}
 use Rattle.sv_scenario.specs.declared.scenario.Plan.{Plan}
 use Rattle.sv_scenario.specs.declared.scenario.Scenario.{Scenario}
 use Rattle.sv_script.specs.Following.{FollowsTo}
-use Rattle.sv_system.specs.Fits.{is_join_of, replies_in}
-use Rattle.sv_system.specs.Fronts.{IsFront}
-use Rattle.sv_system.proofs.Asked.{any-reverse}
+use Rattle.law_system.specs.Fits.{is_join_of, replies_in}
+use Rattle.law_system.specs.Fronts.{IsFront}
+use Rattle.law_system.proofs.Asked.{any-reverse}
 use Rattle.sv_report.specs.Report.{event_text, event_lines, trace_text}
 use Rattle.sv_check.specs.Next.{GotFronts}
 use Rattle.sv_check.specs.Parts.{IsTraceSoFar}

@@ -17,7 +17,7 @@ use Rattle.sv_client.specs.Seen.{ClientView, raised, latest_session}
 use Rattle.sv_client.proofs.Shifts.{up_fault, up_proper}
 use Rattle.sv_scenario.specs.declared.scenario.Step.{Step}
 use Rattle.sv_script.specs.Following.{must_join, is_welcomed}
-use Rattle.sv_system.proofs.Fronts.{get-last}
+use Rattle.law_system.proofs.Fronts.{get-last}
 use Rattle.sv_report.specs.Report.{entry_number, event_text}
 use Rattle.sv_report.specs.Again.{MayDo, again, text_of, text_before, text_after, number_from}
 use Rattle.sv_report.proofs.Doing.{same_text}

@@ -14,10 +14,10 @@ use Rattle.sv_scenario.specs.declared.scenario.Scenario.{Scenario}
 use Rattle.sv_scenario.specs.Limits.{IsGoodScenario}
 use Rattle.sv_script.specs.Laws.{StepsAreDoneInOrder}
 use Rattle.sv_client.specs.Proper.{Proper}
-use Rattle.sv_system.specs.Fits.{FitsOne}
-use Rattle.sv_system.specs.Records.{EachTrace}
-use Rattle.sv_asked.specs.Asked.{RequestsAreMessages, AcceptedAreFew}
-use Rattle.sv_asked.specs.Numbers.{ScenarioFits}
+use Rattle.law_system.specs.Fits.{FitsOne}
+use Rattle.law_system.specs.Records.{EachTrace}
+use Rattle.law_asked.specs.Asked.{RequestsAreMessages, AcceptedAreFew}
+use Rattle.law_asked.specs.Numbers.{ScenarioFits}
 use Rattle.sv_report.specs.Report.{trace_text, world_text, report_text}
 use Rattle.sv_check.specs.Parts.{AreEntries}
 use Rattle.sv_check.specs.Consistent.{IsConsistent, IsReportOfPair}

@@ -5,7 +5,7 @@ use Rattle.std.proofs.lemmas.Bool.{eqb-true}
 use Rattle.sv_journal.specs.declared.entry.Entry.{Entry}
 use Rattle.sv_journal.specs.History.{accepted}
 use Rattle.sv_journal.specs.Sessions.{is_end}
-use Rattle.sv_system.specs.Fits.{replies_in}
+use Rattle.law_system.specs.Fits.{replies_in}
 use Rattle.sv_replay.proofs.Machines.{read_at}
 use Rattle.sv_report.specs.Report.{entry_number}
 use Rattle.sv_report.specs.Again.{behind_next}

@@ -14,11 +14,11 @@ use Rattle.sv_journal.specs.Answer.{Rules, reply_to, refused}
 use Rattle.sv_client.specs.declared.trace.Event.{Event}
 use Rattle.sv_client.specs.Taking.{Identity, Unasked, WrongKind, outstanding, allows, fault_after, first_fault_of_reply}
 use Rattle.sv_scenario.specs.declared.scenario.Scenario.{Scenario}
-use Rattle.sv_system.specs.Records.{rules_of}
-use Rattle.sv_system.specs.Fits.{replies_in}
-use Rattle.sv_system.proofs.Entered.{is_of, of-parts}
-use Rattle.sv_system.proofs.Fronts.{get-push_cases}
-use Rattle.sv_system.proofs.Order.{never-refused}
+use Rattle.law_system.specs.Records.{rules_of}
+use Rattle.law_system.specs.Fits.{replies_in}
+use Rattle.law_system.proofs.Entered.{is_of, of-parts}
+use Rattle.law_system.proofs.Fronts.{get-push_cases}
+use Rattle.law_system.proofs.Order.{never-refused}
 use Rattle.sv_report.proofs.Lines.{first_back}
 use Rattle.sv_check.specs.Parts.{IsEntryAfter, AreEntries, AreSomeEntries}
 use Rattle.sv_check.specs.Next.{journal_replies}

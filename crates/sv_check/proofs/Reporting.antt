@@ -13,11 +13,11 @@ use Rattle.sv_client.specs.declared.trace.Trace.{Trace}
 use Rattle.sv_scenario.specs.Limits.{IsGoodScenario}
 use Rattle.sv_scenario.specs.Sessions.{session_count}
 use Rattle.sv_script.specs.Laws.{StepsAreDoneInOrder, EndsDoAllSteps}
-use Rattle.sv_system.specs.Records.{IsRecordOf, ScriptsAreFollowed, ends_in}
+use Rattle.law_system.specs.Records.{IsRecordOf, ScriptsAreFollowed, ends_in}
 use Rattle.sv_scenario.specs.declared.scenario.Scenario.{Scenario}
-use Rattle.sv_system.specs.declared.played.Played.{Played}
-use Rattle.sv_asked.specs.Asked.{RequestsAreMessages, AcceptedAreFew}
-use Rattle.sv_asked.specs.Numbers.{ScenarioFits}
+use Rattle.law_system.specs.declared.played.Played.{Played}
+use Rattle.law_asked.specs.Asked.{RequestsAreMessages, AcceptedAreFew}
+use Rattle.law_asked.specs.Numbers.{ScenarioFits}
 use Rattle.sv_report.specs.Report.{trace_text, world_text}
 use Rattle.sv_lines.specs.declared.stop.LineStop.{LineStop}
 use Rattle.sv_lines.specs.declared.stop.LineStop.TheVariants as stop

@@ -13,9 +13,9 @@ use Rattle.sv_scenario.specs.declared.scenario.Plan.{Plan}
 use Rattle.sv_scenario.specs.declared.scenario.Scenario.{Scenario}
 use Rattle.sv_scenario.specs.Limits.{IsGoodScenario}
 use Rattle.sv_script.specs.Laws.{StepsAreDoneInOrder}
-use Rattle.sv_system.specs.Records.{EachTrace}
-use Rattle.sv_asked.specs.Asked.{RequestsAreMessages, AcceptedAreFew}
-use Rattle.sv_asked.specs.Numbers.{ScenarioFits}
+use Rattle.law_system.specs.Records.{EachTrace}
+use Rattle.law_asked.specs.Asked.{RequestsAreMessages, AcceptedAreFew}
+use Rattle.law_asked.specs.Numbers.{ScenarioFits}
 use Rattle.sv_report.specs.Report.{trace_text, value_lines, world_text, report_text}
 use Rattle.sv_check.specs.Parts.{IsWholeJournal, IsWholeTrace, AreFirstTraces, IsWorldPart}
 use Rattle.sv_check.specs.Consistent.{IsConsistent, IsReportOfPair, IsReport}

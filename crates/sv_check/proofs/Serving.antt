@@ -1,5 +1,5 @@
 -- The server that a report's journal tells of, with one request more.
-use Rattle.std.proofs.Common.{◌≡◌, ℕ, ◌<◌, ◌≤◌, inl, inr, Bool, true, false, ◌&&◌, ◌||◌, eqb, List, [], ◌∷◌, ◌++◌, map, length, reverse, refl, sym, ap, ap₂, subst, ◌∙◌, arith, true≢false}
+use Rattle.std.proofs.Common.{◌≡◌, ℕ, ◌<◌, ◌≤◌, inl, inr, Bool, true, false, ◌&&◌, eqb, List, [], ◌∷◌, ◌++◌, map, length, reverse, refl, sym, ap, ap₂, subst, ◌∙◌, arith, true≢false}
 use Rattle.std.specs.Prelude.{All}
 use Rattle.std.proofs.lemmas.Bool.{or_cases, cases_Bool, and_parts, eqb-true}
 use Rattle.std.proofs.lemmas.List.{reverse-append, reverse-reverse, map-append}
@@ -17,8 +17,8 @@ use Rattle.sv_sequencer.specs.Step.{SequencerView, history, Answered, entry_of}
 use Rattle.sv_scenario.specs.declared.scenario.Scenario.{Scenario}
 use Rattle.sv_scenario.specs.Limits.{IsGoodScenario}
 use Rattle.sv_scenario.specs.Sessions.{session_count}
-use Rattle.sv_system.specs.Records.{rules_of, ends_in}
-use Rattle.law_schedule.proofs.DoneEnds.{none-ended}
+use Rattle.law_system.specs.Records.{rules_of, ends_in}
+use Rattle.law_system.proofs.Ends.{none-ended}
 use Rattle.sv_lines.specs.Told.{IsTold}
 use Rattle.sv_check.specs.declared.journal.Served.{Served}
 use Rattle.sv_check.specs.Parts.{AreEntries, IsWholeJournal}

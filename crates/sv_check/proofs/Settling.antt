@@ -6,10 +6,10 @@ use Rattle.std.proofs.lemmas.Option.{same_Some}
 use Rattle.sv_wire.specs.declared.message.Request.{Request}
 use Rattle.sv_journal.specs.declared.entry.Entry.{Entry}
 use Rattle.sv_journal.specs.Sessions.{is_end, is_ended}
-use Rattle.sv_system.specs.Fits.{requests_in, IsEndLast}
-use Rattle.sv_system.specs.Fronts.{IsFront}
-use Rattle.sv_system.proofs.Fronts.{front-all, front-then, get-last}
-use Rattle.sv_system.proofs.Entered.{requests-one}
+use Rattle.law_system.specs.Fits.{requests_in, IsEndLast}
+use Rattle.law_system.specs.Fronts.{IsFront}
+use Rattle.law_system.proofs.Fronts.{front-all, front-then, get-last}
+use Rattle.law_system.proofs.Entered.{requests-one}
 use Rattle.sv_check.specs.Acting.{IsSettled}
 
 -- The first entries, turned.

@@ -5,7 +5,7 @@ use Rattle.sv_journal.specs.declared.entry.Entry.{Entry}
 use Rattle.sv_client.specs.declared.trace.Trace.{Trace}
 use Rattle.sv_scenario.specs.declared.scenario.Plan.{Plan}
 use Rattle.sv_scenario.specs.Sessions.{sessions_of_plan, sessions_in}
-use Rattle.sv_system.specs.Records.{AreTracesOf, EachTrace}
+use Rattle.law_system.specs.Records.{AreTracesOf, EachTrace}
 use Rattle.sv_report.specs.Report.{trace_text}
 use Rattle.sv_check.specs.Parts.{IsOf}
 

@@ -12,10 +12,10 @@ use Rattle.sv_client.specs.Taking.{Identity}
 use Rattle.sv_client.specs.Proper.{AreProper, MayFollow}
 use Rattle.sv_scenario.specs.declared.scenario.Step.{Step}
 use Rattle.sv_script.specs.Following.{FollowsTo, MayCome, is_finished}
-use Rattle.sv_system.specs.Fits.{is_join_of}
-use Rattle.sv_system.specs.Fronts.{IsFront}
-use Rattle.sv_system.proofs.Fronts.{front-all, front-append, front-then, get-last}
-use Rattle.sv_system.proofs.Asked.{current-joined}
+use Rattle.law_system.specs.Fits.{is_join_of}
+use Rattle.law_system.specs.Fronts.{IsFront}
+use Rattle.law_system.proofs.Fronts.{front-all, front-append, front-then, get-last}
+use Rattle.law_system.proofs.Asked.{current-joined}
 use Rattle.sv_report.specs.Report.{event_text}
 use Rattle.sv_report.specs.Again.{lines_after}
 use Rattle.sv_report.proofs.Lines.{first_back}

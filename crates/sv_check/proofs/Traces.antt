@@ -17,9 +17,9 @@ use Rattle.sv_client.specs.Proper.{Proper, identity_of}
 use Rattle.sv_scenario.specs.declared.scenario.Plan.{Plan}
 use Rattle.sv_scenario.specs.Sessions.{sessions_of_plan}
 use Rattle.sv_script.specs.Following.{FollowsToEnd}
-use Rattle.sv_system.specs.Fits.{is_join_of, replies_in, has_session, FitsIn, FitsOne}
-use Rattle.sv_system.specs.Records.{AreTracesOf, EachTrace}
-use Rattle.law_schedule.proofs.DoneFacts.{any-turned}
+use Rattle.law_system.specs.Fits.{is_join_of, replies_in, has_session, FitsIn, FitsOne}
+use Rattle.law_system.specs.Records.{AreTracesOf, EachTrace}
+use Rattle.law_system.proofs.Asked.{any-turned}
 use Rattle.sv_report.specs.Report.{event_lines, trace_text}
 use Rattle.sv_report.specs.Again.{lines_after}
 use Rattle.sv_report.proofs.Lines.{lines_are}

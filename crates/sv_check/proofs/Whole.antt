@@ -13,11 +13,10 @@ use Rattle.sv_client.specs.Proper.{Proper, identity_of}
 use Rattle.sv_client.specs.Seen.{trace_from}
 use Rattle.sv_scenario.specs.declared.scenario.Plan.{Plan}
 use Rattle.sv_script.specs.Following.{FollowsTo, is_finished}
-use Rattle.sv_player.proofs.Raised.{up_follows, up_finished}
-use Rattle.sv_system.specs.Fits.{is_join_of, requests_in, replies_in}
-use Rattle.sv_system.specs.Fronts.{IsFront}
-use Rattle.sv_system.proofs.Asked.{current-joined}
-use Rattle.law_schedule.proofs.DoneFacts.{any-turned}
+use Rattle.sv_script.proofs.Shifted.{up_follows, up_finished}
+use Rattle.law_system.specs.Fits.{is_join_of, requests_in, replies_in}
+use Rattle.law_system.specs.Fronts.{IsFront}
+use Rattle.law_system.proofs.Asked.{current-joined, any-turned}
 use Rattle.sv_check.specs.declared.actor.Actor.{Actor}
 use Rattle.sv_check.specs.Parts.{IsWholeTrace, IsOf}
 use Rattle.sv_check.specs.Acting.{IsActing, IsSettled, IsAmiss, LookedAt, identity, journal_events}

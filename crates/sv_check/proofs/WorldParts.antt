@@ -19,9 +19,9 @@ use Rattle.sv_scenario.specs.declared.scenario.Plan.{Plan}
 use Rattle.sv_scenario.specs.declared.scenario.Scenario.{Scenario}
 use Rattle.sv_scenario.specs.Sessions.{sessions_of_plan, sessions_in, session_count}
 use Rattle.sv_script.specs.Following.{is_finished}
-use Rattle.sv_system.specs.Fits.{is_join_of, replies_in}
-use Rattle.sv_system.specs.Records.{AreTracesOf, EachTrace}
-use Rattle.law_schedule.proofs.DoneFacts.{any-turned}
+use Rattle.law_system.specs.Fits.{is_join_of, replies_in}
+use Rattle.law_system.specs.Records.{AreTracesOf, EachTrace}
+use Rattle.law_system.proofs.Asked.{any-turned}
 use Rattle.sv_report.specs.Report.{trace_text, value_lines}
 use Rattle.sv_report.specs.Again.{lines_after}
 use Rattle.sv_lines.proofs.Splitting.{others_are, number_split}

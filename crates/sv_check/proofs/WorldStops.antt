@@ -16,10 +16,10 @@ use Rattle.sv_scenario.specs.declared.scenario.Scenario.{Scenario}
 use Rattle.sv_scenario.specs.Limits.{IsGoodScenario}
 use Rattle.sv_scenario.specs.Sessions.{sessions_in, session_count}
 use Rattle.sv_script.specs.Laws.{StepsAreDoneInOrder}
-use Rattle.sv_system.specs.Records.{rules_of}
-use Rattle.sv_asked.specs.Asked.{RequestsAreMessages, AcceptedAreFew}
-use Rattle.sv_asked.specs.Numbers.{ScenarioFits}
-use Rattle.sv_asked.proofs.Facts.{RequestsFit, committed-fits}
+use Rattle.law_system.specs.Records.{rules_of}
+use Rattle.law_asked.specs.Asked.{RequestsAreMessages, AcceptedAreFew}
+use Rattle.law_asked.specs.Numbers.{ScenarioFits}
+use Rattle.law_asked.proofs.Facts.{RequestsFit, committed-fits}
 use Rattle.sv_report.specs.Report.{trace_text, value_lines, world_text}
 use Rattle.sv_lines.specs.Lines.{line_width, after_lines, Differs}
 use Rattle.sv_check.specs.Parts.{AreEntries, IsWholeJournal, IsWholeTrace, AreFirstTraces, IsReportPart}

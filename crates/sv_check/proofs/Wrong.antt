@@ -14,7 +14,7 @@ use Rattle.sv_client.proofs.Shifts.{Up, up_joins, up_outstanding}
 use Rattle.sv_scenario.specs.declared.scenario.Step.{Step}
 use Rattle.sv_script.specs.Following.{MayCome, DoesStep, must_join, is_welcomed, passed_syncs}
 use Rattle.sv_script.specs.Laws.{is_got}
-use Rattle.sv_player.proofs.Raised.{up_finished, up_must_join, up_welcomed}
+use Rattle.sv_script.proofs.Shifted.{up_finished, up_must_join, up_welcomed}
 use Rattle.sv_report.specs.Report.{event_text}
 use Rattle.sv_report.proofs.Doing.{may_do}
 use Rattle.sv_check.specs.Next.{GetsNextReply, ComesNext, NoEvent, journal_replies}

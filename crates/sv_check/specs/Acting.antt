@@ -20,9 +20,9 @@ use Rattle.sv_report.specs.Again.{MayDo, IsPlace, behind_next, all_raised}
 use Rattle.sv_report.specs.Report.{entry_number}
 use Rattle.sv_scenario.specs.declared.scenario.Step.{Step}
 use Rattle.sv_script.specs.Following.{FollowsTo, MayCome, event_of, must_join, is_bye, is_welcomed, is_finished}
-use Rattle.sv_system.specs.Fits.{is_join_of, requests_in, replies_in, IsEndLast}
-use Rattle.sv_system.specs.Fronts.{IsFront}
-use Rattle.sv_system.specs.Outcomes.{is_quit}
+use Rattle.law_system.specs.Fits.{is_join_of, requests_in, replies_in, IsEndLast}
+use Rattle.law_system.specs.Fronts.{IsFront}
+use Rattle.law_system.specs.Outcomes.{is_quit}
 use Rattle.sv_check.specs.declared.actor.Actor.{Actor}
 use Rattle.sv_check.specs.Next.{NoEvent}
 

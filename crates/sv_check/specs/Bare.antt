@@ -7,8 +7,8 @@ use Rattle.sv_journal.specs.Answer.{Legal}
 use Rattle.sv_journal.specs.History.{commit_of, committed_of}
 use Rattle.sv_journal.specs.Text.{journal_text}
 use Rattle.sv_scenario.specs.declared.scenario.Scenario.{Scenario}
-use Rattle.sv_system.specs.declared.played.Played.{Played}
-use Rattle.sv_system.specs.Records.{rules_of}
+use Rattle.law_system.specs.declared.played.Played.{Played}
+use Rattle.law_system.specs.Records.{rules_of}
 use Rattle.sv_check.specs.Parts.{IsWholeJournal}
 
 -- `commit C`, with its line end.

@@ -8,8 +8,8 @@ use Rattle.sv_client.specs.Proper.{Proper, identity_of}
 use Rattle.sv_client.specs.Traces.{got}
 use Rattle.sv_scenario.specs.declared.scenario.Plan.{Plan}
 use Rattle.sv_script.specs.Following.{Follows}
-use Rattle.sv_system.specs.Fits.{has_session}
-use Rattle.sv_system.specs.Fronts.{IsFront}
+use Rattle.law_system.specs.Fits.{has_session}
+use Rattle.law_system.specs.Fronts.{IsFront}
 use Rattle.sv_report.specs.Report.{event_lines, trace_text}
 use Rattle.sv_check.specs.declared.actor.Actor.{Actor}
 use Rattle.sv_check.specs.Acting.{WentOn, journal_events}

@@ -3,8 +3,8 @@ use Rattle.std.specs.Prelude.{◌≡◌, ℕ, List, reverse}
 use Rattle.sv_journal.specs.declared.entry.Entry.{Entry}
 use Rattle.sv_client.specs.declared.trace.Trace.{Trace}
 use Rattle.sv_scenario.specs.declared.scenario.Scenario.{Scenario}
-use Rattle.sv_system.specs.declared.played.Played.{Played}
-use Rattle.sv_system.specs.Records.{IsRecordOf, ScriptsAreFollowed, IsPlayed}
+use Rattle.law_system.specs.declared.played.Played.{Played}
+use Rattle.law_system.specs.Records.{IsRecordOf, ScriptsAreFollowed, IsPlayed}
 use Rattle.sv_report.specs.Report.{report_text}
 
 -- A journal and traces are consistent: they are the record of a scenario's traffic, and each trace follows its client's script to the end.

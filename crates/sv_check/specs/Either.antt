@@ -1,7 +1,7 @@
 -- Texts of either kind: reports, and what `serve` prints.
 use Rattle.std.specs.Prelude.{◌⊎◌, ℕ, List}
 use Rattle.sv_scenario.specs.declared.scenario.Scenario.{Scenario}
-use Rattle.sv_system.specs.declared.played.Played.{Played}
+use Rattle.law_system.specs.declared.played.Played.{Played}
 use Rattle.sv_check.specs.Consistent.{IsReport, IsReportOf}
 use Rattle.sv_check.specs.Bare.{IsBare, IsBareOf}
 use Rattle.sv_check.specs.Parts.{IsReportPart}

@@ -12,8 +12,8 @@ use Rattle.sv_client.specs.Taking.{Identity}
 use Rattle.sv_client.specs.Proper.{AreProper, MayFollow}
 use Rattle.sv_scenario.specs.declared.scenario.Step.{Step}
 use Rattle.sv_script.specs.Following.{FollowsTo, MayCome}
-use Rattle.sv_system.specs.Fits.{is_join_of, replies_in}
-use Rattle.sv_system.specs.Fronts.{IsFront}
+use Rattle.law_system.specs.Fits.{is_join_of, replies_in}
+use Rattle.law_system.specs.Fronts.{IsFront}
 use Rattle.sv_report.specs.Report.{event_text}
 
 -- The replies of each session, by the entries of a journal in order.

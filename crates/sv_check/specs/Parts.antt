@@ -16,9 +16,9 @@ use Rattle.sv_scenario.specs.declared.scenario.Plan.{Plan}
 use Rattle.sv_scenario.specs.declared.scenario.Scenario.{Scenario}
 use Rattle.sv_scenario.specs.Sessions.{sessions_in, session_count}
 use Rattle.sv_script.specs.Following.{Follows, FollowsToEnd}
-use Rattle.sv_system.specs.Fits.{replies_in, has_session, FitsIn}
-use Rattle.sv_system.specs.Fronts.{IsFront}
-use Rattle.sv_system.specs.Records.{rules_of, ends_in, AreTracesOf, EachTrace}
+use Rattle.law_system.specs.Fits.{replies_in, has_session, FitsIn}
+use Rattle.law_system.specs.Fronts.{IsFront}
+use Rattle.law_system.specs.Records.{rules_of, ends_in, AreTracesOf, EachTrace}
 use Rattle.sv_lines.specs.Told.{IsTold}
 use Rattle.sv_report.specs.Report.{trace_text, report_text, value_lines}
 

@@ -4,8 +4,8 @@ use Rattle.std.specs.List.{flat_map}
 use Rattle.sv_journal.specs.Text.{journal_text}
 use Rattle.sv_client.specs.declared.trace.Trace.{Trace}
 use Rattle.sv_scenario.specs.declared.scenario.Scenario.{Scenario}
-use Rattle.sv_system.specs.declared.played.Played.{Played}
-use Rattle.sv_system.specs.Records.{IsPlayed}
+use Rattle.law_system.specs.declared.played.Played.{Played}
+use Rattle.law_system.specs.Records.{IsPlayed}
 use Rattle.sv_report.specs.Report.{trace_text}
 use Rattle.sv_check.specs.declared.journal.Served.{Served}
 use Rattle.sv_check.specs.Consistent.{IsConsistent}

@@ -10,12 +10,12 @@ ghost use Rattle.sv_check.specs.Stopping.{IsTextStop, IfWrong};
 
 use crate::journal::Served;
 use crate::runs::laws_of_runs;
+use law_asked::read_scenario_numbers;
+use law_system::Played;
 use std::alloc::{AllocError, Global};
-use sv_asked::read_scenario_numbers;
 use sv_lines::{LineStop, take_line};
 use sv_replay::played_of;
 use sv_scenario::Scenario;
-use sv_system::Played;
 use sv_world::List;
 
 /// Whether what stands behind a journal goes on as what `serve` prints.

@@ -18,15 +18,15 @@ use crate::bare::{begins_commit, read_bare};
 use crate::clients::take_clients;
 use crate::journal::{Served, take_journal};
 use crate::runs::laws_of_runs;
+use law_asked::read_scenario_numbers;
+use law_system::Played;
 use std::alloc::{AllocError, Global};
-use sv_asked::read_scenario_numbers;
 use sv_client::Trace;
 use sv_lines::{LineStop, line_ends, take_lines};
 use sv_replay::played_of;
 use sv_report::append_world;
 use sv_scenario::Scenario;
 use sv_script::steps_are_done_in_order;
-use sv_system::Played;
 use sv_world::List;
 
 /// What is left of the server and the clients.

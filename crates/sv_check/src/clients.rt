@@ -17,8 +17,8 @@ ghost use Rattle.sv_check.specs.Acting.{IsActing, WentOn, identity, journal_even
 use crate::actor::Actor;
 use crate::journal::Served;
 use crate::runs::laws_of_runs;
+use law_asked::read_scenario_numbers;
 use std::alloc::{AllocError, Global};
-use sv_asked::read_scenario_numbers;
 use sv_client::{Client, Trace};
 use sv_lines::{LineStop, take_line};
 use sv_scenario::{Plan, Scenario, sessions_of_plan};

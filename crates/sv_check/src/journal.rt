@@ -1,12 +1,12 @@
 //! The journal's part of a report.
 ghost use Rattle.std.specs.Prelude.{◌≡◌, ℕ, List, [], ◌∷◌, ◌+◌, ◌<◌, ◌^◌, ◌++◌, true, false, Some, length, reverse, IfOk, OnOk};
 ghost use Rattle.sv_scenario.specs.Limits.{IsGoodScenario};
-ghost use Rattle.sv_asked.specs.Numbers.{ScenarioFits};
+ghost use Rattle.law_asked.specs.Numbers.{ScenarioFits};
 ghost use Rattle.sv_journal.specs.Sessions.{is_end, is_ended};
 ghost use Rattle.sv_journal.specs.Answer.{MayBeSession, Legal, reply_to};
 ghost use Rattle.sv_sequencer.specs.Step.{history, entry_of};
 ghost use Rattle.sv_journal.specs.Text.{journal_text};
-ghost use Rattle.sv_system.specs.Records.{rules_of};
+ghost use Rattle.law_system.specs.Records.{rules_of};
 ghost use Rattle.sv_lines.specs.declared.stop.LineStop.TheVariants.{Wrong};
 ghost use Rattle.sv_lines.specs.Told.{IsTold};
 ghost use Rattle.sv_check.specs.Serving.{IsServed, AreEnded, entries_of};

@@ -1,9 +1,9 @@
 //! The laws of runs that the reading of a report rests on.
 ghost use Rattle.sv_journal.specs.Laws.{FullRepliesStay, LegalRelaysNameAccepted};
 ghost use Rattle.sv_script.specs.Laws.{StepsAreDoneInOrder};
-ghost use Rattle.sv_asked.specs.Asked.{AcceptedAreFew, RequestsAreMessages};
+ghost use Rattle.law_asked.specs.Asked.{AcceptedAreFew, RequestsAreMessages};
 
-use sv_asked::{accepted_are_few, requests_are_messages};
+use law_asked::{accepted_are_few, requests_are_messages};
 use sv_journal::{full_replies_stay, legal_relays_name_accepted};
 use sv_script::steps_are_done_in_order;
 

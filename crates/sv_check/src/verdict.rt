@@ -1,5 +1,5 @@
 //! What a check says of a text.
-use sv_system::Played;
+use law_system::Played;
 
 /// What a check says of a text.
 #[derive(Debug, Drop)]

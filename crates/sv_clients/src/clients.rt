@@ -83,6 +83,7 @@ impl Clients {
     }
 
     /// Notes what came of a client's next action.
+    #[inline(always)]
     pub fn settle(&mut self, client: u16, outcome: Outcome) -> Result<(), AllocError>
         requires room { (client_row self.old client).count < most_positions }
         ensures ok { OnOk result ((k : ℕ) → client_row self.new k ≡ (if nat_eq client k then settled (outcome_value outcome) (client_row self.old client) else client_row self.old k)) }

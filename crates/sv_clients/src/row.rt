@@ -35,6 +35,7 @@ impl ClientRow {
 
     /// Notes what came of the client's next action.
     #[tactic(auto, using(crate::proofs::Rows::kept_room, crate::proofs::Rows::kept_full))]
+    #[inline(always)]
     pub(crate) fn settle(&mut self, outcome: Outcome)
         requires room { (view_of self.old).count < most_positions }
         ensures { view_of self.new ≡ settled (outcome_value outcome) (view_of self.old) }

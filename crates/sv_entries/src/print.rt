@@ -42,7 +42,7 @@ fn put_join(
 {
     put_behind("join c", client.0 as u64, out)?;
     put_behind(" ", life as u64, out)?;
-    out.push_str(" ")?;
+    out.push(' ')?;
     append_objects(interest, out)
 }
 
@@ -59,7 +59,7 @@ fn put_submit(shape: Shape, seq: u32, action: &Action, out: &mut String) -> Resu
     ensures { OnOk result (string_bytes out.new ≡ string_bytes out.old ++ codes "submit " ++ decimal seq ++ codes " " ++ action_text shape action.now) }
 {
     put_behind("submit ", seq as u64, out)?;
-    out.push_str(" ")?;
+    out.push(' ')?;
     put_shown(shape, action, out)
 }
 
@@ -67,7 +67,7 @@ fn put_result(done: &Done1, out: &mut String) -> Result<(), AllocError>
     ensures { OnOk result (string_bytes out.new ≡ string_bytes out.old ++ result_text done.now) }
 {
     put_number(done.pos as u64, out)?;
-    out.push_str(":")?;
+    out.push(':')?;
     append_values(done.values.as_slice(), out)
 }
 
@@ -75,7 +75,7 @@ fn put_more_results(results: &[Done1], out: &mut String) -> Result<(), AllocErro
     ensures { OnOk result (string_bytes out.new ≡ string_bytes out.old ++ flat_map (λ (d : Done1). 32 ∷ result_text d) results.now) }
 {
     for done in results {
-        out.push_str(" ")?;
+        out.push(' ')?;
         put_result(done, out)?;
     }
     Ok(())
@@ -96,14 +96,14 @@ fn put_done(results: &[Done1], out: &mut String) -> Result<(), AllocError>
 {
     out.push_str("done [")?;
     put_result_list(results, out)?;
-    out.push_str("]")
+    out.push(']')
 }
 
 fn put_observe(wait: u16, objects: &[ObjectId], out: &mut String) -> Result<(), AllocError>
     ensures { OnOk result (string_bytes out.new ≡ string_bytes out.old ++ codes "observe " ++ decimal wait ++ codes " " ++ objects_text objects.now) }
 {
     put_behind("observe ", wait as u64, out)?;
-    out.push_str(" ")?;
+    out.push(' ')?;
     append_objects(objects, out)
 }
 
@@ -140,7 +140,7 @@ fn put_more_items(items: &[Item], out: &mut String) -> Result<(), AllocError>
     ensures { OnOk result (string_bytes out.new ≡ string_bytes out.old ++ flat_map (λ (i : Item). 32 ∷ sent_item i) items.now) }
 {
     for item in items {
-        out.push_str(" ")?;
+        out.push(' ')?;
         put_item(item, out)?;
     }
     Ok(())
@@ -159,16 +159,16 @@ fn put_item_list(items: &[Item], out: &mut String) -> Result<(), AllocError>
 fn put_items(items: &[Item], out: &mut String) -> Result<(), AllocError>
     ensures { OnOk result (string_bytes out.new ≡ string_bytes out.old ++ bracketed sent_item items.now) }
 {
-    out.push_str("[")?;
+    out.push('[')?;
     put_item_list(items, out)?;
-    out.push_str("]")
+    out.push(']')
 }
 
 fn put_welcome(commit: u32, head: &[ObjectValue], out: &mut String) -> Result<(), AllocError>
     ensures { OnOk result (string_bytes out.new ≡ string_bytes out.old ++ codes "welcome " ++ decimal commit ++ codes " " ++ head_text head.now) }
 {
     put_behind("welcome ", commit as u64, out)?;
-    out.push_str(" ")?;
+    out.push(' ')?;
     append_head(head, out)
 }
 
@@ -182,9 +182,9 @@ fn put_sent(
     ensures { OnOk result (string_bytes out.new ≡ string_bytes out.old ++ codes " at " ++ decimal commit ++ codes " " ++ head_text head.now ++ codes " " ++ bracketed sent_item items.now) }
 {
     put_behind(" at ", commit as u64, out)?;
-    out.push_str(" ")?;
+    out.push(' ')?;
     append_head(head, out)?;
-    out.push_str(" ")?;
+    out.push(' ')?;
     put_items(items, out)
 }
 
@@ -260,9 +260,9 @@ pub(crate) fn put_line(
 {
     put_number(number, out)?;
     put_behind(" s", session, out)?;
-    out.push_str(" ")?;
+    out.push(' ')?;
     put_request(shape, request, out)?;
     out.push_str(" -> ")?;
     put_reply(reply, out)?;
-    out.push_str("\n")
+    out.push('\n')
 }

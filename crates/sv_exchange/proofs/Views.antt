@@ -9,7 +9,7 @@ use Rattle.sv_wire.specs.declared.message.Reply.{Reply}
 use Rattle.sv_wire.specs.Laws.{IsRequest, IsReply}
 use Rattle.sv_wire.specs.Messages.{request_at, reply_at}
 use Rattle.sv_wire.specs.Spelling.{request_bytes, reply_bytes}
-use Rattle.sv_exchange.specs.declared.carrying.Buffers.{Buffers}
+use Rattle.sv_exchange.specs.declared.carrying.MessageRoom.{MessageRoom}
 use Rattle.sv_exchange.specs.declared.exchange.Exchange.TheInside.{Inside}
 use Rattle.sv_exchange.specs.Streams.{SideReadOn, IsSameLink, Wrote}
 use Rattle.sv_exchange.specs.Carried.{waiting, TakesFirst}
@@ -29,10 +29,10 @@ abbrev pub with_link : Inside → LinkView → Inside
 with_link e link = record { alloc = e.alloc; link = link; server = e.server; client = e.client; buffers = e.buffers }
 
 -- with other buffers, which no one sees
-abbrev pub with_buffers : Inside → Buffers → Inside
+abbrev pub with_buffers : Inside → MessageRoom → Inside
 with_buffers e buffers = record { alloc = e.alloc; link = e.link; server = e.server; client = e.client; buffers = buffers }
 
-pub buffers_kept : (e : Inside) (buffers : Buffers) → IsExchange e → IsExchange (with_buffers e buffers)
+pub buffers_kept : (e : Inside) (buffers : MessageRoom) → IsExchange e → IsExchange (with_buffers e buffers)
 buffers_kept e buffers is = record { requests = is.requests; replies = is.replies }
 
 -- ---- The same is left of the link

@@ -14,14 +14,14 @@ use sv_link::{MemLink, Side};
 
 /// Room for the message that is being sent, which is kept from one to the next.
 #[derive(Drop)]
-pub(crate) struct Buffers {
+pub(crate) struct MessageRoom {
     payload: Vec<u8>,
     framed: Vec<u8>,
 }
 
-impl Buffers {
-    pub(crate) fn new(alloc: Global) -> Buffers {
-        Buffers {
+impl MessageRoom {
+    pub(crate) fn new(alloc: Global) -> MessageRoom {
+        MessageRoom {
             payload: Vec::new(alloc),
             framed: Vec::new(alloc),
         }
@@ -31,7 +31,7 @@ impl Buffers {
 /// Sends a message for a side. Without memory nothing is sent.
 pub(crate) fn send<M: Message>(
     alloc: Global,
-    buffers: &mut Buffers,
+    buffers: &mut MessageRoom,
     link: &mut MemLink,
     side: Side,
     message: &M,

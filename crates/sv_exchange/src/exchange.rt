@@ -3,7 +3,7 @@ ghost use Rattle.std.specs.Prelude.{◌≡◌, false, true, [], ◌∷◌, ◌++
 ghost use Rattle.sv_wire.specs.Laws.{IsRequest, IsReply};
 ghost use Rattle.sv_exchange.specs.View.{new_exchange, TakesRequest, TakesReply};
 
-use crate::carrying::{Buffers, send, take};
+use crate::carrying::{MessageRoom, send, take};
 use crate::inbox::Inbox;
 use std::alloc::{AllocError, Global};
 use std::marker::Model;
@@ -22,7 +22,7 @@ pub struct Exchange {
     link: MemLink,
     server: Inbox,
     client: Inbox,
-    buffers: Buffers,
+    buffers: MessageRoom,
 }
 
 impl Model for Exchange {
@@ -52,7 +52,7 @@ impl Exchange {
             link: MemLink::new(alloc),
             server: Inbox::new(alloc)?,
             client: Inbox::new(alloc)?,
-            buffers: Buffers::new(alloc),
+            buffers: MessageRoom::new(alloc),
         })
     }
 

@@ -7,7 +7,7 @@ use Rattle.std.specs.Net.Addr.{IsLoopbackV4, IsLoopbackV6, MatchIp}
 use Rattle.std.specs.Net.Grammar.{IsSocketText}
 use Rattle.std.specs.Net.Socket.{socket_ip}
 use Rattle.std.specs.declared.net.socket_addr.SocketAddr.{SocketAddr}
-use Rattle.sv_command.specs.Numbers.{number_between}
+use Rattle.sv_ending.specs.Numbers.{number_between}
 use Rattle.sv_host.specs.declared.options.Options.{Options}
 
 -- A world file, the folder of its log, and how they are to be served. Times are in milliseconds.

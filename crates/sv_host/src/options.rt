@@ -5,7 +5,7 @@ ghost use Rattle.sv_host.specs.declared.options.OptionFault.TheVariants as fault
 
 use std::alloc::{AllocError, Global};
 use std::net::SocketAddr;
-use sv_command::number_in;
+use sv_ending::number_in;
 
 /// What the words ask for.
 #[derive(Drop)]

@@ -21,6 +21,7 @@ use sv_world::{List, MOST_ITEMS, MOST_OBJECTS, ObjectId};
 ///
 /// It goes from the position to the last writers of what it reads, from these to theirs, and so on, and looks at no other position: its
 /// work grows with what it answers, and not with the queue.
+#[inline(always)]
 pub fn closure<L: Ledger>(
     alloc: Global,
     queue: &Queue,
@@ -61,6 +62,7 @@ pub struct Found {
 }
 
 /// The positions and the objects as lists.
+#[inline(always)]
 pub fn listed(alloc: Global, found: Found) -> Result<Closure, AllocError>
     requires { All (λ x. x < 65536) found.bases }
     ensures items { IfOk result (λ c. c.items ≡ found.items.items) }
@@ -77,6 +79,7 @@ pub fn listed(alloc: Global, found: Found) -> Result<Closure, AllocError>
 
 /// Takes the greatest wanted position, until there is none. What it makes wanted lies below it, so each comes once. The greatest is held
 /// apart from the others, so that a single position is never put among them.
+#[inline(always)]
 fn expand_all<L: Ledger>(
     alloc: Global,
     queue: &Queue,
@@ -141,6 +144,7 @@ impl Missing {
     }
 
     /// Looks at each object that a position reads.
+    #[inline(always)]
     pub fn expand<L: Ledger>(
         &mut self,
         queue: &Queue,
@@ -209,6 +213,7 @@ impl Missing {
 
     /// Where the last writer of an object that is read is committed the object is needed, unless it was given; where it is not, the writer is,
     /// unless it was sent.
+    #[inline(always)]
     fn add_writer<L: Ledger>(
         &mut self,
         queue: &Queue,

@@ -21,18 +21,18 @@ use Rattle.sv_scenario.specs.declared.scenario.Step.{Step}
 use Rattle.sv_scenario.specs.Limits.{IsGoodScenario}
 use Rattle.sv_scenario.specs.Sessions.{session_count}
 use Rattle.sv_script.specs.Following.{Follows}
-use Rattle.sv_system.specs.Fits.{replies_in}
-use Rattle.sv_system.specs.Records.{rules_of}
-use Rattle.sv_asked.specs.Asked.{RepliesAreMessages}
+use Rattle.law_system.specs.Fits.{replies_in}
+use Rattle.law_system.specs.Records.{rules_of}
+use Rattle.law_asked.specs.Asked.{RepliesAreMessages}
 use Rattle.sv_player.specs.Carried.{BeginsWithReplies}
 use Rattle.sv_player.specs.Stops.{IsBadRest}
 use Rattle.sv_player.specs.Played.{IsOpenSession, replies_of}
 use Rattle.sv_player.specs.declared.outcome.ReplyFault.{ReplyFault}
 use Rattle.law_traffic.proofs.Messages.{AreGot, got_first}
-use Rattle.sv_system.specs.Laws.{NeverRefusedInScenarios}
+use Rattle.law_system.specs.Laws.{NeverRefusedInScenarios}
 use Rattle.sv_door.specs.Doors.{Passage}
-use Rattle.sv_system.proofs.Limits.{limits_of, objects_few}
-use Rattle.law_schedule.proofs.Asking.{few-asked}
+use Rattle.sv_script.proofs.Asked.{few-asked}
+use Rattle.law_system.proofs.Limits.{limits_of, objects_few}
 use Rattle.law_traffic.proofs.Sendable.{sendable_in}
 use Rattle.law_traffic.proofs.Takeable.{takeable_by, not_bad}
 use Rattle.sv_join.specs.Legal.{numbered_from, IsLegalServer}

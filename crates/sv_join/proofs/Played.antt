@@ -18,7 +18,7 @@ use Rattle.sv_scenario.specs.declared.scenario.Step.{Step}
 use Rattle.sv_scenario.specs.declared.scenario.Scenario.{Scenario}
 use Rattle.sv_scenario.specs.Limits.{IsGoodPlan, IsGoodScenario}
 use Rattle.sv_scenario.specs.Sessions.{sessions_of_plan, sessions_in}
-use Rattle.sv_asked.specs.Asked.{RepliesAreMessages}
+use Rattle.law_asked.specs.Asked.{RepliesAreMessages}
 use Rattle.sv_player.specs.Going.{MayPlay}
 use Rattle.sv_player.specs.Played.{IsTraceOf, HasFollowed, AreDone, IsCause, IsOpenSession}
 use Rattle.sv_player.specs.Stops.{IsBad}
@@ -26,9 +26,9 @@ use Rattle.sv_client.specs.Proper.{identity_of}
 use Rattle.sv_player.specs.declared.outcome.PlayerCause.{PlayerCause}
 use Rattle.sv_player.specs.declared.outcome.PlayerCause.TheVariants as causes
 use Rattle.sv_player.specs.declared.outcome.ReplyFault.{ReplyFault}
-use Rattle.sv_system.specs.Laws.{NeverRefusedInScenarios}
-use Rattle.sv_system.specs.Places.{EachPlace}
-use Rattle.sv_system.proofs.Places.{map_at}
+use Rattle.law_system.specs.Laws.{NeverRefusedInScenarios}
+use Rattle.law_system.specs.Places.{EachPlace}
+use Rattle.law_system.proofs.Places.{map_at}
 use Rattle.sv_door.specs.Doors.{Passage, passage_of}
 use Rattle.sv_join.specs.declared.steady.Steady.{Steady}
 use Rattle.sv_join.specs.Legal.{IsLegalServer}

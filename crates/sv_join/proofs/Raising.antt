@@ -1,10 +1,10 @@
 -- The counts of faults, by the ending of a join or of a part of one.
 use Rattle.std.proofs.Common.{◌≡◌, refl, ℕ, List, ap}
 use Rattle.std.specs.Prelude.{IsErrAnd, Option, Result, Err}
-use Rattle.sv_command.specs.declared.ending.Ending.{Ending}
-use Rattle.sv_command.specs.declared.ending.Ending.TheVariants as plain
-use Rattle.sv_command.specs.Statuses.{Counts, counts, IsScenarioRead, Raises as PlainRaises}
-use Rattle.sv_command.proofs.Counts.{came, same_counts}
+use Rattle.sv_ending.specs.declared.ending.Ending.{Ending}
+use Rattle.sv_ending.specs.declared.ending.Ending.TheVariants as plain
+use Rattle.sv_ending.specs.Statuses.{Counts, counts, IsScenarioRead, Raises as PlainRaises}
+use Rattle.sv_ending.proofs.Counts.{came, same_counts}
 use Rattle.sv_join.specs.declared.outcome.Joined.{Joined}
 use Rattle.sv_join.specs.declared.outcome.JoinFault.{JoinFault}
 use Rattle.sv_join.specs.declared.outcome.JoinFault.TheVariants as faults

@@ -12,8 +12,8 @@ use Rattle.sv_player.specs.declared.outcome.PlayerCause.{PlayerCause}
 use Rattle.sv_player.specs.declared.outcome.PlayerCause.TheVariants as causes
 use Rattle.sv_join.specs.declared.steady.Steady.{Steady}
 use Rattle.sv_join.specs.Joining.{IsNewAt, IsNewEnd}
-use Rattle.sv_system.specs.Places.{EachPlace}
-use Rattle.sv_system.proofs.Places.{each_all, at_place, map_at, unmap_at}
+use Rattle.law_system.specs.Places.{EachPlace}
+use Rattle.law_system.proofs.Places.{each_all, at_place, map_at, unmap_at}
 
 abbrev pub inner : {E : Type 0} → Steady E → E
 inner s = s.end

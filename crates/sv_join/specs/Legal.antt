@@ -9,8 +9,8 @@ use Rattle.sv_journal.specs.Answer.{Legal}
 use Rattle.sv_client.specs.declared.trace.Trace.{Trace}
 use Rattle.sv_client.specs.Seen.{raised}
 use Rattle.sv_scenario.specs.declared.scenario.Scenario.{Scenario}
-use Rattle.sv_system.specs.Fits.{Fits, replies_in}
-use Rattle.sv_system.specs.Records.{rules_of}
+use Rattle.law_system.specs.Fits.{Fits, replies_in}
+use Rattle.law_system.specs.Records.{rules_of}
 use Rattle.law_traffic.specs.Traffic.{reply_frames}
 use Rattle.sv_door.specs.Doors.{Passage}
 

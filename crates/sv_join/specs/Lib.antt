@@ -5,3 +5,4 @@ pub mod Words
 pub mod Texts
 pub mod Faults
 pub mod Statuses
+pub mod Answers

@@ -1,15 +1,15 @@
 -- How a join ends, and what each status says.
-use Rattle.std.specs.Prelude.{◌≡◌, ◌≢◌, ◌↔◌, ◌⊎◌, ℕ, ◌<◌, ◌≤◌, ◌==◌, List, length, take, Option, codes, if◌then◌else◌, Result, Ok, Err, string_bytes, IfSome}
+use Rattle.std.specs.Prelude.{◌≡◌, ◌≢◌, ◌↔◌, ◌⊎◌, ℕ, ◌<◌, ◌≤◌, ◌==◌, List, length, Option, codes, if◌then◌else◌, Result, Ok, Err, string_bytes, IfSome}
 use Rattle.sv_bytes.specs.Faults.{Rose}
 use Rattle.sv_bytes.specs.Writing.{GrewOrRose}
 use Rattle.sv_link.specs.Ends.{Told}
 use Rattle.sv_scenario.specs.declared.scenario.Scenario.{Scenario}
 use Rattle.sv_scenario.specs.Scenarios.{scenario_of}
 use Rattle.sv_player.specs.declared.outcome.ReplyFault.{ReplyFault}
-use Rattle.sv_command.specs.declared.ending.Ending.TheVariants as plain
-use Rattle.sv_command.specs.Endings.{IsPrinted, IsCutShort, Ends as PlainEnds}
-use Rattle.sv_command.specs.Reading.{IsRead, IsRefused, IsNoScenario, read_limit}
-use Rattle.sv_command.specs.Statuses.{Counts, status_of as plain_status, ending_line, status_line}
+use Rattle.sv_ending.specs.declared.ending.Ending.TheVariants as plain
+use Rattle.sv_ending.specs.Endings.{Ends as PlainEnds}
+use Rattle.sv_ending.specs.Reading.{IsRead, IsRefused}
+use Rattle.sv_ending.specs.Statuses.{Counts, status_of as plain_status, ending_line, status_line}
 use Rattle.sv_join.specs.declared.outcome.Joined.{Joined}
 use Rattle.sv_join.specs.declared.outcome.JoinFault.{JoinFault}
 use Rattle.sv_join.specs.declared.outcome.JoinFault.TheVariants as faults
@@ -18,7 +18,7 @@ use Rattle.sv_join.specs.declared.ending.JoinEnding.TheVariants as endings
 use Rattle.sv_join.specs.Faults.{reply_line}
 use Rattle.sv_join.specs.Joining.{Passed, IsWholePlay, IsBrokenPlay, IsRefusingPlay, IsClosedPlay}
 use Rattle.sv_join.specs.Texts.{join_text}
-use Rattle.sv_join.specs.Words.{Asked}
+use Rattle.sv_join.specs.Words.{Asked, words_line}
 
 -- ---- Endings
 
@@ -114,22 +114,7 @@ module _ {E : Type 0} (told : E → Told) (faults : E → ℕ) (calm : E → Typ
   Ends asked held door before now old new (endings.Plain ending) = PlainEnds (IsText asked held door) (λ e. EndsEarly asked held door before now (endings.Plain e)) old new ending
   Ends asked held door before now old new ending = EndsEarly asked held door before now ending × (new ≡ old)
 
-  -- What each status says of a join that is asked for.
-  pub record Leaves (asked : Asked) (held : Option (List ℕ)) (door : Passed) (before now : ℕ) (old new : Option (List ℕ)) (status : ℕ) : Type 0 where
-    pub printed : status ≡ 0 → IsPrinted (IsText asked held door) old new
-    pub part : status ≡ 5 → IsCutShort (IsText asked held door) old new
-    pub nothing : status ≢ 0 → status ≢ 5 → new ≡ old
-    pub outside : status ≡ 10 → IsOutside held asked.number
-    pub lost : status ≡ 6 → IsLost asked held door before now
-    pub shut_out : status ≡ 12 → IsShutOut asked held door
-    -- where the file is told to hold none, or a scenario without the client
-    pub faulty : IfSome held (λ all. IsNoScenario (take read_limit all) → (status ≡ 3) ⊎ (status ≡ 4) ⊎ (status ≡ 8))
-    pub lacking : IfSome held (λ all. LacksClient asked.number (take read_limit all) → (status ≡ 4) ⊎ (status ≡ 8) ⊎ (status ≡ 10))
-
 -- ---- The line beside the output
-
-abbrev pub words_line : List ℕ
-words_line = codes "words: join FILE K PORT\n"
 
 -- The line that tells of an ending.
 abbrev pub join_line : JoinEnding → Option (List ℕ) → List ℕ

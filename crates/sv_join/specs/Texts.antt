@@ -5,7 +5,7 @@ use Rattle.std.specs.List.{flat_map}
 use Rattle.sv_client.specs.declared.trace.Trace.{Trace}
 use Rattle.sv_client.specs.Traces.{makes}
 use Rattle.sv_script.specs.Telling.{told_lines}
-use Rattle.sv_command.specs.Lines.{ended_line}
+use Rattle.sv_ending.specs.Lines.{ended_line}
 
 -- How many actions the client made.
 abbrev pub made_by : Trace → ℕ

@@ -6,10 +6,11 @@ ghost use Rattle.sv_join.specs.Faults.{wire_cause_number, reply_line, take_line}
 ghost use Rattle.sv_join.specs.Statuses.{join_line, status_of};
 
 use crate::outcome::JoinFault;
+use crate::words::WORDS_LINE;
 use std::alloc::AllocError;
 use sv_bytes::Sink;
 use sv_client::TakeFault;
-use sv_command::{Ending, tell_line, tell_number, tell_numbers};
+use sv_ending::{Ending, tell_line, tell_number, tell_numbers};
 use sv_player::ReplyFault;
 use sv_wire::WireCause;
 
@@ -39,7 +40,7 @@ impl From<Ending> for JoinEnding {
 
 impl From<AllocError> for JoinEnding {
     ghost use Rattle.std.specs.Prelude.{◌≡◌};
-    ghost use Rattle.sv_command.specs.declared.ending.Ending.TheVariants as plain;
+    ghost use Rattle.sv_ending.specs.declared.ending.Ending.TheVariants as plain;
     ghost use Rattle.sv_join.specs.declared.ending.JoinEnding.TheVariants as endings;
 
     ghost from_gives = { λ _ e. e ≡ endings.Plain plain.Memory };
@@ -117,9 +118,7 @@ pub(crate) fn tell<E: Sink>(ending: &JoinEnding, named: Option<&str>, err: &mut 
     ensures { GrewOrRose (E.taken err.old) (E.taken err.new) (E.faults err.old) (E.faults err.new) (join_line ending.now (option_copied named.entry)) }
 {
     match ending {
-        JoinEnding::Plain(ending) => {
-            sv_command::tell(ending, b"words: join FILE K PORT\n", named, err)
-        }
+        JoinEnding::Plain(ending) => sv_ending::tell(ending, WORDS_LINE, named, err),
         JoinEnding::Reply(fault) => tell_reply(*fault, err),
         JoinEnding::Closed => tell_line(b"closed\n", err),
     }
@@ -130,7 +129,7 @@ pub(crate) fn status_of(ending: &JoinEnding) -> u8
     ensures { result ≡ status_of ending.now }
 {
     match ending {
-        JoinEnding::Plain(ending) => sv_command::status_of(ending),
+        JoinEnding::Plain(ending) => sv_ending::status_of(ending),
         JoinEnding::Reply(_) => 11,
         JoinEnding::Closed => 12,
     }

@@ -10,13 +10,13 @@ ghost use Rattle.sv_join.specs.Joining.{passed, passages_of, answer_of, ConnectC
 
 use crate::outcome::{JoinFault, Joined};
 use crate::steady::Steady;
+use law_asked::{read_scenario_numbers, replies_are_messages};
+use law_system::honest_clients_are_never_refused;
 use std::alloc::{AllocError, Global};
-use sv_asked::{read_scenario_numbers, replies_are_messages};
 use sv_client::{Client, Trace};
 use sv_door::{Door, EndMade};
 use sv_player::{PlayerCause, PlayerOut, Role, play_client};
 use sv_scenario::{Plan, Scenario, sessions_of_plan};
-use sv_system::honest_clients_are_never_refused;
 use sv_watch::{Change, Line, Watch, told_line};
 use sv_world::{ClientId, Shape, copy_objects};
 

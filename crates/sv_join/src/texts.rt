@@ -5,7 +5,7 @@ ghost use Rattle.sv_join.specs.Texts.{join_text};
 
 use crate::outcome::Joined;
 use std::alloc::{AllocError, Global};
-use sv_command::append_lines;
+use sv_ending::append_lines;
 use sv_report::made_by;
 
 /// A line for each change of the client's views, and then how many actions it made.

@@ -1,12 +1,13 @@
 //! The top call of a client that joins another program's server.
-ghost use Rattle.std.specs.Prelude.{◌≡◌, ◌≢◌, ◌↔◌, ◌⊎◌, ◌≤◌, ℕ, map, option_map, string_bytes, None, Err, IfSome};
-ghost use Rattle.sv_command.specs.Endings.{IsMade};
-ghost use Rattle.sv_command.specs.Reading.{held_by_file, HoldsScenario};
-ghost use Rattle.sv_command.specs.Statuses.{counts, NoneRose};
+ghost use Rattle.std.specs.Prelude.{◌≡◌, ◌≢◌, ◌↔◌, ℕ, map, option_map, string_bytes, None, Err, IfSome};
+ghost use Rattle.sv_ending.specs.Calls.{moment};
+ghost use Rattle.sv_ending.specs.Endings.{IsMade};
+ghost use Rattle.sv_ending.specs.Statuses.{counts};
+ghost use Rattle.sv_join.specs.Answers.{Answers};
 ghost use Rattle.sv_join.specs.Joining.{passed};
-ghost use Rattle.sv_join.specs.Statuses.{Ends, EndsEarly, IsText, Leaves, Raises, TellsJoinFaults, TellsStatus, ending_of};
-ghost use Rattle.sv_join.specs.Words.{asked_by, named_by, join_of};
-ghost use Rattle.sv_command.specs.declared.ending.Ending.TheVariants as plain;
+ghost use Rattle.sv_join.specs.Statuses.{Ends, EndsEarly, IsText, Raises, ending_of};
+ghost use Rattle.sv_join.specs.Words.{asked_by, asked_of};
+ghost use Rattle.sv_ending.specs.declared.ending.Ending.TheVariants as plain;
 ghost use Rattle.sv_join.specs.declared.ending.JoinEnding.TheVariants as endings;
 
 use crate::ending::{JoinEnding, status_of, tell};
@@ -15,8 +16,8 @@ use crate::texts::join_text;
 use crate::words::{Join, file_of, join_of};
 use std::alloc::Global;
 use sv_bytes::{Files, Sink, write_all};
-use sv_command::{Ending, scenario_in};
 use sv_door::Door;
+use sv_ending::{Ending, scenario_in};
 
 /// The text that tells the play of a client. It is whole before any of it is printed.
 fn text_for<F: Files, D: Door>(
@@ -91,24 +92,13 @@ pub fn run_join<F: Files, D: Door, K: Sink, E: Sink>(
     out: &mut K,
     err: &mut E,
 ) -> u8
-    ensures range { (result ≡ 0) ⊎ ((2 ≤ result) × (result ≤ 6)) ⊎ (result ≡ 8) ⊎ ((10 ≤ result) × (result ≤ 12)) }
-    ensures words { (result ≡ 2) ↔ (join_of (map string_bytes words.now) ≡ None) }
-    ensures faults { TellsJoinFaults result (counts (F.faults files.old) 0 (D.faults door.old) (K.faults out.old))
-        (counts (F.faults files.new) 0 (D.faults door.new) (K.faults out.new)) }
-    ensures sure_file { IfSome (join_of (map string_bytes words.now)) (λ a. F.sure files.old a.file → result ≢ 4) }
-    ensures sure_door { IfSome (join_of (map string_bytes words.now)) (λ a. D.sure door.old a.port → result ≢ 6) }
+    ensures answers { Answers D.E.told D.E.faults D.E.calm (asked_of (map string_bytes words.now)) (F.contents files.old) (F.sure files.old) (D.sure door.old)
+        (passed (D.made door.old) (D.given door.old) (D.given door.new))
+        (moment (counts (F.faults files.old) 0 (D.faults door.old) (K.faults out.old)) (K.taken out.old) (E.taken err.old) (E.faults err.old))
+        (moment (counts (F.faults files.new) 0 (D.faults door.new) (K.faults out.new)) (K.taken out.new) (E.taken err.new) (E.faults err.new)) result }
     ensures apart { result ≡ 2 → (files.new ≡ files.old) × (door.new ≡ door.old) }
-    ensures nothing { result ≢ 0 → result ≢ 5 → K.taken out.new ≡ K.taken out.old }
-    ensures left { IfSome (join_of (map string_bytes words.now)) (λ a. Leaves D.E.told D.E.faults D.E.calm a (F.contents files.old a.file)
-        (passed (D.made door.old) (D.given door.old) (D.given door.new)) (D.faults door.old) (D.faults door.new) (K.taken out.old) (K.taken out.new) result) }
     // All ends that were made were given back.
-    ensures owed { D.owed door.new ≡ D.owed door.old }
-    ensures told { TellsStatus D.E.told D.E.faults D.E.calm (join_of (map string_bytes words.now))
-        (held_by_file (F.contents files.old) (named_by (join_of (map string_bytes words.now)))) (named_by (join_of (map string_bytes words.now)))
-        (passed (D.made door.old) (D.given door.old) (D.given door.new)) result (E.taken err.old) (E.taken err.new) (E.faults err.old) (E.faults err.new) }
-    ensures complete { HoldsScenario (held_by_file (F.contents files.old) (named_by (join_of (map string_bytes words.now))))
-        → NoneRose (counts (F.faults files.old) 0 (D.faults door.old) (K.faults out.old)) (counts (F.faults files.new) 0 (D.faults door.new) (K.faults out.new))
-        → (result ≡ 0) ⊎ (result ≡ 6) ⊎ (result ≡ 8) ⊎ ((10 ≤ result) × (result ≤ 12)) }
+    ensures back { D.owed door.new ≡ D.owed door.old }
 {
     let join = join_of(words);
     let ending = decide(alloc, join, files, door, out);

@@ -1,10 +1,13 @@
 //! What the words of a join ask for.
 ghost use Rattle.std.specs.Prelude.{◌≡◌, map, string_bytes, option_map};
 ghost use Rattle.std.specs.Option.{option_copied};
-ghost use Rattle.sv_join.specs.Words.{asked_by, asked_if, named_by, join_of};
-ghost use Rattle.sv_command.specs.Numbers.{number_between};
+ghost use Rattle.sv_join.specs.Words.{asked_by, asked_if, asked_of, named_by};
+ghost use Rattle.sv_ending.specs.Numbers.{number_between};
 
-use sv_command::number_in;
+use sv_ending::number_in;
+
+/// The line that tells which words there are.
+pub(crate) const WORDS_LINE: &[u8] = b"words: join FILE K PORT\n";
 
 /// A join that is asked for: of a client of a file's scenario, with the server at a port.
 #[derive(Clone, Copy, Debug, Drop)]
@@ -28,7 +31,7 @@ fn join_with<'a>(file: &'a str, number: &str, port: &str) -> Option<Join<'a>>
 
 /// What the words ask for: `join FILE K PORT`.
 pub(crate) fn join_of(words: &[String]) -> Option<Join<'_>>
-    ensures { option_map asked_by result ≡ join_of (map string_bytes words.now) }
+    ensures { option_map asked_by result ≡ asked_of (map string_bytes words.now) }
 {
     match words {
         [word, file, number, port] if word.as_str() == "join" => {

@@ -15,6 +15,7 @@ pub mod Replies
 mod Rightful
 pub mod Results
 pub mod Sizes
+pub mod Spent
 pub mod Stays
 pub mod Stewards
 mod Worked

@@ -10,7 +10,7 @@ use Rattle.sv_wire.specs.declared.message.Reply.TheVariants as replies
 use Rattle.sv_journal.specs.declared.entry.Entry.{Entry}
 use Rattle.sv_journal.specs.declared.entry.Logged.{Logged}
 use Rattle.sv_journal.specs.declared.entry.Logged.TheVariants as logged
-use Rattle.sv_journal.specs.History.{is_relay, client_of, outcomes_of, Authored, new_action, accepted, authored_at, item_at, full_reply}
+use Rattle.sv_journal.specs.History.{is_relay, client_of, outcomes_of, Authored, new_action, accepted, authored_at, item_at, full_reply, logged_of}
 use Rattle.sv_journal.specs.Text.{NamesAccepted}
 use Rattle.sv_journal.specs.Laws.{FullRepliesStay}
 
@@ -33,6 +33,19 @@ authored_last A x = get_or_push A x (record { client = 0; seq = 0; action = blan
 pub positions-back : (A : List Authored) (ks : List ℕ) → map (λ (i : Item). i.pos) (map (item_at A) ks) ≡ ks
 positions-back A [] = refl
 positions-back A (k ∷ ks) = ap (λ (l : List ℕ). k ∷ l) (positions-back A ks)
+
+-- What a reply in full is kept as is the reply again.
+pub logged-back : (A : List Authored) (l : Logged) → logged_of (full_reply A l) ≡ l
+logged-back A (logged.Welcome commit head) = refl
+logged-back A (logged.Relay seq commit head ps) = ap (logged.Relay seq commit head) (positions-back A ps)
+logged-back A (logged.Dropped seq chain far) = refl
+logged-back A (logged.Denied seq object) = refl
+logged-back A (logged.Seen last commit head ps) = ap (logged.Seen last commit head) (positions-back A ps)
+logged-back A (logged.Settled seq pos) = refl
+logged-back A (logged.Noted commit) = refl
+logged-back A logged.Idle = refl
+logged-back A (logged.Refused code detail) = refl
+logged-back A logged.Bye = refl
 
 pub item_stays : (A more : List Authored) (p : ℕ) → p ≤ length A → item_at (A ++ more) p ≡ item_at A p
 item_stays A more p last =

@@ -156,3 +156,16 @@ full_reply A (logged.Noted commit) = replies.Noted commit
 full_reply A logged.Idle = replies.Idle
 full_reply A (logged.Refused code detail) = replies.Refused code detail
 full_reply A logged.Bye = replies.Bye
+
+-- A reply as the journal keeps it: with the positions of its items in their place.
+abbrev pub logged_of : Reply → Logged
+logged_of (replies.Welcome commit head) = logged.Welcome commit head
+logged_of (replies.Relay seq commit head items) = logged.Relay seq commit head (map (λ (i : Item). i.pos) items)
+logged_of (replies.Dropped seq chain far) = logged.Dropped seq chain far
+logged_of (replies.Denied seq object) = logged.Denied seq object
+logged_of (replies.Seen last commit head items) = logged.Seen last commit head (map (λ (i : Item). i.pos) items)
+logged_of (replies.Settled seq pos) = logged.Settled seq pos
+logged_of (replies.Noted commit) = logged.Noted commit
+logged_of replies.Idle = logged.Idle
+logged_of (replies.Refused code detail) = logged.Refused code detail
+logged_of replies.Bye = logged.Bye

@@ -26,6 +26,11 @@ is_last logged.Bye = true
 is_last (logged.Refused code detail) = code == code_of refusals.Malformed || code == code_of refusals.TooManyRequests
 is_last _ = false
 
+-- The replies after which a session is asked nothing more: those that end it, and Refused since it was over.
+abbrev pub is_stopping : Logged → Bool
+is_stopping (logged.Refused code detail) = is_last (logged.Refused code detail) || code == code_of refusals.Over
+is_stopping reply = is_last reply
+
 -- The entry is a Join of the client that was answered Welcome.
 abbrev pub welcomes : Entry → Option ℕ → Bool
 welcomes e None = false

@@ -1,8 +1,9 @@
 //! The entries of a journal.
 ghost use Rattle.std.specs.Prelude.{◌≡◌};
-ghost use Rattle.sv_journal.specs.Sessions.{is_end};
+ghost use Rattle.sv_journal.specs.History.{logged_of};
+ghost use Rattle.sv_journal.specs.Sessions.{is_end, is_stopping};
 
-use sv_wire::{ObjectValue, Request};
+use sv_wire::{ObjectValue, Refusal, Reply, Request};
 use sv_world::{List, ObjectId};
 
 /// A reply as the journal keeps it: a relay, and what was seen, name the positions of their items, whose actions stand in the journal already.
@@ -61,4 +62,19 @@ pub fn is_end(request: &Request) -> bool
     ensures { result ≡ is_end request.now }
 {
     matches!(request, Request::End)
+}
+
+/// Whether a session is asked nothing more after a reply.
+pub fn is_stopping(reply: &Reply) -> bool
+    ensures { result ≡ is_stopping (logged_of reply.now) }
+{
+    match reply {
+        Reply::Bye => true,
+        Reply::Refused { code, .. } => {
+            *code == Refusal::Malformed.code()
+                || *code == Refusal::TooManyRequests.code()
+                || *code == Refusal::Over.code()
+        }
+        _ => false,
+    }
 }

@@ -17,9 +17,9 @@ use sv_world::Value;
 pub fn append_head(head: &[ObjectValue], out: &mut String) -> Result<(), AllocError>
     ensures { OnOk result (string_bytes out.new ≡ string_bytes out.old ++ head_text head.now) }
 {
-    out.push_str("[")?;
+    out.push('[')?;
     append_head_values(head, out)?;
-    out.push_str("]")
+    out.push(']')
 }
 
 fn append_head_values(head: &[ObjectValue], out: &mut String) -> Result<(), AllocError>
@@ -36,7 +36,7 @@ fn append_more_head_values(head: &[ObjectValue], out: &mut String) -> Result<(),
     ensures { OnOk result (string_bytes out.new ≡ string_bytes out.old ++ flat_map (λ (h : ObjectValue). 32 ∷ held_text h.object.0 h.value) head.now) }
 {
     for held in head {
-        out.push_str(" ")?;
+        out.push(' ')?;
         append_held(held.object, held.value.as_slice(), out)?;
     }
     Ok(())
@@ -46,9 +46,9 @@ fn append_more_head_values(head: &[ObjectValue], out: &mut String) -> Result<(),
 pub fn append_results(results: &[Done1], out: &mut String) -> Result<(), AllocError>
     ensures { OnOk result (string_bytes out.new ≡ string_bytes out.old ++ bracketed result_text results.now) }
 {
-    out.push_str("[")?;
+    out.push('[')?;
     append_result_list(results, out)?;
-    out.push_str("]")
+    out.push(']')
 }
 
 fn append_result_list(results: &[Done1], out: &mut String) -> Result<(), AllocError>
@@ -65,7 +65,7 @@ fn append_more_results(results: &[Done1], out: &mut String) -> Result<(), AllocE
     ensures { OnOk result (string_bytes out.new ≡ string_bytes out.old ++ flat_map (λ (d : Done1). 32 ∷ result_text d) results.now) }
 {
     for done in results {
-        out.push_str(" ")?;
+        out.push(' ')?;
         append_result(done, out)?;
     }
     Ok(())
@@ -98,9 +98,9 @@ pub fn append_items(
     requires { All (λ p. (1 ≤ p) × (p ≤ length (accepted (reverse journal.now.entries)))) positions.now }
     ensures { OnOk result (string_bytes out.new ≡ string_bytes out.old ++ bracketed (item_text (accepted (reverse journal.now.entries))) positions.now) }
 {
-    out.push_str("[")?;
+    out.push('[')?;
     append_item_list(journal, positions, out)?;
-    out.push_str("]")
+    out.push(']')
 }
 
 fn append_item_list(
@@ -127,7 +127,7 @@ fn append_more_items(
     ensures { OnOk result (string_bytes out.new ≡ string_bytes out.old ++ flat_map (λ p. 32 ∷ item_text (accepted (reverse journal.now.entries)) p) positions.now) }
 {
     for pos in positions {
-        out.push_str(" ")?;
+        out.push(' ')?;
         append_item(journal, *pos, out)?;
     }
     Ok(())

@@ -106,7 +106,7 @@ fn append_relayed(
     ensures { OnOk result (string_bytes out.new ≡ string_bytes out.old ++ head_text head.now ++ codes " " ++ bracketed (item_text (accepted (reverse journal.now.entries))) positions.now) }
 {
     append_head(head, out)?;
-    out.push_str(" ")?;
+    out.push(' ')?;
     append_items(journal, positions, out)
 }
 
@@ -159,7 +159,7 @@ fn append_entry(
     append_request(shape, &entry.request, out)?;
     out.push_str(" -> ")?;
     append_reply(journal, &entry.reply, out)?;
-    out.push_str("\n")
+    out.push('\n')
 }
 
 fn append_entries(shape: Shape, journal: &Journal, out: &mut String) -> Result<(), AllocError>

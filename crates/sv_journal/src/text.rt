@@ -60,9 +60,9 @@ fn put_value(value: &[i64], out: &mut String) -> Result<(), AllocError>
     ensures ok { OnOk result (string_bytes out.new ≡ string_bytes out.old ++ value_text value.now) }
     ensures front { IsPrefix (string_bytes out.old) (string_bytes out.new) }
 {
-    out.push_str("(")?;
+    out.push('(')?;
     put_numbers(value, out)?;
-    out.push_str(")")
+    out.push(')')
 }
 
 fn put_numbers(numbers: &[i64], out: &mut String) -> Result<(), AllocError>
@@ -81,7 +81,7 @@ fn put_more_numbers(numbers: &[i64], out: &mut String) -> Result<(), AllocError>
     ensures front { IsPrefix (string_bytes out.old) (string_bytes out.new) }
 {
     for number in numbers {
-        out.push_str(",")?;
+        out.push(',')?;
         put_number(*number, out)?;
     }
     Ok(())
@@ -100,7 +100,7 @@ fn put_held(object: ObjectId, value: &[i64], out: &mut String) -> Result<(), All
     ensures front { IsPrefix (string_bytes out.old) (string_bytes out.new) }
 {
     put_object(object, out)?;
-    out.push_str("=")?;
+    out.push('=')?;
     put_value(value, out)
 }
 
@@ -116,9 +116,9 @@ fn put_objects(objects: &[ObjectId], out: &mut String) -> Result<(), AllocError>
     ensures ok { OnOk result (string_bytes out.new ≡ string_bytes out.old ++ objects_text objects.now) }
     ensures front { IsPrefix (string_bytes out.old) (string_bytes out.new) }
 {
-    out.push_str("[")?;
+    out.push('[')?;
     put_object_list(objects, out)?;
-    out.push_str("]")
+    out.push(']')
 }
 
 fn put_object_list(objects: &[ObjectId], out: &mut String) -> Result<(), AllocError>
@@ -137,7 +137,7 @@ fn put_more_objects(objects: &[ObjectId], out: &mut String) -> Result<(), AllocE
     ensures front { IsPrefix (string_bytes out.old) (string_bytes out.new) }
 {
     for object in objects {
-        out.push_str(" ")?;
+        out.push(' ')?;
         put_object(*object, out)?;
     }
     Ok(())

@@ -16,7 +16,7 @@ use Rattle.hex.specs.Hex.{decode_sized}
 use Rattle.sv_keys.specs.Cuts.{behind}
 use Rattle.sv_keys.specs.KeyLines.{IsRow}
 use Rattle.sv_keys.specs.declared.line.KeyRow.{KeyRow}
-use Rattle.sv_command.specs.Numbers.{number_if, number_between}
+use Rattle.sv_ending.specs.Numbers.{number_if, number_between}
 
 -- What is no text writes no number.
 pub no_number : (text : List ℕ) → (IsUtf8 text → ⊥) → number_between 0 65535 text ≡ None

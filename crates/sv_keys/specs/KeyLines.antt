@@ -2,7 +2,7 @@
 use Rattle.std.specs.Prelude.{◌≡◌, ℕ, suc, Bool, ◌==◌, ◌||◌, List, [], ◌∷◌, take, drop, Option, Some, None, Ok}
 use Rattle.std.specs.List.{AllPass}
 use Rattle.hex.specs.Hex.{decode_sized}
-use Rattle.sv_command.specs.Numbers.{number_between}
+use Rattle.sv_ending.specs.Numbers.{number_between}
 use Rattle.sv_keys.specs.Cuts.{before, behind}
 use Rattle.sv_keys.specs.declared.line.KeyRow.{KeyRow}
 use Rattle.sv_keys.specs.declared.line.Line.{Line}

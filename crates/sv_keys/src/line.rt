@@ -3,12 +3,12 @@ ghost use Rattle.std.specs.Prelude.{◌≡◌, ◌↔◌, ◌<◌, take, drop, l
 ghost use Rattle.std.specs.List.{AllPass};
 ghost use Rattle.std.specs.Result.{result_ok};
 ghost use Rattle.hex.specs.Hex.{decode_sized};
-ghost use Rattle.sv_command.specs.Numbers.{number_between};
+ghost use Rattle.sv_ending.specs.Numbers.{number_between};
 ghost use Rattle.sv_keys.specs.Cuts.{width_before, before, behind};
 ghost use Rattle.sv_keys.specs.KeyLines.{is_blank, IsRow, IsLine};
 
 use hex::FromHex;
-use sv_command::number_in;
+use sv_ending::number_in;
 use sv_world::ClientId;
 
 /// How many digits a digest has.

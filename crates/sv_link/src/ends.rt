@@ -52,7 +52,7 @@ pub trait End: Drop {
         ensures cause { EndReadCause (faults self.old) (faults self.new) result }
         ensures calm { calm self.old → (result ≢ EndRead.Failed) × calm self.new };
 
-    /// EndWrites the front of the piece, as much as is taken at once.
+    /// Writes the front of the piece, as much as is taken at once.
     fn write(&mut self, piece: &[u8]) -> EndWrote
         requires open { (told self.old).closed ≡ false }
         requires some { 0 < length piece.now }
@@ -80,7 +80,7 @@ pub enum Sent {
     Memory,
 }
 
-/// EndWrites all bytes to an end, in as many writes as it takes.
+/// Writes all bytes to an end, in as many writes as it takes.
 pub fn send_all<E: End>(end: &mut E, bytes: &[u8]) -> Sent
     requires open { (E.told end.old).closed ≡ false }
     ensures told { Sends (E.told end.old) bytes.now result (E.told end.new) }

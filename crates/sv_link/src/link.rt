@@ -47,7 +47,7 @@ impl MemLink {
         }
     }
 
-    /// EndReads what the other side wrote and this side has not read, as much as there is and fits.
+    /// Reads what the other side wrote and this side has not read, as much as there is and fits.
     pub fn read(&mut self, side: Side, into: &mut [u8]) -> usize
         ensures count { result ≡ min (length into.old) (length (unread (side_of self.old (other side)))) }
         ensures bytes { into.new ≡ take result (unread (side_of self.old (other side))) ++ drop result into.old }

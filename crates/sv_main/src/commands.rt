@@ -2,7 +2,7 @@
 
 /// A top call of the program.
 #[derive(Clone, Copy, Debug, Drop, PartialEq, Eq)]
-pub enum Command {
+pub enum TopCall {
     /// It plays, replays, or makes a load, and tells words that it does not know.
     Run,
 

@@ -15,7 +15,7 @@ mod help;
 mod notices;
 
 use crate::choice::command;
-use crate::commands::Command;
+use crate::commands::TopCall;
 use crate::hall::{OsDoors, OsFolders};
 use crate::notices::{notice, print_text, text_of};
 use http_server::Log;
@@ -27,18 +27,18 @@ use std::rt::{Clock, Stdin};
 use std::sync::Wait;
 use std::thread::Threads;
 use std::{env, io};
-use sv_app::run;
 use sv_audit::run_check;
 use sv_bytes::{Files, OsFiles, OsSink, Sink};
-use sv_command::{Ending, status_of, tell};
 use sv_door::TcpDoor;
+use sv_ending::{Ending, status_of, tell};
 use sv_host::{Doors, Folders, Place, run_host};
 use sv_join::run_join;
 use sv_link::{OpenGate, TcpNet, ThreadCrew};
+use sv_looks::run_looks;
 use sv_mio::OsClock;
 use sv_ports::Clock as Times;
+use sv_run::run;
 use sv_serve::run_serve;
-use sv_snapshot::run_looks;
 use sv_witness::run_witness;
 
 /// A call of the program: the words that it is given, and the memory that it works in.
@@ -75,11 +75,11 @@ fn run_here<R, F: Files, K: Sink, E: Sink>(
 ) -> u8
 where
     R: Threads + Wait + Sync + Sockets<Listener = TcpListener, Stream = TcpStream>,
-    ensures words { Knows Command.Run (map string_bytes call.now.words.now) result }
-    ensures faults { Faults Command.Run (F.faults files.old) (F.faults files.new) (K.faults out.old) (K.faults out.new) result }
-    ensures output { Output Command.Run (map string_bytes call.now.words.now) (F.contents files.old) (K.taken out.old) (K.taken out.new) result }
+    ensures words { Knows TopCall.Run (map string_bytes call.now.words.now) result }
+    ensures faults { Faults TopCall.Run (F.faults files.old) (F.faults files.new) (K.faults out.old) (K.faults out.new) result }
+    ensures output { Output TopCall.Run (map string_bytes call.now.words.now) (F.contents files.old) (K.taken out.old) (K.taken out.new) result }
     ensures nothing { result ≢ 0 → result ≢ 5 → K.taken out.new ≡ K.taken out.old }
-    ensures line { Line Command.Run (map string_bytes call.now.words.now) (F.sure files.old) (F.contents files.old) (E.taken err.old) (E.taken err.new) (E.faults err.old) (E.faults err.new) result }
+    ensures line { Line TopCall.Run (map string_bytes call.now.words.now) (F.sure files.old) (F.contents files.old) (E.taken err.old) (E.taken err.new) (E.faults err.old) (E.faults err.new) result }
 {
     let mut net = TcpNet::new(call.alloc, rt);
     let mut crew = ThreadCrew::new(call.alloc);
@@ -98,11 +98,11 @@ fn serve_here<R, F: Files, K: Sink, E: Sink>(
 ) -> u8
 where
     R: Threads + Wait + Sync + Clock + Sockets<Listener = TcpListener, Stream = TcpStream>,
-    ensures words { Knows Command.Serve (map string_bytes call.now.words.now) result }
-    ensures faults { Faults Command.Serve (F.faults files.old) (F.faults files.new) (K.faults out.old) (K.faults out.new) result }
-    ensures output { Output Command.Serve (map string_bytes call.now.words.now) (F.contents files.old) (K.taken out.old) (K.taken out.new) result }
+    ensures words { Knows TopCall.Serve (map string_bytes call.now.words.now) result }
+    ensures faults { Faults TopCall.Serve (F.faults files.old) (F.faults files.new) (K.faults out.old) (K.faults out.new) result }
+    ensures output { Output TopCall.Serve (map string_bytes call.now.words.now) (F.contents files.old) (K.taken out.old) (K.taken out.new) result }
     ensures nothing { result ≢ 0 → result ≢ 5 → K.taken out.new ≡ K.taken out.old }
-    ensures line { Line Command.Serve (map string_bytes call.now.words.now) (F.sure files.old) (F.contents files.old) (E.taken err.old) (E.taken err.new) (E.faults err.old) (E.faults err.new) result }
+    ensures line { Line TopCall.Serve (map string_bytes call.now.words.now) (F.sure files.old) (F.contents files.old) (E.taken err.old) (E.taken err.new) (E.faults err.old) (E.faults err.new) result }
 {
     let mut door = TcpDoor::new(call.alloc, rt);
     let mut crew = ThreadCrew::new(call.alloc);
@@ -131,7 +131,7 @@ fn host_with<R: Wait, D: Doors, S: Folders, C: Times, F: Files, E: Sink>(
     files: &mut F,
     err: &mut E,
 ) -> u8
-    ensures words { Knows Command.Host (map string_bytes call.now.words.now) result }
+    ensures words { Knows TopCall.Host (map string_bytes call.now.words.now) result }
 {
     let mut place = Place {
         rt,
@@ -154,7 +154,7 @@ fn host_here<R: Wait + Sockets + Clock, F: Files, E: Sink>(
     files: &mut F,
     err: &mut E,
 ) -> u8
-    ensures words { Knows Command.Host (map string_bytes call.now.words.now) result }
+    ensures words { Knows TopCall.Host (map string_bytes call.now.words.now) result }
     ensures random { hosting.now.random ≡ None → (result ≡ 8) × GrewOrRose (E.taken err.old) (E.taken err.new) (E.faults err.old) (E.faults err.new) (codes "memory\n") }
 {
     let Some(random) = hosting.random else {
@@ -192,11 +192,11 @@ fn join_here<R, F: Files, K: Sink, E: Sink>(
 ) -> u8
 where
     R: Clock + Sockets<Listener = TcpListener, Stream = TcpStream>,
-    ensures words { Knows Command.Join (map string_bytes call.now.words.now) result }
-    ensures faults { Faults Command.Join (F.faults files.old) (F.faults files.new) (K.faults out.old) (K.faults out.new) result }
-    ensures output { Output Command.Join (map string_bytes call.now.words.now) (F.contents files.old) (K.taken out.old) (K.taken out.new) result }
+    ensures words { Knows TopCall.Join (map string_bytes call.now.words.now) result }
+    ensures faults { Faults TopCall.Join (F.faults files.old) (F.faults files.new) (K.faults out.old) (K.faults out.new) result }
+    ensures output { Output TopCall.Join (map string_bytes call.now.words.now) (F.contents files.old) (K.taken out.old) (K.taken out.new) result }
     ensures nothing { result ≢ 0 → result ≢ 5 → K.taken out.new ≡ K.taken out.old }
-    ensures line { Line Command.Join (map string_bytes call.now.words.now) (F.sure files.old) (F.contents files.old) (E.taken err.old) (E.taken err.new) (E.faults err.old) (E.faults err.new) result }
+    ensures line { Line TopCall.Join (map string_bytes call.now.words.now) (F.sure files.old) (F.contents files.old) (E.taken err.old) (E.taken err.new) (E.faults err.old) (E.faults err.new) result }
 {
     let mut door = TcpDoor::new(call.alloc, rt);
     run_join(call.alloc, call.words, files, &mut door, out, err)
@@ -209,13 +209,45 @@ fn looks_here<F: Files, K: Sink, E: Sink>(
     out: &mut K,
     err: &mut E,
 ) -> u8
-    ensures words { Knows Command.Looks (map string_bytes call.now.words.now) result }
-    ensures faults { Faults Command.Looks (F.faults files.old) (F.faults files.new) (K.faults out.old) (K.faults out.new) result }
-    ensures output { Output Command.Looks (map string_bytes call.now.words.now) (F.contents files.old) (K.taken out.old) (K.taken out.new) result }
+    ensures words { Knows TopCall.Looks (map string_bytes call.now.words.now) result }
+    ensures faults { Faults TopCall.Looks (F.faults files.old) (F.faults files.new) (K.faults out.old) (K.faults out.new) result }
+    ensures output { Output TopCall.Looks (map string_bytes call.now.words.now) (F.contents files.old) (K.taken out.old) (K.taken out.new) result }
     ensures nothing { result ≢ 0 → result ≢ 5 → K.taken out.new ≡ K.taken out.old }
-    ensures line { Line Command.Looks (map string_bytes call.now.words.now) (F.sure files.old) (F.contents files.old) (E.taken err.old) (E.taken err.new) (E.faults err.old) (E.faults err.new) result }
+    ensures line { Line TopCall.Looks (map string_bytes call.now.words.now) (F.sure files.old) (F.contents files.old) (E.taken err.old) (E.taken err.new) (E.faults err.old) (E.faults err.new) result }
 {
     run_looks(call.alloc, call.words, files, out, err)
+}
+
+/// The status of `witness`.
+fn witness_here<F: Files, K: Sink, E: Sink>(
+    call: &Call<'_>,
+    files: &mut F,
+    out: &mut K,
+    err: &mut E,
+) -> u8
+    ensures words { Knows TopCall.Witness (map string_bytes call.now.words.now) result }
+    ensures faults { Faults TopCall.Witness (F.faults files.old) (F.faults files.new) (K.faults out.old) (K.faults out.new) result }
+    ensures output { Output TopCall.Witness (map string_bytes call.now.words.now) (F.contents files.old) (K.taken out.old) (K.taken out.new) result }
+    ensures nothing { result ≢ 0 → result ≢ 5 → K.taken out.new ≡ K.taken out.old }
+    ensures line { Line TopCall.Witness (map string_bytes call.now.words.now) (F.sure files.old) (F.contents files.old) (E.taken err.old) (E.taken err.new) (E.faults err.old) (E.faults err.new) result }
+{
+    run_witness(call.alloc, call.words, files, out, err)
+}
+
+/// The status of `check`, `why` and `world`.
+fn check_here<F: Files, K: Sink, E: Sink>(
+    call: &Call<'_>,
+    files: &mut F,
+    out: &mut K,
+    err: &mut E,
+) -> u8
+    ensures words { Knows TopCall.Check (map string_bytes call.now.words.now) result }
+    ensures faults { Faults TopCall.Check (F.faults files.old) (F.faults files.new) (K.faults out.old) (K.faults out.new) result }
+    ensures output { Output TopCall.Check (map string_bytes call.now.words.now) (F.contents files.old) (K.taken out.old) (K.taken out.new) result }
+    ensures nothing { result ≢ 0 → result ≢ 5 → K.taken out.new ≡ K.taken out.old }
+    ensures line { Line TopCall.Check (map string_bytes call.now.words.now) (F.sure files.old) (F.contents files.old) (E.taken err.old) (E.taken err.new) (E.faults err.old) (E.faults err.new) result }
+{
+    run_check(call.alloc, call.words, files, out, err)
 }
 
 /// The status of what the words ask for: a notice, or the call that they are for.
@@ -241,13 +273,13 @@ where
         return print_text(text_of(notice), out, err);
     }
     match command(call.words) {
-        Command::Run => run_here(rt, call, files, out, err),
-        Command::Looks => looks_here(call, files, out, err),
-        Command::Witness => run_witness(call.alloc, call.words, files, out, err),
-        Command::Serve => serve_here(rt, call, files, out, err),
-        Command::Host => host_here(rt, call, hosting, files, err),
-        Command::Join => join_here(rt, call, files, out, err),
-        Command::Check => run_check(call.alloc, call.words, files, out, err),
+        TopCall::Run => run_here(rt, call, files, out, err),
+        TopCall::Looks => looks_here(call, files, out, err),
+        TopCall::Witness => witness_here(call, files, out, err),
+        TopCall::Serve => serve_here(rt, call, files, out, err),
+        TopCall::Host => host_here(rt, call, hosting, files, err),
+        TopCall::Join => join_here(rt, call, files, out, err),
+        TopCall::Check => check_here(call, files, out, err),
     }
 }
 

@@ -6,7 +6,7 @@ ghost use Rattle.sv_main.specs.Notices.{Tells, notice_for, notice_of};
 
 use crate::help::{HELP, Notice, VERSION};
 use sv_bytes::{Sink, write_all};
-use sv_command::{Ending, status_of, tell};
+use sv_ending::{Ending, status_of, tell};
 
 fn notice_for(word: &str) -> Option<Notice>
     ensures { result ≡ notice_for word.now }

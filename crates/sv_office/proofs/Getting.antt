@@ -6,8 +6,8 @@ use Rattle.sv_wire.specs.declared.message.Request.{Request}
 use Rattle.sv_journal.specs.declared.entry.Entry.{Entry}
 use Rattle.sv_journal.specs.History.{accepted, actions_of, full_reply}
 use Rattle.sv_journal.specs.Laws.{AreWithinLimits}
-use Rattle.sv_system.specs.Delivery.{Telling, telling_in}
-use Rattle.sv_system.specs.Told.{GotWhatWasTold, ReportsSerial, all_got, told_in}
+use Rattle.law_system.specs.Delivery.{Telling, telling_in}
+use Rattle.law_system.specs.Told.{GotWhatWasTold, ReportsSerial, all_got, told_in}
 use Rattle.sv_living.specs.World.{WorldView}
 use Rattle.sv_keeper.specs.Views.{KeeperView}
 use Rattle.sv_client.specs.declared.trace.Event.{Event}

@@ -13,7 +13,7 @@ use Rattle.sv_journal.specs.Living.{Stewardship, living}
 use Rattle.sv_journal.specs.Serving.{Keeping, IsKeeping, LegalFor}
 use Rattle.sv_sequencer.specs.Rows.{has_entry}
 use Rattle.sv_sequencer.specs.Step.{entry_of}
-use Rattle.sv_system.specs.Told.{GoesBySerial, GotWhatWasTold, ReportsSerial, telling_by, told_in, told_to}
+use Rattle.law_system.specs.Told.{GoesBySerial, GotWhatWasTold, ReportsSerial, telling_by, told_in, told_to}
 use Rattle.law_journal.proofs.Counted.{unbegun-nobodys}
 use Rattle.sv_living.specs.World.{WorldView, after, reply_in}
 use Rattle.sv_keeper.specs.Views.{KeeperView}

@@ -3,7 +3,7 @@ use Rattle.std.specs.Prelude.{◌≡◌, ℕ, true, false, ◌∷◌, Option, So
 use Rattle.std.specs.Option.{ForSome}
 use Rattle.sv_wire.specs.declared.message.Reply.{Reply}
 use Rattle.sv_client.specs.declared.trace.Event.TheVariants as events
-use Rattle.sv_system.specs.Told.{GotWhatWasTold}
+use Rattle.law_system.specs.Told.{GotWhatWasTold}
 use Rattle.sv_living.specs.Sessions.{is_open}
 use Rattle.sv_living.specs.World.{WorldView}
 use Rattle.sv_keeper.specs.Views.{KeeperView}

@@ -5,7 +5,7 @@ use Rattle.sv_wire.specs.declared.message.Request.{Request}
 use Rattle.sv_journal.specs.History.{actions_of, commit_of, committed_of}
 use Rattle.sv_journal.specs.Living.{Stewardship, is_stewards, living}
 use Rattle.sv_journal.specs.Serving.{LegalFor}
-use Rattle.sv_system.specs.Told.{GoesBySerial, ReportsSerial}
+use Rattle.law_system.specs.Told.{GoesBySerial, ReportsSerial}
 use Rattle.sv_living.specs.World.{WorldView, heeded_in}
 use Rattle.sv_office.specs.Admitting.{steward_number}
 

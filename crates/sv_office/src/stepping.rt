@@ -23,12 +23,12 @@ use crate::entering::{asking_session, enter};
 use crate::guest::{Guest, Held};
 use crate::halt::Halt;
 use crate::office::Office;
-use sv_journal::served_replies_are_messages;
+use sv_journal::{is_stopping, served_replies_are_messages};
 use sv_keeper::{KeepFault, Keeper};
 use sv_keys::Keys;
 use sv_log::Folder;
 use sv_site::Counts;
-use sv_wire::{Refusal, Reply, Request, read_reply};
+use sv_wire::{Reply, Request, read_reply};
 use sv_world::ClientId;
 
 /// The client number of the steward.
@@ -39,17 +39,6 @@ pub const STEWARD_NUMBER: u16 = 65_535;
 struct Before {
     last: u32,
     outcomes: Option<u32>,
-}
-
-/// Whether a session ends by a reply.
-fn stops(reply: &Reply) -> bool {
-    match reply {
-        Reply::Bye => true,
-        Reply::Refused { code, .. } => {
-            *code == Refusal::Malformed.code() || *code == Refusal::Over.code()
-        }
-        _ => false,
-    }
 }
 
 fn joining(request: &Request) -> Option<ClientId>
@@ -321,7 +310,7 @@ impl<F: Folder> Office<F> {
         tell(guest, reply);
         self.report_at_once(before)?;
         self.keeper.is_lawful();
-        if stops(reply) || !guest.is_open() {
+        if is_stopping(reply) || !guest.is_open() {
             guest.close();
             return self.end(guest);
         }

@@ -18,7 +18,7 @@ use Rattle.sv_scenario.specs.declared.scenario.Step.{Step}
 use Rattle.sv_scenario.specs.declared.scenario.Step.TheVariants as steps
 use Rattle.sv_scenario.specs.Limits.{IsGoodStep}
 use Rattle.sv_scenario.specs.Sessions.{cuts_in}
-use Rattle.sv_script.specs.Following.{DoesStep, MayCome, FollowsTo, must_join, is_finished, passed_syncs, unsynced, event_of, is_bye}
+use Rattle.sv_script.specs.Following.{DoesStep, MayCome, FollowsTo, must_join, passed_syncs, unsynced, event_of, is_bye}
 use Rattle.sv_script.proofs.Counts.{events-few}
 use Rattle.sv_script.proofs.Beginnings.{all-passed, all-step, passed-less, step-less}
 use Rattle.sv_script.proofs.Ends.{passed-none}
@@ -27,6 +27,7 @@ use Rattle.sv_player.specs.declared.playing.Player.{Player}
 use Rattle.sv_player.specs.Awaiting.{IsAwaited, GetsAreAwaited}
 use Rattle.sv_player.specs.Going.{one_more_if, AreTold, AreSeen, IsBudget, IsGoing, Did, IsHere, IsReady}
 use Rattle.sv_client.proofs.Wells.{is_well}
+use Rattle.sv_script.proofs.Shifted.{bye_finishes}
 
 -- ---- The steps that are left
 
@@ -136,18 +137,6 @@ within_settled who t left r e = go r.here_is.within
     go (inr n) = (let none : requests.Leave ∷ [] ≡ [] = sym n.0 ∙ e in cc)
 
 -- ---- Replies
-
-pub bye_finishes : (s : ℕ) (reply : Reply) (t : List Event) → is_finished (events.Got s reply ∷ t) ≡ is_bye reply
-bye_finishes s (replies.Welcome commit head) t = refl
-bye_finishes s (replies.Relay seq commit head items) t = refl
-bye_finishes s (replies.Seen last commit head items) t = refl
-bye_finishes s (replies.Dropped seq chain far) t = refl
-bye_finishes s (replies.Denied seq object) t = refl
-bye_finishes s (replies.Settled seq pos) t = refl
-bye_finishes s (replies.Noted commit) t = refl
-bye_finishes s replies.Idle t = refl
-bye_finishes s (replies.Refused code detail) t = refl
-bye_finishes s replies.Bye t = refl
 
 leave_answered : (reply : Reply) → allows requests.Leave reply ≡ true → is_bye reply ≡ true
 leave_answered (replies.Welcome commit head) e = cc

@@ -20,9 +20,10 @@ use Rattle.sv_scenario.specs.declared.scenario.Step.TheVariants as steps
 use Rattle.sv_script.specs.Laws.{is_got}
 use Rattle.sv_exchange.specs.Outgoing.{KeepsBack}
 use Rattle.sv_script.specs.Following.{MayCome, must_join, is_welcomed, is_finished, unsynced, is_bye}
+use Rattle.sv_script.proofs.Shifted.{bye_finishes}
 use Rattle.sv_player.specs.declared.buffers.Buffers.{Buffers}
-use Rattle.sv_player.specs.declared.outcome.Ending.{Ending}
-use Rattle.sv_player.specs.declared.outcome.Ending.TheVariants as endings
+use Rattle.sv_player.specs.declared.outcome.SessionEnd.{SessionEnd}
+use Rattle.sv_player.specs.declared.outcome.SessionEnd.TheVariants as endings
 use Rattle.sv_player.specs.declared.outcome.Parting.{Parting}
 use Rattle.sv_player.specs.declared.outcome.Parting.TheVariants as partings
 use Rattle.sv_player.specs.declared.playing.Player.{Player}
@@ -34,7 +35,7 @@ use Rattle.sv_player.specs.Partings.{parting_step, parting_event, parting_ending
 use Rattle.sv_player.specs.Sessions.{IsAt, Onward, HasEnded, Ended, Stopped, SessionGoesOn, Got, IsMoved, IsKeptBack}
 use Rattle.sv_player.proofs.Posting.{none_posted}
 use Rattle.sv_player.proofs.Onward.{IsOf}
-use Rattle.sv_player.proofs.Going.{few_events, going_on, does_step, still_within, within_settled, bye_finishes, left_here}
+use Rattle.sv_player.proofs.Going.{few_events, going_on, does_step, still_within, within_settled, left_here}
 use Rattle.sv_player.proofs.Turns.{onward_more, onward_by, before_move, show_due, goes_by}
 
 -- ---- The session goes on
@@ -89,7 +90,7 @@ pub all_sent : (who : Identity) (t : List Event) (s : ℕ) (end : Told) (reader 
 all_sent who t s end reader outbox l none = sym (append-nil end.sent) ∙ ap (λ (w : List ℕ). end.sent ++ w) (sym none) ∙ l.sent
 
 -- With all sent, an event that asks nothing ends it.
-ends_by : (s : ℕ) (ending : Ending) (e : Event) (left : List Step) (p q : Player) (b : Buffers) (end : Told) → IsAt s p b end → b.outbox ≡ [] → MayFollow p.client.who 0 p.client.events e →
+ends_by : (s : ℕ) (ending : SessionEnd) (e : Event) (left : List Step) (p q : Player) (b : Buffers) (end : Told) → IsAt s p b end → b.outbox ≡ [] → MayFollow p.client.who 0 p.client.events e →
     MayCome p.client.who p.client.events p.left.now e left → IsAwaited p.client.who p.client.events p.left.now e → IsOf s p.client.events e →
     current_session (e ∷ p.client.events) ≡ current_session p.client.events → asked p.client.who.client p.client.who.interest (e ∷ p.client.events) s ≡ asked p.client.who.client p.client.who.interest p.client.events s → got (e ∷ p.client.events) s ≡ got p.client.events s →
     HasEnded ending (e ∷ p.client.events) s → Did e left p q → Ended s p q end ending
@@ -146,11 +147,11 @@ bye_ends s p q b end g =
 pub got_ready : (s : ℕ) (p q : Player) (b : Buffers) (end : Told) → Got s false p q b end → IsReady q.client.who q.client.events q.left.now
 got_ready s p q b end g = record { here_is = g.here refl; welcomed = rw g.turn.events refl }
 
-pub got_moves : (s : ℕ) (bye : Bool) (ending : Option Ending) (p q : Player) (b : Buffers) (end : Told) → ending ≡ (if bye then Some endings.Left else None) → Got s bye p q b end →
+pub got_moves : (s : ℕ) (bye : Bool) (ending : Option SessionEnd) (p q : Player) (b : Buffers) (end : Told) → ending ≡ (if bye then Some endings.Left else None) → Got s bye p q b end →
     IsMoved (Ok ending) s p q b end
-got_moves s true ending p q b end e g = subst (λ (o : Option Ending). IsMoved (Ok o) s p q b end) (sym e) (bye_ends s p q b end g)
+got_moves s true ending p q b end e g = subst (λ (o : Option SessionEnd). IsMoved (Ok o) s p q b end) (sym e) (bye_ends s p q b end g)
 got_moves s false ending p q b end e g =
-    subst (λ (o : Option Ending). IsMoved (Ok o) s p q b end) (sym e) (moved_on s (events.Got s g.reply) p q b end g.turn (got_ready s p q b end g))
+    subst (λ (o : Option SessionEnd). IsMoved (Ok o) s p q b end) (sym e) (moved_on s (events.Got s g.reply) p q b end g.turn (got_ready s p q b end g))
 
 -- ---- What is kept back
 
@@ -165,7 +166,7 @@ turn_kept s e p q b waiting old new turn kept = λ d other is.
     (first_event e d p.client.events p.client.events (sym turn.events ∙ is)) kept
 
 -- A wait ends with a reply.
-pub wait_kept : (s : ℕ) (bye : Bool) (ending : Option Ending) (p q : Player) (b : Buffers) (waiting : List ℕ) (old new : Told) → ending ≡ (if bye then Some endings.Left else None) → Got s bye p q b new →
+pub wait_kept : (s : ℕ) (bye : Bool) (ending : Option SessionEnd) (p q : Player) (b : Buffers) (waiting : List ℕ) (old new : Told) → ending ≡ (if bye then Some endings.Left else None) → Got s bye p q b new →
     IsKeptBack (Ok ending) p q waiting old new
 wait_kept s true ending p q b waiting old new e g = rw e tt
 wait_kept s false ending p q b waiting old new e g = rw e (λ d other is.
@@ -219,7 +220,7 @@ stopped_after s p q r b old new cause at on stopped =
       reason = st.reason;
     }
 
-pub ended_after : (s : ℕ) (p q r : Player) (b : Buffers) (old new : Told) (ending : Ending) → IsAt s q b old → Onward s p q → Ended (latest_session q.client.events) q r new ending → Ended s p r new ending
+pub ended_after : (s : ℕ) (p q r : Player) (b : Buffers) (old new : Told) (ending : SessionEnd) → IsAt s q b old → Onward s p q → Ended (latest_session q.client.events) q r new ending → Ended s p r new ending
 ended_after s p q r b old new ending at on ended =
     let en : Ended s q r new ending = subst (λ (n : ℕ). Ended n q r new ending) (latest_at s q b old at) ended in
     record {
@@ -238,7 +239,7 @@ ended_after s p q r b old new ending at on ended =
 pub fewer_left : (p q : Player) → IsGoing q → length p.client.events < length q.client.events → 2048 - length q.client.events < 2048 - length p.client.events
 fewer_left p q going more = omega (arith, more, few_events q going)
 
-pub moved_fewer : (s : ℕ) (ending : Option Ending) (p q : Player) (b : Buffers) (end : Told) → ending ≡ None → IsMoved (Ok ending) s p q b end → 2048 - length q.client.events < 2048 - length p.client.events
+pub moved_fewer : (s : ℕ) (ending : Option SessionEnd) (p q : Player) (b : Buffers) (end : Told) → ending ≡ None → IsMoved (Ok ending) s p q b end → 2048 - length q.client.events < 2048 - length p.client.events
 moved_fewer s ending p q b end none moved =
-    let on = subst (λ (o : Option Ending). IsMoved (Ok o) s p q b end) none moved in
+    let on = subst (λ (o : Option SessionEnd). IsMoved (Ok o) s p q b end) none moved in
     fewer_left p q on.0.going on.3

@@ -1,5 +1,5 @@
 -- What an event of one session leaves of the others.
-use Rattle.std.proofs.Common.{◌≡◌, ◌≢◌, ℕ, Bool, true, false, ◌||◌, eqb, List, [], ◌∷◌, ◌++◌, Option, Some, refl, sym, ap, ◌∙◌, append-nil}
+use Rattle.std.proofs.Common.{◌≡◌, ◌≢◌, ℕ, false, eqb, List, [], ◌∷◌, ◌++◌, Option, Some, refl, sym, ap, ◌∙◌, append-nil}
 use Rattle.std.specs.Prelude.{unwrap_or, if◌then◌else◌}
 use Rattle.std.proofs.lemmas.Bool.{ne_eqb, cond-false}
 use Rattle.sv_world.specs.declared.world.ClientId.{ClientId}
@@ -10,6 +10,7 @@ use Rattle.sv_client.specs.declared.trace.Event.TheVariants as events
 use Rattle.sv_client.specs.Traces.{current_session, is_session, asked, asked_by_event, got}
 use Rattle.sv_client.specs.Taking.{Identity}
 use Rattle.sv_client.specs.Seen.{newly_asked}
+use Rattle.sv_script.proofs.Shifted.{or_none}
 use Rattle.sv_player.specs.Stops.{is_cut}
 
 -- An event that comes after the events t is one of session s.
@@ -48,10 +49,6 @@ gets_other s t events.Leave of n ne = refl
 gets_other s t events.Cut of n ne = refl
 gets_other s t events.Quit of n ne = refl
 gets_other s t (events.Show objects) of n ne = refl
-
-pub or_none : (a b : Bool) → a ≡ false → (a || b) ≡ b
-or_none true b e = cc
-or_none false b e = refl
 
 pub cuts_other : (s : ℕ) (t : List Event) (e : Event) → IsOf s t e → (n : ℕ) → n ≢ s → is_cut (e ∷ t) n ≡ is_cut t n
 cuts_other s t events.Cut of n ne = or_none (is_session (current_session t) n) (is_cut t n) (current_not t s n of ne)

@@ -24,8 +24,9 @@ use Rattle.sv_client.specs.Seen.{raised, fault_named}
 use Rattle.sv_client.proofs.Shifts.{Up, up_held, up_pending, up_current, up_got, up_asked, up_outstanding, up_fault, up_is}
 use Rattle.sv_scenario.specs.declared.scenario.Step.{Step}
 use Rattle.sv_scenario.specs.declared.scenario.Step.TheVariants as steps
-use Rattle.sv_script.specs.Following.{DoesStep, MayCome, FollowsTo, must_join, is_welcomed, is_finished, passed_syncs, is_bye}
+use Rattle.sv_script.specs.Following.{passed_syncs, is_bye}
 use Rattle.sv_script.specs.Telling.{same_view, change_of, changes_of}
+use Rattle.sv_script.proofs.Shifted.{up_welcomed, up_follows}
 use Rattle.sv_player.specs.declared.outcome.ReplyFault.{ReplyFault}
 use Rattle.sv_player.specs.declared.outcome.ReplyFault.TheVariants as faults
 use Rattle.sv_player.specs.Awaiting.{may_ask, can_do, can_do_first, can_go_on, IsAwaited, GetsAreAwaited}
@@ -33,7 +34,6 @@ use Rattle.sv_player.specs.Carried.{BeginsWithReplies}
 use Rattle.sv_player.specs.Stops.{IsBad, IsBadRest, IsShut, is_cut}
 use Rattle.sv_player.specs.Played.{has_quit, has_left}
 use Rattle.sv_player.specs.Ends.{IsUncut}
-use Rattle.sv_player.proofs.Going.{bye_finishes}
 
 bye_leaves : (s : ℕ) (reply : Reply) (t : List Event) → has_left (events.Got s reply ∷ t) ≡ is_bye reply
 bye_leaves s (replies.Welcome commit head) t = refl
@@ -64,42 +64,6 @@ module _ (first : ℕ) where
   up_cut (events.Quit ∷ t) k = ap₂ (λ (a b : Bool). a || b) (up_is first t k) (up_cut t k)
   up_cut (events.Show objects ∷ t) k = up_cut t k
 
-  pub up_must_join : (t : List Event) → must_join (Up first t) ≡ must_join t
-  up_must_join [] = refl
-  up_must_join (events.Join s ∷ t) = refl
-  up_must_join (events.Make a ∷ t) = refl
-  up_must_join (events.Poll ∷ t) = refl
-  up_must_join (events.Observe os wait ∷ t) = refl
-  up_must_join (events.Leave ∷ t) = refl
-  up_must_join (events.Got s reply ∷ t) = refl
-  up_must_join (events.Cut ∷ t) = refl
-  up_must_join (events.Quit ∷ t) = refl
-  up_must_join (events.Show objects ∷ t) = refl
-
-  pub up_welcomed : (t : List Event) → is_welcomed (Up first t) ≡ is_welcomed t
-  up_welcomed [] = refl
-  up_welcomed (events.Join s ∷ t) = refl
-  up_welcomed (events.Make a ∷ t) = up_welcomed t
-  up_welcomed (events.Poll ∷ t) = up_welcomed t
-  up_welcomed (events.Observe os wait ∷ t) = up_welcomed t
-  up_welcomed (events.Leave ∷ t) = up_welcomed t
-  up_welcomed (events.Got s reply ∷ t) = refl
-  up_welcomed (events.Cut ∷ t) = up_welcomed t
-  up_welcomed (events.Quit ∷ t) = up_welcomed t
-  up_welcomed (events.Show objects ∷ t) = up_welcomed t
-
-  pub up_finished : (t : List Event) → is_finished (Up first t) ≡ is_finished t
-  up_finished [] = refl
-  up_finished (events.Join s ∷ t) = refl
-  up_finished (events.Make a ∷ t) = refl
-  up_finished (events.Poll ∷ t) = refl
-  up_finished (events.Observe os wait ∷ t) = refl
-  up_finished (events.Leave ∷ t) = refl
-  up_finished (events.Got s reply ∷ t) = bye_finishes (s + first) reply (Up first t) ∙ sym (bye_finishes s reply t)
-  up_finished (events.Cut ∷ t) = refl
-  up_finished (events.Quit ∷ t) = refl
-  up_finished (events.Show objects ∷ t) = refl
-
   pub up_quit : (t : List Event) → has_quit (Up first t) ≡ has_quit t
   up_quit [] = refl
   up_quit (events.Join s ∷ t) = refl
@@ -124,41 +88,7 @@ module _ (first : ℕ) where
   up_left (events.Quit ∷ t) = refl
   up_left (events.Show objects ∷ t) = refl
 
-  -- ---- Following
-
-  up_does : (who : Identity) (t : List Event) (before : List Step) (e : Event) (left : List Step) → DoesStep who t before e left → DoesStep who (Up first t) before e left
-  up_does who t before e left d =
-      record {
-        joined = up_must_join t ∙ d.joined;
-        welcomed = up_welcomed t ∙ d.welcomed;
-        here = up_finished t ∙ d.here;
-        step = d.step;
-        next = ap (λ (os : List Request). passed_syncs os before) (up_outstanding first who t) ∙ d.next;
-        event = d.event;
-      }
-
-  up_come : (who : Identity) (t : List Event) (before : List Step) (e : Event) (left : List Step) → MayCome who t before e left → MayCome who (Up first t) before (raised first e) left
-  up_come who t before (events.Join s) left m = record { needed = up_must_join t ∙ m.needed; same = m.same }
-  up_come who t before (events.Got s reply) left m = record { joined = up_must_join t ∙ m.joined; here = up_finished t ∙ m.here; same = m.same }
-  up_come who t before events.Leave left m =
-      record {
-        joined = up_must_join t ∙ m.joined;
-        welcomed = up_welcomed t ∙ m.welcomed;
-        here = up_finished t ∙ m.here;
-        settled = up_outstanding first who t ∙ m.settled;
-        done = m.done;
-        same = m.same;
-      }
-  up_come who t before (events.Make a) left m = up_does who t before (events.Make a) left m
-  up_come who t before events.Poll left m = up_does who t before events.Poll left m
-  up_come who t before (events.Observe os wait) left m = up_does who t before (events.Observe os wait) left m
-  up_come who t before events.Cut left m = up_does who t before events.Cut left m
-  up_come who t before events.Quit left m = up_does who t before events.Quit left m
-  up_come who t before (events.Show objects) left m = up_does who t before (events.Show objects) left m
-
-  pub up_follows : (who : Identity) (script : List Step) (t : List Event) (left : List Step) → FollowsTo who script t left → FollowsTo who script (Up first t) left
-  up_follows who script [] left f = f
-  up_follows who script (e ∷ t) left f = (f.0, (up_follows who script t f.0 f.1.0, up_come who t f.0 e left f.1.1))
+  -- ---- Awaiting
 
   up_ask : (who : Identity) (t : List Event) → may_ask who (Up first t) ≡ may_ask who t
   up_ask who t = ap (λ (os : List Request). nat_lt (length os) most_outstanding) (up_outstanding first who t)
@@ -178,7 +108,7 @@ module _ (first : ℕ) where
 
   up_go_on : (who : Identity) (t : List Event) (left : List Step) → can_go_on who (Up first t) left ≡ can_go_on who t left
   up_go_on who t left =
-      ap₂ (λ (a b : Bool). a && b) (up_welcomed t)
+      ap₂ (λ (a b : Bool). a && b) (up_welcomed first t)
       (up_first who t (passed_syncs (outstanding who (Up first t)) left) ∙ ap (λ (os : List Request). can_do_first who t (passed_syncs os left)) (up_outstanding first who t))
 
   up_time : (who : Identity) (t : List Event) (left : List Step) (e : Event) → IsAwaited who t left e → IsAwaited who (Up first t) left (raised first e)
@@ -195,7 +125,7 @@ module _ (first : ℕ) where
   pub up_awaited : (who : Identity) (script : List Step) (t : List Event) → GetsAreAwaited who script t → GetsAreAwaited who script (Up first t)
   up_awaited who script [] g = tt
   up_awaited who script (e ∷ t) g = (
-    record { left = g.0.left; follows = up_follows who script t g.0.left g.0.follows; awaited = up_time who t g.0.left e g.0.awaited },
+    record { left = g.0.left; follows = up_follows first who script t g.0.left g.0.follows; awaited = up_time who t g.0.left e g.0.awaited },
     up_awaited who script t g.1,
   )
 

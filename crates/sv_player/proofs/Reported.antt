@@ -23,6 +23,7 @@ use Rattle.sv_client.proofs.Sessions.{no_got, no_asked}
 use Rattle.sv_client.proofs.Shifts.{Up, up_joins, up_got, up_asked}
 use Rattle.sv_script.specs.Following.{FollowsTo, Follows, FollowsToEnd, is_finished}
 use Rattle.sv_script.specs.Telling.{changes_of, told_lines}
+use Rattle.sv_script.proofs.Shifted.{up_finished, up_follows}
 use Rattle.sv_player.specs.declared.outcome.PlayerCause.{PlayerCause}
 use Rattle.sv_player.specs.declared.outcome.PlayerCause.TheVariants as causes
 use Rattle.sv_player.specs.declared.playing.Player.{Player}
@@ -35,7 +36,7 @@ use Rattle.sv_player.specs.Ends.{IsUncut, AreKept, IsClosedEnd, IsLeft, IsStuck,
 use Rattle.sv_player.proofs.Listed.{after, before}
 use Rattle.sv_player.proofs.Linking.{frames_none}
 use Rattle.sv_player.proofs.Stepping.{left_none}
-use Rattle.sv_player.proofs.Raised.{up_finished, up_quit, up_left, up_follows, up_awaited, up_changes, up_open, up_shut, up_bad}
+use Rattle.sv_player.proofs.Raised.{up_quit, up_left, up_awaited, up_changes, up_open, up_shut, up_bad}
 
 -- ---- The last event
 

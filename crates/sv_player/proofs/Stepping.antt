@@ -22,8 +22,8 @@ use Rattle.sv_client.proofs.Sessions.{session_after, current_is}
 use Rattle.sv_scenario.specs.declared.scenario.Step.{Step}
 use Rattle.sv_scenario.specs.Sessions.{cuts_in}
 use Rattle.sv_script.specs.Following.{FollowsTo, must_join}
-use Rattle.sv_player.specs.declared.outcome.Ending.{Ending}
-use Rattle.sv_player.specs.declared.outcome.Ending.TheVariants as endings
+use Rattle.sv_player.specs.declared.outcome.SessionEnd.{SessionEnd}
+use Rattle.sv_player.specs.declared.outcome.SessionEnd.TheVariants as endings
 use Rattle.sv_player.specs.declared.outcome.PlayerCause.{PlayerCause}
 use Rattle.sv_player.specs.declared.outcome.PlayerCause.TheVariants as causes
 use Rattle.sv_player.specs.declared.playing.Player.{Player}
@@ -113,7 +113,7 @@ carried_fresh who n a f =
       idle = λ _. f.received;
     }
 
-carried_ended : (W : Type 0) (s : ℕ) (p q : Player) (old new : Told) (ending : Ending) → IsSameEnd old new → Ended s p q new ending → IsCarried W q.client.who q.client.events s old new
+carried_ended : (W : Type 0) (s : ℕ) (p q : Player) (old new : Told) (ending : SessionEnd) → IsSameEnd old new → Ended s p q new ending → IsCarried W q.client.who q.client.events s old new
 carried_ended W s p q old new ending same d =
     let begun : joins q.client.events ≡ suc s = joined_to q.client.who q.client.events s d.going.proper d.current in
     record {
@@ -264,7 +264,7 @@ module _ {E : Type 0} (told : E → Told) (faults : E → ℕ) (calm : E → Typ
           calm_is = λ c. calm_is (subst calm (sym (came a r)) c);
         })
 
-    played_ended : (ending : Ending) (cause : PlayerCause) → Ended k p q (told y) ending → faults y ≡ faults x → IsWhy told faults calm q.client.who q.client.events p0.first cause old (slice_set now k y) →
+    played_ended : (ending : SessionEnd) (cause : PlayerCause) → Ended k p q (told y) ending → faults y ≡ faults x → IsWhy told faults calm q.client.who q.client.events p0.first cause old (slice_set now k y) →
         HasPlayed told faults calm p0 q old (slice_set now k y) cause
     played_ended ending cause d f why =
         record {

@@ -21,12 +21,13 @@ use Rattle.sv_player.specs.declared.outcome.PlayerCause.TheVariants as causes
 use Rattle.sv_player.specs.declared.playing.Player.{Player}
 use Rattle.sv_player.specs.Carried.{request_frames, BeginsWithReplies, Posted, PostedPart}
 use Rattle.sv_script.specs.Following.{is_bye}
+use Rattle.sv_script.proofs.Shifted.{bye_finishes}
 use Rattle.sv_player.specs.Going.{IsGoing, Did, DidInPart, IsHere}
 use Rattle.sv_player.specs.Awaiting.{can_go_on}
 use Rattle.sv_player.specs.Sessions.{IsAt, IsFirst, Got, Stopped, IsReason}
 use Rattle.sv_player.proofs.Linking.{frames_append, begins_next, fits, sent_posted, sent_part, messages_more}
 use Rattle.sv_player.proofs.Onward.{asks_here}
-use Rattle.sv_player.proofs.Going.{follows_as, awaited_as, awaited_on, going_on, got_here, bye_finishes}
+use Rattle.sv_player.proofs.Going.{follows_as, awaited_as, awaited_on, going_on, got_here}
 use Rattle.sv_player.proofs.Turns.{onward_by, onward_same, begun_idle}
 
 if_true : {X : Type 0} (b : Bool) (x y : X) → b ≡ true → (if b then x else y) ≡ x

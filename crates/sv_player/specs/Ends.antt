@@ -11,7 +11,7 @@ use Rattle.sv_client.specs.Taking.{Identity}
 use Rattle.sv_client.specs.Proper.{AreProper}
 use Rattle.sv_scenario.specs.declared.scenario.Step.{Step}
 use Rattle.sv_script.specs.Following.{FollowsTo, is_finished, must_join}
-use Rattle.sv_player.specs.declared.outcome.Ending.TheVariants as endings
+use Rattle.sv_player.specs.declared.outcome.SessionEnd.TheVariants as endings
 use Rattle.sv_player.specs.declared.outcome.PlayerCause.{PlayerCause}
 use Rattle.sv_player.specs.declared.outcome.PlayerCause.TheVariants as causes
 use Rattle.sv_player.specs.declared.playing.Player.{Player}

@@ -3,8 +3,8 @@ use Rattle.sv_client.specs.declared.trace.Event.{Event}
 use Rattle.sv_client.specs.declared.trace.Event.TheVariants as events
 use Rattle.sv_scenario.specs.declared.scenario.Step.{Step}
 use Rattle.sv_scenario.specs.declared.scenario.Step.TheVariants as steps
-use Rattle.sv_player.specs.declared.outcome.Ending.{Ending}
-use Rattle.sv_player.specs.declared.outcome.Ending.TheVariants as endings
+use Rattle.sv_player.specs.declared.outcome.SessionEnd.{SessionEnd}
+use Rattle.sv_player.specs.declared.outcome.SessionEnd.TheVariants as endings
 use Rattle.sv_player.specs.declared.outcome.Parting.{Parting}
 use Rattle.sv_player.specs.declared.outcome.Parting.TheVariants as partings
 
@@ -18,6 +18,6 @@ parting_event partings.Cut = events.Cut
 parting_event partings.Quit = events.Quit
 
 -- how the session then ended
-abbrev pub parting_ending : Parting → Ending
+abbrev pub parting_ending : Parting → SessionEnd
 parting_ending partings.Cut = endings.Cut
 parting_ending partings.Quit = endings.Quit

@@ -25,8 +25,8 @@ use Rattle.sv_player.specs.declared.buffers.Buffers.{Buffers}
 use Rattle.sv_player.specs.declared.outcome.PlayerCause.{PlayerCause}
 use Rattle.sv_player.specs.declared.outcome.PlayerCause.TheVariants as causes
 use Rattle.sv_player.specs.declared.playing.Player.{Player}
-use Rattle.sv_player.specs.declared.outcome.Ending.{Ending}
-use Rattle.sv_player.specs.declared.outcome.Ending.TheVariants as endings
+use Rattle.sv_player.specs.declared.outcome.SessionEnd.{SessionEnd}
+use Rattle.sv_player.specs.declared.outcome.SessionEnd.TheVariants as endings
 use Rattle.sv_player.specs.Carried.{request_frames, BeginsWithReplies, Posted, PostedPart, IsLinked, IsLinkedInPart}
 use Rattle.sv_player.specs.Awaiting.{GetsAreAwaited}
 use Rattle.sv_player.specs.Going.{AreTold, IsGoing, IsHere, IsReady}
@@ -50,13 +50,13 @@ pub record Onward (s : ℕ) (old new : Player) : Type 0 where
 
 -- ---- How a session ends
 
-abbrev pub HasEnded : Ending → List Event → ℕ → Type 0
+abbrev pub HasEnded : SessionEnd → List Event → ℕ → Type 0
 HasEnded endings.Cut t s = (u : List Event) × (t ≡ events.Cut ∷ u)
 HasEnded endings.Quit t s = (u : List Event) × (t ≡ events.Quit ∷ u)
 HasEnded endings.Left t s = (u : List Event) × (t ≡ events.Got s replies.Bye ∷ u)
 
 -- The player ended session s: it sent all that it asked, and received the replies that were got.
-pub record Ended (s : ℕ) (old new : Player) (end : Told) (ending : Ending) : Type 0 where
+pub record Ended (s : ℕ) (old new : Player) (end : Told) (ending : SessionEnd) : Type 0 where
   pub going : IsGoing new
   pub onward : Onward s old new
   pub current : current_session new.client.events ≡ Some s
@@ -132,19 +132,19 @@ IsReceived (Ok bye) s old new b end = Got s bye old new b end
 IsReceived (Err cause) s old new b end = Stopped s old new end cause
 
 -- what a move of a player answers: it goes on, with more events; or it ended the session; or something stopped it
-abbrev pub IsMoved : Result (Option Ending) PlayerCause → ℕ → Player → Player → Buffers → Told → Type 0
+abbrev pub IsMoved : Result (Option SessionEnd) PlayerCause → ℕ → Player → Player → Buffers → Told → Type 0
 IsMoved (Ok None) s old new b end = IsAt s new b end × Onward s old new × IsReady new.client.who new.client.events new.left.now × (length old.client.events < length new.client.events)
 IsMoved (Ok (Some ending)) s old new b end = Ended s old new end ending
 IsMoved (Err cause) s old new b end = Stopped s old new end cause
 
 -- A move that goes on by an event that is no reply sends nothing where what the event asks fits behind what waits.
-abbrev pub IsKeptBack : Result (Option Ending) PlayerCause → Player → Player → List ℕ → Told → Told → Type 0
+abbrev pub IsKeptBack : Result (Option SessionEnd) PlayerCause → Player → Player → List ℕ → Told → Told → Type 0
 IsKeptBack (Ok None) old new waiting before now = (e : Event) → is_got e ≡ false → new.client.events ≡ e ∷ old.client.events →
     KeepsBack waiting (length (request_frames (newly_asked old.client.who old.client.events e))) before now
 IsKeptBack _ old new waiting before now = Unit {0}
 
 -- what a session answers
-abbrev pub IsSessionPlayed : Result Ending PlayerCause → ℕ → Player → Player → Told → Type 0
+abbrev pub IsSessionPlayed : Result SessionEnd PlayerCause → ℕ → Player → Player → Told → Type 0
 IsSessionPlayed (Ok ending) s old new end = Ended s old new end ending
 IsSessionPlayed (Err cause) s old new end = Stopped s old new end cause
 

@@ -67,19 +67,19 @@ impl Parting {
         }
     }
 
-    pub(crate) fn ending(self) -> Ending
+    pub(crate) fn ending(self) -> SessionEnd
         ensures { result ≡ parting_ending self }
     {
         match self {
-            Parting::Cut => Ending::Cut,
-            Parting::Quit => Ending::Quit,
+            Parting::Cut => SessionEnd::Cut,
+            Parting::Quit => SessionEnd::Quit,
         }
     }
 }
 
 /// How a session that nothing stopped ended.
 #[derive(Clone, Copy)]
-pub(crate) enum Ending {
+pub(crate) enum SessionEnd {
     /// The script cut it.
     Cut,
 

@@ -11,7 +11,7 @@ ghost use Rattle.sv_player.specs.Sessions.{IsFresh, IsSameEnd};
 ghost use Rattle.sv_player.specs.Ends.{IsPlayedNext, NextCause, AreKept, IsClosedEnd, HasPlayed};
 ghost use Rattle.sv_player.specs.Played.{IsTraceOf, HasFollowed, AreDone, IsCause, IsExact, lines_told};
 
-use crate::outcome::{Ending, PlayerCause, PlayerOut};
+use crate::outcome::{PlayerCause, PlayerOut, SessionEnd};
 use crate::playing::Player;
 use crate::telling::seen_now;
 use std::alloc::Global;
@@ -46,12 +46,12 @@ impl<'a> Player<'a> {
         ensures calm { E.calm end.old → E.calm end.new }
     {
         match self.play_session(watch, end) {
-            Ok(Ending::Cut) => {
+            Ok(SessionEnd::Cut) => {
                 end.close();
                 None
             }
-            Ok(Ending::Quit) => Some(PlayerCause::Quit),
-            Ok(Ending::Left) => Some(PlayerCause::Finished),
+            Ok(SessionEnd::Quit) => Some(PlayerCause::Quit),
+            Ok(SessionEnd::Left) => Some(PlayerCause::Finished),
             Err(cause) => Some(cause),
         }
     }

@@ -23,7 +23,7 @@ ghost use Rattle.sv_player.specs.Sessions.{IsAt, IsFresh, IsSameEnd, IsTurn, IsR
 
 use crate::buffers::{Buffers, Waited};
 use crate::moves::{Making, Move};
-use crate::outcome::{Ending, Parting, PlayerCause, ReplyFault};
+use crate::outcome::{Parting, PlayerCause, ReplyFault, SessionEnd};
 use crate::playing::Player;
 use sv_client::{TakeFault, TraceMark};
 use sv_frame::{FrameReader, Next};
@@ -168,7 +168,7 @@ impl<'a> Player<'a> {
         rest: &'a [Step],
         buffers: &mut Buffers,
         end: &mut E,
-    ) -> Result<Ending, PlayerCause>
+    ) -> Result<SessionEnd, PlayerCause>
         requires at { IsAt (latest_session self.old.client.events) self.old buffers.old (E.told end.old) }
         requires ready { IsReady self.old.client.who self.old.client.events self.old.left.now }
         requires next { unsynced self.old.client.who self.old.client.events self.old.left.now ≡ parting_step parting ∷ rest.now }
@@ -428,7 +428,7 @@ impl<'a> Player<'a> {
         watch: Option<&Watch>,
         buffers: &mut Buffers,
         end: &mut E,
-    ) -> Result<Option<Ending>, PlayerCause>
+    ) -> Result<Option<SessionEnd>, PlayerCause>
         requires watch { IfSome watch (λ w. w.now.shape ≡ self.old.client.who.shape) }
         requires watched { self.old.watched ≡ is_some watch }
         requires at { IsAt (latest_session self.old.client.events) self.old buffers.old (E.told end.old) }
@@ -470,7 +470,7 @@ impl<'a> Player<'a> {
         &mut self,
         watch: Option<&Watch>,
         end: &mut E,
-    ) -> Result<Ending, PlayerCause>
+    ) -> Result<SessionEnd, PlayerCause>
         requires watch { IfSome watch (λ w. w.now.shape ≡ self.old.client.who.shape) }
         requires watched { self.old.watched ≡ is_some watch }
         requires going { IsGoing self.old }
@@ -485,7 +485,7 @@ impl<'a> Player<'a> {
         let mut buffers = Buffers::new(self.alloc)?;
         self.begin(&mut buffers, end)?;
         if self.receive(watch, &mut buffers, end)? {
-            return Ok(Ending::Left);
+            return Ok(SessionEnd::Left);
         }
         loop {
             if let Some(ending) = self.go_on(watch, &mut buffers, end)? {
@@ -495,8 +495,8 @@ impl<'a> Player<'a> {
     }
 }
 
-fn ending_of(bye: bool) -> Option<Ending>
-    ensures { result ≡ (if bye then Some Ending.Left else None) }
+fn ending_of(bye: bool) -> Option<SessionEnd>
+    ensures { result ≡ (if bye then Some SessionEnd.Left else None) }
 {
-    if bye { Some(Ending::Left) } else { None }
+    if bye { Some(SessionEnd::Left) } else { None }
 }

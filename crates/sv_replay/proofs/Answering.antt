@@ -12,8 +12,8 @@ use Rattle.sv_journal.specs.declared.entry.Entry.{Entry}
 use Rattle.sv_journal.specs.History.{accepted}
 use Rattle.sv_journal.specs.Sessions.{is_end, is_ended}
 use Rattle.sv_session.specs.Requests.{stop_of}
-use Rattle.sv_system.specs.Fits.{requests_in, replies_in}
-use Rattle.sv_system.proofs.Entered.{is_of, of-from}
+use Rattle.law_system.specs.Fits.{requests_in, replies_in}
+use Rattle.law_system.proofs.Entered.{is_of, of-from}
 use Rattle.law_schedule.specs.Players.{Player, asked_in_run, has_closed}
 use Rattle.law_schedule.specs.Serving.{Run, Server, entry_by, served, serves_next, is_stopped, session_served}
 use Rattle.law_schedule.specs.Served.{RepliesNameAccepted, KeepsSound}

@@ -15,8 +15,8 @@ use Rattle.sv_client.specs.Taking.{Identity}
 use Rattle.sv_client.specs.Proper.{AreProper, Proper, identity_of}
 use Rattle.sv_client.proofs.Sessions.{both_empty}
 use Rattle.sv_scenario.specs.declared.scenario.Scenario.{Scenario}
-use Rattle.sv_system.specs.Fits.{is_join_of, has_session, AreApart, AreAllApart}
-use Rattle.sv_system.proofs.Asked.{current-joined, any-reverse}
+use Rattle.law_system.specs.Fits.{is_join_of, has_session, AreApart, AreAllApart}
+use Rattle.law_system.proofs.Asked.{current-joined, any-reverse}
 use Rattle.law_schedule.specs.Players.{Player, trace_of_player, asked_in_run, has_closed}
 use Rattle.law_schedule.specs.Serving.{Run, Server, traces_of}
 use Rattle.law_schedule.specs.Served.{FitsServer, IsSoundOver}

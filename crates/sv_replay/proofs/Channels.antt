@@ -11,7 +11,7 @@ use Rattle.sv_wire.specs.declared.message.Request.{Request}
 use Rattle.sv_journal.specs.declared.entry.Entry.{Entry}
 use Rattle.sv_journal.specs.History.{accepted}
 use Rattle.sv_client.specs.Traces.{got}
-use Rattle.sv_system.specs.Fits.{requests_in, replies_in}
+use Rattle.law_system.specs.Fits.{requests_in, replies_in}
 use Rattle.law_schedule.specs.Players.{Player, asked_in_run, has_closed}
 use Rattle.law_schedule.specs.Serving.{Run}
 use Rattle.sv_exchange.specs.View.{ExchangeView}

@@ -17,9 +17,9 @@ use Rattle.sv_client.proofs.Sessions.{session_after, current_is}
 use Rattle.sv_scenario.specs.declared.scenario.Step.{Step}
 use Rattle.sv_script.specs.Laws.{is_got}
 use Rattle.sv_script.specs.Following.{must_join}
-use Rattle.sv_system.specs.Fits.{is_join_of}
-use Rattle.sv_system.specs.Outcomes.{is_quit}
-use Rattle.sv_system.proofs.Asked.{current-joined}
+use Rattle.law_system.specs.Fits.{is_join_of}
+use Rattle.law_system.specs.Outcomes.{is_quit}
+use Rattle.law_system.proofs.Asked.{current-joined}
 use Rattle.law_schedule.specs.Players.{Player, open_session, has_closed}
 use Rattle.sv_replay.specs.Players.{session_of, asked_by_player, IsFit, Moves, is_closing}
 use Rattle.sv_replay.proofs.Places.{place_between, place_within}

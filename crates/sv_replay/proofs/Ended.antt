@@ -9,8 +9,8 @@ use Rattle.sv_client.specs.declared.trace.Trace.{Trace}
 use Rattle.sv_scenario.specs.declared.scenario.Scenario.{Scenario}
 use Rattle.sv_scenario.specs.Sessions.{session_count}
 use Rattle.sv_sequencer.specs.Step.{SequencerView, history}
-use Rattle.sv_system.specs.declared.played.Played.{Played}
-use Rattle.sv_system.specs.Records.{IsPlayed}
+use Rattle.law_system.specs.declared.played.Played.{Played}
+use Rattle.law_system.specs.Records.{IsPlayed}
 use Rattle.law_schedule.specs.Players.{repeated}
 use Rattle.law_schedule.specs.Serving.{Run, Server, turns_served, round_served, opening_run, run_served, traces_of}
 use Rattle.law_schedule.specs.Schedule.{rules_of, plain_server, scheduled_run}

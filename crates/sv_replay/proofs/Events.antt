@@ -16,7 +16,7 @@ use Rattle.sv_client.proofs.Shifts.{Up, up_joins, up_pending, up_held, up_makes,
 use Rattle.sv_client.proofs.Sessions.{apart}
 use Rattle.sv_script.specs.Laws.{is_got}
 use Rattle.sv_script.specs.Following.{must_join, is_welcomed}
-use Rattle.sv_system.specs.Fits.{is_join_of}
+use Rattle.law_system.specs.Fits.{is_join_of}
 
 -- ---- Flags
 

@@ -12,14 +12,14 @@ use Rattle.sv_journal.specs.Sessions.{is_end, is_ended}
 use Rattle.sv_scenario.specs.declared.scenario.Scenario.{Scenario}
 use Rattle.sv_scenario.specs.Limits.{IsGoodScenario}
 use Rattle.sv_scenario.specs.Sessions.{session_count}
-use Rattle.sv_system.specs.Fits.{requests_in, IsEndLast}
-use Rattle.sv_system.proofs.Entered.{is_of}
+use Rattle.sv_script.proofs.Asked.{few-asked}
+use Rattle.law_system.specs.Fits.{requests_in, IsEndLast}
+use Rattle.law_system.proofs.Entered.{is_of}
 use Rattle.law_schedule.specs.Players.{Player}
 use Rattle.law_schedule.specs.Serving.{Run, Server}
 use Rattle.law_schedule.specs.Sound.{has_joined}
 use Rattle.law_schedule.specs.Served.{AreHeard, IsSoundOver}
 use Rattle.law_schedule.proofs.SoundCalls.{IsPlayer, player-at}
-use Rattle.law_schedule.proofs.Asking.{few-asked}
 use Rattle.sv_replay.specs.Players.{asked_by_player}
 
 -- ---- Entries by their sessions

@@ -17,8 +17,8 @@ use Rattle.sv_scenario.specs.declared.scenario.Turn.TheVariants as turns
 use Rattle.sv_scenario.specs.Limits.{IsGoodScenario, IsGoodTurn}
 use Rattle.sv_scenario.specs.Sessions.{sessions_of_plan, session_count}
 use Rattle.sv_script.specs.Following.{must_join}
-use Rattle.sv_system.specs.Fits.{replies_in}
-use Rattle.sv_system.proofs.Asked.{current-joined}
+use Rattle.law_system.specs.Fits.{replies_in}
+use Rattle.law_system.proofs.Asked.{current-joined}
 use Rattle.law_schedule.specs.Players.{Player, at_player, player_turn, open_session, takes, take_in, take_turn}
 use Rattle.law_schedule.specs.Serving.{Run, Server, session_served, turn_served}
 use Rattle.law_schedule.specs.Schedule.{rules_of}
@@ -29,8 +29,8 @@ use Rattle.law_schedule.proofs.SoundCalls.{IsPlayer, player-at, session-next, se
 use Rattle.law_schedule.proofs.DoneShut.{open-is, open-closed}
 use Rattle.sv_replay.specs.declared.playing.Playing.{Playing}
 use Rattle.sv_exchange.specs.View.{ExchangeView, new_exchange}
-use Rattle.sv_system.proofs.Every.{each-at}
-use Rattle.sv_system.proofs.Places.{map_at}
+use Rattle.law_system.proofs.Every.{each-at}
+use Rattle.law_system.proofs.Places.{map_at}
 use Rattle.sv_replay.specs.Players.{session_of, IsFit, IsChannel, taken_from}
 use Rattle.sv_replay.specs.Serving.{ServerView, HadTurn, next_history, next_channel}
 use Rattle.sv_replay.specs.Playable.{IsPlayable}

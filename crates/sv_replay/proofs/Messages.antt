@@ -18,17 +18,17 @@ use Rattle.sv_client.specs.Traces.{asked}
 use Rattle.sv_scenario.specs.declared.scenario.Scenario.{Scenario}
 use Rattle.sv_scenario.specs.Limits.{IsGoodScenario}
 use Rattle.sv_scenario.specs.Sessions.{session_count}
-use Rattle.sv_asked.specs.Numbers.{PlanFits, ScenarioFits}
-use Rattle.sv_system.specs.Fits.{requests_in}
-use Rattle.sv_system.specs.Laws.{NeverRefusedInScenarios}
-use Rattle.sv_system.proofs.Histories.{IsEarlier, same, earlier-rest}
-use Rattle.sv_system.proofs.Entered.{of-from, request-there}
-use Rattle.sv_asked.specs.Asked.{EventFits, HasNumbers, RequestsAreMessages, RepliesAreMessages, AcceptedAreFew}
-use Rattle.sv_system.proofs.Every.{each-at}
-use Rattle.sv_system.proofs.Limits.{limits_of, objects_few}
-use Rattle.sv_system.proofs.Places.{map_at}
-use Rattle.sv_asked.proofs.Counts.{counts-each}
-use Rattle.sv_asked.proofs.Owned.{entry-at, end-fits}
+use Rattle.law_asked.specs.Numbers.{PlanFits, ScenarioFits}
+use Rattle.law_system.specs.Fits.{requests_in}
+use Rattle.law_system.specs.Laws.{NeverRefusedInScenarios}
+use Rattle.law_system.proofs.Histories.{IsEarlier, same, earlier-rest}
+use Rattle.law_system.proofs.Entered.{of-from, request-there}
+use Rattle.law_asked.specs.Asked.{EventFits, HasNumbers, RequestsAreMessages, RepliesAreMessages, AcceptedAreFew}
+use Rattle.law_system.proofs.Every.{each-at}
+use Rattle.law_system.proofs.Limits.{limits_of, objects_few}
+use Rattle.law_system.proofs.Places.{map_at}
+use Rattle.law_asked.proofs.Counts.{counts-each}
+use Rattle.law_asked.proofs.Owned.{entry-at, end-fits}
 use Rattle.law_schedule.specs.Players.{Player, trace_of_player}
 use Rattle.law_schedule.specs.Serving.{Run, Server, traces_of}
 use Rattle.law_schedule.specs.Schedule.{rules_of, plain_server}

@@ -7,7 +7,7 @@ use Rattle.std.proofs.lemmas.Option.{none-some}
 use Rattle.std.proofs.lemmas.List.Elements.{recursion_from_All, All-from_recursion}
 use mathlib.Core.Bool.{or-false}
 use Rattle.sv_wire.specs.Laws.{IsRequest}
-use Rattle.sv_system.proofs.Every.{each-right}
+use Rattle.law_system.proofs.Every.{each-right}
 use Rattle.sv_world.specs.declared.world.ObjectId.{ObjectId}
 use Rattle.sv_world.specs.declared.action.Action.{Action}
 use Rattle.sv_wire.specs.declared.message.Reply.{Reply}
@@ -26,7 +26,7 @@ use Rattle.sv_scenario.specs.declared.scenario.Step.{Step}
 use Rattle.sv_scenario.specs.declared.scenario.Step.TheVariants as steps
 use Rattle.sv_script.specs.Laws.{is_got}
 use Rattle.sv_script.specs.Following.{must_join, is_welcomed}
-use Rattle.sv_system.specs.Outcomes.{is_quit}
+use Rattle.law_system.specs.Outcomes.{is_quit}
 use Rattle.law_schedule.specs.Players.{Player, player_turn, next_step, last_steps, if_free, is_calm, is_settled, does, takes, takes_if}
 use Rattle.law_schedule.proofs.DoneShut.{turn-joins}
 use Rattle.sv_replay.specs.declared.playing.Playing.{Playing}

@@ -15,9 +15,9 @@ use Rattle.sv_scenario.specs.declared.scenario.Step.TheVariants as steps
 use Rattle.sv_scenario.specs.Sessions.{sessions_of_plan}
 use Rattle.sv_script.specs.Following.{DoesStep, FollowsTo, event_of}
 use Rattle.sv_script.proofs.Beginnings.{all-passed}
-use Rattle.sv_asked.specs.Asked.{EventFits}
-use Rattle.sv_asked.specs.Numbers.{StepFits, PlanFits}
-use Rattle.sv_system.proofs.Every.{each-reverse}
+use Rattle.law_asked.specs.Asked.{EventFits}
+use Rattle.law_asked.specs.Numbers.{StepFits, PlanFits}
+use Rattle.law_system.proofs.Every.{each-reverse}
 use Rattle.law_schedule.specs.Players.{Player, trace_of_player}
 use Rattle.law_schedule.specs.Serving.{traces_of}
 use Rattle.law_schedule.specs.Sound.{IsPlaying, ArePlaying}

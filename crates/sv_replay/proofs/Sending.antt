@@ -15,15 +15,15 @@ use Rattle.sv_client.specs.Traces.{joins, is_session}
 use Rattle.sv_scenario.specs.declared.scenario.Turn.TheVariants as turns
 use Rattle.sv_scenario.specs.Sessions.{session_count}
 use Rattle.sv_script.specs.Following.{must_join}
-use Rattle.sv_system.specs.Fits.{is_join_of}
-use Rattle.sv_system.proofs.Asked.{current-joined}
+use Rattle.law_system.specs.Fits.{is_join_of}
+use Rattle.law_system.proofs.Asked.{current-joined}
 use Rattle.law_schedule.specs.Players.{Player, at_player, player_turn, take_turn, open_session, has_closed, does}
 use Rattle.law_schedule.specs.Serving.{Run, Server, served, session_served, turn_served}
 use Rattle.law_schedule.specs.Served.{IsSoundOver}
 use Rattle.law_schedule.proofs.SoundLaws.{turns-sound}
 use Rattle.law_schedule.proofs.DoneShut.{open-is}
 use Rattle.sv_exchange.specs.View.{ExchangeView, new_exchange}
-use Rattle.sv_system.proofs.Places.{map_at}
+use Rattle.law_system.proofs.Places.{map_at}
 use Rattle.sv_replay.specs.Players.{session_of, IsFit, IsNextFine}
 use Rattle.sv_replay.specs.Messages.{AsksMessages}
 use Rattle.sv_replay.specs.Serving.{ServerView, AnswersMessage, one_if, HadTurn}

@@ -7,21 +7,20 @@ use Rattle.sv_wire.specs.declared.message.Reply.{Reply}
 use Rattle.sv_wire.specs.declared.message.Request.{Request}
 use Rattle.sv_wire.specs.declared.message.Request.TheVariants as requests
 use Rattle.sv_journal.specs.declared.entry.Entry.{Entry}
-use Rattle.sv_journal.specs.History.{accepted, full_reply}
+use Rattle.sv_journal.specs.History.{accepted, full_reply, logged_of}
 use Rattle.sv_journal.specs.Sessions.{is_end, is_ended}
 use Rattle.sv_journal.specs.Answer.{reply_to}
-use Rattle.sv_system.specs.Fits.{replies_in}
-use Rattle.sv_system.proofs.Fronts.{fronts-same}
-use Rattle.sv_system.proofs.Entered.{as-many, replies-one}
+use Rattle.law_system.specs.Fits.{replies_in}
+use Rattle.law_system.proofs.Fronts.{fronts-same}
+use Rattle.law_system.proofs.Entered.{as-many, replies-one}
 use Rattle.law_schedule.specs.Serving.{Server, served}
 use Rattle.law_schedule.specs.Schedule.{plain_server}
 use Rattle.law_schedule.specs.Served.{RepliesNameAccepted}
 use Rattle.law_schedule.proofs.SoundReplies.{replies-grow}
-use Rattle.sv_sequencer.specs.Shared.{logged_of}
 use Rattle.sv_sequencer.specs.Step.{SequencerView, history, entry_of, GrewByEntry, Answered}
-use Rattle.sv_sequencer.proofs.Shared.{logged-back}
 use Rattle.sv_session.specs.Requests.{stop_of}
 use Rattle.sv_exchange.specs.View.{ExchangeView, TakesRequest}
+use Rattle.sv_journal.proofs.Stays.{logged-back}
 use Rattle.sv_replay.specs.Serving.{ServerView, Answers, sequencer_view, whole_reply, next_history, next_channel, with_answer, Entered, HadTurn, one_if}
 
 IsAsked : Request → Type 0

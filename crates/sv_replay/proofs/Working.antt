@@ -15,8 +15,8 @@ use Rattle.sv_client.specs.declared.trace.Event.TheVariants as events
 use Rattle.sv_client.specs.Traces.{current_session, got}
 use Rattle.sv_client.specs.Taking.{Fault, first_fault_of_reply}
 use Rattle.sv_script.specs.Following.{must_join}
-use Rattle.sv_system.specs.Fits.{requests_in, replies_in}
-use Rattle.sv_system.proofs.Entered.{is_of}
+use Rattle.law_system.specs.Fits.{requests_in, replies_in}
+use Rattle.law_system.proofs.Entered.{is_of}
 use Rattle.law_schedule.specs.Players.{Player, asked_in_run, has_closed, open_session, takes, takes_if, take_in, take_turn, at_player, repeated, does, take_turns}
 use Rattle.law_schedule.specs.Serving.{Run, Server, served, is_stopped, session_served}
 use Rattle.law_schedule.specs.Served.{KeepsSound}

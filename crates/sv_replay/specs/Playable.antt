@@ -10,9 +10,9 @@ use Rattle.sv_client.specs.Traces.{current_session, got}
 use Rattle.sv_client.specs.Taking.{first_fault_of_reply}
 use Rattle.sv_scenario.specs.declared.scenario.Scenario.{Scenario}
 use Rattle.sv_scenario.specs.Limits.{IsGoodScenario}
-use Rattle.sv_system.specs.Fits.{replies_in}
-use Rattle.sv_asked.specs.Asked.{EventFits}
-use Rattle.sv_asked.specs.Numbers.{ScenarioFits}
+use Rattle.law_system.specs.Fits.{replies_in}
+use Rattle.law_asked.specs.Asked.{EventFits}
+use Rattle.law_asked.specs.Numbers.{ScenarioFits}
 use Rattle.law_schedule.specs.Players.{Player}
 use Rattle.law_schedule.specs.Serving.{Run, Server, traces_of}
 use Rattle.law_schedule.specs.Schedule.{rules_of, plain_server}

@@ -11,7 +11,7 @@ use Rattle.sv_client.specs.Traces.{joins, asked, got}
 use Rattle.sv_client.specs.Taking.{Identity, first_fault_of_reply}
 use Rattle.sv_client.specs.Proper.{AreProper}
 use Rattle.sv_script.specs.Following.{must_join}
-use Rattle.sv_system.specs.Fits.{is_join_of, requests_in, replies_in}
+use Rattle.law_system.specs.Fits.{is_join_of, requests_in, replies_in}
 use Rattle.law_schedule.specs.Players.{Player, asked_in_run, has_closed, takes}
 use Rattle.law_schedule.specs.Serving.{Run, is_stopped}
 use Rattle.sv_exchange.specs.View.{ExchangeView}

@@ -5,7 +5,7 @@ use Rattle.sv_journal.specs.declared.entry.Entry.{Entry}
 use Rattle.sv_journal.specs.History.{accepted}
 use Rattle.sv_journal.specs.Sessions.{is_ended}
 use Rattle.sv_client.specs.Traces.{got}
-use Rattle.sv_system.specs.Fits.{requests_in, replies_in}
+use Rattle.law_system.specs.Fits.{requests_in, replies_in}
 use Rattle.law_schedule.specs.Players.{Player, asked_in_run, open_session}
 use Rattle.law_schedule.specs.Serving.{Run}
 

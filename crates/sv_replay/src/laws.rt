@@ -1,7 +1,7 @@
 //! What is true of runs over any server, and that a scenario can be run over a sequencer.
 ghost use Rattle.sv_replay.specs.Playable.{MadeActionsFit, ScenariosArePlayable};
 
-use sv_asked::{accepted_are_few, replies_are_messages, requests_are_messages};
+use law_asked::{accepted_are_few, replies_are_messages, requests_are_messages};
 
 /// A scenario can be run over the server that answers by the table: its runs stay sound, and in a sound one whatever is asked or replied is a
 /// message, and no client refuses its next reply.

@@ -4,10 +4,10 @@ ghost use Rattle.sv_journal.specs.History.{commit_of, committed_of};
 ghost use Rattle.sv_sequencer.specs.Step.{history};
 
 use crate::server::Server;
+use law_system::Played;
 use std::alloc::{AllocError, Global};
 use sv_client::Trace;
 use sv_sequencer::Sequencer;
-use sv_system::Played;
 use sv_world::{List, ObjectId, Shape, Value, copy_value};
 
 /// What is left of a run over worlds of this shape: its sequencer's journal and committed values, and what each client did.

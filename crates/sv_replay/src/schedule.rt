@@ -2,7 +2,7 @@
 ghost use Rattle.std.specs.Prelude.{◌≡◌, ◌<◌, [], map, reverse, IfOk, All};
 ghost use Rattle.sv_world.specs.Limits.{most_sessions};
 ghost use Rattle.sv_scenario.specs.Limits.{IsGoodScenario};
-ghost use Rattle.sv_system.specs.Records.{IsPlayed};
+ghost use Rattle.law_system.specs.Records.{IsPlayed};
 ghost use Rattle.law_schedule.specs.Players.{trace_of_player};
 ghost use Rattle.law_schedule.specs.Serving.{run_served, traces_of};
 ghost use Rattle.law_schedule.specs.Schedule.{rules_of, scheduled_run};
@@ -17,12 +17,12 @@ use crate::opening::{open_machine, open_sequencer};
 use crate::played::played_of;
 use crate::playing::Playing;
 use crate::server::Server;
+use law_asked::read_scenario_numbers;
 use law_schedule::scheduled_runs_are_replays;
+use law_system::Played;
 use std::alloc::{AllocError, Global};
-use sv_asked::read_scenario_numbers;
 use sv_client::Trace;
 use sv_scenario::Scenario;
-use sv_system::Played;
 use sv_world::List;
 
 /// So many rounds are always enough.

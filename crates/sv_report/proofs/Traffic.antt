@@ -13,7 +13,7 @@ use Rattle.sv_client.specs.Proper.{Proper}
 use Rattle.sv_client.proofs.Sessions.{few_makes}
 use Rattle.sv_scenario.specs.declared.scenario.Plan.{Plan}
 use Rattle.sv_scenario.specs.Sessions.{sessions_of_plan}
-use Rattle.sv_system.specs.Records.{AreTracesOf}
+use Rattle.law_system.specs.Records.{AreTracesOf}
 
 -- There are as many traces as clients.
 pub traces_long : (k s : ℕ) (plans : List Plan) (Ls : List Trace) → AreTracesOf k s plans Ls → length Ls ≡ length plans

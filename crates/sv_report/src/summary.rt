@@ -1,15 +1,15 @@
 //! The brief summary.
 ghost use Rattle.std.specs.Prelude.{◌≡◌, ◌++◌, string_bytes, IfOk, OnOk};
 ghost use Rattle.sv_scenario.specs.Limits.{IsGoodScenario};
-ghost use Rattle.sv_system.specs.Records.{IsPlayed};
+ghost use Rattle.law_system.specs.Records.{IsPlayed};
 ghost use Rattle.sv_report.specs.Summary.{summary_text, size_lines, count_lines};
 
 use crate::counts::made_in;
 use crate::rows::dropped_in;
 use crate::totals::append_totals;
+use law_system::Played;
 use std::alloc::{AllocError, Global};
 use sv_scenario::{Scenario, sessions_of};
-use sv_system::Played;
 
 fn append_sizes(
     clients: usize,

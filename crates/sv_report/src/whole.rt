@@ -1,15 +1,15 @@
 //! The whole report.
 ghost use Rattle.std.specs.Prelude.{◌≡◌, ◌++◌, string_bytes, IfOk, OnOk};
 ghost use Rattle.sv_scenario.specs.Limits.{IsGoodScenario};
-ghost use Rattle.sv_system.specs.Records.{IsPlayed};
+ghost use Rattle.law_system.specs.Records.{IsPlayed};
 ghost use Rattle.sv_report.specs.Report.{report_text};
 
 use crate::trace::append_traces;
 use crate::values::append_world;
+use law_system::Played;
 use std::alloc::{AllocError, Global};
 use sv_journal::{Journal, legal_relays_name_accepted, print_journal};
 use sv_scenario::Scenario;
-use sv_system::Played;
 
 /// Appends the text of a record of the scenario's traffic.
 fn append_report(

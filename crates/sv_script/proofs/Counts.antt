@@ -37,7 +37,7 @@ leaves (events.Cut ∷ t) = leaves t
 leaves (events.Quit ∷ t) = leaves t
 leaves (events.Show objects ∷ t) = leaves t
 
-abbrev one_if : Bool → ℕ
+abbrev pub one_if : Bool → ℕ
 one_if true = 1
 one_if false = 0
 

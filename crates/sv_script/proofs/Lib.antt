@@ -5,7 +5,10 @@ pub mod Pending
 pub mod Due
 pub mod Counts
 pub mod Cuts
+pub mod Asked
+pub mod Begun
 pub mod Ends
 pub mod Places
+pub mod Shifted
 pub mod Told
 pub mod Examples

@@ -6,28 +6,13 @@ use Rattle.std.proofs.lemmas.List.Elements.{All-head, All-tail}
 use Rattle.sv_wire.specs.declared.message.Reply.{Reply}
 use Rattle.sv_wire.specs.declared.message.Request.{Request}
 use Rattle.sv_journal.specs.declared.entry.Entry.{Entry}
-use Rattle.sv_journal.specs.declared.entry.Logged.{Logged}
-use Rattle.sv_journal.specs.declared.entry.Logged.TheVariants as logged
-use Rattle.sv_journal.specs.History.{Authored, accepted, full_reply}
+use Rattle.sv_journal.specs.History.{accepted, full_reply, logged_of}
 use Rattle.sv_journal.specs.Sessions.{is_end, is_ended}
 use Rattle.sv_journal.specs.Answer.{reply_to}
-use Rattle.sv_journal.proofs.Stays.{positions-back}
+use Rattle.sv_journal.proofs.Stays.{logged-back}
 use Rattle.sv_lock.specs.Histories.{entries_of}
 use Rattle.sv_sequencer.specs.Step.{SequencerView, history, entry_of, Answered}
-use Rattle.sv_sequencer.specs.Shared.{logged_of, IsFullReply, IsWhole}
-
--- What a reply in full is kept as is the reply again.
-pub logged-back : (A : List Authored) (l : Logged) → logged_of (full_reply A l) ≡ l
-logged-back A (logged.Welcome commit head) = refl
-logged-back A (logged.Relay seq commit head ps) = ap (logged.Relay seq commit head) (positions-back A ps)
-logged-back A (logged.Dropped seq chain far) = refl
-logged-back A (logged.Denied seq object) = refl
-logged-back A (logged.Seen last commit head ps) = ap (logged.Seen last commit head) (positions-back A ps)
-logged-back A (logged.Settled seq pos) = refl
-logged-back A (logged.Noted commit) = refl
-logged-back A logged.Idle = refl
-logged-back A (logged.Refused code detail) = refl
-logged-back A logged.Bye = refl
+use Rattle.sv_sequencer.specs.Shared.{IsFullReply, IsWhole}
 
 -- The journal grew by the entry of the answer.
 pub answer-entered : (old new : SequencerView) (s : ℕ) (q : Request) (r : Reply) → Answered old new s q r →

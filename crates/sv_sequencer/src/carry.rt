@@ -23,6 +23,7 @@ impl Core {
     /// Does what was decided on a request of a session. `h` is a history that the core keeps, by which the decision holds.
     ///
     /// After running out of memory everything is as it was.
+    #[inline(always)]
     pub fn carry_out(
         &mut self,
         seat: Seat,

@@ -107,6 +107,7 @@ fn relay_and_settle(
 }
 
 /// Marks what a reply sends, and notes what it gives.
+#[inline(always)]
 pub fn deliver(queue: &mut Queue, relayed: &Relayed, slot: u16)
     requires positions { All (IsUncommitted queue.old) relayed.now.positions }
     requires objects { All (λ (x : ObjectValue). x.object.0 < queue.old.shape.objects) relayed.now.head }
@@ -145,6 +146,7 @@ fn answer_of(seq: u32, commit: u32, relayed: Relayed) -> Answer
 }
 
 /// Sends a session what a relay has: the answer to its request.
+#[inline(always)]
 fn send(queue: &mut Queue, slot: u16, seq: u32, relayed: Relayed) -> Answer
     requires positions { All (IsUncommitted queue.old) relayed.positions }
     requires objects { All (λ (x : ObjectValue). x.object.0 < queue.old.shape.objects) relayed.head }
@@ -271,6 +273,7 @@ impl Core {
     }
 
     /// Accepts a new action and sends it with what the session lacks of it.
+    #[inline(never)]
     pub(crate) fn accept_new(
         &mut self,
         seat: Seat,
@@ -319,6 +322,7 @@ impl Core {
     }
 
     /// Notes reported results, and commits what may be.
+    #[inline(never)]
     pub(crate) fn note_results(
         &mut self,
         seat: Seat,

@@ -2,7 +2,8 @@
 ghost use Rattle.std.specs.Prelude.{◌≡◌, true, reverse, refl};
 ghost use Rattle.sv_journal.specs.Sessions.{is_end};
 ghost use Rattle.sv_journal.specs.Answer.{Legal};
-ghost use Rattle.sv_sequencer.specs.Shared.{logged_of, IsWhole, MayAsk};
+ghost use Rattle.sv_sequencer.specs.Shared.{IsWhole, MayAsk};
+ghost use Rattle.sv_journal.specs.History.{logged_of};
 ghost use Rattle.sv_sequencer.specs.Step.{entry_of};
 
 use crate::opened::Opened;

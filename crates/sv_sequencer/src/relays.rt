@@ -51,6 +51,7 @@ pub struct Seen {
 }
 
 /// What a relay of an uncommitted position has for a session.
+#[inline(always)]
 pub fn relay_in(alloc: Global, queue: &Queue, slot: u16, pos: u32) -> Result<Relayed, AllocError>
     requires { IsUncommitted queue.now pos }
     ensures head { IfOk result (λ r. r.head ≡ held_in queue.now (base_objects queue.now slot pos)) }
@@ -62,6 +63,7 @@ pub fn relay_in(alloc: Global, queue: &Queue, slot: u16, pos: u32) -> Result<Rel
 }
 
 /// Its look-ups are counted, and nobody asks how many there were.
+#[inline(always)]
 fn counted<L: Ledger>(
     alloc: Global,
     queue: &Queue,
@@ -135,6 +137,7 @@ fn seen_counted<L: Ledger>(
 }
 
 /// What a reply has that sends some uncommitted positions and gives some objects.
+#[inline(always)]
 fn relayed_of<L: Ledger>(
     alloc: Global,
     queue: &Queue,
@@ -161,6 +164,7 @@ fn relayed_of<L: Ledger>(
 }
 
 /// Objects of a world with their committed values.
+#[inline(always)]
 pub fn base_values(
     alloc: Global,
     queue: &Queue,
@@ -181,6 +185,7 @@ pub fn base_values(
 }
 
 /// What stands at some uncommitted positions.
+#[inline(always)]
 fn items_of<L: Ledger>(
     alloc: Global,
     queue: &Queue,

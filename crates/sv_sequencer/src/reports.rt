@@ -172,6 +172,7 @@ fn set_reports(queue: &mut Queue, results: Vec<Done1>)
     }
 }
 
+#[inline(always)]
 fn set_report<L: Ledger>(queue: &mut Queue, found: Done1, blank: Blank)
     requires name { blank.name ≡ L.name }
     requires parts { blank.parts ≡ L.parts }

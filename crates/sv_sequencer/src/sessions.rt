@@ -67,6 +67,7 @@ pub fn new_sessions(
 
 /// Notes in the rows of the sessions what the one at a slot asked and was replied. Only a Join that is welcomed changes another row than the
 /// asker's.
+#[inline(always)]
 pub fn note(rows: &mut Vec<SessionRow>, slot: u16, request: &Request, reply: &Logged)
     requires { length rows.old.items < 65536 }
     ensures count { length rows.new.items ≡ length rows.old.items }

@@ -3,23 +3,25 @@ use Rattle.std.proofs.Common.{◌≡◌, ◌≢◌, ◌↔◌, ◌⊎◌, inl, i
 use Rattle.std.specs.Prelude.{string_bytes, option_map, IfSome, IsErrAnd, OnErr, Result, Ok, Err, String}
 use Rattle.std.specs.declared.alloc.Global.{Global}
 use Rattle.std.proofs.lemmas.Option.{none-some}
-use Rattle.sv_bytes.specs.Writing.{Grew, GrewByPart}
-use Rattle.sv_command.specs.declared.ending.Ending.{Ending}
-use Rattle.sv_command.specs.declared.ending.Ending.TheVariants as endings
-use Rattle.sv_command.specs.Endings.{Ends, IsCutShort, IsPrinted, OrWords}
-use Rattle.sv_command.specs.Reading.{read_limit, held_by_file, IsRefused, IsNoScenario, HoldsScenario}
-use Rattle.sv_command.specs.Statuses.{status_of, Counts, Raises, NoneRose}
-use Rattle.sv_command.proofs.Statuses.{link_is, range_is as plain_range}
-use Rattle.sv_command.proofs.Held.{Faulty, read_is, holds_none, always, unheld, unnamed}
-use Rattle.sv_command.proofs.Left.{printed_by, cut_by, ends_early, or_words, unranged, printed_is as left_printed, part_is as left_part, nothing_is as left_nothing, refused_is as left_refused}
+use Rattle.sv_bytes.specs.Writing.{Grew, GrewByPart, GrewOrRose}
+use Rattle.sv_ending.specs.declared.ending.Ending.{Ending}
+use Rattle.sv_ending.specs.declared.ending.Ending.TheVariants as endings
+use Rattle.sv_ending.specs.Calls.{Moment}
+use Rattle.sv_ending.specs.Endings.{Ends, IsCutShort, IsPrinted, OrWords}
+use Rattle.sv_ending.specs.Reading.{read_limit, held_by_file, IsRefused, IsNoScenario, HoldsScenario}
+use Rattle.sv_ending.specs.Statuses.{status_of, Counts, Raises, NoneRose, ending_line}
+use Rattle.sv_ending.proofs.Statuses.{link_is, words_is, sure_is, faults_are, told_is, range_is as plain_range}
+use Rattle.sv_ending.proofs.Held.{Faulty, read_is, holds_none, always, unheld, unnamed}
+use Rattle.sv_ending.proofs.Left.{printed_by, cut_by, ends_early, or_words, unranged, leaves_is, refused_is as left_refused}
 use Rattle.sv_sequencer.specs.Step.{SequencerView}
-use Rattle.sv_play.specs.declared.outcome.PlayFault.{PlayFault}
-use Rattle.sv_play.specs.declared.outcome.PlayFault.TheVariants as faults
-use Rattle.sv_play.specs.Moved.{Moved}
-use Rattle.sv_play.specs.Endings.{ending_of_fault}
+use Rattle.sv_threads.specs.declared.outcome.PlayFault.{PlayFault}
+use Rattle.sv_threads.specs.declared.outcome.PlayFault.TheVariants as faults
+use Rattle.sv_threads.specs.Moved.{Moved}
+use Rattle.sv_threads.specs.Endings.{ending_of_fault}
 use Rattle.sv_door.specs.Doors.{Passage}
-use Rattle.sv_serve.specs.declared.words.Command.{Command}
-use Rattle.sv_serve.specs.Words.{Asked, asked_by, named_by}
+use Rattle.sv_serve.specs.declared.words.ServeCommand.{ServeCommand}
+use Rattle.sv_serve.specs.Answers.{Answers}
+use Rattle.sv_serve.specs.Words.{Asked, asked_by, named_by, words_line}
 use Rattle.sv_serve.specs.Giving.{Doorway, GaveAllBack, GaveBack, GaveUnused, GivesBack}
 use Rattle.sv_serve.specs.Statuses.{IsText, EndsEarly, LeavesAlone, GivesBackBut}
 
@@ -96,7 +98,7 @@ touched status f0 f1 d0 d1 c0 c1 away =
 pub fault_touched : {F D C : Type 0} (fault : PlayFault) (f0 f1 : F) (d0 d1 : D) (c0 c1 : C) → LeavesAlone (status_of (ending_of_fault fault)) f0 f1 d0 d1 c0 c1
 fault_touched fault f0 f1 d0 d1 c0 c1 = touched (status_of (ending_of_fault fault)) f0 f1 d0 d1 c0 c1 (λ l h. early_status fault h)
 
-pub certain_is : (sure : ℕ → Type 0) (a : Option Asked) (e : Ending) → IfSome a (λ x. sure x.port → e ≢ endings.Link) → IfSome a (λ x. sure x.port → status_of e ≢ 6)
+certain_is : (sure : ℕ → Type 0) (a : Option Asked) (e : Ending) → IfSome a (λ x. sure x.port → e ≢ endings.Link) → IfSome a (λ x. sure x.port → status_of e ≢ 6)
 certain_is sure None e h = tt
 certain_is sure (Some x) e h = λ s six. h s (link_is e six)
 
@@ -106,9 +108,9 @@ certain_is sure (Some x) e h = λ s six. h s (link_is e six)
 abbrev pub Leaves : Option (List ℕ) → Moved Passage → Option (List ℕ) → Option (List ℕ) → Ending → Type 0
 Leaves held m old now e = Ends (IsText held m) (OrWords (EndsEarly held)) old now e
 
-module _ (contents : List ℕ → Option (List ℕ)) (m : Moved Passage) (given : Option Command) (command : Command) (is : given ≡ Some command) where
+module _ (contents : List ℕ → Option (List ℕ)) (m : Moved Passage) (given : Option ServeCommand) (command : ServeCommand) (is : given ≡ Some command) where
   text_given : (text : List ℕ) → IsText (contents command.file.now) m text → IsText (held_by_file contents (named_by (option_map asked_by given))) m text
-  text_given text told = subst (λ (o : Option Command). IsText (held_by_file contents (named_by (option_map asked_by o))) m text) (sym is) told
+  text_given text told = subst (λ (o : Option ServeCommand). IsText (held_by_file contents (named_by (option_map asked_by o))) m text) (sym is) told
 
   pub printed_given : (text bytes : List ℕ) (old now : Option (List ℕ)) → bytes ≡ text → IsText (contents command.file.now) m text → Grew old now bytes
       → IsPrinted (IsText (held_by_file contents (named_by (option_map asked_by given))) m) old now
@@ -120,32 +122,23 @@ module _ (contents : List ℕ → Option (List ℕ)) (m : Moved Passage) (given 
 
   pub early_given : (old : Option (List ℕ)) (e : Ending) → EndsEarly (contents command.file.now) e → Leaves (held_by_file contents (named_by (option_map asked_by given))) m old old e
   early_given old e h =
-      subst (λ (o : Option Command). Leaves (held_by_file contents (named_by (option_map asked_by o))) m old old e) (sym is)
+      subst (λ (o : Option ServeCommand). Leaves (held_by_file contents (named_by (option_map asked_by o))) m old old e) (sym is)
       (ends_early (IsText (contents command.file.now) m) (OrWords (EndsEarly (contents command.file.now))) old (λ x. x) (λ x. x) e (or_words (EndsEarly (contents command.file.now)) e h))
 
 -- ---- What is left of a call, by its status
 
 module _ (held : Option (List ℕ)) (m : Moved Passage) (old now : Option (List ℕ)) where
-  pub range_is : (e : Ending) → Leaves held m old now e → (status_of e ≡ 0) ⊎ ((2 ≤ status_of e) × (status_of e ≤ 8))
+  range_is : (e : Ending) → Leaves held m old now e → (status_of e ≡ 0) ⊎ ((2 ≤ status_of e) × (status_of e ≤ 8))
   range_is e h = plain_range e (unranged (IsText held m) (OrWords (EndsEarly held)) old now (λ x. x) e h)
 
-  pub printed_is : (e : Ending) → Leaves held m old now e → status_of e ≡ 0 → IsPrinted (IsText held m) old now
-  printed_is e h s = left_printed (IsText held m) (OrWords (EndsEarly held)) old now e h s
-
-  pub part_is : (e : Ending) → Leaves held m old now e → status_of e ≡ 5 → IsCutShort (IsText held m) old now
-  part_is e h s = left_part (IsText held m) (OrWords (EndsEarly held)) old now e h s
-
-  pub nothing_is : (e : Ending) → Leaves held m old now e → status_of e ≢ 0 → status_of e ≢ 5 → now ≡ old
-  nothing_is e h z f = left_nothing (IsText held m) (OrWords (EndsEarly held)) old now e h z f
-
-  pub refused_is : (e : Ending) → Leaves held m old now e → (line : String Global) → e ≡ endings.Scenario line → IsRefused held (string_bytes line)
+  refused_is : (e : Ending) → Leaves held m old now e → (line : String Global) → e ≡ endings.Scenario line → IsRefused held (string_bytes line)
   refused_is e h line is = left_refused (IsText held m) (OrWords (EndsEarly held)) old now e h line is
 
 module _ (a : Option Asked) (contents : List ℕ → Option (List ℕ)) (m : Moved Passage) (old now : Option (List ℕ)) where
   abbrev held : Option (List ℕ)
   held = held_by_file contents (named_by a)
 
-  pub faulty_is : (e : Ending) → ((e ≡ endings.Words) ↔ (a ≡ None)) → Leaves held m old now e
+  faulty_is : (e : Ending) → ((e ≡ endings.Words) ↔ (a ≡ None)) → Leaves held m old now e
       → IfSome held (λ all. IsNoScenario (take read_limit all) → Faulty (status_of e))
   faulty_is endings.Done w h = read_is held _ h.told.scenario h.told.scenario_is
   faulty_is endings.Out w h = read_is held _ h.told.scenario h.told.scenario_is
@@ -157,7 +150,7 @@ module _ (a : Option Asked) (contents : List ℕ → Option (List ℕ)) (m : Mov
   faulty_is endings.Memory w h = always (Faulty 8) _ held (inr (inr refl))
   faulty_is endings.Range w h = absurd h.0
 
-  pub complete_is : (before after : Counts) (e : Ending) → ((e ≡ endings.Words) ↔ (a ≡ None)) → Leaves held m old now e → Raises before after e
+  complete_is : (before after : Counts) (e : Ending) → ((e ≡ endings.Words) ↔ (a ≡ None)) → Leaves held m old now e → Raises before after e
       → HoldsScenario held → NoneRose before after → (status_of e ≡ 0) ⊎ (status_of e ≡ 8)
   complete_is before after endings.Done w h r can none = inl refl
   complete_is before after endings.Memory w h r can none = inr refl
@@ -168,3 +161,22 @@ module _ (a : Option Asked) (contents : List ℕ → Option (List ℕ)) (m : Mov
   complete_is before after endings.Link w h r can none = absurd (none.2 r.0)
   complete_is before after endings.Out w h r can none = absurd (none.3 r.0)
   complete_is before after endings.Range w h r can none = absurd h.0
+
+-- ---- The answer
+
+module _ (asked : Option Asked) (contents : List ℕ → Option (List ℕ)) (is_sure : List ℕ → Type 0) (is_certain : ℕ → Type 0) (m : Moved Passage) (before now : Moment) where
+  pub answers_is : (e : Ending) → ((e ≡ endings.Words) ↔ (asked ≡ None)) → Leaves (held_by_file contents (named_by asked)) m before.out now.out e → Raises before.faults now.faults e
+      → IfSome (named_by asked) (λ file. is_sure file → e ≢ endings.File) → IfSome asked (λ (x : Asked). is_certain x.port → e ≢ endings.Link)
+      → GrewOrRose before.err now.err before.err_faults now.err_faults (ending_line words_line e (named_by asked)) → Answers asked contents is_sure is_certain m before now (status_of e)
+  answers_is e w h r s p t =
+      let held : Option (List ℕ) = held_by_file contents (named_by asked) in
+      record {
+        range = range_is held m before.out now.out e h;
+        words = words_is e w;
+        faults = faults_are before.faults now.faults e r;
+        sure = sure_is is_sure (named_by asked) e s;
+        certain = certain_is is_certain asked e p;
+        left = leaves_is (IsText held m) (OrWords (EndsEarly held)) before.out now.out held e h (faulty_is asked contents m before.out now.out e w h);
+        told = told_is words_line held (named_by asked) before.err now.err before.err_faults now.err_faults e (refused_is held m before.out now.out e h) t;
+        complete = complete_is asked contents m before.out now.out before.faults now.faults e w h r;
+      }

@@ -11,20 +11,20 @@ use Rattle.sv_journal.specs.declared.entry.Entry.{Entry}
 use Rattle.sv_journal.specs.Laws.{FullRepliesStay, LegalRelaysNameAccepted}
 use Rattle.sv_scenario.specs.Sessions.{session_count}
 use Rattle.sv_session.specs.Serving.{SessionPass}
-use Rattle.sv_system.proofs.Every.{each-reverse}
-use Rattle.sv_system.specs.Places.{EachPlace}
-use Rattle.sv_system.proofs.Places.{each_all, at_place, unmap_at}
+use Rattle.law_system.proofs.Every.{each-reverse}
+use Rattle.law_system.specs.Places.{EachPlace}
+use Rattle.law_system.proofs.Places.{each_all, at_place, unmap_at}
 use Rattle.law_traffic.specs.Runs.{IsGoodRun}
-use Rattle.sv_play.specs.declared.tasks.Service.{Service}
-use Rattle.sv_play.specs.declared.tasks.Serviced.{Serviced}
-use Rattle.sv_play.specs.Tasks.{WasServed}
-use Rattle.sv_play.specs.Given.{Setting, keeper_after, IsService}
-use Rattle.sv_play.specs.Left.{is_memory, IsOfLock, JoinedPasses, IsServiced}
-use Rattle.sv_play.specs.Moved.{Moved}
-use Rattle.sv_play.specs.Playing.{TookAllIn}
-use Rattle.sv_play.proofs.Leaving.{served_left, all_of_lock}
-use Rattle.sv_play.proofs.Whole.{session_served}
-use Rattle.sv_play.proofs.Keepers.{just_of, below_of, legal_of, all_taken_in}
+use Rattle.sv_threads.specs.declared.tasks.Service.{Service}
+use Rattle.sv_threads.specs.declared.tasks.Serviced.{Serviced}
+use Rattle.sv_threads.specs.Tasks.{WasServed}
+use Rattle.sv_threads.specs.Given.{Setting, keeper_after, IsService}
+use Rattle.sv_threads.specs.Left.{is_memory, IsOfLock, JoinedPasses, IsServiced}
+use Rattle.sv_threads.specs.Moved.{Moved}
+use Rattle.sv_threads.specs.Playing.{TookAllIn}
+use Rattle.sv_threads.proofs.Leaving.{served_left, all_of_lock}
+use Rattle.sv_threads.proofs.Whole.{session_served}
+use Rattle.sv_threads.proofs.Keepers.{just_of, below_of, legal_of, all_taken_in}
 use Rattle.sv_door.specs.Doors.{Passage, passage_of}
 use Rattle.law_traffic.specs.Sessions.{IsSessionServed}
 use Rattle.law_traffic.proofs.Loops.{ends_are}

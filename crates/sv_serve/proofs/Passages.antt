@@ -13,7 +13,7 @@ use Rattle.sv_session.specs.Requests.{StopsFor, requests_read, due_frames}
 use Rattle.sv_session.specs.Serving.{ExplainsOut, ended_by}
 use Rattle.sv_session.specs.declared.outcome.SessionOut.{SessionOut}
 use Rattle.sv_session.specs.declared.outcome.SessionOut.TheVariants as outs
-use Rattle.sv_system.specs.Fits.{requests_in, replies_in}
+use Rattle.law_system.specs.Fits.{requests_in, replies_in}
 use Rattle.law_traffic.specs.Traffic.{reply_frames, EndsWithStop}
 use Rattle.law_traffic.proofs.Dues.{full_over}
 use Rattle.sv_door.specs.Doors.{Passage, passage_of}

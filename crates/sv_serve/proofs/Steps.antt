@@ -8,10 +8,10 @@ use Rattle.sv_journal.specs.declared.entry.Entry.{Entry}
 use Rattle.sv_journal.specs.Answer.{Rules, Legal}
 use Rattle.sv_journal.specs.Laws.{LegalRelaysNameAccepted}
 use Rattle.sv_journal.specs.Text.{RelaysNameAccepted}
-use Rattle.sv_system.specs.Places.{EachPlace}
-use Rattle.sv_play.specs.declared.tasks.Service.{Service}
-use Rattle.sv_play.specs.declared.tasks.Serviced.{Serviced}
-use Rattle.sv_play.specs.Left.{is_memory}
+use Rattle.law_system.specs.Places.{EachPlace}
+use Rattle.sv_threads.specs.declared.tasks.Service.{Service}
+use Rattle.sv_threads.specs.declared.tasks.Serviced.{Serviced}
+use Rattle.sv_threads.specs.Left.{is_memory}
 use Rattle.sv_door.specs.Doors.{Passage}
 use Rattle.sv_serve.specs.Giving.{doorway, passage_kept, kept_unserved, kept_served, unused_passage, GaveAllBack, GaveUnused}
 

@@ -2,11 +2,11 @@
 use Rattle.std.specs.Prelude.{◌≡◌, ℕ, ◌+◌, ◌<◌, List, ◌++◌, map, length, Result, Ok, Err}
 use Rattle.sv_link.specs.Ends.{Told, new_end}
 use Rattle.sv_link.specs.declared.side.Side.TheVariants.{Server}
-use Rattle.sv_system.specs.Places.{EachPlace}
-use Rattle.sv_play.specs.declared.outcome.PlayFault.{PlayFault}
-use Rattle.sv_play.specs.declared.outcome.PlayFault.TheVariants as faults
-use Rattle.sv_play.specs.declared.tasks.Service.{Service}
-use Rattle.sv_play.specs.declared.tasks.Serviced.{Serviced}
+use Rattle.law_system.specs.Places.{EachPlace}
+use Rattle.sv_threads.specs.declared.outcome.PlayFault.{PlayFault}
+use Rattle.sv_threads.specs.declared.outcome.PlayFault.TheVariants as faults
+use Rattle.sv_threads.specs.declared.tasks.Service.{Service}
+use Rattle.sv_threads.specs.declared.tasks.Serviced.{Serviced}
 use Rattle.sv_door.specs.Doors.{Passage, passage_of}
 
 -- What a door tells of its ends: what was given back, how many were made, and how many of these are owed.

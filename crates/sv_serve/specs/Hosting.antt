@@ -5,9 +5,9 @@ use Rattle.sv_journal.specs.declared.entry.Entry.{Entry}
 use Rattle.sv_journal.specs.Answer.{Legal}
 use Rattle.sv_scenario.specs.declared.scenario.Scenario.{Scenario}
 use Rattle.sv_scenario.specs.Sessions.{session_count}
-use Rattle.sv_system.specs.Records.{rules_of, ends_in}
-use Rattle.sv_system.specs.Places.{EachPlace}
-use Rattle.sv_play.specs.Moved.{Moved}
+use Rattle.law_system.specs.Records.{rules_of, ends_in}
+use Rattle.law_system.specs.Places.{EachPlace}
+use Rattle.sv_threads.specs.Moved.{Moved}
 use Rattle.sv_door.specs.Doors.{Passage}
 use Rattle.sv_serve.specs.Passages.{IsPassageOf}
 

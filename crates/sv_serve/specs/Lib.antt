@@ -4,3 +4,4 @@ pub mod Hosting
 pub mod Giving
 pub mod Words
 pub mod Statuses
+pub mod Answers

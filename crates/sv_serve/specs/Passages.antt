@@ -7,7 +7,7 @@ use Rattle.sv_frame.specs.Streams.{split_frames}
 use Rattle.sv_journal.specs.declared.entry.Entry.{Entry}
 use Rattle.sv_journal.specs.History.{accepted}
 use Rattle.sv_session.specs.Requests.{requests_read}
-use Rattle.sv_system.specs.Fits.{requests_in, replies_in}
+use Rattle.law_system.specs.Fits.{requests_in, replies_in}
 use Rattle.law_traffic.specs.Traffic.{reply_frames, EndsWithStop}
 use Rattle.sv_door.specs.Doors.{Passage}
 

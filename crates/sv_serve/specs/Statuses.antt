@@ -7,10 +7,10 @@ use Rattle.sv_journal.specs.declared.entry.Entry.{Entry}
 use Rattle.sv_journal.specs.History.{commit_of}
 use Rattle.sv_journal.specs.Text.{journal_text}
 use Rattle.sv_scenario.specs.declared.scenario.Scenario.{Scenario}
-use Rattle.sv_command.specs.declared.ending.Ending.{Ending}
-use Rattle.sv_command.specs.declared.ending.Ending.TheVariants as endings
-use Rattle.sv_command.specs.Reading.{IsRead, IsRefused}
-use Rattle.sv_play.specs.Moved.{Moved}
+use Rattle.sv_ending.specs.declared.ending.Ending.{Ending}
+use Rattle.sv_ending.specs.declared.ending.Ending.TheVariants as endings
+use Rattle.sv_ending.specs.Reading.{IsRead, IsRefused}
+use Rattle.sv_threads.specs.Moved.{Moved}
 use Rattle.sv_door.specs.Doors.{Passage}
 use Rattle.sv_serve.specs.Giving.{Doorway, GaveBack, LostAll}
 use Rattle.sv_serve.specs.Hosting.{IsHosted}

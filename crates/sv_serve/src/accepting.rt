@@ -4,18 +4,18 @@ ghost use Rattle.std.specs.List.{AllByRecursion};
 ghost use Rattle.sv_link.specs.declared.side.Side.TheVariants.{Server};
 ghost use Rattle.sv_scenario.specs.Limits.{IsGoodScenario};
 ghost use Rattle.sv_scenario.specs.Sessions.{session_count};
-ghost use Rattle.sv_system.specs.Places.{EachPlace};
-ghost use Rattle.sv_play.specs.Given.{keeper_after, pass_of, setting, IsNewEnd, IsService};
-ghost use Rattle.sv_play.specs.Opening.{OpeningCause};
+ghost use Rattle.law_system.specs.Places.{EachPlace};
+ghost use Rattle.sv_threads.specs.Given.{keeper_after, pass_of, setting, IsNewEnd, IsService};
+ghost use Rattle.sv_threads.specs.Opening.{OpeningCause};
 ghost use Rattle.sv_serve.specs.Giving.{doorway, kept_unserved, GaveUnused, IsUnservedOf};
 
 use std::alloc::Global;
 use sv_door::{Door, EndMade};
 use sv_link::Gate;
 use sv_lock::{Pass, SeqLock};
-use sv_play::{PlayFault, Service};
 use sv_scenario::{Scenario, sessions_of};
 use sv_sequencer::Sequencer;
+use sv_threads::{PlayFault, Service};
 
 /// What all sessions share.
 #[derive(Drop)]

@@ -3,26 +3,26 @@ ghost use Rattle.std.specs.Prelude.{◌≡◌, ◌≢◌, ◌+◌, ◌≤◌, re
 ghost use Rattle.sv_scenario.specs.Limits.{IsGoodScenario};
 ghost use Rattle.sv_scenario.specs.Sessions.{session_count};
 ghost use Rattle.sv_sequencer.specs.Step.{history};
-ghost use Rattle.sv_play.specs.Given.{keeper_after};
-ghost use Rattle.sv_play.specs.Moved.{moved};
-ghost use Rattle.sv_play.specs.Playing.{PlayCause, RunsOnce, TookAllIn};
+ghost use Rattle.sv_threads.specs.Given.{keeper_after};
+ghost use Rattle.sv_threads.specs.Moved.{moved};
+ghost use Rattle.sv_threads.specs.Playing.{PlayCause, RunsOnce, TookAllIn};
 ghost use Rattle.sv_serve.specs.Giving.{doorway, GivesBack};
 ghost use Rattle.sv_serve.specs.Hosting.{IsHosted};
 
 use crate::accepting::{Host, give_back_all};
 use crate::taking::take_in;
+use law_asked::read_scenario_numbers;
 use std::alloc::Global;
 use std::sync::Wait;
 use std::thread::Threads;
-use sv_asked::read_scenario_numbers;
 use sv_door::Door;
 use sv_journal::{full_replies_stay, legal_relays_name_accepted};
 use sv_link::{Crew, Gate, Ran};
 use sv_lock::Pass;
-use sv_play::{PlayFault, lock_sequencer};
 use sv_replay::open_sequencer;
 use sv_scenario::Scenario;
 use sv_sequencer::Sequencer;
+use sv_threads::{PlayFault, lock_sequencer};
 
 /// Serves each session over a connection of its own, all at once, and waits for all of them.
 fn serve_sessions<D: Door, C: Crew, G: Gate + Sync, R: Threads + Wait + Sync>(

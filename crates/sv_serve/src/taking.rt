@@ -1,15 +1,15 @@
 //! Taking in what the sessions left.
 ghost use Rattle.std.specs.Prelude.{◌≡◌, ◌+◌, ◌≤◌, ◌++◌, ◌||◌, length, None};
 ghost use Rattle.std.specs.List.{AllByRecursion, list_any};
-ghost use Rattle.sv_play.specs.Left.{is_memory, IsOfLock, JoinedPasses};
-ghost use Rattle.sv_play.specs.declared.tasks.Serviced.{Serviced as Left};
+ghost use Rattle.sv_threads.specs.Left.{is_memory, IsOfLock, JoinedPasses};
+ghost use Rattle.sv_threads.specs.declared.tasks.Serviced.{Serviced as Left};
 ghost use Rattle.sv_serve.specs.Giving.{kept_served, IsServedOf};
 
 use sv_door::Door;
 use sv_lock::{Pass, SeqLock};
-use sv_play::Serviced;
 use sv_sequencer::Sequencer;
 use sv_session::SessionOut;
+use sv_threads::Serviced;
 
 /// Whether memory was lacking before, or in a session that ended so.
 fn lacks(lacked: bool, out: SessionOut) -> bool

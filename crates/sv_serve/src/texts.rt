@@ -1,24 +1,24 @@
 //! The text that tells what was served.
 ghost use Rattle.std.specs.Prelude.{◌≡◌, ◌≢◌, ℕ, Some, Err, IfOk, string_bytes};
-ghost use Rattle.sv_command.specs.Endings.{IsMade};
-ghost use Rattle.sv_command.specs.Statuses.{counts, Raises, ending_of, status_of};
+ghost use Rattle.sv_ending.specs.Endings.{IsMade};
+ghost use Rattle.sv_ending.specs.Statuses.{counts, Raises, ending_of, status_of};
 ghost use Rattle.sv_sequencer.specs.Step.{history};
-ghost use Rattle.sv_play.specs.Moved.{moved};
+ghost use Rattle.sv_threads.specs.Moved.{moved};
 ghost use Rattle.sv_serve.specs.Giving.{doorway};
 ghost use Rattle.sv_serve.specs.Statuses.{hosted_text, EndsEarly, GivesBackBut, IsText, LeavesAlone};
 
 use crate::hosting::serve_scenario;
-use crate::words::Command;
+use crate::words::ServeCommand;
 use std::alloc::{AllocError, Global};
 use std::sync::Wait;
 use std::thread::Threads;
 use sv_bytes::Files;
-use sv_command::{Ending, Stage, scenario_in};
 use sv_door::Door;
+use sv_ending::{Ending, PlayStage, scenario_in};
 use sv_journal::{legal_relays_name_accepted, print_journal};
 use sv_link::{Crew, Gate};
-use sv_play::ending_of_fault;
 use sv_sequencer::Sequencer;
+use sv_threads::ending_of_fault;
 use sv_world::Shape;
 
 /// The journal part of the report, and the commit.
@@ -35,8 +35,8 @@ fn hosted_text(alloc: Global, shape: Shape, sequencer: &Sequencer) -> Result<Str
 
 /// Serves the scenario of a file. The text that tells it is whole before any of it is printed.
 pub(crate) fn served_text<F: Files, D: Door, C: Crew, G: Gate + Sync, R: Threads + Wait + Sync>(
-    stage: &Stage<'_, R, G>,
-    command: Command<'_>,
+    stage: &PlayStage<'_, R, G>,
+    command: ServeCommand<'_>,
     files: &mut F,
     door: &mut D,
     crew: &mut C,

@@ -1,27 +1,29 @@
 //! The top call of a server by itself.
-ghost use Rattle.std.specs.Prelude.{◌≡◌, ◌≢◌, ◌↔◌, ◌⊎◌, ◌≤◌, ℕ, take, map, option_map, string_bytes, None, IfSome};
-ghost use Rattle.sv_command.specs.Endings.{Ends, IsCutShort, IsPrinted, OrWords};
-ghost use Rattle.sv_command.specs.Reading.{read_limit, held_by_file, HoldsScenario, IsNoScenario};
-ghost use Rattle.sv_command.specs.Statuses.{counts, NoneRose, Raises, TellsFaults, TellsStatus, status_of};
-ghost use Rattle.sv_play.specs.Moved.{moved};
-ghost use Rattle.sv_serve.specs.Words.{asked_by, command_of, named_by, words_line};
+ghost use Rattle.std.specs.Prelude.{◌≡◌, ◌≢◌, ◌↔◌, map, option_map, string_bytes, None, IfSome};
+ghost use Rattle.sv_ending.specs.Calls.{moment};
+ghost use Rattle.sv_ending.specs.Endings.{Ends, OrWords};
+ghost use Rattle.sv_ending.specs.Reading.{held_by_file};
+ghost use Rattle.sv_ending.specs.Statuses.{counts, Raises, status_of};
+ghost use Rattle.sv_threads.specs.Moved.{moved};
+ghost use Rattle.sv_serve.specs.Answers.{Answers};
+ghost use Rattle.sv_serve.specs.Words.{asked_by, asked_of, named_by};
 ghost use Rattle.sv_serve.specs.Giving.{doorway};
 ghost use Rattle.sv_serve.specs.Statuses.{EndsEarly, GivesBackBut, IsText, LeavesAlone};
 
 use crate::texts::served_text;
-use crate::words::{Command, command_of, file_of};
+use crate::words::{ServeCommand, WORDS_LINE, command_of, file_of};
 use std::alloc::Global;
 use std::sync::Wait;
 use std::thread::Threads;
 use sv_bytes::{Files, Sink, write_all};
-use sv_command::{Ending, Stage, status_of, tell};
 use sv_door::Door;
+use sv_ending::{Ending, PlayStage, status_of, tell};
 use sv_link::{Crew, Gate};
 
 /// Serves what is asked for, and tells how it ended.
 fn decide<F: Files, D: Door, C: Crew, G: Gate + Sync, K: Sink, R: Threads + Wait + Sync>(
-    stage: &Stage<'_, R, G>,
-    command: Option<Command<'_>>,
+    stage: &PlayStage<'_, R, G>,
+    command: Option<ServeCommand<'_>>,
     files: &mut F,
     door: &mut D,
     crew: &mut C,
@@ -76,32 +78,17 @@ pub fn run_serve<
     out: &mut K,
     err: &mut E,
 ) -> u8
-    ensures range { (result ≡ 0) ⊎ ((2 ≤ result) × (result ≤ 8)) }
-    ensures words { (result ≡ 2) ↔ (command_of (map string_bytes words.now) ≡ None) }
-    ensures faults { TellsFaults result (counts (F.faults files.old) (C.faults crew.old) (D.faults door.old) (K.faults out.old))
-        (counts (F.faults files.new) (C.faults crew.new) (D.faults door.new) (K.faults out.new)) }
-    ensures sure { IfSome (named_by (command_of (map string_bytes words.now))) (λ name. F.sure files.old name → result ≢ 4) }
-    ensures certain { IfSome (command_of (map string_bytes words.now)) (λ asked. D.sure door.old asked.port → result ≢ 6) }
+    ensures answers { Answers (asked_of (map string_bytes words.now)) (F.contents files.old) (F.sure files.old) (D.sure door.old)
+        (moved (D.given door.old) (D.given door.new) (C.ran crew.old) (C.ran crew.new))
+        (moment (counts (F.faults files.old) (C.faults crew.old) (D.faults door.old) (K.faults out.old)) (K.taken out.old) (E.taken err.old) (E.faults err.old))
+        (moment (counts (F.faults files.new) (C.faults crew.new) (D.faults door.new) (K.faults out.new)) (K.taken out.new) (E.taken err.new) (E.faults err.new)) result }
     ensures apart { LeavesAlone result files.old files.new door.old door.new crew.old crew.new }
     ensures back { GivesBackBut result (C.ran crew.old) (C.ran crew.new)
         (doorway (D.given door.old) (D.made door.old) (D.owed door.old)) (doorway (D.given door.new) (D.made door.new) (D.owed door.new)) }
-    ensures faulty { IfSome (held_by_file (F.contents files.old) (named_by (command_of (map string_bytes words.now))))
-        (λ all. IsNoScenario (take read_limit all) → (result ≡ 3) ⊎ (result ≡ 4) ⊎ (result ≡ 8)) }
-    ensures printed { result ≡ 0 → IsPrinted (IsText (held_by_file (F.contents files.old) (named_by (command_of (map string_bytes words.now))))
-        (moved (D.given door.old) (D.given door.new) (C.ran crew.old) (C.ran crew.new))) (K.taken out.old) (K.taken out.new) }
-    ensures part { result ≡ 5 → IsCutShort (IsText (held_by_file (F.contents files.old) (named_by (command_of (map string_bytes words.now))))
-        (moved (D.given door.old) (D.given door.new) (C.ran crew.old) (C.ran crew.new))) (K.taken out.old) (K.taken out.new) }
-    ensures nothing { result ≢ 0 → result ≢ 5 → K.taken out.new ≡ K.taken out.old }
-    ensures told { TellsStatus words_line result (held_by_file (F.contents files.old) (named_by (command_of (map string_bytes words.now)))) (named_by (command_of (map string_bytes words.now)))
-        (E.taken err.old) (E.taken err.new) (E.faults err.old) (E.faults err.new) }
-    ensures complete { HoldsScenario (held_by_file (F.contents files.old) (named_by (command_of (map string_bytes words.now))))
-        → NoneRose (counts (F.faults files.old) (C.faults crew.old) (D.faults door.old) (K.faults out.old))
-        (counts (F.faults files.new) (C.faults crew.new) (D.faults door.new) (K.faults out.new))
-        → (result ≡ 0) ⊎ (result ≡ 8) }
 {
     let command = command_of(words);
-    let stage = Stage { rt, alloc, gate };
+    let stage = PlayStage { rt, alloc, gate };
     let ending = decide(&stage, command, files, door, crew, out);
-    tell(&ending, b"words: serve FILE PORT\n", file_of(command), err);
+    tell(&ending, WORDS_LINE, file_of(command), err);
     status_of(&ending)
 }

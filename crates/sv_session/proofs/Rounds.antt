@@ -13,12 +13,12 @@ use Rattle.sv_wire.specs.declared.message.Request.TheVariants as requests
 use Rattle.sv_wire.specs.Grammar.{IsWireReply}
 use Rattle.sv_wire.specs.Spelling.{reply_bytes}
 use Rattle.sv_journal.specs.declared.entry.Entry.{Entry}
-use Rattle.sv_journal.specs.History.{accepted, full_reply}
+use Rattle.sv_journal.specs.History.{accepted, full_reply, logged_of}
 use Rattle.sv_journal.specs.Sessions.{is_end}
 use Rattle.sv_journal.specs.Answer.{Rules, Legal, reply_to}
 use Rattle.sv_journal.specs.Laws.{AreWithinLimits, LegalRelaysNameAccepted, LegalRepliesAreMessages}
 use Rattle.sv_journal.specs.Text.{NamesAccepted, RelaysNameAccepted}
-use Rattle.sv_sequencer.specs.Shared.{logged_of, IsFullReply, IsWhole}
+use Rattle.sv_sequencer.specs.Shared.{IsFullReply, IsWhole}
 use Rattle.sv_sequencer.specs.Step.{entry_of}
 use Rattle.sv_lock.specs.Histories.{GoesOn}
 use Rattle.sv_lock.specs.Passes.{session_number}

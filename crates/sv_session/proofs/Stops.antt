@@ -1,6 +1,6 @@
 -- Which replies stop a session, and which requests they answer.
 use Rattle.std.proofs.Common.{◌≡◌, ◌≢◌, ◌⊎◌, inl, inr, ℕ, Bool, true, false, ◌||◌, ◌==◌, List, [], ◌∷◌, ◌++◌, map, Option, Some, None, refl, sym, ap, subst, ◌∙◌}
-use Rattle.std.specs.Prelude.{if◌then◌else◌, nat_le, nat_lt, IsSome}
+use Rattle.std.specs.Prelude.{if◌then◌else◌, nat_le, nat_lt, IsSome, is_some}
 use Rattle.std.proofs.lemmas.Bool.{cond_both}
 use Rattle.sv_world.specs.declared.action.Action.{Action}
 use Rattle.sv_world.specs.declared.check.BadAction.{BadAction}
@@ -10,11 +10,13 @@ use Rattle.sv_world.specs.Faults.{first_fault_of_action, may_be_observed}
 use Rattle.sv_world.specs.Sets.{numbers_of}
 use Rattle.sv_wire.specs.declared.message.Request.{Request}
 use Rattle.sv_wire.specs.declared.message.Request.TheVariants as requests
+use Rattle.sv_wire.specs.declared.message.Reply.{Reply}
+use Rattle.sv_wire.specs.declared.message.Reply.TheVariants as replies
 use Rattle.sv_world.specs.Rights.{first_forbidden}
 use Rattle.sv_journal.specs.declared.entry.Entry.{Entry}
 use Rattle.sv_journal.specs.declared.entry.Logged.{Logged}
 use Rattle.sv_journal.specs.declared.entry.Logged.TheVariants as logged
-use Rattle.sv_journal.specs.History.{client_of, Outcome, Accepted, Dropped, Denied, actions_of, next_seq, commit_of, either}
+use Rattle.sv_journal.specs.History.{client_of, Outcome, Accepted, Dropped, Denied, actions_of, next_seq, commit_of, either, logged_of}
 use Rattle.sv_journal.specs.Sessions.{is_over, is_live, is_end, asked_in, life_of, kept_outcome}
 use Rattle.sv_journal.specs.Answer.{Rules, is_above, is_full, is_spent, is_no_next_life, is_bad_done, is_good_interest, orphans, reply_to, reply_to_request, reply_to_open, reply_to_member, reply_to_client, reply_to_join, reply_to_submit, reply_to_checked, reply_by_rights, reply_to_poll, reply_to_observe}
 use Rattle.sv_session.specs.Requests.{stop_of, stop_after}
@@ -173,3 +175,18 @@ each_reason P (logged.Noted commit) out e left malformed ended spent = absurd cc
 each_reason P logged.Idle out e left malformed ended spent = absurd cc
 each_reason P (logged.Refused code detail) out e left malformed ended spent = code_reason P (code == 1) (code == 4) (code == 9) out e malformed ended spent
 each_reason P logged.Bye out e left malformed ended spent = let same : outs.Left ≡ out = cc in subst P same left
+
+-- ---- Which replies stop a session
+
+-- A reply that stops its session is a Bye or a refusal.
+pub stops-kinds : (w : Reply) → is_some (stop_of (logged_of w)) ≡ true → (w ≡ replies.Bye) ⊎ ((code : ℕ) × ((detail : ℕ) × (w ≡ replies.Refused code detail)))
+stops-kinds replies.Bye l = inl refl
+stops-kinds (replies.Refused code detail) l = inr (code, (detail, refl))
+stops-kinds (replies.Welcome commit head) l = cc
+stops-kinds (replies.Relay seq commit head items) l = cc
+stops-kinds (replies.Dropped seq chain far) l = cc
+stops-kinds (replies.Denied seq object) l = cc
+stops-kinds (replies.Seen last commit head items) l = cc
+stops-kinds (replies.Settled seq pos) l = cc
+stops-kinds (replies.Noted commit) l = cc
+stops-kinds replies.Idle l = cc

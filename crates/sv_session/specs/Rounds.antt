@@ -8,10 +8,9 @@ use Rattle.sv_wire.specs.declared.message.Request.TheVariants as requests
 use Rattle.sv_wire.specs.Grammar.{IsWireReply}
 use Rattle.sv_wire.specs.Spelling.{reply_bytes}
 use Rattle.sv_journal.specs.declared.entry.Entry.{Entry}
-use Rattle.sv_journal.specs.History.{accepted}
+use Rattle.sv_journal.specs.History.{accepted, logged_of}
 use Rattle.sv_journal.specs.Sessions.{is_end}
 use Rattle.sv_journal.specs.Text.{NamesAccepted}
-use Rattle.sv_sequencer.specs.Shared.{logged_of}
 use Rattle.sv_link.specs.Ends.{Told, sending, receiving}
 use Rattle.sv_session.specs.Requests.{requests_read, entry_requests, reply_payload, due_frames, stop_of, stop_after}
 use Rattle.sv_session.specs.Serving.{SessionPass, IsSamePass, ExplainsOut, ended_by}

@@ -1,9 +1,10 @@
 //! Posting replies.
-ghost use Rattle.std.specs.Prelude.{◌≡◌, ◌≢◌, ◌++◌, false, IfSome, Some};
+ghost use Rattle.std.specs.Prelude.{◌≡◌, ◌≢◌, ◌++◌, false, length, IfSome, None, Some};
 ghost use Rattle.sv_frame.specs.Frames.{frame};
 ghost use Rattle.sv_wire.specs.Grammar.{IsWireReply};
 ghost use Rattle.sv_wire.specs.Spelling.{reply_bytes};
-ghost use Rattle.sv_sequencer.specs.Shared.{logged_of};
+ghost use Rattle.sv_exchange.specs.Outgoing.{KeepsBack};
+ghost use Rattle.sv_journal.specs.History.{logged_of};
 ghost use Rattle.sv_session.specs.Requests.{stop_for_code, stop_of};
 ghost use Rattle.sv_session.specs.Answers.{IsReplyPosted, RoundCause};
 
@@ -40,11 +41,12 @@ pub fn stop_for(reply: &Reply) -> Option<SessionOut>
     }
 }
 
-/// Puts a reply into the outbox. After a last reply all that waits is sent.
+/// Puts a reply into the outbox. After a last reply all that waits is sent; after another one nothing is, while it fits.
 pub(crate) fn post<E: End>(reply: &Reply, outbox: &mut Outbox, end: &mut E) -> Option<SessionOut>
     requires open { (E.told end.old).closed ≡ false }
     requires message { IsWireReply reply.now }
     ensures posts { IsReplyPosted result (stop_of (logged_of reply.now)) (E.told end.old) (outbox.old ++ frame (reply_bytes reply.now)) (E.told end.new) outbox.new }
+    ensures kept { result ≡ None → KeepsBack outbox.old (length (frame (reply_bytes reply.now))) (E.told end.old) (E.told end.new) }
     ensures cause { RoundCause (E.faults end.old) (E.faults end.new) result }
     ensures calm { E.calm end.old → (result ≢ Some SessionOut.LinkFault) × E.calm end.new }
 {

@@ -10,13 +10,13 @@ use sv_link::{End, EndRead, Sent};
 
 /// What came and is not taken yet, and what is to be sent.
 #[derive(Drop)]
-pub(crate) struct Buffers {
+pub(crate) struct Boxes {
     pub(crate) inbox: Inbox,
     pub(crate) outbox: Outbox,
 }
 
 /// Sends all that waits, and reads what comes next.
-pub(crate) fn read_on<E: End>(buffers: &mut Buffers, end: &mut E) -> Option<SessionOut>
+pub(crate) fn read_on<E: End>(buffers: &mut Boxes, end: &mut E) -> Option<SessionOut>
     requires open { (E.told end.old).closed ≡ false }
     requires room { length buffers.old.inbox < greatest_frame }
     ensures reads { ReadsOnOrEnds result (E.told end.old) buffers.old.outbox buffers.old.inbox (E.told end.new) buffers.new.inbox buffers.new.outbox }
@@ -36,12 +36,12 @@ pub(crate) fn read_on<E: End>(buffers: &mut Buffers, end: &mut E) -> Option<Sess
     }
 }
 
-impl Buffers {
+impl Boxes {
     /// Nothing came, and nothing is to be sent.
-    pub(crate) fn new(alloc: Global) -> Result<Buffers, AllocError>
+    pub(crate) fn new(alloc: Global) -> Result<Boxes, AllocError>
         ensures { IfOk result (λ b. (b.inbox ≡ []) × (b.outbox ≡ [])) }
     {
-        Ok(Buffers {
+        Ok(Boxes {
             inbox: Inbox::new(alloc)?,
             outbox: Outbox::new(alloc)?,
         })

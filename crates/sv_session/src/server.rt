@@ -7,7 +7,7 @@ ghost use Rattle.sv_session.specs.Answers.{IsRound, RoundCause};
 
 use crate::outcome::SessionOut;
 use crate::posting::post;
-use crate::reading::{Buffers, read_on};
+use crate::reading::{Boxes, read_on};
 use crate::taking::{Taken, take_request};
 use std::alloc::{AllocError, Global};
 use std::sync::Wait;
@@ -19,14 +19,14 @@ use sv_wire::{Reply, Request};
 
 /// What all rounds of a session share.
 #[derive(Drop)]
-pub(crate) struct Server<'a, R, G> {
+pub(crate) struct SessionLoop<'a, R, G> {
     pub(crate) rt: &'a R,
     pub(crate) alloc: Global,
     pub(crate) lock: &'a SeqLock<Sequencer>,
     pub(crate) gate: &'a G,
 }
 
-impl<R: Wait, G: Gate> Server<'_, R, G> {
+impl<R: Wait, G: Gate> SessionLoop<'_, R, G> {
     /// Passes the gate, and has the sequencer answer a request of this number in its session.
     fn step(
         &self,
@@ -53,7 +53,7 @@ impl<R: Wait, G: Gate> Server<'_, R, G> {
         &self,
         pass: &mut Pass<Sequencer>,
         end: &mut E,
-        buffers: &mut Buffers,
+        buffers: &mut Boxes,
         turn: &mut u32,
     ) -> Option<SessionOut>
         requires may { MayServe self.now.lock.now pass.old }
@@ -79,7 +79,7 @@ impl<R: Wait, G: Gate> Server<'_, R, G> {
         &self,
         pass: &mut Pass<Sequencer>,
         end: &mut E,
-        buffers: &mut Buffers,
+        buffers: &mut Boxes,
     ) -> SessionOut
         requires may { MayServe self.now.lock.now pass.old }
         requires open { (E.told end.old).closed ≡ false }
@@ -106,7 +106,7 @@ impl<R: Wait, G: Gate> Server<'_, R, G> {
         ensures cause { SessionCause (E.faults end.old) (E.faults end.new) result }
         ensures calm { E.calm end.old → (result ≢ SessionOut.LinkFault) × E.calm end.new }
     {
-        match Buffers::new(self.alloc) {
+        match Boxes::new(self.alloc) {
             Ok(mut buffers) => self.serve(pass, end, &mut buffers),
             Err(_) => SessionOut::Memory,
         }

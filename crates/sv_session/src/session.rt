@@ -4,8 +4,8 @@ ghost use Rattle.sv_session.specs.Serving.{MayServe, Served, SessionCause};
 ghost use Rattle.sv_session.specs.Rounds.{stand, Halts};
 
 use crate::outcome::SessionOut;
-use crate::reading::Buffers;
-use crate::server::Server;
+use crate::reading::Boxes;
+use crate::server::SessionLoop;
 use std::alloc::Global;
 use std::sync::Wait;
 use sv_journal::full_replies_stay;
@@ -34,7 +34,7 @@ pub fn serve_session<R: Wait, E: End, G: Gate>(
     ensures calm { E.calm end.old → (result ≢ SessionOut.LinkFault) × E.calm end.new }
 {
     full_replies_stay();
-    let server = Server {
+    let server = SessionLoop {
         rt,
         alloc,
         lock,

@@ -87,7 +87,7 @@ fn append_process(figures: &Figures, out: &mut String) -> Result<(), AllocError>
 pub fn append_figures(figures: &Figures, out: &mut String) -> Result<(), AllocError>
     ensures { OnOk result (string_bytes out.new ≡ string_bytes out.old ++ status_text figures.now) }
 {
-    out.push_str("{")?;
+    out.push('{')?;
     append_sessions(figures, out)?;
     append_actions(figures, out)?;
     append_commit(figures, out)?;

@@ -36,9 +36,9 @@ fn put_count(out: &mut String, number: u32) -> Result<(), AllocError>
 fn put_ref(out: &mut String, reads: &[ObjectId], slot: u8, attr: u8) -> Result<(), AllocError>
     ensures { OnOk result (string_bytes out.new ≡ string_bytes out.old ++ ref_text reads.now slot attr) }
 {
-    out.push_str("@")?;
+    out.push('@')?;
     put_count(out, u32::from(object_in(reads, slot)))?;
-    out.push_str(".")?;
+    out.push('.')?;
     put_count(out, u32::from(attr))
 }
 
@@ -192,11 +192,11 @@ fn put_joined(
     ensures rest { OnOk result (parts nodes.new ≡ drop 2 (parts nodes.old)) }
     ensures shorter { OnOk result (length nodes.new < length nodes.old) }
 {
-    out.push_str("(")?;
+    out.push('(')?;
     put_cond(out, reads, nodes)?;
     out.push_str(joint_text(joint))?;
     put_cond(out, reads, nodes)?;
-    out.push_str(")")
+    out.push(')')
 }
 
 fn put_set(
@@ -213,9 +213,9 @@ fn put_set(
 {
     out.push_str("set ")?;
     put_ref(out, reads, slot, attr)?;
-    out.push_str(" ")?;
+    out.push(' ')?;
     put_expr(out, reads, nodes)?;
-    out.push_str(";")
+    out.push(';')
 }
 
 #[cycle(statement)]
@@ -252,7 +252,7 @@ fn put_choice(
 {
     out.push_str("if ")?;
     put_cond(out, reads, nodes)?;
-    out.push_str(" ")?;
+    out.push(' ')?;
     put_block(out, reads, nodes)?;
     put_else(out, reads, nodes)
 }
@@ -322,7 +322,7 @@ fn put_stmts(
     ensures rest { OnOk result (parts nodes.new ≡ drop count (parts nodes.old)) }
     ensures shorter { OnOk result (length nodes.new ≤ length nodes.old) }
 {
-    out.push_str("{")?;
+    out.push('{')?;
     put_run(out, reads, count, nodes)?;
     out.push_str(" }")
 }
@@ -341,7 +341,7 @@ fn put_run(
     ensures shorter { OnOk result (length nodes.new ≤ length nodes.old) }
 {
     for _ in 0..count {
-        out.push_str(" ")?;
+        out.push(' ')?;
         put_stmt(out, reads, nodes)?;
     }
     Ok(())
@@ -358,7 +358,7 @@ fn put_objects(out: &mut String, objects: &[ObjectId]) -> Result<(), AllocError>
     ensures { OnOk result (string_bytes out.new ≡ string_bytes out.old ++ spaced_objects objects.now) }
 {
     for object in objects {
-        out.push_str(" ")?;
+        out.push(' ')?;
         put_count(out, u32::from(object.0))?;
     }
     Ok(())
@@ -371,7 +371,7 @@ fn put_if_written(out: &mut String, object: ObjectId, is_written: bool) -> Resul
     if !is_written {
         return Ok(());
     }
-    out.push_str(" ")?;
+    out.push(' ')?;
     put_count(out, u32::from(object.0))
 }
 
@@ -408,7 +408,7 @@ fn put_origin(out: &mut String, origin: Point) -> Result<(), AllocError>
     }
     out.push_str(" at ")?;
     put_number(out, i64::from(origin.x))?;
-    out.push_str(" ")?;
+    out.push(' ')?;
     put_number(out, i64::from(origin.y))
 }
 
@@ -423,7 +423,7 @@ pub fn put_action(out: &mut String, action: &Action) -> Result<(), AllocError>
     out.push_str(" writes")?;
     put_written(out, reads, action.mask)?;
     put_origin(out, action.origin)?;
-    out.push_str(" ")?;
+    out.push(' ')?;
     put_body(out, reads, &action.body)
 }
 

@@ -25,11 +25,11 @@ fn push_view(alloc: Global, text: &mut String, view: &Option<Value>) -> Result<(
     ensures { OnOk result (string_bytes text.new ≡ string_bytes text.old ++ view_text view.now) }
 {
     match view {
-        None => text.push_str("?"),
+        None => text.push('?'),
         Some(value) => {
-            text.push_str("(")?;
+            text.push('(')?;
             push_numbers(alloc, text, value.as_slice())?;
-            text.push_str(")")
+            text.push(')')
         }
     }
 }
@@ -42,7 +42,7 @@ fn push_numbers(alloc: Global, text: &mut String, numbers: &[i64]) -> Result<(),
     };
     push_number(alloc, text, *first)?;
     for number in rest {
-        text.push_str(",")?;
+        text.push(',')?;
         push_number(alloc, text, *number)?;
     }
     Ok(())

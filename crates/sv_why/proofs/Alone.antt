@@ -11,7 +11,7 @@ use Rattle.sv_world.proofs.Members.{is_in-head, is_in-tail, any_from}
 use Rattle.sv_eval.specs.Evaluation.{effect_of}
 use Rattle.sv_eval.specs.Serial.{values_at, put_all, world_after, world_after_some, serial_world}
 use Rattle.sv_eval.proofs.Serials.{put_all_elsewhere, serial_length}
-use Rattle.sv_system.proofs.Serials.{after_at}
+use Rattle.law_system.proofs.Serials.{after_at}
 use Rattle.sv_why.specs.Reasons.{reasons_of, world_by}
 use Rattle.sv_why.specs.Walks.{walk}
 use Rattle.sv_why.proofs.Walks.{walk_is_reasons}

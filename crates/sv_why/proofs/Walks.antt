@@ -8,7 +8,7 @@ use Rattle.sv_world.specs.Sets.{read_set, write_set}
 use Rattle.sv_world.specs.Control.{is_in, action_at, last_writer, missing_writers, wanted_up_to}
 use Rattle.sv_world.proofs.Members.{is_in-head, is_in-one, is_in-append_left, is_in-append_right, is_in-append_cases, same_test, any_from, any_parts}
 use Rattle.sv_world.proofs.Writers.{last_writer-most, last_writer-writes, missing_writers-parts, missing_writers-has}
-use Rattle.sv_system.proofs.Tests.{at_mask-members}
+use Rattle.law_system.proofs.Tests.{at_mask-members}
 use Rattle.sv_why.specs.Reasons.{writer_by, reasons_of}
 use Rattle.sv_why.specs.Walks.{walk}
 

@@ -4,10 +4,10 @@ ghost use Rattle.sv_journal.specs.History.{accepted, actions_of};
 ghost use Rattle.sv_why.specs.Reasons.{end_world};
 
 use crate::execution::execute;
+use law_system::Played;
 use std::alloc::{AllocError, Global};
 use sv_journal::Journal;
 use sv_scenario::Scenario;
-use sv_system::Played;
 use sv_world::{List, Value, copy_values};
 
 /// The world after so many accepted actions, which are all of the journal.

@@ -6,10 +6,10 @@ ghost use Rattle.sv_why.specs.Reasons.{world_by, Explains};
 use crate::Why;
 use crate::execution::{execute, value_of};
 use crate::reasons::reasons_of;
+use law_system::Played;
 use std::alloc::{AllocError, Global};
 use sv_journal::Journal;
 use sv_scenario::Scenario;
-use sv_system::Played;
 use sv_world::{ObjectId, Value, copy_values};
 
 /// The value that the actions at some positions alone give an object, executed in order on a copy of the opening world.

@@ -16,9 +16,9 @@ use Rattle.sv_journal.specs.Sessions.{is_over, is_live, asked_in, life_of}
 use Rattle.sv_journal.specs.Answer.{Rules, refused_as, committed_held, is_good_interest, is_no_next_life, is_spent}
 use Rattle.sv_journal.specs.Serving.{with_last_rows}
 use Rattle.sv_client.specs.declared.trace.Trace.{Trace}
-use Rattle.sv_system.specs.Served.{FitsBut, no_client}
-use Rattle.sv_system.proofs.Histories.{earlier-rest, earlier-served}
-use Rattle.sv_system.proofs.Opened.{welcomed-by}
+use Rattle.law_system.specs.Served.{FitsBut, no_client}
+use Rattle.law_system.proofs.Histories.{earlier-rest, earlier-served}
+use Rattle.law_system.proofs.Opened.{welcomed-by}
 use Rattle.sv_witness.specs.declared.report.Report.{Report}
 use Rattle.sv_witness.specs.declared.report.Dispute.{Dispute}
 use Rattle.sv_witness.specs.Reports.{reports_of, agreed_history}

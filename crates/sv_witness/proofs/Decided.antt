@@ -25,7 +25,7 @@ use Rattle.sv_sequencer.specs.declared.decision.Decision.{Decision}
 use Rattle.sv_sequencer.specs.declared.decision.Decision.TheVariants as decisions
 use Rattle.sv_sequencer.specs.Decisions.{reply_by, results_in, IsOld, Holds}
 use Rattle.sv_sequencer.proofs.Kept.{old-poll}
-use Rattle.sv_system.proofs.Aligned.{is_submit}
+use Rattle.law_system.proofs.Aligned.{is_submit}
 use Rattle.sv_witness.specs.Reports.{agreed_history, due_to}
 use Rattle.sv_witness.specs.Standing.{emptied, answers_poll, first_relay}
 use Rattle.sv_witness.specs.Witnessed.{agreed, witnessed_reply}

@@ -22,8 +22,8 @@ use Rattle.sv_journal.specs.declared.entry.Logged.TheVariants as logged
 use Rattle.sv_journal.specs.History.{Authored, is_noted, accepted, actions_of, reported, reports, commit_of}
 use Rattle.sv_journal.specs.Sessions.{sent_to}
 use Rattle.sv_journal.specs.Answer.{Rules, is_bad_result, reply_to_poll, reply_to_request}
-use Rattle.sv_system.specs.Journals.{serial_result}
-use Rattle.sv_system.proofs.Histories.{IsEarlier, same, after, earlier-rest, action_at-earlier}
+use Rattle.law_system.specs.Journals.{serial_result}
+use Rattle.law_system.proofs.Histories.{IsEarlier, same, after, earlier-rest, action_at-earlier}
 use Rattle.sv_witness.specs.declared.report.Report.{Report}
 use Rattle.sv_witness.specs.Reports.{reports_of, agreed_history, due_to}
 use Rattle.sv_journal.specs.Serving.{with_last_rows}

@@ -20,20 +20,20 @@ use Rattle.sv_client.specs.Traces.{requests_of}
 use Rattle.sv_client.specs.Proper.{identity_of}
 use Rattle.sv_scenario.specs.declared.scenario.Scenario.{Scenario}
 use Rattle.sv_scenario.specs.Limits.{IsGoodScenario}
-use Rattle.sv_system.specs.Fronts.{IsFront}
-use Rattle.sv_system.specs.Fits.{requests_in, is_join_of, has_session, FitsOne, AreApart, AreAllApart}
-use Rattle.sv_system.specs.Served.{is_session_of, FitsBut, AreSameButValues, FitsButValues}
-use Rattle.sv_system.proofs.Fronts.{get-push_cases}
-use Rattle.sv_system.proofs.Entered.{is_of}
-use Rattle.sv_system.proofs.Places.{map_at}
-use Rattle.sv_system.proofs.Asking.{same-request}
-use Rattle.sv_system.proofs.Clients.{client-trace}
+use Rattle.law_system.specs.Fronts.{IsFront}
+use Rattle.law_system.specs.Fits.{requests_in, is_join_of, has_session, FitsOne, AreApart, AreAllApart}
+use Rattle.law_system.specs.Served.{is_session_of, FitsBut, AreSameButValues, FitsButValues}
+use Rattle.law_system.proofs.Fronts.{get-push_cases}
+use Rattle.law_system.proofs.Entered.{is_of}
+use Rattle.law_system.proofs.Places.{map_at}
+use Rattle.law_system.proofs.Asking.{same-request}
+use Rattle.law_system.proofs.Clients.{client-trace}
+use Rattle.law_system.proofs.Asked.{any-turned}
 use Rattle.law_schedule.specs.Players.{Player, trace_of_player}
 use Rattle.law_schedule.specs.Serving.{Run, Server, traces_of}
 use Rattle.law_schedule.specs.Schedule.{rules_of}
 use Rattle.law_schedule.specs.Sound.{has_joined}
 use Rattle.law_schedule.specs.Served.{IsServersOwn, AreHeard, KeepsSound, HearsJoins, FitsServer, IsSoundOver}
-use Rattle.law_schedule.proofs.DoneFacts.{any-turned}
 use Rattle.law_schedule.proofs.DoneLists.{any-found, any-there}
 use Rattle.law_schedule.proofs.SoundPlayers.{front-push}
 use Rattle.law_schedule.proofs.SoundCalls.{player-at}

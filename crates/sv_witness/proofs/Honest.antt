@@ -6,7 +6,7 @@ use Rattle.std.proofs.lemmas.Bool.{ltb-true}
 use Rattle.std.proofs.lemmas.Option.{none-some}
 use Rattle.sv_journal.specs.declared.entry.Entry.{Entry}
 use Rattle.sv_journal.specs.History.{is_noted, client_of, reports, commit_of}
-use Rattle.sv_system.proofs.Histories.{IsEarlier, same, after}
+use Rattle.law_system.proofs.Histories.{IsEarlier, same, after}
 use Rattle.sv_witness.specs.declared.report.Report.{Report}
 use Rattle.sv_witness.specs.Reports.{is_by, with_first_report, counted_in, reports_of, agreed_history}
 use Rattle.sv_witness.specs.Agreement.{IsAmong, here, there}
@@ -72,7 +72,7 @@ report-reported (e ∷ h) p r m =
           })
     ]
 
--- In the words of sv_system: the entry with those before it is an earlier part of the history.
+-- In the words of law_system: the entry with those before it is an earlier part of the history.
 pub entry-earlier : (e : Entry) (before h : List Entry) → IsEntryOf e before h → IsEarlier (e ∷ before) h
 entry-earlier e before whole last = same
 entry-earlier e before whole (earlier {h} d b) = after d (entry-earlier e before h b)

@@ -7,10 +7,10 @@ use Rattle.sv_wire.specs.declared.message.Request.TheVariants as requests
 use Rattle.sv_journal.specs.declared.entry.Entry.{Entry}
 use Rattle.sv_client.specs.declared.trace.Trace.{Trace}
 use Rattle.sv_client.specs.Traces.{requests_of}
-use Rattle.sv_system.specs.Fits.{requests_in}
-use Rattle.sv_system.specs.Served.{HaveSameForm, AreSameButValues, FitsButValues}
-use Rattle.sv_system.proofs.Asking.{asked-but}
-use Rattle.sv_system.proofs.Clients.{client-trace}
+use Rattle.law_system.specs.Fits.{requests_in}
+use Rattle.law_system.specs.Served.{HaveSameForm, AreSameButValues, FitsButValues}
+use Rattle.law_system.proofs.Asking.{asked-but}
+use Rattle.law_system.proofs.Clients.{client-trace}
 use Rattle.sv_witness.specs.Lies.{lied_value, lied_result, lied}
 use Rattle.sv_witness.specs.Tolerance.{IsLiar}
 

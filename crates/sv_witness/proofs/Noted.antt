@@ -13,8 +13,8 @@ use Rattle.sv_journal.specs.declared.entry.Entry.{Entry}
 use Rattle.sv_journal.specs.declared.entry.Logged.{Logged}
 use Rattle.sv_journal.specs.declared.entry.Logged.TheVariants as logged
 use Rattle.sv_journal.specs.History.{Authored, either, is_noted, is_relay, client_of, new_action, outcomes_of, accepted, reported, reports}
-use Rattle.sv_system.proofs.Commits.{commit-grows}
-use Rattle.sv_system.proofs.Histories.{same, after}
+use Rattle.law_system.proofs.Commits.{commit-grows}
+use Rattle.law_system.proofs.Histories.{same, after}
 use Rattle.sv_witness.specs.declared.report.Report.{Report}
 use Rattle.sv_witness.specs.declared.report.Dispute.{Dispute}
 use Rattle.sv_journal.specs.Serving.{with_results}

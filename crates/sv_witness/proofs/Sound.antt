@@ -25,34 +25,35 @@ use Rattle.sv_scenario.specs.declared.scenario.Scenario.{Scenario}
 use Rattle.sv_world.specs.Limits.{most_positions}
 use Rattle.sv_scenario.specs.Limits.{IsGoodScenario}
 use Rattle.sv_scenario.specs.Sessions.{session_count}
-use Rattle.sv_system.specs.Fits.{is_join_of, requests_in, replies_in}
-use Rattle.sv_system.specs.Served.{no_client, FitsBut, OwnsSessions, FitsButValues}
-use Rattle.sv_system.specs.Serial.{AreSerial}
-use Rattle.sv_system.specs.Journals.{ResultsAreSerial}
-use Rattle.sv_system.proofs.Histories.{IsEarlier, same, after, earlier-rest}
-use Rattle.sv_system.proofs.Entered.{is_of, of-from}
-use Rattle.sv_system.proofs.Induction.{whole-well}
-use Rattle.sv_system.proofs.NextReply.{served-no_fault}
-use Rattle.sv_system.proofs.Within.{scenario-keeps}
-use Rattle.sv_asked.specs.Asked.{EventFits, CountsFit, HasNumbers, ServedRequestsFit, ServedRepliesFit}
-use Rattle.sv_asked.specs.Numbers.{ScenarioFits}
-use Rattle.sv_system.proofs.Every.{each-at, each-map, each-more, each-reverse}
-use Rattle.sv_system.proofs.Limits.{limits_of, objects_few}
-use Rattle.sv_system.proofs.Places.{map_at}
-use Rattle.sv_asked.proofs.Evaluated.{IsNumber}
-use Rattle.sv_asked.proofs.Counts.{proper-counts}
-use Rattle.sv_asked.proofs.Made.{Makes, Asks, asked-have}
-use Rattle.sv_asked.proofs.Owned.{entry-at, SubmitHas, submit-asked, end-submits, end-fits, event-makes, accepted-have}
-use Rattle.sv_asked.proofs.Spent.{served-few}
+use Rattle.sv_journal.proofs.Spent.{served-few}
+use Rattle.law_system.specs.Fits.{is_join_of, requests_in, replies_in}
+use Rattle.law_system.specs.Served.{no_client, FitsBut, OwnsSessions, FitsButValues}
+use Rattle.law_system.specs.Serial.{AreSerial}
+use Rattle.law_system.specs.Journals.{ResultsAreSerial}
+use Rattle.law_system.proofs.Histories.{IsEarlier, same, after, earlier-rest}
+use Rattle.law_system.proofs.Entered.{is_of, of-from}
+use Rattle.law_system.proofs.Induction.{whole-well}
+use Rattle.law_system.proofs.NextReply.{served-no_fault}
+use Rattle.law_system.proofs.Within.{scenario-keeps}
+use Rattle.law_asked.specs.Asked.{EventFits, CountsFit, HasNumbers, ServedRequestsFit, ServedRepliesFit}
+use Rattle.law_asked.specs.Numbers.{ScenarioFits}
+use Rattle.law_system.proofs.Every.{each-at, each-map, each-more, each-reverse}
+use Rattle.law_system.proofs.Limits.{limits_of, objects_few}
+use Rattle.law_system.proofs.Places.{map_at}
+use Rattle.law_asked.proofs.Evaluated.{IsNumber}
+use Rattle.law_asked.proofs.Counts.{proper-counts}
+use Rattle.law_asked.proofs.Made.{Makes, Asks, asked-have}
+use Rattle.law_asked.proofs.Owned.{entry-at, SubmitHas, submit-asked, end-submits, end-fits, event-makes, accepted-have}
+use Rattle.sv_script.proofs.Asked.{asked-few}
 use Rattle.law_schedule.specs.Players.{Player, trace_of_player}
 use Rattle.law_schedule.specs.Serving.{Run, Server, run_served, traces_of}
 use Rattle.law_schedule.specs.Schedule.{rules_of}
 use Rattle.law_schedule.specs.Served.{IsHeard, AreHeard, KeepsSound, FitsServer, IsSoundOver}
 use Rattle.law_schedule.specs.Done.{NextRepliesAreTaken}
-use Rattle.sv_system.specs.Records.{ScriptsAreDone, ends_in}
+use Rattle.law_system.specs.Records.{ScriptsAreDone, ends_in}
+use Rattle.law_system.proofs.Asked.{any-turned}
 use Rattle.law_schedule.specs.Sound.{has_joined}
-use Rattle.law_schedule.proofs.DoneCounts.{asked-few}
-use Rattle.law_schedule.proofs.DoneFacts.{any-turned, same-who, same-events}
+use Rattle.law_schedule.proofs.DoneFacts.{same-who, same-events}
 use Rattle.law_schedule.proofs.SoundCalls.{player-at}
 use Rattle.law_schedule.proofs.SoundLaws.{run-sound}
 use Rattle.law_schedule.proofs.SoundOwned.{session-owned}

@@ -12,17 +12,17 @@ use Rattle.sv_journal.specs.Answer.{Rules}
 use Rattle.sv_client.specs.declared.trace.Trace.{Trace}
 use Rattle.sv_client.specs.Proper.{identity_of}
 use Rattle.sv_client.specs.Traces.{held_of}
-use Rattle.sv_system.specs.Fits.{has_session, FitsOne}
-use Rattle.sv_system.specs.Served.{is_session_of, FitsBut}
-use Rattle.sv_system.specs.Serial.{AreSerial, AreSufficient}
-use Rattle.sv_system.specs.Cuts.{AreCuts}
-use Rattle.sv_system.specs.Journals.{serial_result, ResultsAreSerial}
-use Rattle.sv_system.proofs.Trusted.{some-reported}
-use Rattle.sv_system.proofs.Histories.{IsEarlier, same, earlier-rest}
-use Rattle.sv_system.proofs.Entered.{client-stays}
-use Rattle.sv_system.proofs.Asking.{fits-but_values}
-use Rattle.sv_system.proofs.Observed.{are-cuts}
-use Rattle.sv_system.proofs.Induction.{done-serial, whole-well, heads-serial, committed-serial}
+use Rattle.law_system.specs.Fits.{has_session, FitsOne}
+use Rattle.law_system.specs.Served.{is_session_of, FitsBut}
+use Rattle.law_system.specs.Serial.{AreSerial, AreSufficient}
+use Rattle.law_system.specs.Cuts.{AreCuts}
+use Rattle.law_system.specs.Journals.{serial_result, ResultsAreSerial}
+use Rattle.law_system.proofs.Trusted.{some-reported}
+use Rattle.law_system.proofs.Histories.{IsEarlier, same, earlier-rest}
+use Rattle.law_system.proofs.Entered.{client-stays}
+use Rattle.law_system.proofs.Asking.{fits-but_values}
+use Rattle.law_system.proofs.Observed.{are-cuts}
+use Rattle.law_system.proofs.Induction.{done-serial, whole-well, heads-serial, committed-serial}
 use Rattle.sv_witness.specs.Reports.{agreed_history}
 use Rattle.sv_witness.specs.Witnessed.{agreed, IsWitnessed}
 use Rattle.sv_witness.specs.Tolerance.{IsTolerated}

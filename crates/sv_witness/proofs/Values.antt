@@ -6,8 +6,8 @@ use Rattle.std.specs.List.{list_any}
 use Rattle.sv_world.specs.declared.action.Action.{Action}
 use Rattle.sv_journal.specs.declared.entry.Entry.{Entry}
 use Rattle.sv_journal.specs.History.{client_of, reports, commit_of}
-use Rattle.sv_system.specs.Journals.{serial_result, ResultsAreSerial}
-use Rattle.sv_system.proofs.Histories.{IsEarlier, same, after, earlier-then, earlier-rest}
+use Rattle.law_system.specs.Journals.{serial_result, ResultsAreSerial}
+use Rattle.law_system.proofs.Histories.{IsEarlier, same, after, earlier-then, earlier-rest}
 use Rattle.sv_witness.specs.declared.report.Report.{Report}
 use Rattle.sv_witness.specs.Reports.{is_by, with_first_report, counted_in, reports_of, agreed_history, agreed_commit}
 use Rattle.sv_witness.specs.Agreement.{IsAmong, there}

@@ -16,4 +16,5 @@ pub mod Lying
 pub mod Lines
 pub mod Words
 pub mod Statuses
+pub mod Answers
 pub mod Examples

@@ -5,7 +5,7 @@ use Rattle.sv_journal.specs.declared.entry.Entry.{Entry}
 use Rattle.sv_journal.specs.History.{client_of, is_client}
 use Rattle.sv_scenario.specs.declared.scenario.Scenario.{Scenario}
 use Rattle.sv_scenario.specs.Limits.{IsGoodScenario}
-use Rattle.sv_asked.specs.Numbers.{ScenarioFits}
+use Rattle.law_asked.specs.Numbers.{ScenarioFits}
 use Rattle.sv_sequencer.specs.Step.{history}
 use Rattle.law_schedule.specs.Serving.{traces_of}
 use Rattle.law_schedule.specs.Schedule.{rules_of}

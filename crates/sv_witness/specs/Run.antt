@@ -9,13 +9,13 @@ use Rattle.sv_journal.specs.Answer.{Rules}
 use Rattle.sv_client.specs.declared.trace.Trace.{Trace}
 use Rattle.sv_scenario.specs.declared.scenario.Scenario.{Scenario}
 use Rattle.sv_scenario.specs.Sessions.{session_count}
-use Rattle.sv_system.specs.Records.{ScriptsAreDone, ends_in}
+use Rattle.law_system.specs.Records.{ScriptsAreDone, ends_in}
 use Rattle.law_schedule.specs.Serving.{Run, Server, run_served, traces_of}
 use Rattle.law_schedule.specs.Schedule.{rules_of}
 use Rattle.sv_witness.specs.Reports.{agreed_commit, agreed_world}
 use Rattle.sv_witness.specs.Witnessed.{witnessed_reply, IsWitnessed}
 use Rattle.sv_witness.specs.Disputes.{disputes_of, NamesClient}
-use Rattle.sv_system.specs.Served.{no_client}
+use Rattle.law_system.specs.Served.{no_client}
 use Rattle.sv_witness.specs.Lies.{lied}
 
 -- What the server hears of what a session asks: where the liar joined it, each Done is a lie.

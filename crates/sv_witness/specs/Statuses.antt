@@ -1,14 +1,13 @@
--- What a call says, and what is left of it, by its status: 2, 4, 3, 10 and 5, in this order, and 0 and 8.
+-- What a text of the call tells, and what an ending without one says.
 -- A history is the list of a journal's entries with the latest first.
-use Rattle.std.specs.Prelude.{◌≡◌, ◌≢◌, ◌⊎◌, ℕ, ◌<◌, ◌≤◌, List, length, take, Option, Some, None, Ok, string_bytes, IfSome}
+use Rattle.std.specs.Prelude.{◌≡◌, ℕ, ◌<◌, ◌≤◌, List, length, Option, Some, None, Ok, string_bytes, IfSome}
 use Rattle.sv_journal.specs.declared.entry.Entry.{Entry}
 use Rattle.sv_client.specs.declared.trace.Trace.{Trace}
 use Rattle.sv_scenario.specs.declared.scenario.Scenario.{Scenario}
 use Rattle.sv_scenario.specs.Scenarios.{scenario_of}
-use Rattle.sv_command.specs.declared.ending.Ending.{Ending}
-use Rattle.sv_command.specs.declared.ending.Ending.TheVariants as endings
-use Rattle.sv_command.specs.Endings.{IsPrinted, IsCutShort}
-use Rattle.sv_command.specs.Reading.{IsRead, IsRefused, IsNoScenario, read_limit}
+use Rattle.sv_ending.specs.declared.ending.Ending.{Ending}
+use Rattle.sv_ending.specs.declared.ending.Ending.TheVariants as endings
+use Rattle.sv_ending.specs.Reading.{IsRead, IsRefused}
 use Rattle.sv_witness.specs.Run.{IsWitnessedRun}
 use Rattle.sv_witness.specs.Lines.{witness_text}
 use Rattle.sv_witness.specs.Words.{Asked}
@@ -59,13 +58,3 @@ EndsEarly asked held endings.File = Unit {0}
 EndsEarly asked held endings.Memory = Unit {0}
 EndsEarly asked held endings.Range = IsOutside asked held
 EndsEarly asked held _ = ⊥
-
--- What each status says of a run that is asked for.
-pub record Leaves (asked : Asked) (held old now : Option (List ℕ)) (status : ℕ) : Type 0 where
-  pub printed : status ≡ 0 → IsPrinted (IsText asked held) old now
-  pub part : status ≡ 5 → IsCutShort (IsText asked held) old now
-  pub nothing : status ≢ 0 → status ≢ 5 → now ≡ old
-  pub outside : status ≡ 10 → IsOutside asked held
-  -- where the file is told to hold no scenario, or one without the liar
-  pub faulty : IfSome held (λ all. IsNoScenario (take read_limit all) → (status ≡ 3) ⊎ (status ≡ 4) ⊎ (status ≡ 8))
-  pub lacking : IfSome held (λ all. LacksLiar asked (take read_limit all) → (status ≡ 4) ⊎ (status ≡ 8) ⊎ (status ≡ 10))

@@ -9,10 +9,10 @@ use Rattle.sv_journal.specs.Answer.{Rules}
 use Rattle.sv_client.specs.declared.trace.Trace.{Trace}
 use Rattle.sv_client.specs.Traces.{held_of, got, requests_of}
 use Rattle.sv_client.specs.Proper.{Proper}
-use Rattle.sv_system.specs.Fronts.{IsFront}
-use Rattle.sv_system.specs.Fits.{requests_in, replies_in, IsEndLast, has_session, AreApart}
-use Rattle.sv_system.specs.Serial.{AreSerial, reply_held, RelaysAreSufficient}
-use Rattle.sv_system.specs.Cuts.{SeenAreCuts}
+use Rattle.law_system.specs.Fronts.{IsFront}
+use Rattle.law_system.specs.Fits.{requests_in, replies_in, IsEndLast, has_session, AreApart}
+use Rattle.law_system.specs.Serial.{AreSerial, reply_held, RelaysAreSufficient}
+use Rattle.law_system.specs.Cuts.{SeenAreCuts}
 use Rattle.sv_witness.specs.Reports.{agreed_commit, agreed_world}
 use Rattle.sv_witness.specs.Disputes.{disputes_of, NamesClient}
 use Rattle.sv_witness.specs.Lies.{lied}

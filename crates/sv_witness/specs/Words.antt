@@ -1,7 +1,7 @@
 -- What the words of a call ask for.
 use Rattle.std.specs.Prelude.{ℕ, List, [], ◌∷◌, Option, Some, None, option_map, codes, if◌then◌else◌}
 use Rattle.std.specs.Str.{bytes_eq}
-use Rattle.sv_command.specs.Numbers.{number_between}
+use Rattle.sv_ending.specs.Numbers.{number_between}
 use Rattle.sv_witness.specs.declared.words.Witnessing.{Witnessing}
 
 -- The scenario's file, and the number of the client that lies, if one is to lie.
@@ -18,10 +18,10 @@ with_liar file None = None
 with_liar file (Some liar) = Some (record { file = file; liar = Some liar })
 
 -- `witness FILE` and `witness FILE K`, where K is at most 65,535. All other words ask for nothing.
-abbrev pub witnessing_of : List (List ℕ) → Option Asked
-witnessing_of (word ∷ file ∷ []) = if bytes_eq word (codes "witness") then Some (record { file = file; liar = None }) else None
-witnessing_of (word ∷ file ∷ number ∷ []) = if bytes_eq word (codes "witness") then with_liar file (number_between 0 65535 number) else None
-witnessing_of _ = None
+abbrev pub asked_of : List (List ℕ) → Option Asked
+asked_of (word ∷ file ∷ []) = if bytes_eq word (codes "witness") then Some (record { file = file; liar = None }) else None
+asked_of (word ∷ file ∷ number ∷ []) = if bytes_eq word (codes "witness") then with_liar file (number_between 0 65535 number) else None
+asked_of _ = None
 
 -- The file that is named.
 abbrev pub named_by : Option Asked → Option (List ℕ)

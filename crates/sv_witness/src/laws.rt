@@ -12,15 +12,15 @@ ghost use Rattle.sv_client.specs.declared.trace.Trace.{Trace};
 ghost use Rattle.sv_client.specs.Traces.{current_session, got};
 ghost use Rattle.sv_client.specs.Taking.{first_fault_of_reply};
 ghost use Rattle.sv_client.specs.Proper.{identity_of};
-ghost use Rattle.sv_system.specs.Fits.{replies_in};
+ghost use Rattle.law_system.specs.Fits.{replies_in};
 ghost use Rattle.sv_witness.specs.declared.report.Report.{Report};
 ghost use Rattle.sv_witness.specs.Reports.{reports_of, agreed_history, agreed_result};
 ghost use Rattle.sv_witness.specs.Agreement.{IsAmong, TwoAgree};
 ghost use Rattle.sv_witness.specs.Disputes.{disputes_of, NamesClient};
 ghost use Rattle.sv_witness.specs.Honesty.{IsReported, IsDisputed, AllGiveBut, NoneGiveNone};
 ghost use Rattle.sv_witness.specs.Witnessed.{IsWitnessed};
-ghost use Rattle.sv_system.specs.Served.{FitsBut, no_client, OwnsSessions, FitsButValues};
-ghost use Rattle.sv_system.specs.Within.{KeepsLimits};
+ghost use Rattle.law_system.specs.Served.{FitsBut, no_client, OwnsSessions, FitsButValues};
+ghost use Rattle.law_system.specs.Within.{KeepsLimits};
 ghost use Rattle.sv_witness.specs.Tolerance.{IsTolerated, IsLiar};
 ghost use Rattle.sv_witness.specs.Examples.{ExamplesAreWitnessed};
 

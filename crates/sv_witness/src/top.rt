@@ -1,16 +1,17 @@
 //! The top call of a witnessed run.
-ghost use Rattle.std.specs.Prelude.{◌≡◌, ◌≢◌, ◌↔◌, ◌⊎◌, ◌≤◌, ℕ, true, false, map, option_map, string_bytes, None, Err, IfSome};
-ghost use Rattle.sv_command.specs.Endings.{Ends, IsMade};
-ghost use Rattle.sv_command.specs.Reading.{held_by_file, HoldsScenario};
-ghost use Rattle.sv_command.specs.Statuses.{counts, ending_of, NoneRose, Raises, TellsFaults, TellsStatus};
-ghost use Rattle.sv_witness.specs.Statuses.{EndsEarly, IsLiarOver, IsText, IsLiarWithin, Leaves};
-ghost use Rattle.sv_witness.specs.Words.{asked_by, named_by, witnessing_of, words_line};
+ghost use Rattle.std.specs.Prelude.{◌≡◌, ◌≢◌, ◌↔◌, ℕ, true, false, map, option_map, string_bytes, None, Err, IfSome};
+ghost use Rattle.sv_ending.specs.Calls.{moment};
+ghost use Rattle.sv_ending.specs.Endings.{Ends, IsMade};
+ghost use Rattle.sv_ending.specs.Statuses.{counts, ending_of, Raises};
+ghost use Rattle.sv_witness.specs.Answers.{Answers};
+ghost use Rattle.sv_witness.specs.Statuses.{EndsEarly, IsLiarOver, IsText, IsLiarWithin};
+ghost use Rattle.sv_witness.specs.Words.{asked_by, asked_of};
 
 use crate::running::run_text;
-use crate::words::{Witnessing, file_of, witnessing_of};
+use crate::words::{WORDS_LINE, Witnessing, file_of, witnessing_of};
 use std::alloc::Global;
 use sv_bytes::{Files, Sink, write_all};
-use sv_command::{Ending, scenario_in, status_of, tell};
+use sv_ending::{Ending, scenario_in, status_of, tell};
 
 /// Whether the liar is one of so many clients, if there is one.
 fn is_within(clients: usize, liar: Option<u16>) -> bool
@@ -75,21 +76,13 @@ pub fn run_witness<F: Files, K: Sink, E: Sink>(
     out: &mut K,
     err: &mut E,
 ) -> u8
-    ensures range { (result ≡ 0) ⊎ ((2 ≤ result) × (result ≤ 5)) ⊎ (result ≡ 8) ⊎ (result ≡ 10) }
-    ensures words { (result ≡ 2) ↔ (witnessing_of (map string_bytes words.now) ≡ None) }
-    ensures faults { TellsFaults result (counts (F.faults files.old) 0 0 (K.faults out.old)) (counts (F.faults files.new) 0 0 (K.faults out.new)) }
-    ensures sure { IfSome (witnessing_of (map string_bytes words.now)) (λ a. F.sure files.old a.file → result ≢ 4) }
+    ensures answers { Answers (asked_of (map string_bytes words.now)) (F.contents files.old) (F.sure files.old)
+        (moment (counts (F.faults files.old) 0 0 (K.faults out.old)) (K.taken out.old) (E.taken err.old) (E.faults err.old))
+        (moment (counts (F.faults files.new) 0 0 (K.faults out.new)) (K.taken out.new) (E.taken err.new) (E.faults err.new)) result }
     ensures apart { result ≡ 2 → files.new ≡ files.old }
-    ensures nothing { result ≢ 0 → result ≢ 5 → K.taken out.new ≡ K.taken out.old }
-    ensures left { IfSome (witnessing_of (map string_bytes words.now)) (λ a. Leaves a (F.contents files.old a.file) (K.taken out.old) (K.taken out.new) result) }
-    ensures told { TellsStatus words_line result (held_by_file (F.contents files.old) (named_by (witnessing_of (map string_bytes words.now)))) (named_by (witnessing_of (map string_bytes words.now)))
-        (E.taken err.old) (E.taken err.new) (E.faults err.old) (E.faults err.new) }
-    ensures complete { HoldsScenario (held_by_file (F.contents files.old) (named_by (witnessing_of (map string_bytes words.now))))
-        → NoneRose (counts (F.faults files.old) 0 0 (K.faults out.old)) (counts (F.faults files.new) 0 0 (K.faults out.new))
-        → (result ≡ 0) ⊎ (result ≡ 8) ⊎ (result ≡ 10) }
 {
     let asked = witnessing_of(words);
     let ending = decide(alloc, asked, files, out);
-    tell(&ending, b"words: witness FILE [K]\n", file_of(asked), err);
+    tell(&ending, WORDS_LINE, file_of(asked), err);
     status_of(&ending)
 }

@@ -1,10 +1,13 @@
 //! What the words of a call ask for.
 ghost use Rattle.std.specs.Prelude.{◌≡◌, map, string_bytes, option_map};
 ghost use Rattle.std.specs.Option.{option_copied};
-ghost use Rattle.sv_command.specs.Numbers.{number_between};
-ghost use Rattle.sv_witness.specs.Words.{asked_by, named_by, with_liar, witnessing_of};
+ghost use Rattle.sv_ending.specs.Numbers.{number_between};
+ghost use Rattle.sv_witness.specs.Words.{asked_by, asked_of, named_by, with_liar};
 
-use sv_command::number_in;
+use sv_ending::number_in;
+
+/// The line that tells which words there are.
+pub(crate) const WORDS_LINE: &[u8] = b"words: witness FILE [K]\n";
 
 /// A witnessed run of a file's scenario, with a client that lies or with none.
 #[derive(Clone, Copy, Debug, Drop)]
@@ -25,7 +28,7 @@ fn with_liar<'a>(file: &'a str, number: &str) -> Option<Witnessing<'a>>
 
 /// What the words ask for: `witness FILE` or `witness FILE K`.
 pub(crate) fn witnessing_of(words: &[String]) -> Option<Witnessing<'_>>
-    ensures { option_map asked_by result ≡ witnessing_of (map string_bytes words.now) }
+    ensures { option_map asked_by result ≡ asked_of (map string_bytes words.now) }
 {
     match words {
         [word, file] if word.as_str() == "witness" => Some(Witnessing {

@@ -1,6 +1,8 @@
-//! Tests of the checker of reports.
+//! Tests of the checker of reports, by its calls and by its words, and of why objects have their values.
 #![tactic(auto)]
 
+#[cfg(test)]
+mod audit;
 #[cfg(test)]
 mod bytes;
 #[cfg(test)]
@@ -13,3 +15,5 @@ mod observes;
 mod plays;
 #[cfg(test)]
 mod rows;
+#[cfg(test)]
+mod why;

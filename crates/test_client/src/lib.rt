@@ -1,5 +1,7 @@
-//! Tests of the client, by its public calls alone.
+//! Tests of the client, and of a pilot over an end that gives what was scripted, by their public calls alone.
 #![tactic(auto)]
 
 #[cfg(test)]
 mod client;
+#[cfg(test)]
+mod pilot;

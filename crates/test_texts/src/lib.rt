@@ -1,4 +1,4 @@
-//! Tests of what is read and printed as text, and of files: the action language, scenario files, generated scenarios, sources and sinks.
+//! Tests of what is read and printed as text, and of files: the action language, scenario files, world files, generated scenarios, sources and sinks.
 #![tactic(auto)]
 
 #[cfg(test)]
@@ -11,3 +11,5 @@ mod loads;
 mod scenario;
 #[cfg(test)]
 mod text;
+#[cfg(test)]
+mod worldfile;

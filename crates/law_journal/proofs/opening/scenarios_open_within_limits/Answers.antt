@@ -1,5 +1,5 @@
 -- What is proved by hand of `scenarios_open_within_limits`.
-use Rattle.sv_system.proofs.Limits.{limits_of}
+use Rattle.law_system.proofs.Limits.{limits_of}
 use Rattle.law_journal.proofs.opening.scenarios_open_within_limits.Goals as goal
 
 pub returns-clause-good : goal.returns-clause-good

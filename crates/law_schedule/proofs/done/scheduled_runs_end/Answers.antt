@@ -1,5 +1,5 @@
 -- Scheduled runs end, and leave records.
-use Rattle.sv_system.proofs.NextReply.{scenario-no_fault}
+use Rattle.law_system.proofs.NextReply.{scenario-no_fault}
 use Rattle.sv_scenario.specs.declared.scenario.Scenario.{Scenario}
 use Rattle.sv_scenario.specs.Limits.{IsGoodScenario}
 use Rattle.law_schedule.specs.Schedule.{rules_of, plain_server, scheduled_run}

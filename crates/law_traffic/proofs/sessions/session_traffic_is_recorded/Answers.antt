@@ -3,7 +3,7 @@ use Rattle.std.specs.Prelude.{reverse}
 use Rattle.std.proofs.lemmas.List.Elements.{recursion_from_All}
 use Rattle.sv_wire.specs.Laws.{IsReply}
 use Rattle.sv_journal.specs.History.{accepted}
-use Rattle.sv_system.specs.Fits.{replies_in}
+use Rattle.law_system.specs.Fits.{replies_in}
 use Rattle.law_traffic.proofs.Bytes.{traffic_of, fits_of, ends_are}
 use Rattle.law_traffic.proofs.sessions.session_traffic_is_recorded.Goals as goal
 

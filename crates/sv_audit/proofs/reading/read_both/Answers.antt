@@ -1,6 +1,6 @@
 -- Both files, one after the other.
 use Rattle.std.proofs.Common.{◌∙◌}
-use Rattle.sv_command.specs.Statuses.{counts}
+use Rattle.sv_ending.specs.Statuses.{counts}
 use Rattle.sv_audit.specs.declared.ending.AuditEnding.TheVariants as endings
 use Rattle.sv_audit.proofs.Making.{raised_by, unread_by, then_raises}
 use Rattle.sv_audit.proofs.reading.read_both.Goals as goal

@@ -1,5 +1,5 @@
 -- The counts of faults, by whether the text was written.
-use Rattle.sv_command.proofs.Counts.{wrote, broke}
+use Rattle.sv_ending.proofs.Counts.{wrote, broke}
 use Rattle.sv_audit.proofs.top.decide.Goals as goal
 
 pub returns-in-Ok-clause-raises : goal.returns-in-Ok-clause-raises

@@ -1,7 +1,7 @@
 -- What is proved by hand of `read_text`.
 use Rattle.std.proofs.Common.{Bor, List, ℕ, inl, inr, sym, ◌∙◌}
 use Rattle.std.proofs.lemmas.Result.{err_from_is_err_and}
-use Rattle.sv_system.specs.declared.played.Played.{Played}
+use Rattle.law_system.specs.declared.played.Played.{Played}
 use Rattle.sv_check.specs.declared.journal.Served.{Served}
 use Rattle.sv_check.specs.Consistent.{IsReportOf}
 use Rattle.sv_check.specs.Either.{IsRightOf}

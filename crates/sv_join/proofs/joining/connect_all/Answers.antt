@@ -3,7 +3,7 @@ use Rattle.std.proofs.Common.{rules, ◌+◌, slice_get, sym, ap, ◌∙◌}
 use Rattle.sv_link.specs.Ends.{new_end}
 use Rattle.sv_link.specs.declared.side.Side.TheVariants.{Client}
 use Rattle.sv_join.specs.Joining.{IsNewEnd}
-use Rattle.sv_system.proofs.Places.{each_push}
+use Rattle.law_system.proofs.Places.{each_push}
 use Rattle.sv_join.specs.declared.steady.Steady.{Steady}
 use Rattle.sv_join.proofs.joining.connect_all.Goals as goal
 

@@ -1,8 +1,8 @@
 -- The counts of faults, by the part of the join that ended it.
 use Rattle.std.proofs.Common.{refl, ap}
-use Rattle.sv_command.specs.declared.ending.Ending.TheVariants as plain
-use Rattle.sv_command.specs.Statuses.{Counts, counts}
-use Rattle.sv_command.proofs.Counts.{same_counts}
+use Rattle.sv_ending.specs.declared.ending.Ending.TheVariants as plain
+use Rattle.sv_ending.specs.Statuses.{Counts, counts}
+use Rattle.sv_ending.proofs.Counts.{same_counts}
 use Rattle.sv_join.specs.declared.ending.JoinEnding.TheVariants as endings
 use Rattle.sv_join.specs.Statuses.{ending_of_fault}
 use Rattle.sv_join.proofs.Raising.{raised_by, unread_raises, stopped_raises}

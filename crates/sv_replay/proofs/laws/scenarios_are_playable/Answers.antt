@@ -1,5 +1,5 @@
 -- A scenario can be run over the server that answers by the table.
-use Rattle.sv_system.proofs.NextReply.{scenario-no_fault}
+use Rattle.law_system.proofs.NextReply.{scenario-no_fault}
 use Rattle.sv_replay.proofs.Messages.{plain_playable}
 use Rattle.sv_replay.proofs.laws.scenarios_are_playable.Goals as goal
 

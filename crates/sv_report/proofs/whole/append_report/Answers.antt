@@ -1,5 +1,5 @@
 -- What is proved by hand of `append_report`.
-use Rattle.sv_system.specs.Records.{rules_of}
+use Rattle.law_system.specs.Records.{rules_of}
 use Rattle.sv_report.proofs.Traffic.{named}
 use Rattle.sv_report.proofs.whole.append_report.Goals as goal
 

@@ -1,5 +1,5 @@
 -- Where memory ran out before the door was asked, it is as it was.
-use Rattle.sv_play.proofs.Jobs.{fault_none_ran}
+use Rattle.sv_threads.proofs.Jobs.{fault_none_ran}
 use Rattle.sv_serve.proofs.Endings.{memory_back}
 use Rattle.sv_serve.proofs.hosting.serve_scenario.Goals as goal
 

@@ -6,11 +6,11 @@ use Rattle.std.proofs.Crossing.{crosses}
 use Rattle.sv_sequencer.proofs.Sent.{lock-syncs, pass-sends}
 use Rattle.law_traffic.specs.Runs.{IsGoodRun}
 use Rattle.sv_scenario.specs.Sessions.{session_count}
-use Rattle.sv_play.specs.Given.{setting}
-use Rattle.sv_play.specs.Left.{JoinedPasses}
-use Rattle.sv_play.specs.Moved.{moved}
-use Rattle.sv_play.specs.Playing.{TookAllIn}
-use Rattle.sv_play.proofs.Ready.{services_ready}
+use Rattle.sv_threads.specs.Given.{setting}
+use Rattle.sv_threads.specs.Left.{JoinedPasses}
+use Rattle.sv_threads.specs.Moved.{moved}
+use Rattle.sv_threads.specs.Playing.{TookAllIn}
+use Rattle.sv_threads.proofs.Ready.{services_ready}
 use Rattle.sv_serve.specs.Giving.{kept_served, kept_unserved, IsUnservedOf}
 use Rattle.sv_serve.proofs.Steps.{none_lacked, served_back, unserved_back}
 use Rattle.sv_serve.proofs.Endings.{unused_back, used_back}

@@ -1,10 +1,10 @@
 -- The counts of faults, by the part of the call that ended it.
 use Rattle.std.proofs.Common.{ap, arith, refl}
-use Rattle.sv_command.specs.declared.ending.Ending.TheVariants as endings
-use Rattle.sv_command.specs.Statuses.{Counts, counts}
-use Rattle.sv_command.proofs.Counts.{came, raised_by, same_counts}
+use Rattle.sv_ending.specs.declared.ending.Ending.TheVariants as endings
+use Rattle.sv_ending.specs.Statuses.{Counts, counts}
+use Rattle.sv_ending.proofs.Counts.{came, raised_by, same_counts}
 use Rattle.sv_sequencer.specs.Step.{SequencerView}
-use Rattle.sv_play.proofs.Endings.{fault_raises}
+use Rattle.sv_threads.proofs.Endings.{fault_raises}
 use Rattle.sv_serve.proofs.Endings.{touched, untouched_back, done_back, unmade_back}
 use Rattle.sv_serve.proofs.texts.served_text.Goals as goal
 

@@ -1,6 +1,6 @@
 -- The counts of faults, and the output by what was made.
 use Rattle.std.proofs.Common.{refl, string_bytes}
-use Rattle.sv_command.proofs.Counts.{wrote, broke}
+use Rattle.sv_ending.proofs.Counts.{wrote, broke}
 use Rattle.sv_serve.proofs.Endings.{printed_given, cut_given, early_given, untouched_back, unprinted_back}
 use Rattle.sv_serve.proofs.top.decide.Goals as goal
 

@@ -7,6 +7,7 @@ use Rattle.sv_text.proofs.Printed.{IsMore, more, run_turn}
 use Rattle.sv_text.proofs.printer.+statement.Goals as goal
 
 pub put_run-loop-preserved : goal.put_run-loop-preserved
+unfolding lib.Utf8.encode
 put_run-loop-preserved t c =
     let reads = c.args.reads.now in
     let ps = parts c.loop.nodes in
@@ -16,7 +17,7 @@ put_run-loop-preserved t c =
     let rest = c.in_ok-put_stmt.ensures.rest in
     record {
       kind = subst (λ (qs : List Part). is_block (block n qs) ≡ true) (sym rest) m.others;
-      text = run_turn reads n ps (parts c.put_stmt.new.nodes) (string_bytes c.loop.out) (string_bytes c.push_str.new.self) (string_bytes c.put_stmt.new.out) _ m rest c.in_ok-push_str.ensures.bytes c.in_ok-put_stmt.ensures.text
+      text = run_turn reads n ps (parts c.put_stmt.new.nodes) (string_bytes c.loop.out) (string_bytes c.push.new.self) (string_bytes c.put_stmt.new.out) _ m rest c.in_ok-push.ensures.bytes c.in_ok-put_stmt.ensures.text
           (ap (λ (j : ℕ). string_bytes c.loop.out ++ run_text reads (block j ps)) (sym k) ∙ c.loop.invariant.text);
       behind = ap (λ (qs : List Part). drop n qs) rest ∙ sym m.behind ∙ ap (λ (j : ℕ). drop j ps) (sym k) ∙ c.loop.invariant.behind;
       shorter = omega (arith, c.loop.invariant.shorter, c.in_ok-put_stmt.ensures.shorter);

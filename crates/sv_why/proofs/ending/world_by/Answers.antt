@@ -4,7 +4,7 @@ use Rattle.std.proofs.lemmas.List.{length-map}
 use Rattle.sv_world.specs.Control.{action_at}
 use Rattle.sv_world.specs.declared.action.Action.{Action}
 use Rattle.sv_eval.specs.Serial.{world_after, serial_world}
-use Rattle.sv_system.proofs.Serials.{serial-step}
+use Rattle.law_system.proofs.Serials.{serial-step}
 use Rattle.sv_journal.specs.History.{Authored, accepted, actions_of}
 use Rattle.sv_why.proofs.ending.world_by.Goals as goal
 

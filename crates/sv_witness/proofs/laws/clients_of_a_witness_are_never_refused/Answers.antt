@@ -1,7 +1,7 @@
 -- Clients of a witnessing server are never refused.
-use Rattle.sv_system.proofs.Asking.{fits-but_values}
-use Rattle.sv_system.proofs.Owned.{one-of, owns-but}
-use Rattle.sv_system.proofs.NextReply.{served-no_fault}
+use Rattle.law_system.proofs.Asking.{fits-but_values}
+use Rattle.law_system.proofs.Owned.{one-of, owns-but}
+use Rattle.law_system.proofs.NextReply.{served-no_fault}
 use Rattle.sv_witness.specs.Witnessed.{agreed}
 use Rattle.sv_witness.proofs.Same.{agreed-keeping}
 use Rattle.sv_witness.proofs.Tolerated.{results-tolerated}

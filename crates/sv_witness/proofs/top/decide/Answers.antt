@@ -1,6 +1,6 @@
 -- The counts of faults, and the output by what was made.
 use Rattle.std.proofs.Common.{string_bytes}
-use Rattle.sv_command.proofs.Counts.{wrote, broke}
+use Rattle.sv_ending.proofs.Counts.{wrote, broke}
 use Rattle.sv_witness.proofs.Endings.{printed_given, cut_given, early_given}
 use Rattle.sv_witness.proofs.top.decide.Goals as goal
 

@@ -1,8 +1,8 @@
 -- The counts of faults, and the text of a witnessed run.
 use Rattle.std.proofs.Common.{ℕ, refl, subst}
-use Rattle.sv_command.specs.declared.ending.Ending.TheVariants as endings
-use Rattle.sv_command.specs.Statuses.{counts}
-use Rattle.sv_command.proofs.Counts.{raised_by}
+use Rattle.sv_ending.specs.declared.ending.Ending.TheVariants as endings
+use Rattle.sv_ending.specs.Statuses.{counts}
+use Rattle.sv_ending.proofs.Counts.{raised_by}
 use Rattle.sv_witness.specs.Statuses.{IsLiarWithin}
 use Rattle.sv_witness.proofs.top.text_for.Goals as goal
 

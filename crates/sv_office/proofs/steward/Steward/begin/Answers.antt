@@ -2,7 +2,7 @@
 use Rattle.std.proofs.Common.{List, refl, ap, sym, ◌∙◌, slice_get, option_copied}
 use Rattle.sv_wire.specs.declared.message.Request.{Request}
 use Rattle.sv_client.specs.Seen.{ClientView}
-use Rattle.sv_system.specs.Told.{all_got}
+use Rattle.law_system.specs.Told.{all_got}
 use Rattle.sv_office.proofs.Getting.{got_same}
 use Rattle.sv_office.proofs.Knowing.{got_asking, lacks_entered}
 use Rattle.sv_office.proofs.Stewarding.{stewards_entered, still_asking}

@@ -3,7 +3,7 @@ use Rattle.std.proofs.Common.{sym, subst}
 use Rattle.std.proofs.lemmas.Result.{err_from_is_err_and}
 use Rattle.sv_client.specs.declared.trace.Event.{Event}
 use Rattle.sv_client.specs.Seen.{latest_session}
-use Rattle.sv_player.specs.declared.outcome.Ending.{Ending}
+use Rattle.sv_player.specs.declared.outcome.SessionEnd.{SessionEnd}
 use Rattle.sv_player.specs.declared.outcome.PlayerCause.TheVariants as causes
 use Rattle.sv_player.specs.Going.{Did}
 use Rattle.sv_player.specs.Sessions.{Ended}
@@ -40,5 +40,5 @@ returns-clause-played g c =
     let new = g.E.End.told c.flush.new.end in
     let all = flush_sends s p c.args.buffers.now c.flush.new.self (g.E.End.told c.args.end.now) new c.flush.result c.requires.at c.flush.ensures.sends c.in_ok-sent_whole.ensures c.flush.ensures.reader in
     let did = subst (λ (e : Event). Did e c.args.rest.now p q) c.mark.ensures c.in_ok-note.ensures.ok in
-    subst (λ (e : Ending). Ended s p q new e) (sym c.ending.ensures)
+    subst (λ (e : SessionEnd). Ended s p q new e) (sym c.ending.ensures)
     (part_ends s p q c.flush.new.self new all.0 c.requires.ready all.1 c.args.rest.now c.args.parting c.requires.next did)

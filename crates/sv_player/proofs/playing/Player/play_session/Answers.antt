@@ -4,7 +4,7 @@ use Rattle.std.proofs.lemmas.Result.{err_from_is_err_and}
 use Rattle.sv_client.specs.declared.trace.Event.TheVariants as events
 use Rattle.sv_client.specs.Traces.{joins}
 use Rattle.sv_client.specs.Seen.{latest_session}
-use Rattle.sv_player.specs.declared.outcome.Ending.TheVariants as endings
+use Rattle.sv_player.specs.declared.outcome.SessionEnd.TheVariants as endings
 use Rattle.sv_player.specs.Sessions.{Got}
 use Rattle.sv_player.proofs.Turns.{before_join, join_due, did_nothing, stops_early, uncut_next}
 use Rattle.sv_player.proofs.Moving.{bye_ends, joined_awaits, joined_waits, stopped_after, ended_after, moved_fewer}

@@ -6,7 +6,7 @@ use Rattle.std.proofs.lemmas.List.{get_or_read}
 use Rattle.sv_scenario.specs.declared.scenario.Turn.TheVariants as turns
 use Rattle.law_schedule.specs.Players.{player_turn}
 use Rattle.sv_exchange.specs.View.{ExchangeView, new_exchange}
-use Rattle.sv_system.proofs.Places.{map_at}
+use Rattle.law_system.proofs.Places.{map_at}
 use Rattle.sv_replay.specs.Players.{session_of}
 use Rattle.sv_replay.specs.Machine.{player_of, MovedPlayer, stage_of}
 use Rattle.sv_replay.proofs.Machines.{clients_are, player_read, player_flags, player_known, player_fits, player_fits_after, moved_became}

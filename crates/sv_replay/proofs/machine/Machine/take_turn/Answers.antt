@@ -9,7 +9,7 @@ use Rattle.sv_exchange.specs.View.{ExchangeView, new_exchange}
 use Rattle.sv_replay.specs.Players.{session_of, taken_from}
 use Rattle.sv_replay.specs.Machine.{player_of, MovedPlayer, run_of, stage_of}
 use Rattle.sv_client.proofs.Shifts.{up_fault}
-use Rattle.sv_system.proofs.Places.{map_at}
+use Rattle.law_system.proofs.Places.{map_at}
 use Rattle.sv_replay.specs.Messages.{AsksMessages}
 use Rattle.sv_replay.specs.Serving.{one_if}
 use Rattle.sv_replay.specs.Work.{work_of_client, Found}

@@ -2,9 +2,9 @@
 use Rattle.std.proofs.Common.{rules, ◌≡◌, ◌+◌, ◌++◌, length, slice_get, sym, ap, ◌∙◌, arith, false}
 use Rattle.sv_link.specs.declared.side.Side.TheVariants.{Server}
 use Rattle.sv_session.specs.Serving.{SessionPass}
-use Rattle.sv_play.specs.Given.{keeper_after, pass_of, setting, IsService}
-use Rattle.sv_system.proofs.Places.{each_push}
-use Rattle.sv_play.proofs.Opened.{new_end_as}
+use Rattle.sv_threads.specs.Given.{keeper_after, pass_of, setting, IsService}
+use Rattle.law_system.proofs.Places.{each_push}
+use Rattle.sv_threads.proofs.Opened.{new_end_as}
 use Rattle.sv_serve.proofs.Endings.{on_err, none_used}
 use Rattle.sv_serve.specs.Giving.{kept_unserved}
 use Rattle.sv_serve.proofs.Steps.{unserved_back}

@@ -1,8 +1,8 @@
 -- The sessions whose connections were accepted so far.
 use Rattle.std.proofs.Common.{◌≡◌, ℕ, ◌+◌, ◌≤◌, length, false}
 use Rattle.std.specs.Vec.{vec_capacity}
-use Rattle.sv_system.specs.Places.{EachPlace}
-use Rattle.sv_play.specs.Given.{keeper_after, setting, IsService}
+use Rattle.law_system.specs.Places.{EachPlace}
+use Rattle.sv_threads.specs.Given.{keeper_after, setting, IsService}
 use Rattle.sv_serve.proofs.accepting.Host.accept_all.Given as goal
 
 abbrev pub invariant-loop : goal.invariant-loop

@@ -1,6 +1,0 @@
--- A legal journal of few sessions accepts few actions.
-use Rattle.sv_asked.proofs.Spent.{accepted-few}
-use Rattle.sv_asked.proofs.laws.accepted_are_few.Goals as goal
-
-pub returns : goal.returns
-returns c = accepted-few

@@ -1,6 +1,0 @@
--- A journal of few sessions accepts few actions, whatever results are kept.
-use Rattle.sv_asked.proofs.Spent.{served-few}
-use Rattle.sv_asked.proofs.laws.served_accepted_are_few.Goals as goal
-
-pub returns : goal.returns
-returns c = served-few

@@ -1,8 +1,0 @@
--- The plans so far were read.
-use Rattle.std.proofs.Common.{ℕ, ◌<◌, get_or}
-use Rattle.sv_scenario.specs.declared.scenario.Plan.{Plan}
-use Rattle.sv_asked.specs.Numbers.{PlanFits}
-use Rattle.sv_asked.proofs.numbers.read_plans.Given as goal
-
-abbrev pub invariant-loop-plan : goal.invariant-loop-plan
-invariant-loop-plan l = (k : ℕ) (d : Plan) → k < l.plan-index → PlanFits (get_or l.plans k d)

@@ -1,0 +1,17 @@
+-- What is answered is what the call says.
+use Rattle.sv_main.proofs.run_here.Goals as goal
+
+pub returns-clause-words : goal.returns-clause-words
+returns-clause-words g c = c.run.ensures.answers.words
+
+pub returns-clause-faults : goal.returns-clause-faults
+returns-clause-faults g c = (c.run.ensures.answers.faults.file, c.run.ensures.answers.faults.out)
+
+pub returns-clause-output : goal.returns-clause-output
+returns-clause-output g c = (_, c.run.ensures.answers.left)
+
+pub returns-clause-nothing : goal.returns-clause-nothing
+returns-clause-nothing g c = c.run.ensures.answers.left.nothing
+
+pub returns-clause-line : goal.returns-clause-line
+returns-clause-line g c = c.run.ensures.answers.told

@@ -1,0 +1,17 @@
+-- What is answered is what the call says.
+use Rattle.sv_main.proofs.serve_here.Goals as goal
+
+pub returns-clause-words : goal.returns-clause-words
+returns-clause-words g c = c.run_serve.ensures.answers.words
+
+pub returns-clause-faults : goal.returns-clause-faults
+returns-clause-faults g c = (c.run_serve.ensures.answers.faults.file, c.run_serve.ensures.answers.faults.out)
+
+pub returns-clause-output : goal.returns-clause-output
+returns-clause-output g c = (_, c.run_serve.ensures.answers.left)
+
+pub returns-clause-nothing : goal.returns-clause-nothing
+returns-clause-nothing g c = c.run_serve.ensures.answers.left.nothing
+
+pub returns-clause-line : goal.returns-clause-line
+returns-clause-line g c = c.run_serve.ensures.answers.told

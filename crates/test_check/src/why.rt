@@ -1,0 +1,4 @@
+//! Tests of why objects have their values.
+
+mod calls;
+mod rows;

@@ -1,7 +1,0 @@
--- The values of so many objects stand there.
-use Rattle.std.proofs.Common.{◌≡◌}
-use Rattle.test_exchange.specs.Worked.{great_heads}
-use Rattle.test_exchange.proofs.great.great_head.Given as goal
-
-abbrev pub invariant-loop-object : goal.invariant-loop-object
-invariant-loop-object l = l.head ≡ great_heads l.object

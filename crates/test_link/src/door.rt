@@ -1,0 +1,6 @@
+//! Tests of doors.
+
+mod pipes;
+mod system;
+mod talk;
+mod tcp;

@@ -1,0 +1,3 @@
+//! Tests of connections in memory.
+
+mod scripts;

@@ -1,5 +1,0 @@
-//! Tests of connections in memory.
-#![tactic(auto)]
-
-#[cfg(test)]
-mod scripts;
