@@ -2,3 +2,7 @@
 pub mod States
 pub mod WellFormed
 pub mod Text
+pub mod Judging
+pub mod Reading
+pub mod Whole
+pub mod Fits

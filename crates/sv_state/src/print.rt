@@ -162,7 +162,7 @@ fn put_outcomes(seq: u64, outcomes: &[Outcome], out: &mut String) -> Result<(), 
 }
 
 /// The number of the first outcome that is kept.
-fn first_kept(client: &ClientState) -> u64
+pub(crate) fn first_kept(client: &ClientState) -> u64
     ensures { result ≡ client.now.next - length client.now.kept }
 {
     (client.next as u64).saturating_sub(client.kept.len() as u64)

@@ -48,3 +48,20 @@ pub struct State {
     /// The open sessions, ascending.
     pub opened: List<OpenSession>,
 }
+
+/// What the first three lines of a state tell.
+#[derive(Clone, Copy, Drop)]
+pub(crate) struct First {
+    pub(crate) entries: u64,
+    pub(crate) sessions: u64,
+    pub(crate) last: u32,
+    pub(crate) commit: u32,
+}
+
+/// What is kept of a session but its number and whether it is over.
+#[derive(Drop)]
+pub(crate) struct Member {
+    pub(crate) client: Option<ClientId>,
+    pub(crate) given: List<ObjectId>,
+    pub(crate) sent: List<u32>,
+}
