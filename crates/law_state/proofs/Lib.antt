@@ -1,0 +1,3 @@
+-- The lemmas of this crate, file by file.
+pub mod Appends
+pub mod Places

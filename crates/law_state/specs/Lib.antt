@@ -1,0 +1,5 @@
+-- The definitions of this crate, file by file.
+pub mod Plans
+pub mod Made
+pub mod Places
+pub mod Laws
