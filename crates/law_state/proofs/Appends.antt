@@ -113,13 +113,20 @@ pub result-mild : (es h : List Entry) (p : ℕ) → Each IsMild es → result_at
 result-mild [] h p mild = refl
 result-mild (e ∷ es) h p mild = result-quiet e (es ++ h) p mild.0.noted ∙ result-mild es h p mild.1
 
-pub heeded-mild : (w : Stewardship) (es h : List Entry) → Each IsMild es → heeded w (es ++ h) ≡ es ++ heeded w h
-heeded-mild w [] h mild = refl
-heeded-mild w (e ∷ es) h mild = go (counts w (es ++ h) e.session) ∙ ap (λ xs. e ∷ xs) (heeded-mild w es h mild.1)
+-- An entry whose request has no results is heeded as it is.
+abbrev pub HasNoResults : Entry → Type 0
+HasNoResults e = with_results (λ d. false) e.request ≡ e.request
+
+pub heeded-same : (w : Stewardship) (es h : List Entry) → Each HasNoResults es → heeded w (es ++ h) ≡ es ++ heeded w h
+heeded-same w [] h same = refl
+heeded-same w (e ∷ es) h same = go (counts w (es ++ h) e.session) ∙ ap (λ xs. e ∷ xs) (heeded-same w es h same.1)
   where
     go : (b : Bool) → cond b e (record e { request = with_results (λ d. false) e.request }) ∷ heeded w (es ++ h) ≡ e ∷ heeded w (es ++ h)
     go true = refl
-    go false = ap (λ (q : Request). record e { request = q } ∷ heeded w (es ++ h)) mild.0.results
+    go false = ap (λ (q : Request). record e { request = q } ∷ heeded w (es ++ h)) same.0
+
+pub heeded-mild : (w : Stewardship) (es h : List Entry) → Each IsMild es → heeded w (es ++ h) ≡ es ++ heeded w h
+heeded-mild w es h mild = heeded-same w es h (each-more IsMild HasNoResults es (λ e m. m.results) mild)
 
 -- ---- Lives
 

@@ -1,3 +1,4 @@
 -- The lemmas of this crate, file by file.
 pub mod Appends
+pub mod Nobody
 pub mod Places

@@ -2,4 +2,5 @@
 pub mod Plans
 pub mod Made
 pub mod Places
+pub mod Whole
 pub mod Laws
