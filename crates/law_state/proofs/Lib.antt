@@ -2,3 +2,4 @@
 pub mod Appends
 pub mod Nobody
 pub mod Places
+pub mod Whole
