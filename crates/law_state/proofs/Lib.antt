@@ -3,3 +3,6 @@ pub mod Appends
 pub mod Nobody
 pub mod Places
 pub mod Whole
+pub mod Agree
+pub mod Values
+pub mod Builds

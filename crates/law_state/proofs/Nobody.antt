@@ -13,6 +13,7 @@ use Rattle.sv_sequencer.specs.Step.{end_entry}
 use Rattle.sv_sequencer.proofs.HistorySteps.{accepted-quiet, outcomes-quiet}
 use Rattle.law_state.specs.Plans.{Fate, Takes, Drops, Denies, Turn, outcome_by, taken_by, planned_outcomes, planned_actions}
 use Rattle.law_state.specs.Made.{join_entry, action_of, reply_of, submit_entry, turn_entries, played, lived, done_entry, reported_by, closed}
+use Rattle.law_state.specs.Stands.{greatest_life}
 use Rattle.law_state.proofs.Appends.{Each, each-append, IsMild, EndsWell, HasNoLife, HasNoResults, heeded-same, result-append}
 
 and-false : (b : Bool) → (b && false) ≡ false
@@ -220,11 +221,6 @@ lived-well first lives = lived-each EndsWell first lives (λ s q. refl) (λ s k 
 pub lived-own : (first : ℕ) (lives : List (ℕ × ℕ)) (h : List Entry) → IsOwn first h → IsOwn first (lived first lives ++ h)
 lived-own first [] h own = own
 lived-own first (l ∷ lives) h own = quiet-own first (end_entry (first + l.0)) (join_entry (first + l.0) l.0 l.1 ∷ (lived first lives ++ h)) refl (join-own first l.0 l.1 (lived first lives ++ h) (lived-own first lives h own))
-
--- The greatest of a client's lives.
-abbrev pub greatest_life : List (ℕ × ℕ) → ℕ → ℕ
-greatest_life [] k = 0
-greatest_life (l ∷ lives) k = cond (nat_eq l.0 k) (max l.1 (greatest_life lives k)) (greatest_life lives k)
 
 pub lived-life : (first : ℕ) (lives : List (ℕ × ℕ)) (k : ℕ) → life_of (lived first lives) k ≡ greatest_life lives k
 lived-life first [] k = refl

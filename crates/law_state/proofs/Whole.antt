@@ -12,9 +12,10 @@ use Rattle.law_state.specs.Plans.{planned_outcomes, planned_actions}
 use Rattle.law_state.specs.Made.{Place, join_entry, placed, closed, reported_by, lived, played}
 use Rattle.law_state.specs.Places.{sits, Among, AreDistinct, AreOrderly}
 use Rattle.law_state.specs.Whole.{report_of, reports_of, Course, made_before, made}
+use Rattle.law_state.specs.Stands.{greatest_life}
 use Rattle.law_state.proofs.Appends.{Each, each-append, each-more, IsMild, EndsWell, HasNoLife, client-append, result-append, sent-append, named-append, life-append, entry-append, ended-append, accepted-mild, outcomes-mild, result-mild, heeded-same, heeded-mild, life-none, no-client, no-over, no-end, none-sent, none-named, over-append, ended-over}
 use Rattle.law_state.proofs.Places.{given_once, placed-entry, placed-ended, among-sits, sits-among, placed-client, placed-sent, placed-named, placed-over, placed-mild, placed-well, placed-lives}
-use Rattle.law_state.proofs.Nobody.{IsSilent, silent-sent, silent-named, results-none, join-client, joined-counts, played-own, lived-own, played-is, played-silent, played-notes, played-well, played-lives, played-results, lived-silent, lived-mild, lived-well, lived-life, greatest_life, closed-silent, closed-mild, closed-well, closed-lives, reported-silent, reported-well, reported-lives, reported-results, reported-accepted, reported-outcomes, reported-heeded, AreOver, played-begun, lived-begun, reported-begun, closed-begun, none-below, played-from, lived-from, reported-from}
+use Rattle.law_state.proofs.Nobody.{IsSilent, silent-sent, silent-named, results-none, join-client, joined-counts, played-own, lived-own, played-is, played-silent, played-notes, played-well, played-lives, played-results, lived-silent, lived-mild, lived-well, lived-life, closed-silent, closed-mild, closed-well, closed-lives, reported-silent, reported-well, reported-lives, reported-results, reported-accepted, reported-outcomes, reported-heeded, AreOver, played-begun, lived-begun, reported-begun, closed-begun, none-below, played-from, lived-from, reported-from}
 
 -- ---- Results
 
@@ -56,7 +57,7 @@ reported-is R (suc n) p low high = reported-front p (suc n) (R (suc n)) (reports
 ]
 
 module _ (first : ℕ) (c : Course) where
-  abbrev S : List Entry
+  abbrev pub S : List Entry
   S = placed c.commit c.places
 
   abbrev D : List Entry
@@ -69,7 +70,7 @@ module _ (first : ℕ) (c : Course) where
   G = played first c.plan
 
   -- What comes before the open sessions.
-  abbrev B : List Entry
+  abbrev pub B : List Entry
   B = closed c.shut ++ made_before first c
 
   -- ---- Actions, results and lives
@@ -181,12 +182,3 @@ module _ (first : ℕ) (c : Course) where
       entry-append (closed c.shut) (made_before first c) s
       ∙ or-none (has_entry (closed c.shut) s) (has_entry (made_before first c) s) (none-below first (made_before first c) s low from-first)
       ∙ closed-entry c.shut s
-
-  -- ---- Open sessions
-
-  -- The sessions are different, below `first`, and none is closed; those that are over come before others of their clients.
-  pub record AreOpenPlaces : Type 0 where
-    pub distinct : AreDistinct c.places
-    pub orderly : AreOrderly c.places
-    pub low : (o : Place) → Among o c.places → o.session < first
-    pub unclosed : (o : Place) → Among o c.places → is_in o.session c.shut ≡ false

@@ -3,4 +3,7 @@ pub mod Plans
 pub mod Made
 pub mod Places
 pub mod Whole
+pub mod Stands
+pub mod Actions
+pub mod Builds
 pub mod Laws
