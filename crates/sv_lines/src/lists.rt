@@ -89,7 +89,7 @@ fn joined_numbers(alloc: Global, turns: usize, text: &[u8]) -> Result<(Value, &[
 
 /// A value behind its bracket.
 #[tactic(auto, unfolding(crate::specs::Reading::value_read))]
-fn value_at(alloc: Global, text: &[u8]) -> Result<(Value, &[u8]), Unread>
+pub fn value_at(alloc: Global, text: &[u8]) -> Result<(Value, &[u8]), Unread>
     ensures { Gives (λ x. (x.0, x.1.now)) result (value_read text.now) }
 {
     if let Some(rest) = behind(text, b")") {
@@ -117,7 +117,7 @@ fn joined_values(alloc: Global, turns: usize, text: &[u8]) -> Result<(List<Value
 
 /// Values, as `(7)(8)`.
 #[tactic(auto, unfolding(crate::specs::Reading::values_read))]
-fn values_at(alloc: Global, text: &[u8]) -> Result<(List<Value>, &[u8]), Unread>
+pub fn values_at(alloc: Global, text: &[u8]) -> Result<(List<Value>, &[u8]), Unread>
     ensures { Gives (λ x. (x.0, x.1.now)) result (values_read text.now) }
 {
     joined_values(alloc, text.len(), text)
