@@ -5,4 +5,6 @@ pub mod Places
 pub mod Whole
 pub mod Agree
 pub mod Values
+pub mod Clients
+pub mod Makers
 pub mod Builds

@@ -6,4 +6,5 @@ pub mod Whole
 pub mod Stands
 pub mod Actions
 pub mod Builds
+pub mod OfState
 pub mod Laws
