@@ -110,7 +110,7 @@ seat-place seats slot s at = go (slice_get seats slot) refl (sym (seat-number se
     go None q is = cc
     go (Some o) q is = (o, (q, cc))
 
-count-owed : (seats : List Place) → count_rows owes_end (map row_of seats) ≡ length seats
+pub count-owed : (seats : List Place) → count_rows owes_end (map row_of seats) ≡ length seats
 count-owed [] = refl
 count-owed (o ∷ os) = omega (arith, count-owed os)
 
@@ -188,7 +188,7 @@ module _ (r : Rules) (first : ℕ) (c : Course) (is : IsCourse r first c) where
 
   -- ---- A place
 
-  none-before : (o : Place) → Among o c.places → has_entry (B first c) o.session ≡ false
+  pub none-before : (o : Place) → Among o c.places → has_entry (B first c) o.session ≡ false
   none-before o m = before-entry first c o.session (is.low o m) ∙ is.unclosed o m
 
   pub place-client : (o : Place) → Among o c.places → client_of H o.session ≡ o.client

@@ -12,7 +12,7 @@ same k = eq-eqb k k refl
 
 -- ---- Turns without an accepted action
 
-turn-other : (k j : ℕ) (xs : List Outcome) (o : Outcome) → nat_eq k j ≡ false → xs ++ cond (nat_eq k j) (o ∷ []) [] ≡ xs
+pub turn-other : (k j : ℕ) (xs : List Outcome) (o : Outcome) → nat_eq k j ≡ false → xs ++ cond (nat_eq k j) (o ∷ []) [] ≡ xs
 turn-other k j xs o other = ap (λ b. xs ++ cond b (o ∷ []) []) other ∙ append-nil xs
 
 turn-own : (k : ℕ) (xs : List Outcome) (o : Outcome) → xs ++ cond (nat_eq k k) (o ∷ []) [] ≡ xs ++ o ∷ []
@@ -24,7 +24,7 @@ latest-actions k (Accepted p ∷ os) plan = refl
 latest-actions k (Dropped chain far ∷ os) plan = append-nil (planned_actions (latest_turns k os ++ plan)) ∙ latest-actions k os plan
 latest-actions k (Denied object ∷ os) plan = append-nil (planned_actions (latest_turns k os ++ plan)) ∙ latest-actions k os plan
 
-latest-other : (k j : ℕ) (os : List Outcome) (plan : List Turn) → nat_eq k j ≡ false → planned_outcomes (latest_turns k os ++ plan) j ≡ planned_outcomes plan j
+pub latest-other : (k j : ℕ) (os : List Outcome) (plan : List Turn) → nat_eq k j ≡ false → planned_outcomes (latest_turns k os ++ plan) j ≡ planned_outcomes plan j
 latest-other k j [] plan other = refl
 latest-other k j (Accepted p ∷ os) plan other = refl
 latest-other k j (Dropped chain far ∷ os) plan other =
@@ -44,7 +44,7 @@ unaccepted-actions : (G : ℕ → List Outcome) (ks : List ℕ) → planned_acti
 unaccepted-actions G [] = refl
 unaccepted-actions G (k ∷ ks) = latest-actions k (G k) (unaccepted G ks) ∙ unaccepted-actions G ks
 
-unaccepted-none : (G : ℕ → List Outcome) (ks : List ℕ) (j : ℕ) → is_in j ks ≡ false → planned_outcomes (unaccepted G ks) j ≡ []
+pub unaccepted-none : (G : ℕ → List Outcome) (ks : List ℕ) (j : ℕ) → is_in j ks ≡ false → planned_outcomes (unaccepted G ks) j ≡ []
 unaccepted-none G [] j none = refl
 unaccepted-none G (k ∷ ks) j none =
     (let both = or_parts (nat_eq j k) (is_in j ks) none in
@@ -72,7 +72,7 @@ unaccepted-own G (k ∷ ks) j once m none = elim (cases_eq j k) [
 length-push : {X : Type 0} (xs : List X) (x : X) → length (xs ++ x ∷ []) ≡ suc (length xs)
 length-push xs x = (let e = length-append xs (x ∷ []) in omega (arith, e))
 
-built-count : (G : ℕ → List Outcome) (ks : List ℕ) (ms : List Maker) → length (planned_actions (built G ks ms)) ≡ length ms
+pub built-count : (G : ℕ → List Outcome) (ks : List ℕ) (ms : List Maker) → length (planned_actions (built G ks ms)) ≡ length ms
 built-count G ks [] = ap length (unaccepted-actions G ks)
 built-count G ks (m ∷ ms) =
     ap length (latest-actions m.client (G m.client) (record { client = m.client; fate = Takes m.action } ∷ built (without_latest m.client G) ks ms))
@@ -82,7 +82,7 @@ built-count G ks (m ∷ ms) =
 abbrev pub maker_of : Authored → Maker
 maker_of a = record { client = a.client; action = a.action }
 
-built-makers : (G : ℕ → List Outcome) (ks : List ℕ) (ms : List Maker) → map maker_of (planned_actions (built G ks ms)) ≡ turned ms
+pub built-makers : (G : ℕ → List Outcome) (ks : List ℕ) (ms : List Maker) → map maker_of (planned_actions (built G ks ms)) ≡ turned ms
 built-makers G ks [] = ap (map maker_of) (unaccepted-actions G ks)
 built-makers G ks (m ∷ ms) =
     ap (map maker_of) (latest-actions m.client (G m.client) (record { client = m.client; fate = Takes m.action } ∷ built (without_latest m.client G) ks ms))
@@ -95,7 +95,7 @@ AreSuited nobody G [] = (k : ℕ) → from_accepted (G k) ≡ []
 AreSuited nobody G (m ∷ ms) = ((m.client ≡ nobody) ⊎ (from_accepted (G m.client) ≡ Accepted (suc (length ms)) ∷ before_accepted (G m.client)))
     × AreSuited nobody (without_latest m.client G) ms
 
-built-outcomes : (nobody : ℕ) (G : ℕ → List Outcome) (ks : List ℕ) (ms : List Maker) (j : ℕ) → AreOnce ks → AreSuited nobody G ms → (j ≡ nobody → ⊥) →
+pub built-outcomes : (nobody : ℕ) (G : ℕ → List Outcome) (ks : List ℕ) (ms : List Maker) (j : ℕ) → AreOnce ks → AreSuited nobody G ms → (j ≡ nobody → ⊥) →
     (is_in j ks ≡ true) ⊎ (G j ≡ []) → planned_outcomes (built G ks ms) j ≡ turned (G j)
 built-outcomes nobody G ks [] j once suit some (inl m) = unaccepted-own G ks j once m (suit j)
 built-outcomes nobody G ks [] j once suit some (inr none) = elim (cases_Bool (is_in j ks)) [
@@ -139,12 +139,12 @@ built-outcomes nobody G ks (m ∷ ms) j once suit some listed = go (cases_eq m.c
 
 -- ---- Where an accepted action stands among its client's outcomes
 
-get-front : {X : Type 0} (xs ys : List X) (n : ℕ) (z : X) → slice_get xs n ≡ Some z → slice_get (xs ++ ys) n ≡ Some z
+pub get-front : {X : Type 0} (xs ys : List X) (n : ℕ) (z : X) → slice_get xs n ≡ Some z → slice_get (xs ++ ys) n ≡ Some z
 get-front [] ys n z q = cc
 get-front (x ∷ xs) ys zero z q = q
 get-front (x ∷ xs) ys (suc n) z q = get-front xs ys n z q
 
-get-last : {X : Type 0} (xs : List X) (y : X) → slice_get (xs ++ y ∷ []) (length xs) ≡ Some y
+pub get-last : {X : Type 0} (xs : List X) (y : X) → slice_get (xs ++ y ∷ []) (length xs) ≡ Some y
 get-last [] y = refl
 get-last (x ∷ xs) y = get-last xs y
 
@@ -192,7 +192,7 @@ planned-placed (t ∷ plan) p high = go (cases_lt p (length A)) (λ low. planned
 
 -- ---- Positions that fall
 
-falls-below : (n p : ℕ) (os : List Outcome) → Fall n os → has_place p os ≡ true → p < n
+pub falls-below : (n p : ℕ) (os : List Outcome) → Fall n os → has_place p os ≡ true → p < n
 falls-below n p [] f m = absurd (both_ways false refl m)
 falls-below n p (Accepted q ∷ os) f m = elim (or_cases (nat_eq p q) (has_place p os) m) [
   | inl is ↦ (let e : p ≡ q = eqb-true p q is in omega (arith, e, f.1.0))
@@ -239,7 +239,7 @@ pub record AreMakers (nobody : ℕ) (M : ℕ → Maker) (n : ℕ) (G : ℕ → L
   pub made : (k p : ℕ) → (k ≡ nobody → ⊥) → 0 < p → p ≤ n → (M p).client ≡ k → has_place p (G k) ≡ true
   pub own : (k p : ℕ) → has_place p (G k) ≡ true → (M p).client ≡ k
 
-length-makers : (M : ℕ → Maker) (n : ℕ) → length (makers_of M n) ≡ n
+pub length-makers : (M : ℕ → Maker) (n : ℕ) → length (makers_of M n) ≡ n
 length-makers M zero = refl
 length-makers M (suc n) = ap suc (length-makers M n)
 

@@ -7,4 +7,7 @@ pub mod Agree
 pub mod Values
 pub mod Clients
 pub mod Makers
+pub mod Opened
+pub mod Course
+pub mod Law
 pub mod Builds

@@ -1,11 +1,11 @@
 -- Who made the actions of a well-formed state.
-use Rattle.std.proofs.Common.{◌≡◌, ◌≢◌, ℕ, zero, suc, ◌+◌, ◌-◌, ◌<◌, ◌≤◌, Bool, true, false, ◌&&◌, ◌||◌, not, cond, nat_eq, nat_lt, nat_le, ◌⊎◌, inl, inr, List, [], ◌∷◌, ◌++◌, map, length, Option, Some, None, slice_get, min, refl, sym, ◌∙◌, ap, subst, arith}
+use Rattle.std.proofs.Common.{◌≡◌, ◌≢◌, ℕ, zero, suc, ◌+◌, ◌-◌, ◌<◌, ◌≤◌, Bool, true, false, ◌&&◌, ◌||◌, not, cond, nat_eq, nat_lt, nat_le, ◌⊎◌, inl, inr, List, [], ◌∷◌, ◌++◌, map, length, Option, Some, None, slice_get, min, is_none, refl, sym, ◌∙◌, ap, subst, arith}
 use Rattle.std.specs.List.{list_all, flat_map}
 use Rattle.std.proofs.lemmas.Bool.{both_ways, cases_lt, cases_eq, cases_Bool, eq-eqb, eqb-true, ne_eqb, or_cases, or_parts, or_left, or_right, and_parts, not-true, not_from_true, lt-leb, le-leb, leb-true, leb-false, ltb-true, cond-true, cond-false}
 use Rattle.std.proofs.lemmas.Option.{slice_get_within, slice_get-map}
 use Rattle.sv_world.specs.declared.world.Shape.{Shape}
 use Rattle.sv_world.specs.Control.{is_in}
-use Rattle.sv_world.specs.Faults.{is_ascending}
+use Rattle.sv_world.specs.Faults.{is_ascending, first_fault_of_action}
 use Rattle.sv_world.proofs.Ascending.{ascending-tail, ascending-head}
 use Rattle.sv_world.proofs.Members.{is_in-append_right, is_in-append_left, is_in-append_cases}
 use Rattle.sv_clients.specs.declared.outcome.Outcome.{Outcome as OutcomeRow}
@@ -15,15 +15,15 @@ use Rattle.sv_journal.specs.History.{Outcome, Accepted, Dropped, Denied}
 use Rattle.sv_state.specs.declared.state.Above.{Above}
 use Rattle.sv_state.specs.declared.state.ClientState.{ClientState}
 use Rattle.sv_state.specs.declared.state.State.{State}
-use Rattle.sv_state.specs.WellFormed.{position_of, above_numbered, are_in_turn, is_by, is_good_above, is_good_outcome, are_good_outcomes, place_in, places_in, keeps_last, is_good_client, client_numbers, client_with, is_accepted_at, is_authors, have_authors, are_new, all_places, IsWellFormed}
+use Rattle.sv_state.specs.WellFormed.{position_of, above_numbered, are_in_turn, is_by, is_result_of, is_good_above, is_good_outcome, are_good_outcomes, place_in, places_in, keeps_last, is_good_client, client_numbers, client_with, is_accepted_at, is_authors, have_authors, are_new, all_places, IsWellFormed}
 use Rattle.law_state.specs.Builds.{Maker, turned, has_place, Fall}
-use Rattle.law_state.specs.OfState.{nobody, outcomes_kept, found_above, older_outcomes, all_outcomes, outcomes_by, owner_in, maker_above, maker_at, HasNumbers}
+use Rattle.law_state.specs.OfState.{nobody, outcomes_kept, found_above, older_outcomes, all_outcomes, outcomes_by, owner_in, committed_action, maker_above, maker_at, HasNumbers}
 use Rattle.law_state.proofs.Builds.{AreMakers}
 use Rattle.law_state.proofs.Clients.{same, has-append, has-both, fall-append, kept-falls, all-get, all-in, found-at, found-is, older-has, older-made, older-falls}
 
 -- ---- What is kept of a client
 
-with-number : (k : ℕ) (cs : List ClientState) (c : ClientState) → client_with k cs ≡ Some c → c.client.0 ≡ k
+pub with-number : (k : ℕ) (cs : List ClientState) (c : ClientState) → client_with k cs ≡ Some c → c.client.0 ≡ k
 with-number k [] c q = cc
 with-number k (x ∷ xs) c q = go (nat_eq x.client.0 k) refl q (with-number k xs c)
   where
@@ -39,7 +39,7 @@ with-all f k (x ∷ xs) c all q = go (nat_eq x.client.0 k) q (with-all f k xs c 
     go true g ih = (let at : x ≡ c = cc in subst (λ y. f y ≡ true) at (and_parts (f x) (list_all f xs) all).0)
     go false g ih = ih g
 
-with-listed : (k : ℕ) (cs : List ClientState) (c : ClientState) → client_with k cs ≡ Some c → is_in k (client_numbers cs) ≡ true
+pub with-listed : (k : ℕ) (cs : List ClientState) (c : ClientState) → client_with k cs ≡ Some c → is_in k (client_numbers cs) ≡ true
 with-listed k [] c q = cc
 with-listed k (x ∷ xs) c q = go (nat_eq x.client.0 k) refl q (with-listed k xs c)
   where
@@ -128,7 +128,7 @@ owner-is before k p (x ∷ xs) c new' q m = go (nat_eq x.client.0 k) refl q (is_
     go false is g false has ih = ih g
 
 -- Numbers that ascend are different.
-numbers-once : (x : ClientState) (xs : List ClientState) → is_ascending (client_numbers (x ∷ xs)) ≡ true → is_in x.client.0 (client_numbers xs) ≡ false
+pub numbers-once : (x : ClientState) (xs : List ClientState) → is_ascending (client_numbers (x ∷ xs)) ≡ true → is_in x.client.0 (client_numbers xs) ≡ false
 numbers-once x xs asc = elim (cases_Bool (is_in x.client.0 (client_numbers xs))) [
   | inl m ↦ (let less = ascending-head x.client.0 (client_numbers xs) asc x.client.0 m in absurd (omega (arith, less)))
   | inr none ↦ none
@@ -151,7 +151,7 @@ owner-keeps k p (x ∷ xs) asc own some = go (is_in p (places_in x.kept)) refl o
 
 -- ---- Authors
 
-authors-at : (clients : List ClientState) (p : ℕ) (above : List Above) (i : ℕ) (a : Above) → have_authors clients p above ≡ true → slice_get above i ≡ Some a →
+pub authors-at : (clients : List ClientState) (p : ℕ) (above : List Above) (i : ℕ) (a : Above) → have_authors clients p above ≡ true → slice_get above i ≡ Some a →
     is_authors (p + i) a.seq (client_with a.client.0 clients) ≡ true
 authors-at clients p [] i a all q = cc
 authors-at clients p (x ∷ xs) zero a all q =
@@ -264,12 +264,12 @@ module _ (shape : Shape) (s : State) (wf : IsWellFormed shape s) (in' : HasNumbe
   pub maker-low : (p : ℕ) → p ≤ s.commit → (maker_at s p).client ≡ owner_in s.clients p
   maker-low p low = go (nat_le p s.commit) (le-leb p s.commit low)
     where
-      go : (b : Bool) → b ≡ true → (cond b (record { client = owner_in s.clients p; action = _ }) (maker_above (above_numbered s.commit s.above p))).client ≡ owner_in s.clients p
+      go : (b : Bool) → b ≡ true → (cond b (record { client = owner_in s.clients p; action = committed_action s p }) (maker_above (above_numbered s.commit s.above p))).client ≡ owner_in s.clients p
       go true q = refl
       go false q = absurd (both_ways false refl q)
 
   pub maker-high : (p : ℕ) → s.commit < p → maker_at s p ≡ maker_above (above_numbered s.commit s.above p)
-  maker-high p high = cond-false (nat_le p s.commit) _ (maker_above (above_numbered s.commit s.above p)) (lt-leb p s.commit high)
+  maker-high p high = cond-false (nat_le p s.commit) (record { client = owner_in s.clients p; action = committed_action s p }) (maker_above (above_numbered s.commit s.above p)) (lt-leb p s.commit high)
 
   -- A position above the commit has an action.
   pub above-some : (p : ℕ) → s.commit < p → p ≤ position_of s → (a : Above) × (above_numbered s.commit s.above p ≡ Some a)
@@ -297,7 +297,7 @@ module _ (shape : Shape) (s : State) (wf : IsWellFormed shape s) (in' : HasNumbe
       ∙ authors-at s.clients (suc s.commit) s.above (p - suc s.commit) a wf.authors f)
     where
       positive : 0 < a.seq
-      positive = ltb-true 0 a.seq (and_parts _ (nat_lt 0 a.seq) (all-get (is_good_above shape) s.above (p - suc s.commit) a wf.above f)).1
+      positive = ltb-true 0 a.seq (and_parts (is_none (first_fault_of_action shape a.action) && is_result_of shape.attrs a.action a.result) (nat_lt 0 a.seq) (all-get (is_good_above shape) s.above (p - suc s.commit) a wf.above f)).1
 
       go : (o : Option ClientState) → client_with a.client.0 s.clients ≡ o → is_authors p a.seq o ≡ true → has_place p (outcomes_by s a.client.0) ≡ true
       go None q wrote = absurd (both_ways false refl wrote)

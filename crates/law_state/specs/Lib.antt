@@ -7,4 +7,3 @@ pub mod Stands
 pub mod Actions
 pub mod Builds
 pub mod OfState
-pub mod Laws

@@ -1,21 +1,32 @@
 -- The course whose history is made up for a state.
-use Rattle.std.specs.Prelude.{◌≡◌, ℕ, zero, suc, ◌+◌, ◌-◌, ◌<◌, Bool, true, false, ◌&&◌, not, ◌==◌, nat_le, ℤ, List, [], ◌∷◌, ◌++◌, map, filter, length, slice_get, Option, Some, None, option_map, unwrap_or, if◌then◌else◌}
+use Rattle.std.specs.Prelude.{◌≡◌, ℕ, zero, suc, ◌+◌, ◌-◌, ◌<◌, ◌≤◌, Bool, true, false, ◌&&◌, not, ◌==◌, nat_le, nat_lt, IsSome, ℤ, List, [], ◌∷◌, ◌++◌, map, filter, length, slice_get, Option, Some, None, option_map, unwrap_or, if◌then◌else◌}
 use Rattle.sv_world.specs.declared.action.Action.{Action}
 use Rattle.sv_world.specs.declared.world.ClientId.{ClientId}
 use Rattle.sv_world.specs.Control.{is_in, below, blank}
+use Rattle.sv_world.specs.Limits.{most_open, most_positions}
 use Rattle.sv_world.specs.Sets.{numbers_of}
-use Rattle.sv_clients.specs.Clients.{outcome_value}
-use Rattle.sv_journal.specs.History.{Outcome, Accepted, Dropped}
-use Rattle.sv_journal.specs.Living.{Stewardship}
+use Rattle.sv_clients.specs.declared.clients.Clients.{Clients}
+use Rattle.sv_clients.specs.Clients.{ClientView, no_client, client_row, outcome_value}
+use Rattle.sv_journal.specs.declared.entry.Entry.{Entry}
+use Rattle.sv_journal.specs.History.{Outcome, Accepted, Dropped, commit_of}
+use Rattle.sv_journal.specs.Sessions.{is_ended}
+use Rattle.sv_journal.specs.Answer.{Rules}
+use Rattle.sv_journal.specs.Living.{Stewardship, heeded}
+use Rattle.sv_queue.specs.Pairs.{is_pair}
+use Rattle.sv_queue.specs.Queue.{QueueView, last_position, entry_at}
+use Rattle.sv_sequencer.specs.declared.sessions.SessionRow.{SessionRow}
+use Rattle.sv_sequencer.specs.Agreement.{IsSoundHistory, IsClientRow, FitsSeats, AreSeated}
+use Rattle.sv_sequencer.specs.Rows.{row_at, seat_in, has_entry, owes_end, count_rows, IsSessionRow}
 use Rattle.sv_state.specs.declared.state.Above.{Above}
 use Rattle.sv_state.specs.declared.state.ClientState.{ClientState}
 use Rattle.sv_state.specs.declared.state.OpenSession.{OpenSession}
 use Rattle.sv_state.specs.declared.state.State.{State}
-use Rattle.sv_state.specs.WellFormed.{position_of, above_numbered, is_by, places_in, client_numbers, client_with, session_numbers}
+use Rattle.sv_state.specs.WellFormed.{position_of, above_numbered, is_by, places_in, client_numbers, client_with, session_numbers, IsWellFormed}
 use Rattle.law_state.specs.Made.{Place}
 use Rattle.law_state.specs.Actions.{writing_all}
 use Rattle.law_state.specs.Builds.{Maker, built, turned, makers_of}
 use Rattle.law_state.specs.Whole.{Course}
+use Rattle.law_state.specs.Stands.{row_of, sent_by, given_by}
 
 -- No client of a message has this number, and no session has one from the other on.
 abbrev pub nobody : ℕ
@@ -109,3 +120,69 @@ course_of w s = record {
 pub record HasNumbers (s : State) : Type 0 where
   pub clients : (k : ℕ) → is_in k (client_numbers s.clients) ≡ true → k < nobody
   pub sessions : s.sessions < first_nobodys
+
+-- ---- A core that has what the state says
+
+-- What is kept of a client.
+abbrev pub row_in : Option ClientState → ClientView
+row_in None = no_client
+row_in (Some c) = record { life = c.life; count = c.next - 1; kept = outcomes_kept c }
+
+-- The queue has an action of the state at its position.
+pub record IsRaised (v : QueueView) (p : ℕ) (a : Above) : Type 0 where
+  pub author : (entry_at v p).author.0 ≡ a.client.0
+  pub seq : (entry_at v p).seq ≡ a.seq
+  pub action : (entry_at v p).action ≡ a.action
+  pub result : (entry_at v p).result ≡ a.result
+
+-- The queue, the rows of sessions and clients, and the number of Ends to come are what the state says, with its open sessions at the slots of their
+-- places in it.
+pub record HasState (r : Rules) (s : State) (v : QueueView) (rows : List SessionRow) (clients : Clients) (owed : ℕ) : Type 0 where
+  pub shape : v.shape ≡ r.world.shape
+  pub commit : v.commit ≡ s.commit
+  pub committed : v.committed ≡ s.values
+  pub last : last_position v ≡ position_of s
+  pub raised : (p : ℕ) (a : Above) → s.commit < p → above_numbered s.commit s.above p ≡ Some a → IsRaised v p a
+  pub marks : (p slot : ℕ) → s.commit < p → p ≤ position_of s → slot < most_open → is_in slot (entry_at v p).marks ≡ is_in p (sent_by (slice_get (map place_of s.opened) slot))
+  pub given : (x slot : ℕ) → x < r.world.shape.objects → slot < most_open → is_pair x slot v.given ≡ is_in x (given_by (slice_get (map place_of s.opened) slot))
+  pub room : length s.opened ≤ v.room
+  pub rows : rows ≡ map row_of (map place_of s.opened)
+  pub clients : (k : ℕ) → k < nobody → client_row clients k ≡ row_in (client_with k s.clients)
+  pub owed : owed ≡ length s.opened
+
+-- What a core's fields say of a history, of clients that there may be. (Their row of other numbers says nothing.)
+pub record AgreesBelow (most : ℕ) (r : Rules) (h : List Entry) (v : QueueView) (rows : List SessionRow) (clients : Clients) (owed : ℕ) : Type 0 where
+  pub sound : IsSoundHistory r h
+  pub positions : r.positions ≤ most_positions
+  pub few : length rows ≤ most_open
+  pub room : length rows ≤ v.room
+  pub fits : FitsSeats r h rows v
+  pub commit : v.commit ≡ commit_of h
+  pub seats : AreSeated h rows
+  pub session_rows : (slot t : ℕ) → seat_in rows slot ≡ Some t → IsSessionRow r h t (row_at rows slot)
+  pub client_rows : (k : ℕ) → k < most → IsClientRow h k (client_row clients k)
+  pub ends : owed ≡ count_rows owes_end rows
+
+-- The rules are those of a world without end, the world that a state is of.
+pub record SuitsRules (r : Rules) (s : State) : Type 0 where
+  pub requests : r.requests ≡ None
+  pub limit : r.positions ≤ most_positions
+  pub positions : position_of s ≤ r.positions
+  pub objects : length r.world.values ≡ r.world.shape.objects
+  pub opening : s.commit ≡ 0 → s.values ≡ r.world.values
+
+-- The sessions that are open by a history, and those that have an entry.
+pub record HasSessions (s : State) (h : List Entry) : Type 0 where
+  pub opened : (t : ℕ) → (has_entry h t && not (is_ended h t)) ≡ is_in t (session_numbers s.opened)
+  pub begun : (t : ℕ) → t < first_nobodys → has_entry h t ≡ nat_lt t s.sessions
+
+-- A history that a core keeps which has what the state says. Each of its results counts.
+pub record IsOfState (r : Rules) (w : Stewardship) (s : State) (h : List Entry) : Type 0 where
+  pub heeded : heeded w h ≡ h
+  pub sessions : HasSessions s h
+  pub agrees : (v : QueueView) (rows : List SessionRow) (clients : Clients) (owed : ℕ) → HasState r s v rows clients owed → AgreesBelow nobody r h v rows clients owed
+
+-- For each well-formed state there is one.
+abbrev pub StatesHaveHistories : Type 0
+StatesHaveHistories = (r : Rules) (w : Stewardship) (s : State) → IsWellFormed r.world.shape s → HasNumbers s → SuitsRules r s →
+    (w.authority ≡ true → IsSome w.steward) → (h : List Entry) × IsOfState r w s h

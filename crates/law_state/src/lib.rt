@@ -1,6 +1,6 @@
-//! Laws of states: for each state that is well formed there is a history that leads there.
+//! A law of states: for each that is well formed there is a history that a core keeps which has what the state says.
 #![tactic(auto)]
 
 mod made;
 
-pub use made::made_histories_stand;
+pub use made::states_have_histories;
