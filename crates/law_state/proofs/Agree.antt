@@ -63,20 +63,20 @@ planned-within (t ∷ plan) k n p q = go (nat_eq t.client k) q (λ e. planned-wi
 
 -- ---- Rows
 
-abbrev row_or : Option Place → SessionRow
+abbrev pub row_or : Option Place → SessionRow
 row_or None = no_session
 row_or (Some o) = row_of o
 
-row-seat : (seats : List Place) (slot : ℕ) → row_at (map row_of seats) slot ≡ row_or (slice_get seats slot)
+pub row-seat : (seats : List Place) (slot : ℕ) → row_at (map row_of seats) slot ≡ row_or (slice_get seats slot)
 row-seat [] slot = refl
 row-seat (o ∷ os) zero = refl
 row-seat (o ∷ os) (suc i) = row-seat os i
 
-abbrev number_of : Option Place → Option ℕ
+abbrev pub number_of : Option Place → Option ℕ
 number_of None = None
 number_of (Some o) = Some o.session
 
-seat-number : (seats : List Place) (slot : ℕ) → seat_in (map row_of seats) slot ≡ number_of (slice_get seats slot)
+pub seat-number : (seats : List Place) (slot : ℕ) → seat_in (map row_of seats) slot ≡ number_of (slice_get seats slot)
 seat-number seats slot = ap (λ (row : SessionRow). row.session) (row-seat seats slot) ∙ go (slice_get seats slot)
   where
     go : (o : Option Place) → (row_or o).session ≡ number_of o

@@ -57,7 +57,7 @@ turned-makers M (suc n) i d low = (let long : length (turned (makers_of M n)) �
   ])
 
 -- Numbers that ascend stand once.
-ascending-once : (ks : List ℕ) → is_ascending ks ≡ true → AreOnce ks
+pub ascending-once : (ks : List ℕ) → is_ascending ks ≡ true → AreOnce ks
 ascending-once [] asc = tt
 ascending-once (k ∷ ks) asc = (none (is_in k ks) refl, ascending-once ks (ascending-tail k ks asc))
   where

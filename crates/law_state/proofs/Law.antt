@@ -206,9 +206,9 @@ module _ (r : Rules) (w : Stewardship) (s : State) (wf : IsWellFormed r.world.sh
 
     client-is : (k : ℕ) → k < nobody → AreClientsOf (course_of w s) clients' k
     client-is k low = record {
-      life = ap (λ row. row.life) (has.clients k low) ∙ row-life (client_with k s.clients) ∙ sym (life-is r w s wf in' k);
+      life = ap (λ row. row.life) (has.client_rows k low) ∙ row-life (client_with k s.clients) ∙ sym (life-is r w s wf in' k);
       outcomes = subst (λ os. KeepsOutcomes os (client_row clients' k)) (sym (plan-outcomes r w s wf in' k (λ is. omega (arith, is, low))))
-          (subst (KeepsOutcomes (turned (outcomes_by s k))) (sym (has.clients k low)) (keeps k (client_with k s.clients) refl));
+          (subst (KeepsOutcomes (turned (outcomes_by s k))) (sym (has.client_rows k low)) (keeps k (client_with k s.clients) refl));
     }
       where
         row-life : (o : Option ClientState) → (row_in o).life ≡ life_in o
@@ -216,7 +216,7 @@ module _ (r : Rules) (w : Stewardship) (s : State) (wf : IsWellFormed r.world.sh
         row-life (Some c) = refl
 
     pub state-agrees : AgreesBelow nobody r H v rows' clients' owed
-    state-agrees = subst (λ rs. AgreesBelow nobody r H v rs clients' owed) (sym has.rows) (record {
+    state-agrees = subst (λ rs. AgreesBelow nobody r H v rs clients' owed) (sym has.session_rows) (record {
       sound = made-sound r first_nobodys (course_of w s) course;
       positions = suits.limit;
       few = (let e = length-map (map place_of s.opened) row_of in let d = length-map s.opened place_of in omega (arith, e, d, wf.few));
@@ -226,7 +226,7 @@ module _ (r : Rules) (w : Stewardship) (s : State) (wf : IsWellFormed r.world.sh
       seats = made-seated r first_nobodys (course_of w s) course (map place_of s.opened) v queue (seats-are r w s wf in');
       session_rows = made-rows r first_nobodys (course_of w s) course (map place_of s.opened) v queue (seats-are r w s wf in') suits.requests;
       client_rows = λ k low. made-client r first_nobodys (course_of w s) course clients' k (client-is k low);
-      ends = has.owed ∙ sym (length-map s.opened place_of) ∙ sym (count-owed (map place_of s.opened));
+      ends = has.ends ∙ sym (length-map s.opened place_of) ∙ sym (count-owed (map place_of s.opened));
     })
 
   -- ---- Its sessions

@@ -10,4 +10,6 @@ pub mod Makers
 pub mod Opened
 pub mod Course
 pub mod Law
+pub mod Kept
+pub mod Joined
 pub mod Builds

@@ -115,11 +115,9 @@ place-listed k p (x ∷ xs) c q m = go (nat_eq x.client.0 k) q (place-listed k p
 owner-is : (before : List ℕ) (k p : ℕ) (cs : List ClientState) (c : ClientState) → are_new before (all_places cs) ≡ true → client_with k cs ≡ Some c → is_in p (places_in c.kept) ≡ true →
     owner_in cs p ≡ k
 owner-is before k p [] c new' q m = cc
-owner-is before k p (x ∷ xs) c new' q m = go (nat_eq x.client.0 k) refl q (is_in p (places_in x.kept)) refl (rest (new-behind before (places_in x.kept) (all_places xs) new'))
+owner-is before k p (x ∷ xs) c new' q m = go (nat_eq x.client.0 k) refl q (is_in p (places_in x.kept)) refl
+    (λ g. (let more = new-behind before (places_in x.kept) (all_places xs) new' in owner-is more.0 k p xs c more.1 g m))
   where
-    rest : (more : List ℕ) × (are_new more (all_places xs) ≡ true) → client_with k xs ≡ Some c → owner_in xs p ≡ k
-    rest more g = owner-is more.0 k p xs c more.1 g m
-
     go : (b : Bool) → nat_eq x.client.0 k ≡ b → cond b (Some x) (client_with k xs) ≡ Some c → (d : Bool) → is_in p (places_in x.kept) ≡ d → (client_with k xs ≡ Some c → owner_in xs p ≡ k) →
         cond d x.client.0 (owner_in xs p) ≡ k
     go true is g true has ih = eqb-true x.client.0 k is

@@ -196,9 +196,9 @@ distinct-append (x ∷ xs) ys d e apart =
     (sits-both x.session xs ys d.0 (apart x.session (or_left (nat_eq x.session x.session) (sits x.session xs) (eq-eqb x.session x.session refl))),
     distinct-append xs ys d.1 e (λ t m. apart t (or_right (nat_eq x.session t) (sits t xs) m)))
   where
-    sits-both : (t : ℕ) (as bs : List Place) → sits t as ≡ false → sits t bs ≡ false → sits t (as ++ bs) ≡ false
-    sits-both t [] bs p q = q
-    sits-both t (a ∷ as) bs p q = (let both = or_parts (nat_eq a.session t) (sits t as) p in ap (λ b. b || sits t (as ++ bs)) both.0 ∙ sits-both t as bs both.1 q)
+    sits-both : (t : ℕ) (ps qs : List Place) → sits t ps ≡ false → sits t qs ≡ false → sits t (ps ++ qs) ≡ false
+    sits-both t [] qs f g = g
+    sits-both t (a ∷ ps) qs f g = (let both = or_parts (nat_eq a.session t) (sits t ps) f in ap (λ b. b || sits t (ps ++ qs)) both.0 ∙ sits-both t ps qs both.1 g)
 
 pub places-distinct : (os : List OpenSession) → is_ascending (session_numbers os) ≡ true → AreDistinct (live_places os ++ over_places os)
 places-distinct os asc = distinct-append (live_places os) (over_places os) (live-distinct os asc) (over-distinct os asc)

@@ -31,7 +31,7 @@ mask-all (x ∷ xs) =
     cond-true (is_in_mask (1 + 2 * full_mask (length xs)) 0) (x ∷ at_mask (1 + 2 * full_mask (length xs)) 1 xs) (at_mask (1 + 2 * full_mask (length xs)) 1 xs) (first-slot (full_mask (length xs)))
     ∙ ap (λ ys. x ∷ ys) (mask-shift (full_mask (length xs)) 0 xs ∙ mask-all xs)
 
-numbers-back : (xs : List ℕ) → numbers_of (map object_numbered xs) ≡ xs
+pub numbers-back : (xs : List ℕ) → numbers_of (map object_numbered xs) ≡ xs
 numbers-back [] = refl
 numbers-back (x ∷ xs) = ap (λ ys. x ∷ ys) (numbers-back xs)
 

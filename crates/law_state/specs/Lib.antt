@@ -7,3 +7,4 @@ pub mod Stands
 pub mod Actions
 pub mod Builds
 pub mod OfState
+pub mod Kept

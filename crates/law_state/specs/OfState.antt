@@ -146,9 +146,9 @@ pub record HasState (r : Rules) (s : State) (v : QueueView) (rows : List Session
   pub marks : (p slot : ℕ) → s.commit < p → p ≤ position_of s → slot < most_open → is_in slot (entry_at v p).marks ≡ is_in p (sent_by (slice_get (map place_of s.opened) slot))
   pub given : (x slot : ℕ) → x < r.world.shape.objects → slot < most_open → is_pair x slot v.given ≡ is_in x (given_by (slice_get (map place_of s.opened) slot))
   pub room : length s.opened ≤ v.room
-  pub rows : rows ≡ map row_of (map place_of s.opened)
-  pub clients : (k : ℕ) → k < nobody → client_row clients k ≡ row_in (client_with k s.clients)
-  pub owed : owed ≡ length s.opened
+  pub session_rows : rows ≡ map row_of (map place_of s.opened)
+  pub client_rows : (k : ℕ) → k < nobody → client_row clients k ≡ row_in (client_with k s.clients)
+  pub ends : owed ≡ length s.opened
 
 -- What a core's fields say of a history, of clients that there may be. (Their row of other numbers says nothing.)
 pub record AgreesBelow (most : ℕ) (r : Rules) (h : List Entry) (v : QueueView) (rows : List SessionRow) (clients : Clients) (owed : ℕ) : Type 0 where
