@@ -2,8 +2,7 @@
 use Rattle.std.proofs.Common.{◌≡◌, ◌≢◌, ℕ, zero, suc, ◌+◌, ◌-◌, ◌<◌, ◌≤◌, Bool, true, false, ◌&&◌, ◌||◌, not, cond, nat_eq, nat_lt, nat_le, ◌⊎◌, inl, inr, ℤ, List, [], ◌∷◌, ◌++◌, map, length, get_or, drop, max, Option, Some, None, is_some, is_none, option_map, unwrap_or, slice_get, min, IsSome, refl, sym, ◌∙◌, ap, subst, arith, append-nil, append_assoc, length-append}
 use Rattle.std.specs.List.{list_all}
 use Rattle.std.proofs.lemmas.Bool.{both_ways, cases_lt, cases_eq, cases_Bool, eq-eqb, eqb-true, ne_eqb, or_cases, or_parts, or_left, or_right, and_parts, not-true, not_from_true, lt-leb, le-leb, leb-true, ltb-true, cond-true, cond-false}
-use Rattle.std.proofs.lemmas.List.{length-map, get_or_append_left, get_or_push}
-use Rattle.std.proofs.Math.ListN.{get_or-map}
+use Rattle.std.proofs.lemmas.List.{length-map, get_or_append_left, get_or_push, get_or-map}
 use Rattle.sv_world.specs.declared.action.Action.{Action}
 use Rattle.sv_world.specs.declared.world.ClientId.{ClientId}
 use Rattle.sv_world.specs.Control.{is_in, below, blank, action_at, SentIsClosed}

@@ -12,7 +12,7 @@ use Rattle.sv_queue.specs.Queue.{QueueView, last_position, entry_at}
 use Rattle.sv_clients.specs.declared.clients.Clients.{Clients}
 use Rattle.sv_clients.specs.declared.outcome.Outcome.{Outcome as OutcomeRow}
 use Rattle.sv_clients.specs.declared.outcome.Outcome.TheVariants as rows
-use Rattle.sv_clients.specs.Clients.{client_row, KeepsOutcomes, last_of, outcome_value}
+use Rattle.sv_clients.specs.Clients.{ClientView, client_row, KeepsOutcomes, last_of, outcome_value}
 use Rattle.sv_journal.specs.declared.entry.Entry.{Entry}
 use Rattle.sv_journal.specs.History.{Authored, Outcome, Accepted, authored_at}
 use Rattle.sv_journal.specs.Sessions.{is_ended}
@@ -206,7 +206,7 @@ module _ (r : Rules) (w : Stewardship) (s : State) (wf : IsWellFormed r.world.sh
 
     client-is : (k : ℕ) → k < nobody → AreClientsOf (course_of w s) clients' k
     client-is k low = record {
-      life = ap (λ row. row.life) (has.client_rows k low) ∙ row-life (client_with k s.clients) ∙ sym (life-is r w s wf in' k);
+      life = ap (λ (row : ClientView). row.life) (has.client_rows k low) ∙ row-life (client_with k s.clients) ∙ sym (life-is r w s wf in' k);
       outcomes = subst (λ os. KeepsOutcomes os (client_row clients' k)) (sym (plan-outcomes r w s wf in' k (λ is. omega (arith, is, low))))
           (subst (KeepsOutcomes (turned (outcomes_by s k))) (sym (has.client_rows k low)) (keeps k (client_with k s.clients) refl));
     }
@@ -302,11 +302,11 @@ module _ (r : Rules) (w : Stewardship) (s : State) (wf : IsWellFormed r.world.sh
 
 pub states-have-histories : StatesHaveHistories
 states-have-histories r w s wf in' suits steward = (made first_nobodys (course_of w s), record {
-  heeded = made-heeded first_nobodys (course_of w s) w (λ q. counted w.steward (steward q));
+  counted = made-heeded first_nobodys (course_of w s) w (λ q. counted w.steward (steward q));
   sessions = state-sessions r w s wf in' suits;
   agrees = λ v rows' clients' owed has. state-agrees r w s wf in' suits v rows' clients' owed has;
 })
   where
     counted : (o : Option ℕ) → IsSome o → o ≡ Some (unwrap_or o nobody)
     counted (Some k) is = refl
-    counted None is = absurd is
+    counted None is = absurd (both_ways false refl is)

@@ -10,6 +10,6 @@ pub mod Makers
 pub mod Opened
 pub mod Course
 pub mod Law
-pub mod Kept
+pub mod OfHistories
 pub mod Joined
 pub mod Builds

@@ -178,7 +178,7 @@ pub record HasSessions (s : State) (h : List Entry) : Type 0 where
 
 -- A history that a core keeps which has what the state says. Each of its results counts.
 pub record IsOfState (r : Rules) (w : Stewardship) (s : State) (h : List Entry) : Type 0 where
-  pub heeded : heeded w h ≡ h
+  pub counted : heeded w h ≡ h
   pub sessions : HasSessions s h
   pub agrees : (v : QueueView) (rows : List SessionRow) (clients : Clients) (owed : ℕ) → HasState r s v rows clients owed → AgreesBelow nobody r h v rows clients owed
 

@@ -1,5 +1,5 @@
 -- What is proved by hand of `histories_of_states_are_kept`.
-use Rattle.law_state.proofs.Kept.{histories-of-states-are-kept}
+use Rattle.law_state.proofs.OfHistories.{histories-of-states-are-kept}
 use Rattle.law_state.proofs.kept.histories_of_states_are_kept.Goals as goal
 
 pub returns : goal.returns
