@@ -129,7 +129,7 @@ built-outcomes nobody G ks (m ∷ ms) j once suit some listed = go (cases_eq m.c
         (latest-own m.client (G m.client) (t ∷ rest)
         (turn-own m.client (planned_outcomes rest m.client) (Accepted (suc (length (planned_actions rest))))
         ∙ ap (λ xs. xs ++ Accepted (suc (length (planned_actions rest))) ∷ [])
-            (subst (λ i. planned_outcomes rest i ≡ turned (without_latest m.client G i)) (sym is) ih ∙ ap (λ b. turned (cond b (before_accepted (G m.client)) (G m.client))) (same m.client))
+        (subst (λ i. planned_outcomes rest i ≡ turned (without_latest m.client G i)) (sym is) ih ∙ ap (λ b. turned (cond b (before_accepted (G m.client)) (G m.client))) (same m.client))
         ∙ ap (λ n. turned (before_accepted (G m.client)) ++ Accepted (suc n) ∷ []) (built-count (without_latest m.client G) ks ms)
         ∙ ap turned (sym (named suit.0 is))))
     go (inr ne) ih =
@@ -165,8 +165,13 @@ planned-placed (t ∷ plan) p high = go (cases_lt p (length A)) (λ low. planned
     os k = planned_outcomes plan k
 
     stays : IsPlacedAt plan (get_or A p nobodys) (suc p) → IsPlacedAt (t ∷ plan) (get_or A p nobodys) (suc p)
-    stays found = (found.0, (found.1.0,
-        get-front (os (get_or A p nobodys).client) (cond (nat_eq t.client (get_or A p nobodys).client) (outcome_by (suc (length A)) t.fate ∷ []) []) found.0 (Accepted (suc p)) found.1.1))
+    stays found = (
+      found.0,
+      (
+        found.1.0,
+        get-front (os (get_or A p nobodys).client) (cond (nat_eq t.client (get_or A p nobodys).client) (outcome_by (suc (length A)) t.fate ∷ []) []) found.0 (Accepted (suc p)) found.1.1,
+      ),
+    )
 
     go : (p < length A) ⊎ (length A ≤ p) → (p < length A → IsPlacedAt plan (get_or A p nobodys) (suc p)) → (f : Fate) → t.fate ≡ f →
         IsPlacedAt (t ∷ plan) (get_or (A ++ taken_by t.client (suc (length (os t.client))) t.fate) p nobodys) (suc p)
@@ -177,10 +182,14 @@ planned-placed (t ∷ plan) p high = go (cases_lt p (length A)) (λ low. planned
         let one : length (taken_by t.client (suc (length (os t.client))) t.fate) ≡ 1 = ap (λ f. length (taken_by t.client (suc (length (os t.client))) f)) is in
         let here : p ≡ length A = omega (arith, long, one, high, top) in
         subst (λ x. IsPlacedAt (t ∷ plan) x (suc p))
-        (sym (ap (λ f. get_or (A ++ taken_by t.client (suc (length (os t.client))) f) p nobodys) is ∙ get_or_push A (record { client = t.client; seq = suc (length (os t.client)); action = a }) nobodys p (sym here)))
-        (length (os t.client), (refl,
-        ap (λ b. slice_get (os t.client ++ cond b (outcome_by (suc (length A)) t.fate ∷ []) []) (length (os t.client))) (same t.client)
-        ∙ get-last (os t.client) (outcome_by (suc (length A)) t.fate) ∙ ap (λ f. Some (outcome_by (suc (length A)) f)) is ∙ ap (λ n. Some (Accepted (suc n))) (sym here))))
+        (sym (ap (λ f. get_or (A ++ taken_by t.client (suc (length (os t.client))) f) p nobodys) is ∙ get_or_push A (record { client = t.client; seq = suc (length (os t.client)); action = a }) nobodys p (sym here))) (
+          length (os t.client),
+          (
+            refl,
+            ap (λ b. slice_get (os t.client ++ cond b (outcome_by (suc (length A)) t.fate ∷ []) []) (length (os t.client))) (same t.client)
+                ∙ get-last (os t.client) (outcome_by (suc (length A)) t.fate) ∙ ap (λ f. Some (outcome_by (suc (length A)) f)) is ∙ ap (λ n. Some (Accepted (suc n))) (sym here),
+          ),
+        ))
     go (inr top) before (Drops chain far) is =
         (let long = length-append A (taken_by t.client (suc (length (os t.client))) t.fate) in
         let one : length (taken_by t.client (suc (length (os t.client))) t.fate) ≡ 0 = ap (λ f. length (taken_by t.client (suc (length (os t.client))) f)) is in
@@ -305,6 +314,8 @@ pub makers-suit : (nobody : ℕ) (M : ℕ → Maker) (n : ℕ) (G : ℕ → List
 makers-suit nobody M zero G are = λ k. falls-none (G k) (are.falls k)
 makers-suit nobody M (suc n) G are = elim (cases_eq (M (suc n)).client nobody) [
   | inl is ↦ (inl is, makers-suit nobody M n (without_latest (M (suc n)).client G) (without-nobody nobody M n G are is))
-  | inr some ↦ (inr ((top nobody M n G are some).0 ∙ ap (λ i. Accepted (suc i) ∷ before_accepted (G (M (suc n)).client)) (sym (length-makers M n))),
-      makers-suit nobody M n (without_latest (M (suc n)).client G) (without-somebody nobody M n G are some))
+  | inr some ↦ (
+    inr ((top nobody M n G are some).0 ∙ ap (λ i. Accepted (suc i) ∷ before_accepted (G (M (suc n)).client)) (sym (length-makers M n))),
+    makers-suit nobody M n (without_latest (M (suc n)).client G) (without-somebody nobody M n G are some),
+  )
 ]

@@ -71,9 +71,14 @@ fall-cut n m (Denied object ∷ ys) f low = fall-cut n m ys f low
 
 pub fall-append : (n : ℕ) (xs ys : List Outcome) → Fall n xs → Fall n ys → ((q h : ℕ) → has_place q xs ≡ true → has_place h ys ≡ true → h < q) → Fall n (xs ++ ys)
 fall-append n [] ys f g low = g
-fall-append n (Accepted p ∷ xs) ys f g low =
-    (f.0, (f.1.0, fall-append p xs ys f.1.1 (fall-cut n p ys g (λ h m. low p h (or_left (nat_eq p p) (has_place p xs) (same p)) m))
-    (λ q h a b. low q h (or_right (nat_eq q p) (has_place q xs) a) b)))
+fall-append n (Accepted p ∷ xs) ys f g low = (
+  f.0,
+  (
+    f.1.0,
+    fall-append p xs ys f.1.1 (fall-cut n p ys g (λ h m. low p h (or_left (nat_eq p p) (has_place p xs) (same p)) m))
+        (λ q h a b. low q h (or_right (nat_eq q p) (has_place q xs) a) b),
+  ),
+)
 fall-append n (Dropped chain far ∷ xs) ys f g low = fall-append n xs ys f g low
 fall-append n (Denied object ∷ xs) ys f g low = fall-append n xs ys f g low
 
@@ -85,9 +90,9 @@ kept-falls n (rows.Accepted p ∷ os) asc within =
     (kept-falls n os (ascending-tail p (places_in os) asc) (λ q m. within q (or_right (nat_eq q p) (is_in q (places_in os)) m)))
     (let here = within p (or_left (nat_eq p p) (is_in p (places_in os)) (same p)) in (here.0, (here.1, tt)))
     (λ q h a b.
-        let above = ascending-head p (places_in os) asc q (sym (has-both q os) ∙ a) in
-        let is : h ≡ p = eqb-true h p (sym (or-false (nat_eq h p)) ∙ b) in
-        omega (arith, above, is))
+    let above = ascending-head p (places_in os) asc q (sym (has-both q os) ∙ a) in
+    let is : h ≡ p = eqb-true h p (sym (or-false (nat_eq h p)) ∙ b) in
+    omega (arith, above, is))
 kept-falls n (rows.Dropped chain far ∷ os) asc within =
     fall-append n (turned (map outcome_value os)) (Dropped chain far ∷ []) (kept-falls n os asc within) tt (λ q h a b. absurd (both_ways false refl b))
 kept-falls n (rows.Denied object ∷ os) asc within =
@@ -218,6 +223,11 @@ older-falls commit above k b (suc m) turn within = go (found_above (suc commit) 
     go : (o : Option ℕ) → found_above (suc commit) above k (suc m) ≡ o → Fall b (older_outcomes commit above k m) → Fall b (older_outcome o ∷ older_outcomes commit above k m)
     go None f ih = ih
     go (Some p) f ih =
-        (let here = within (suc m) p f in
-        (here.0, (here.1, fall-cut b p (older_outcomes commit above k m) ih (λ h has. (let found = older-has commit above k m h has in
-            found-order (suc commit) above k (suc m) found.0 p h turn f found.1.1.1 (omega (arith, found.1.1.0)))))))
+        (let here = within (suc m) p f in (
+          here.0,
+          (
+            here.1,
+            fall-cut b p (older_outcomes commit above k m) ih (λ h has. (let found = older-has commit above k m h has in
+                found-order (suc commit) above k (suc m) found.0 p h turn f found.1.1.1 (omega (arith, found.1.1.0)))),
+          ),
+        ))

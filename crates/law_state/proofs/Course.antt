@@ -50,10 +50,10 @@ turned-back (x ∷ xs) = turned-append (turned xs) (x ∷ []) ∙ ap (λ ys. x �
 turned-makers : (M : ℕ → Maker) (n i : ℕ) (d : Maker) → i < n → get_or (turned (makers_of M n)) i d ≡ M (suc i)
 turned-makers M zero i d low = absurd (omega arith)
 turned-makers M (suc n) i d low = (let long : length (turned (makers_of M n)) ≡ n = length-turned (makers_of M n) ∙ length-makers M n in
-  elim (cases_eq i n) [
-    | inl is ↦ get_or_push (turned (makers_of M n)) (M (suc n)) d i (long ∙ sym is) ∙ ap (λ j. M (suc j)) (sym is)
-    | inr ne ↦ get_or_append_left (turned (makers_of M n)) (M (suc n) ∷ []) d i (omega (arith, long, low, ne)) ∙ turned-makers M n i d (omega (arith, low, ne))
-  ])
+    elim (cases_eq i n) [
+      | inl is ↦ get_or_push (turned (makers_of M n)) (M (suc n)) d i (long ∙ sym is) ∙ ap (λ j. M (suc j)) (sym is)
+      | inr ne ↦ get_or_append_left (turned (makers_of M n)) (M (suc n) ∷ []) d i (omega (arith, long, low, ne)) ∙ turned-makers M n i d (omega (arith, low, ne))
+    ])
 
 -- Numbers that ascend stand once.
 pub ascending-once : (ks : List ℕ) → is_ascending ks ≡ true → AreOnce ks

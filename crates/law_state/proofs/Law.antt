@@ -140,7 +140,7 @@ module _ (r : Rules) (w : Stewardship) (s : State) (wf : IsWellFormed r.world.sh
       let placed = planned-placed (P r w s wf in') i (omega (arith, count, low)) in
       let client : (get_or (planned_actions (P r w s wf in')) i nobodys).client ≡ a.client.0 = ap (λ (m : Maker). m.client) (maker-is i a high low f) in
       let there : slice_get (turned (outcomes_by s a.client.0)) placed.0 ≡ Some (Accepted (suc i)) =
-          ap (λ os. slice_get os placed.0) (sym (ap (planned_outcomes (P r w s wf in')) client ∙ plan-outcomes r w s wf in' a.client.0 (author-listed (suc i) a high f))) ∙ placed.1.1 in
+      ap (λ os. slice_get os placed.0) (sym (ap (planned_outcomes (P r w s wf in')) client ∙ plan-outcomes r w s wf in' a.client.0 (author-listed (suc i) a high f))) ∙ placed.1.1 in
       let some = positive (suc i) a f in
       let here = index-above (suc i) a high f (a.seq - 1) (let e : a.seq ≡ suc (a.seq - 1) = omega (arith, some) in e) in
       let one = place-once (suc (position_of s)) (outcomes_by s a.client.0) placed.0 (a.seq - 1) (suc i) ((makers-are r.world.shape s wf in').falls a.client.0) there here in
@@ -244,9 +244,9 @@ module _ (r : Rules) (w : Stewardship) (s : State) (wf : IsWellFormed r.world.sh
   sits-listed : (t : ℕ) → sits t (live_places s.opened ++ over_places s.opened) ≡ is_in t (session_numbers s.opened)
   sits-listed t = both (sits t (live_places s.opened ++ over_places s.opened)) (is_in t (session_numbers s.opened))
       (λ m. (let f = sits-among t (live_places s.opened ++ over_places s.opened) m in
-          ap (λ n. is_in n (session_numbers s.opened)) (sym f.1.1) ∙ from-listed f.0 (places-from s.opened f.0 f.1.0)))
+      ap (λ n. is_in n (session_numbers s.opened)) (sym f.1.1) ∙ from-listed f.0 (places-from s.opened f.0 f.1.0)))
       (λ m. (let f = listed-from t s.opened m in
-          ap (λ n. sits n (live_places s.opened ++ over_places s.opened)) (sym f.1.1) ∙ among-sits f.0 (live_places s.opened ++ over_places s.opened) (from-places s.opened f.0 f.1.0)))
+      ap (λ n. sits n (live_places s.opened ++ over_places s.opened)) (sym f.1.1) ∙ among-sits f.0 (live_places s.opened ++ over_places s.opened) (from-places s.opened f.0 f.1.0)))
     where
       both : (a b : Bool) → (a ≡ true → b ≡ true) → (b ≡ true → a ≡ true) → a ≡ b
       both true b f g = sym (f refl)
@@ -301,11 +301,14 @@ module _ (r : Rules) (w : Stewardship) (s : State) (wf : IsWellFormed r.world.sh
 -- ---- The law
 
 pub states-have-histories : StatesHaveHistories
-states-have-histories r w s wf in' suits steward = (made first_nobodys (course_of w s), record {
-  counted = made-heeded first_nobodys (course_of w s) w (λ q. counted w.steward (steward q));
-  sessions = state-sessions r w s wf in' suits;
-  agrees = λ v rows' clients' owed has. state-agrees r w s wf in' suits v rows' clients' owed has;
-})
+states-have-histories r w s wf in' suits steward = (
+  made first_nobodys (course_of w s),
+  record {
+    counted = made-heeded first_nobodys (course_of w s) w (λ q. counted w.steward (steward q));
+    sessions = state-sessions r w s wf in' suits;
+    agrees = λ v rows' clients' owed has. state-agrees r w s wf in' suits v rows' clients' owed has;
+  },
+)
   where
     counted : (o : Option ℕ) → IsSome o → o ≡ Some (unwrap_or o nobody)
     counted (Some k) is = refl

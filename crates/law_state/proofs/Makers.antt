@@ -69,11 +69,13 @@ good-place objects commit above k seq (rows.Accepted p ∷ os) q good m =
 
     here : (p : ℕ) → (nat_lt 0 p && (nat_le p commit || is_by k seq (above_numbered commit above p))) ≡ true → (0 < p) × ((p ≤ commit) ⊎ IsAboveOf commit above k p)
     here p g =
-        (let parts = and_parts (nat_lt 0 p) (nat_le p commit || is_by k seq (above_numbered commit above p)) g in
-        (ltb-true 0 p parts.0, elim (or_cases (nat_le p commit) (is_by k seq (above_numbered commit above p)) parts.1) [
-          | inl low ↦ inl (leb-true p commit low)
-          | inr mine ↦ inr (by p (above_numbered commit above p) refl mine)
-        ]))
+        (let parts = and_parts (nat_lt 0 p) (nat_le p commit || is_by k seq (above_numbered commit above p)) g in (
+          ltb-true 0 p parts.0,
+          elim (or_cases (nat_le p commit) (is_by k seq (above_numbered commit above p)) parts.1) [
+            | inl low ↦ inl (leb-true p commit low)
+            | inr mine ↦ inr (by p (above_numbered commit above p) refl mine)
+          ],
+        ))
 good-place objects commit above k seq (rows.Dropped chain far ∷ os) q good m = good-place objects commit above k (suc seq) os q good m
 good-place objects commit above k seq (rows.Denied object ∷ os) q good m =
     good-place objects commit above k (suc seq) os q (and_parts (nat_lt object.0 objects) (are_good_outcomes objects commit above k (suc seq) os) good).1 m
@@ -204,11 +206,13 @@ module _ (shape : Shape) (s : State) (wf : IsWellFormed shape s) (in' : HasNumbe
 
   kept-within : (c : ClientState) → IsGood c → (q : ℕ) → is_in q (places_in c.kept) ≡ true → (0 < q) × (q < suc (position_of s))
   kept-within c g q m =
-      (let found = good-place shape.objects s.commit s.above c.client.0 (c.next - length c.kept) c.kept q g.outcomes m in
-      (found.0, elim found.1 [
-        | inl low ↦ omega (arith, low)
-        | inr mine ↦ (let high = above-high s.commit s.above q mine.0 mine.1.0 in omega (arith, high))
-      ]))
+      (let found = good-place shape.objects s.commit s.above c.client.0 (c.next - length c.kept) c.kept q g.outcomes m in (
+        found.0,
+        elim found.1 [
+          | inl low ↦ omega (arith, low)
+          | inr mine ↦ (let high = above-high s.commit s.above q mine.0 mine.1.0 in omega (arith, high))
+        ],
+      ))
 
   found-within : (k n q : ℕ) → found_above (suc s.commit) s.above k n ≡ Some q → (0 < q) × (q < suc (position_of s))
   found-within k n q f =
@@ -228,12 +232,12 @@ module _ (shape : Shape) (s : State) (wf : IsWellFormed shape s) (in' : HasNumbe
       let at-seq : found.1.0.seq ≡ old.0 = eqb-true found.1.0.seq old.0 by'.1 in
       let wrote = ap (λ o. is_authors (suc s.commit + (h - suc s.commit)) found.1.0.seq o) (sym at-client) ∙ authors-at s.clients (suc s.commit) s.above (h - suc s.commit) found.1.0 wf.authors found.1.1.0 in
       let parts = and_parts (nat_lt found.1.0.seq c.next)
-          (cond (nat_le c.next (found.1.0.seq + length c.kept)) (is_accepted_at (suc s.commit + (h - suc s.commit)) (slice_get c.kept (found.1.0.seq + length c.kept - c.next)))
-          (list_all (λ i. nat_lt (suc s.commit + (h - suc s.commit)) i) (places_in c.kept))) wrote in
+      (cond (nat_le c.next (found.1.0.seq + length c.kept)) (is_accepted_at (suc s.commit + (h - suc s.commit)) (slice_get c.kept (found.1.0.seq + length c.kept - c.next)))
+      (list_all (λ i. nat_lt (suc s.commit + (h - suc s.commit)) i) (places_in c.kept))) wrote in
       let old-one : c.next - 1 < found.1.0.seq + length c.kept → ⊥ = λ l. (let e = g.kept in absurd (omega (arith, l, at-seq, old.1.0, old.1.1.0, g.next))) in
       let all : list_all (λ i. nat_lt (suc s.commit + (h - suc s.commit)) i) (places_in c.kept) ≡ true =
-          sym (cond-false (nat_le c.next (found.1.0.seq + length c.kept)) (is_accepted_at (suc s.commit + (h - suc s.commit)) (slice_get c.kept (found.1.0.seq + length c.kept - c.next)))
-          (list_all (λ i. nat_lt (suc s.commit + (h - suc s.commit)) i) (places_in c.kept)) (lt-leb c.next (found.1.0.seq + length c.kept) (omega (arith, at-seq, old.1.0, old.1.1.0, g.next)))) ∙ parts.1 in
+      sym (cond-false (nat_le c.next (found.1.0.seq + length c.kept)) (is_accepted_at (suc s.commit + (h - suc s.commit)) (slice_get c.kept (found.1.0.seq + length c.kept - c.next)))
+      (list_all (λ i. nat_lt (suc s.commit + (h - suc s.commit)) i) (places_in c.kept)) (lt-leb c.next (found.1.0.seq + length c.kept) (omega (arith, at-seq, old.1.0, old.1.1.0, g.next)))) ∙ parts.1 in
       let less = ltb-true (suc s.commit + (h - suc s.commit)) q (all-in (λ i. nat_lt (suc s.commit + (h - suc s.commit)) i) (places_in c.kept) q all m) in
       omega (arith, less, found.0))
 

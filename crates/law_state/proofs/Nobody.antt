@@ -134,11 +134,12 @@ module _ (first : ℕ) where
   IsPlayed plan = (accepted (played first plan) ≡ planned_actions plan) × ((j : ℕ) → outcomes_of (played first plan) j ≡ planned_outcomes plan j)
 
   played-next : (t : Turn) (plan : List Turn) → IsPlayed plan → IsPlayed (t ∷ plan)
-  played-next t plan ih =
-      (accepted-quiet (end_entry s) (submit_entry s seq t.fate ∷ h1) refl ∙ submit-accepted h1 s t.client seq t.fate client is ∙ ap (λ xs. xs ++ taken_by t.client seq t.fate) taken,
-      λ j. outcomes-quiet (end_entry s) (submit_entry s seq t.fate ∷ h1) j refl ∙ submit-outcomes h1 s t.client seq t.fate j client is
-          ∙ ap (λ xs. xs ++ cond (nat_eq t.client j) (outcome_by (suc (length (accepted h1))) t.fate ∷ []) []) (settled j)
-          ∙ ap (λ A. planned_outcomes plan j ++ cond (nat_eq t.client j) (outcome_by (suc (length A)) t.fate ∷ []) []) taken)
+  played-next t plan ih = (
+    accepted-quiet (end_entry s) (submit_entry s seq t.fate ∷ h1) refl ∙ submit-accepted h1 s t.client seq t.fate client is ∙ ap (λ xs. xs ++ taken_by t.client seq t.fate) taken,
+    λ j. outcomes-quiet (end_entry s) (submit_entry s seq t.fate ∷ h1) j refl ∙ submit-outcomes h1 s t.client seq t.fate j client is
+        ∙ ap (λ xs. xs ++ cond (nat_eq t.client j) (outcome_by (suc (length (accepted h1))) t.fate ∷ []) []) (settled j)
+        ∙ ap (λ A. planned_outcomes plan j ++ cond (nat_eq t.client j) (outcome_by (suc (length A)) t.fate ∷ []) []) taken,
+  )
     where
       s : ℕ
       s = first + t.client

@@ -169,9 +169,10 @@ over-distinct (o ∷ os) asc = go o.over (over-distinct os (ascending-tail o.ses
 
 pub seats-distinct : (os : List OpenSession) → is_ascending (session_numbers os) ≡ true → AreDistinct (map place_of os)
 seats-distinct [] asc = tt
-seats-distinct (o ∷ os) asc =
-    (none-sits (sits o.session (map place_of os)) (is_in o.session (session_numbers os)) (seats-sit o.session os) (first-once o.session (session_numbers os) asc),
-    seats-distinct os (ascending-tail o.session (session_numbers os) asc))
+seats-distinct (o ∷ os) asc = (
+  none-sits (sits o.session (map place_of os)) (is_in o.session (session_numbers os)) (seats-sit o.session os) (first-once o.session (session_numbers os) asc),
+  seats-distinct os (ascending-tail o.session (session_numbers os) asc),
+)
 
 -- None is both live and over.
 not-both : (t : ℕ) (os : List OpenSession) → is_ascending (session_numbers os) ≡ true → sits t (live_places os) ≡ true → sits t (over_places os) ≡ true → ⊥
@@ -192,9 +193,10 @@ not-both t (o ∷ os) asc a b = go o.over a b (not-both t os (ascending-tail o.s
 
 distinct-append : (xs ys : List Place) → AreDistinct xs → AreDistinct ys → ((t : ℕ) → sits t xs ≡ true → sits t ys ≡ false) → AreDistinct (xs ++ ys)
 distinct-append [] ys d e apart = e
-distinct-append (x ∷ xs) ys d e apart =
-    (sits-both x.session xs ys d.0 (apart x.session (or_left (nat_eq x.session x.session) (sits x.session xs) (eq-eqb x.session x.session refl))),
-    distinct-append xs ys d.1 e (λ t m. apart t (or_right (nat_eq x.session t) (sits t xs) m)))
+distinct-append (x ∷ xs) ys d e apart = (
+  sits-both x.session xs ys d.0 (apart x.session (or_left (nat_eq x.session x.session) (sits x.session xs) (eq-eqb x.session x.session refl))),
+  distinct-append xs ys d.1 e (λ t m. apart t (or_right (nat_eq x.session t) (sits t xs) m)),
+)
   where
     sits-both : (t : ℕ) (ps qs : List Place) → sits t ps ≡ false → sits t qs ≡ false → sits t (ps ++ qs) ≡ false
     sits-both t [] qs f g = g
@@ -241,10 +243,13 @@ live-orderly (o ∷ os) ys apart order all = go o.over refl (live-orderly os ys 
   where
     go : (b : Bool) → o.over ≡ b → AreOrderly (live_places os ++ ys) → AreOrderly (cond b (live_places os) (place_of o ∷ live_places os) ++ ys)
     go true q ih = ih
-    go false q ih = ((λ x m. elim (among-append x (live_places os) ys m) [
+    go false q ih = (
+      (λ x m. elim (among-append x (live_places os) ys m) [
         | inl a ↦ inr (apart-live o os x q (and_parts (list_all (are_apart o) os) (live_apart os) apart).0 a)
         | inr b ↦ inl (all x b)
-      ]), ih)
+      ]),
+      ih,
+    )
 
 pub places-orderly : (os : List OpenSession) → live_apart os ≡ true → AreOrderly (live_places os ++ over_places os)
 places-orderly os apart = live-orderly os (over_places os) apart (over-orderly os) (λ x m. (over-from os x m).1)
@@ -266,9 +271,11 @@ module _ (A C : List Action) (commit n : ℕ) (agree : (i : ℕ) → 0 < i → i
   shifts : (i x : ℕ) → i ≤ suc n → Shifts x i
   shifts zero x high = inl ((let low = low-writer (commit + 0) x in omega (arith, low)), refl)
   shifts (suc i) x high = elim (cases_eq i 0) [
-    | inl is ↦ inl ((let most = last_writer-most A x (commit + i) in
-        subst (λ m. last_writer A x m ≤ commit) (let e : suc (commit + i) ≡ commit + suc i = omega arith in e) (omega (arith, most, is))),
-        ap (λ j. last_writer C x (suc j)) is)
+    | inl is ↦ inl (
+      (let most = last_writer-most A x (commit + i) in
+          subst (λ m. last_writer A x m ≤ commit) (let e : suc (commit + i) ≡ commit + suc i = omega arith in e) (omega (arith, most, is))),
+      ap (λ j. last_writer C x (suc j)) is,
+    )
     | inr some ↦ subst (λ m. ((last_writer A x m ≤ commit) × (last_writer C x (suc i) ≡ 0)) ⊎ (last_writer A x m ≡ commit + last_writer C x (suc i)))
         (let e : suc (commit + i) ≡ commit + suc i = omega arith in e)
         (step (is_in x (write_set (action_at A (commit + i)))) refl (is_in x (write_set (action_at C i))) refl
@@ -289,9 +296,9 @@ module _ (A C : List Action) (commit n : ℕ) (agree : (i : ℕ) → 0 < i → i
       let at : commit + (p - commit) ≡ p = omega (arith, low.0) in
       let i : ℕ = p - commit in
       let reads' : is_in x (read_set (action_at C (p - commit))) ≡ true =
-          ap (λ (a : Action). is_in x (read_set a)) (sym (agree (p - commit) (omega (arith, low.0)) (omega (arith, low.1))) ∙ ap (action_at A) at) ∙ reads in
+      ap (λ (a : Action). is_in x (read_set a)) (sym (agree (p - commit) (omega (arith, low.0)) (omega (arith, low.1))) ∙ ap (action_at A) at) ∙ reads in
       let wrote = all-in (λ y. (nat_eq (last_writer C y (p - commit)) 0) || is_in (commit + last_writer C y (p - commit)) sent) (read_set (action_at C (p - commit))) x
-          (all-in (has_writers commit C sent) sent p all m) reads' in
+      (all-in (has_writers commit C sent) sent p all m) reads' in
       go (shifts (p - commit) x (omega (arith, low.1))) at wrote)
     where
       go : Shifts x (p - commit) → commit + (p - commit) ≡ p → ((nat_eq (last_writer C x (p - commit)) 0) || is_in (commit + last_writer C x (p - commit)) sent) ≡ true →
