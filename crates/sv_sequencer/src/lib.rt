@@ -29,3 +29,4 @@ pub use opened::Opened;
 pub use seats::Seat;
 pub use sequencer::Sequencer;
 pub use server_core::Core;
+pub use sessions::{SessionRow, kept_session};
