@@ -9,8 +9,9 @@ use std::time::Duration;
 use sv_client::LeanClient;
 use sv_door::{Door, EndMade};
 use sv_link::End;
+use sv_lists::List;
 use sv_pilot::{Listener, Pilot, Trouble};
-use sv_world::{ClientId, List, ObjectId, Shape};
+use sv_world::{ClientId, ObjectId, Shape};
 
 /// The mine has 21 nuggets, and is closed: it is nobody's turn, -1. Each purse has the nuggets of a player, and how often it dug. Two clients
 /// may come; they have no script here.

@@ -1,7 +1,8 @@
 //! What a run leaves.
 use sv_client::Trace;
 use sv_journal::Journal;
-use sv_world::{List, Shape, Value};
+use sv_lists::List;
+use sv_world::{Shape, Value};
 
 /// What a run leaves: its journal, and what each client did.
 #[derive(Debug, Drop)]

@@ -18,7 +18,7 @@ use Rattle.sv_journal.specs.History.{accepted}
 use Rattle.sv_journal.specs.Laws.{FullRepliesStay, LegalRelaysNameAccepted}
 use Rattle.sv_client.specs.declared.trace.Trace.{Trace}
 use Rattle.sv_client.specs.Traces.{requests_of}
-use Rattle.sv_sequencer.specs.Step.{entry_of}
+use Rattle.sv_journal.specs.History.{entry_of}
 use Rattle.sv_lock.proofs.Histories.{prefix_trans}
 use Rattle.sv_journal.specs.Sessions.{is_end}
 use Rattle.sv_session.specs.Requests.{due_frames}

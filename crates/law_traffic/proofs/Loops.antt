@@ -14,7 +14,7 @@ use Rattle.sv_journal.specs.declared.entry.Logged.TheVariants as logged
 use Rattle.sv_journal.specs.History.{accepted, full_reply}
 use Rattle.sv_journal.specs.Sessions.{is_end}
 use Rattle.sv_journal.specs.Laws.{FullRepliesStay, LegalRelaysNameAccepted}
-use Rattle.sv_sequencer.specs.Step.{entry_of}
+use Rattle.sv_journal.specs.History.{entry_of}
 use Rattle.sv_lock.specs.Passes.{session_number}
 use Rattle.sv_journal.proofs.Stays.{logged-back}
 use Rattle.sv_session.specs.Requests.{stop_of, StopsFor, due_frames}

@@ -15,7 +15,8 @@ use Rattle.sv_wire.specs.Messages.{reply_at}
 use Rattle.sv_wire.specs.Spelling.{request_bytes, reply_bytes}
 use Rattle.sv_wire.specs.Laws.{IsRequest, IsReply}
 use Rattle.sv_exchange.proofs.Sizes.{request_short, reply_short, request_back, reply_back}
-use Rattle.sv_session.specs.Requests.{read_or_bad, request_for, requests_read}
+use Rattle.sv_exchange.specs.Incoming.{read_or_bad}
+use Rattle.sv_session.specs.Requests.{request_for, requests_read}
 use Rattle.law_traffic.specs.Cuts.{IsCutStream}
 use Rattle.sv_player.specs.Carried.{request_frames, was_read, BeginsWithReplies}
 use Rattle.law_system.proofs.Every.{each-left}

@@ -13,7 +13,7 @@ use Rattle.sv_journal.specs.declared.entry.Entry.{Entry}
 use Rattle.sv_journal.specs.declared.entry.Logged.TheVariants as logged
 use Rattle.sv_journal.specs.History.{Authored, full_reply}
 use Rattle.sv_journal.specs.Sessions.{is_end, is_ended}
-use Rattle.sv_sequencer.specs.Step.{entry_of}
+use Rattle.sv_journal.specs.History.{entry_of}
 use Rattle.sv_lock.specs.Histories.{entries_of}
 use Rattle.law_system.specs.Fits.{requests_in, replies_in, IsEndLast}
 use Rattle.law_system.specs.Records.{ends_in}

@@ -6,7 +6,8 @@ ghost use Rattle.sv_world.specs.Short.{has_short_blocks};
 
 use crate::{Condition, Term};
 use std::alloc::{AllocError, Global};
-use sv_world::{Body, List, Stmt, has_short_blocks};
+use sv_lists::List;
+use sv_world::{Body, Stmt, has_short_blocks};
 use thiserror::Error;
 
 /// Statements, one after the other: a statement, a tuple of two to four blocks, or `()`, which has none.

@@ -11,7 +11,8 @@ ghost use Rattle.sv_world.specs.Parts.{binary_by, compare_by, join_by};
 
 use std::alloc::{AllocError, Global};
 use std::ops::{Add, BitAnd, BitOr, Div, Mul, Not, Rem, Sub};
-use sv_world::{Boxed, Comparison, Cond, Connective, Expr, Operator};
+use sv_lists::Boxed;
+use sv_world::{Comparison, Cond, Connective, Expr, Operator};
 
 /// A number: an `i64`, or a formula of numbers.
 pub trait Term: Copy {

@@ -16,7 +16,7 @@ use Rattle.sv_journal.specs.Answer.{Rules, MayBeSession, reply_to}
 use Rattle.sv_journal.specs.Laws.{FullRepliesStay, LegalRelaysNameAccepted}
 use Rattle.sv_journal.specs.Sessions.{is_end, is_ended}
 use Rattle.sv_journal.specs.Text.{entry_line, entry_lines, journal_text, reply_text}
-use Rattle.sv_sequencer.specs.Step.{entry_of}
+use Rattle.sv_journal.specs.History.{entry_of}
 use Rattle.sv_scenario.specs.declared.scenario.Scenario.{Scenario}
 use Rattle.sv_scenario.specs.Sessions.{session_count}
 use Rattle.law_system.specs.Records.{rules_of}

@@ -1,15 +1,18 @@
 -- The next step of a client.
-use Rattle.std.proofs.Common.{◌≡◌, true, false, true≢false, List, [], ◌∷◌, Some, refl, sym, ap, subst, ◌∙◌}
+use Rattle.std.proofs.Common.{◌≡◌, ◌≢◌, ◌<◌, Bool, true, false, ◌&&◌, nat_lt, true≢false, List, [], ◌∷◌, length, Some, refl, sym, ap, ap₂, subst, ◌∙◌}
+use Rattle.std.proofs.lemmas.Bool.{lt-ltb}
 use Rattle.std.proofs.lemmas.Option.{same_Some}
 use Rattle.sv_wire.specs.declared.message.Request.{Request}
 use Rattle.sv_client.specs.declared.trace.Event.{Event}
 use Rattle.sv_client.specs.declared.trace.Event.TheVariants as events
-use Rattle.sv_client.specs.Taking.{Identity}
+use Rattle.sv_client.specs.Traces.{pending_of}
+use Rattle.sv_client.specs.Taking.{Identity, outstanding}
 use Rattle.sv_client.specs.Proper.{MayLeave}
 use Rattle.sv_report.specs.Again.{MayDo}
 use Rattle.sv_scenario.specs.declared.scenario.Step.{Step}
 use Rattle.sv_scenario.specs.declared.scenario.Step.TheVariants as steps
 use Rattle.sv_script.specs.Following.{MayCome, DoesStep, passed_syncs, unsynced, event_of, must_join, is_welcomed, is_finished}
+use Rattle.sv_script.specs.Next.{may_ask, can_do, can_do_first}
 use Rattle.sv_check.specs.Acting.{IsNextEvent, NoNextEvent, NotNow, is_other}
 use Rattle.sv_check.proofs.Events.{none_first, same_first}
 
@@ -43,7 +46,7 @@ pub next_step : (who : Identity) (t : List Event) (before : List Step) (step : S
 next_step who t before step left e j w h n v may = record { other = other step e v; may = may; comes = comes who t before step left e j w h n v }
 
 pub next_leave : (who : Identity) (t : List Event) (before left : List Step) (e : Event) → must_join t ≡ false → is_welcomed t ≡ true → is_finished t ≡ false →
-    left ≡ unsynced who t before → left ≡ [] → e ≡ events.Leave → MayLeave who t → IsNextEvent who t before e left
+    unsynced who t before ≡ [] → left ≡ [] → e ≡ events.Leave → MayLeave who t → IsNextEvent who t before e left
 next_leave who t before left e j w h n none is may = subst (λ (x : Event). IsNextEvent who t before x left) (sym is) (record {
   other = refl;
   may = may;
@@ -52,7 +55,7 @@ next_leave who t before left e j w h n none is may = subst (λ (x : Event). IsNe
     welcomed = w;
     here = h;
     settled = may.settled;
-    done = ap (λ (rs : List Request). passed_syncs rs before) (sym may.settled) ∙ sym n ∙ none;
+    done = ap (λ (rs : List Request). passed_syncs rs before) (sym may.settled) ∙ n;
     same = none;
   };
 })
@@ -93,3 +96,29 @@ module _ (who : Identity) (t : List Event) (before : List Step) where
   none_does step rest next not_now (events.Show objects) left n = not_done step rest (events.Show objects) left next not_now n.may n.comes
   none_does step rest next not_now (events.Join s) left n = absurd (true≢false (sym n.other))
   none_does step rest next not_now (events.Got s reply) left n = absurd (true≢false (sym n.other))
+
+  -- ---- Where it waits
+
+  asks : length (outstanding who t) < 16 → may_ask who t ≡ true
+  asks calm = lt-ltb (length (outstanding who t)) 16 calm
+
+  -- What may be done can be.
+  can_be : (step : Step) (e : Event) → event_of step ≡ Some e → MayDo who t e → can_do who t step ≡ true
+  can_be (steps.Act action) e v may =
+      let make = subst (MayDo who t) (sym (same_Some _ _ v)) may in
+      ap₂ (λ (a b : Bool). a && b) (lt-ltb (length (pending_of t)) 8 make.room) (asks make.calm)
+  can_be steps.Poll e v may = (let poll = subst (MayDo who t) (sym (same_Some _ _ v)) may in asks poll.calm)
+  can_be (steps.Observe objects) e v may = (let look = subst (MayDo who t) (sym (same_Some _ _ v)) may in asks look.calm)
+  can_be steps.Sync e v may = cc
+  can_be (steps.Show objects) e v may = refl
+  can_be steps.Cut e v may = refl
+  can_be steps.Quit e v may = refl
+
+  pub none_waits : can_do_first who t (unsynced who t before) ≡ false → (unsynced who t before ≡ [] → outstanding who t ≢ []) → NoNextEvent who t before
+  none_waits stays some = go (unsynced who t before) refl
+    where
+      go : (ss : List Step) → unsynced who t before ≡ ss → NoNextEvent who t before
+      go [] e = none_leaves e (λ (may : MayLeave who t). some e may.settled)
+      go (step ∷ rest) e = none_does step rest e
+          (λ (event : Event) (is : event_of step ≡ Some event) (may : MayDo who t event).
+          true≢false (sym (can_be step event is may) ∙ ap (can_do_first who t) (sym e) ∙ stays))

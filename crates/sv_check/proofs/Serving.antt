@@ -13,7 +13,8 @@ use Rattle.sv_journal.specs.Sessions.{is_end, is_ended}
 use Rattle.sv_journal.specs.Laws.{FullRepliesStay, LegalRelaysNameAccepted}
 use Rattle.sv_journal.specs.Text.{NamesAccepted, RelaysNameAccepted}
 use Rattle.sv_journal.specs.Answer.{Rules, MayBeSession, Legal, reply_to}
-use Rattle.sv_sequencer.specs.Step.{SequencerView, history, Answered, entry_of}
+use Rattle.sv_journal.specs.History.{entry_of}
+use Rattle.sv_sequencer.specs.Step.{SequencerView, history, Answered}
 use Rattle.sv_scenario.specs.declared.scenario.Scenario.{Scenario}
 use Rattle.sv_scenario.specs.Limits.{IsGoodScenario}
 use Rattle.sv_scenario.specs.Sessions.{session_count}

@@ -14,9 +14,9 @@ use law_asked::read_scenario_numbers;
 use law_system::Played;
 use std::alloc::{AllocError, Global};
 use sv_lines::{LineStop, take_line};
+use sv_lists::List;
 use sv_replay::played_of;
 use sv_scenario::Scenario;
-use sv_world::List;
 
 /// Whether what stands behind a journal goes on as what `serve` prints.
 pub(crate) fn begins_commit(text: &[u8]) -> bool

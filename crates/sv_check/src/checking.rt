@@ -23,11 +23,11 @@ use law_system::Played;
 use std::alloc::{AllocError, Global};
 use sv_client::Trace;
 use sv_lines::{LineStop, line_ends, take_lines};
+use sv_lists::List;
 use sv_replay::played_of;
 use sv_report::append_world;
 use sv_scenario::Scenario;
 use sv_script::steps_are_done_in_order;
-use sv_world::List;
 
 /// What is left of the server and the clients.
 fn played_by(

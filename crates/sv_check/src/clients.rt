@@ -21,8 +21,9 @@ use law_asked::read_scenario_numbers;
 use std::alloc::{AllocError, Global};
 use sv_client::{Client, Trace};
 use sv_lines::{LineStop, take_line};
+use sv_lists::List;
 use sv_scenario::{Plan, Scenario, sessions_of_plan};
-use sv_world::{ClientId, List, Shape, copy_objects};
+use sv_world::{ClientId, Shape, copy_objects};
 
 /// A client, by its number, the number of its first session, and its plan.
 #[derive(Clone, Copy)]

@@ -16,10 +16,11 @@ use crate::fault::TakeFault;
 use crate::kinds::{Awaited, observed_by};
 use crate::same::are_same_values;
 use std::alloc::AllocError;
+use sv_lists::List;
 use sv_pending::Pending;
 use sv_versions::{Undo, Versions};
 use sv_wire::{Done1, Item, ObjectValue, Reply, Request};
-use sv_world::{List, ObjectId, Value};
+use sv_world::{ObjectId, Value};
 
 /// Whether a result is there and is the one that was kept.
 fn is_kept(own: Option<&[Value]>, kept: Option<&[Value]>) -> bool

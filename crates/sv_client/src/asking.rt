@@ -7,9 +7,10 @@ ghost use Rattle.sv_client.specs.Kinds.{asks_for_done, done_kinds};
 
 use crate::kinds::Awaited;
 use std::alloc::{AllocError, Global};
+use sv_lists::List;
 use sv_pending::Pending;
 use sv_wire::{Reply, Request};
-use sv_world::{ClientId, List, ObjectId, copy_action};
+use sv_world::{ClientId, ObjectId, copy_action};
 
 /// Appends the Submit of the front action, if there is one.
 fn push_front(

@@ -19,9 +19,10 @@ use crate::trace::{Event, Trace, TraceMark};
 use crate::view::View;
 use std::alloc::{AllocError, Global};
 use std::marker::Model;
+use sv_lists::List;
 use sv_pending::PendingItem;
 use sv_wire::{Reply, Request};
-use sv_world::{Action, ClientId, List, ObjectId, Shape, copy_action, copy_objects};
+use sv_world::{Action, ClientId, ObjectId, Shape, copy_action, copy_objects};
 
 /// A client of a world, which is its trace.
 ///

@@ -11,9 +11,10 @@ ghost use Rattle.sv_client.specs.Evaluating.{AreWithin, IsHeadWithin, ItemsReadW
 use crate::fault::TakeFault;
 use std::alloc::AllocError;
 use sv_eval::{eval, written_objects};
+use sv_lists::List;
 use sv_versions::{Undo, Versions};
 use sv_wire::{Done1, Item, ObjectValue};
-use sv_world::{List, ObjectId, Value, copy_value};
+use sv_world::{ObjectId, Value, copy_value};
 
 /// Holds the values of a head at its reply's commit.
 pub(crate) fn hold_head(

@@ -5,8 +5,9 @@ ghost use Rattle.sv_client.specs.Kinds.{allows_kind};
 ghost use Rattle.sv_client.specs.Taking.{observed_by};
 ghost use Rattle.sv_client.specs.Evaluating.{objects_of};
 
+use sv_lists::List;
 use sv_wire::Reply;
-use sv_world::{List, ObjectId};
+use sv_world::ObjectId;
 
 /// What was asked and has no reply yet.
 #[derive(Debug, Drop)]

@@ -26,12 +26,13 @@ use crate::view::View;
 use std::alloc::{AllocError, Global};
 use std::marker::Model;
 use std::snapshot::Snapshot;
+use sv_lists::List;
 use sv_pending::{Overlay, Pending, PendingItem};
 use sv_versions::Versions;
 use sv_wire::{Reply, Request};
 use sv_world::{
-    Action, ClientId, List, MOST_OUTSTANDING, MOST_PENDING, ObjectId, Shape, check_action,
-    copy_action, copy_objects, may_be_observed,
+    Action, ClientId, MOST_OUTSTANDING, MOST_PENDING, ObjectId, Shape, check_action, copy_action,
+    copy_objects, may_be_observed,
 };
 
 /// A client of a world. It keeps what it still needs, and nothing of what it did: the values held, its pending actions, its requests without a

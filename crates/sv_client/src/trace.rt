@@ -2,8 +2,9 @@
 ghost use Rattle.std.specs.Prelude.{◌≡◌};
 ghost use Rattle.sv_client.specs.Traces.{is_make};
 
+use sv_lists::List;
 use sv_wire::Reply;
-use sv_world::{Action, ClientId, List, ObjectId};
+use sv_world::{Action, ClientId, ObjectId};
 
 /// One step of a client.
 #[derive(Debug, Drop)]

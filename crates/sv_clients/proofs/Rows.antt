@@ -8,7 +8,7 @@ use Rattle.std.specs.List.{remove}
 use Rattle.sv_journal.specs.History.{Outcome}
 use Rattle.sv_journal.specs.Sessions.{outcome_at}
 use Rattle.sv_clients.specs.declared.outcome.Outcome.{Outcome as OutcomeRow}
-use Rattle.sv_clients.specs.Clients.{ClientView, no_client, last_of, KeepsOutcomes, outcome_value, settled, is_told, told, kept_among}
+use Rattle.sv_clients.specs.Clients.{KeptClient, no_client, last_of, KeepsOutcomes, outcome_value, with_outcome, is_told, told, kept_among}
 
 -- ---- The last ones go on being the last ones
 
@@ -25,17 +25,17 @@ last_step n xs x some =
 pub keeps_none : KeepsOutcomes [] no_client
 keeps_none = record { count = refl; kept = refl }
 
-pub keeps_life : (outcomes : List Outcome) (row : ClientView) (life : ℕ) → KeepsOutcomes outcomes row → KeepsOutcomes outcomes (record row { life = life })
+pub keeps_life : (outcomes : List Outcome) (row : KeptClient) (life : ℕ) → KeepsOutcomes outcomes row → KeepsOutcomes outcomes (record row { life = life })
 keeps_life outcomes row life keeps = record { count = keeps.count; kept = keeps.kept }
 
-pub keeps_settled : (outcomes : List Outcome) (row : ClientView) (outcome : Outcome) → KeepsOutcomes outcomes row
-    → KeepsOutcomes (outcomes ++ outcome ∷ []) (settled outcome row)
-keeps_settled outcomes row outcome keeps = record {
+pub keeps_with_outcome : (outcomes : List Outcome) (row : KeptClient) (outcome : Outcome) → KeepsOutcomes outcomes row
+    → KeepsOutcomes (outcomes ++ outcome ∷ []) (with_outcome outcome row)
+keeps_with_outcome outcomes row outcome keeps = record {
   count = (let size = length-append outcomes (outcome ∷ []) in omega (arith, size, keeps.count));
   kept = ap (λ (xs : List Outcome). last_of 8 (xs ++ outcome ∷ [])) keeps.kept ∙ last_step 8 outcomes outcome (omega arith);
 }
 
-pub keeps_few : (outcomes : List Outcome) (row : ClientView) → KeepsOutcomes outcomes row → length row.kept ≤ 8
+pub keeps_few : (outcomes : List Outcome) (row : KeptClient) → KeepsOutcomes outcomes row → length row.kept ≤ 8
 keeps_few outcomes row keeps =
     let size : length row.kept ≡ length outcomes - (length outcomes - 8) = ap length keeps.kept ∙ length-drop (length outcomes - 8) outcomes in
     omega (arith, size)
@@ -73,7 +73,7 @@ both true b e = (refl, e)
 both false b e = cc
 
 -- where it is told
-told_yes : (outcomes : List Outcome) (row : ClientView) (seq : ℕ) → KeepsOutcomes outcomes row → seq ≤ row.count → row.count < seq + length row.kept
+told_yes : (outcomes : List Outcome) (row : KeptClient) (seq : ℕ) → KeepsOutcomes outcomes row → seq ≤ row.count → row.count < seq + length row.kept
     → slice_get row.kept (seq + length row.kept - row.count - 1) ≡ kept_among outcomes seq
 told_yes outcomes row zero keeps low high =
     let size : length row.kept ≡ length outcomes - (length outcomes - 8) = ap length keeps.kept ∙ length-drop (length outcomes - 8) outcomes in
@@ -87,7 +87,7 @@ told_yes outcomes row (suc n) keeps low high =
     ∙ sym (rw (le-leb (suc (length outcomes)) (suc n + 8) (omega (arith, size, high, keeps.count))) refl)
 
 -- where it is not
-told_no : (outcomes : List Outcome) (row : ClientView) (seq : ℕ) → KeepsOutcomes outcomes row → is_told row seq ≡ false
+told_no : (outcomes : List Outcome) (row : KeptClient) (seq : ℕ) → KeepsOutcomes outcomes row → is_told row seq ≡ false
     → None ≡ kept_among outcomes seq
 told_no outcomes row zero keeps none = go (nat_le (suc (length outcomes)) 8)
   where
@@ -106,7 +106,7 @@ told_no outcomes row (suc n) keeps none = go (nat_le (suc (length outcomes)) (su
     go true e = sym (slice_get_past outcomes n (past (leb-true (suc (length outcomes)) (suc n + 8) e)))
     go false e = refl
 
-pub told_is : (outcomes : List Outcome) (row : ClientView) (seq : ℕ) → KeepsOutcomes outcomes row → told row seq ≡ kept_among outcomes seq
+pub told_is : (outcomes : List Outcome) (row : KeptClient) (seq : ℕ) → KeepsOutcomes outcomes row → told row seq ≡ kept_among outcomes seq
 told_is outcomes row seq keeps = go (is_told row seq) refl
   where
     go : (b : Bool) → is_told row seq ≡ b → (if b then slice_get row.kept (seq + length row.kept - row.count - 1) else None) ≡ kept_among outcomes seq

@@ -2,7 +2,7 @@
 ghost use Rattle.std.specs.Prelude.{◌≡◌, ℕ, ◌<◌, nat_eq, List, option_map, OnOk, OnErr, if◌then◌else◌};
 ghost use Rattle.sv_journal.specs.History.{Outcome as OutcomeValue};
 ghost use Rattle.sv_world.specs.Limits.{most_positions};
-ghost use Rattle.sv_clients.specs.Clients.{client_row, row_count, no_client, outcome_value, KeepsOutcomes, settled, kept_among};
+ghost use Rattle.sv_clients.specs.Clients.{client_row, row_count, no_client, outcome_value, KeepsOutcomes, with_outcome, kept_among};
 
 use crate::{ClientRow, Outcome};
 use indexmap::IndexMap;
@@ -84,17 +84,17 @@ impl Clients {
 
     /// Notes what came of a client's next action.
     #[inline(always)]
-    pub fn settle(&mut self, client: u16, outcome: Outcome) -> Result<(), AllocError>
+    pub fn add_outcome(&mut self, client: u16, outcome: Outcome) -> Result<(), AllocError>
         requires room { (client_row self.old client).count < most_positions }
-        ensures ok { OnOk result ((k : ℕ) → client_row self.new k ≡ (if nat_eq client k then settled (outcome_value outcome) (client_row self.old client) else client_row self.old k)) }
+        ensures ok { OnOk result ((k : ℕ) → client_row self.new k ≡ (if nat_eq client k then with_outcome (outcome_value outcome) (client_row self.old client) else client_row self.old k)) }
         ensures err { OnErr result ((k : ℕ) → client_row self.new k ≡ client_row self.old k) }
     {
         if let Some(row) = self.rows.get_mut(&client) {
-            row.settle(outcome);
+            row.add_outcome(outcome);
             return Ok(());
         }
         let mut row = ClientRow::new(0);
-        row.settle(outcome);
+        row.add_outcome(outcome);
         self.rows.insert(client, row)?;
         Ok(())
     }

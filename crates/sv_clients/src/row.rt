@@ -1,7 +1,7 @@
 //! What is kept of one client.
 ghost use Rattle.std.specs.Prelude.{◌≡◌, ◌<◌, option_map};
 ghost use Rattle.sv_world.specs.Limits.{most_positions};
-ghost use Rattle.sv_clients.specs.Clients.{outcome_value, view_of, no_client, settled, is_told, told};
+ghost use Rattle.sv_clients.specs.Clients.{outcome_value, view_of, no_client, with_outcome, is_told, told};
 
 use crate::Outcome;
 use arrayvec::ArrayVec;
@@ -36,9 +36,9 @@ impl ClientRow {
     /// Notes what came of the client's next action.
     #[tactic(auto, using(crate::proofs::Rows::kept_room, crate::proofs::Rows::kept_full))]
     #[inline(always)]
-    pub(crate) fn settle(&mut self, outcome: Outcome)
+    pub(crate) fn add_outcome(&mut self, outcome: Outcome)
         requires room { (view_of self.old).count < most_positions }
-        ensures { view_of self.new ≡ settled (outcome_value outcome) (view_of self.old) }
+        ensures { view_of self.new ≡ with_outcome (outcome_value outcome) (view_of self.old) }
     {
         if self.kept.is_full() {
             self.kept.remove(0);

@@ -52,7 +52,7 @@ impl<'r> Calls<'r> {
     ///
     /// What a process that died left unsynced is synced then. The system's copies of the files are let go: where a sync failed, they may
     /// differ from what the disk has.
-    pub(crate) fn settle(&self) -> io::Result<()> {
+    pub(crate) fn sync_everything(&self) -> io::Result<()> {
         if self.mode == SyncMode::Never {
             return Ok(());
         }
@@ -60,7 +60,7 @@ impl<'r> Calls<'r> {
             if let Some(entry) = named(entry)? {
                 if entry.file_type()?.is_file() {
                     let file = File::open(self.rt, entry.path())?;
-                    settle_file(&file)?;
+                    sync_file(&file)?;
                 }
             }
         }
@@ -183,7 +183,7 @@ fn named(entry: io::Result<fs::DirEntry>) -> io::Result<Option<fs::DirEntry>> {
     }
 }
 
-fn settle_file(file: &File) -> io::Result<()> {
+fn sync_file(file: &File) -> io::Result<()> {
     file.sync_all()?;
     match libc::posix_fadvise(file.as_raw_fd(), 0, 0, libc::POSIX_FADV_DONTNEED) {
         0 => Ok(()),

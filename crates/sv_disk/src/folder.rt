@@ -14,25 +14,25 @@ const LOCK: &str = "lock";
 
 /// Why a folder was not opened.
 #[derive(Clone, Copy, Debug, PartialEq, Eq)]
-pub enum OpenFault {
+pub enum DiskFault {
     /// Another process has it.
     Busy,
     Failed,
     Memory,
 }
 
-impl From<io::Error> for OpenFault {
-    fn from(error: io::Error) -> OpenFault {
+impl From<io::Error> for DiskFault {
+    fn from(error: io::Error) -> DiskFault {
         match error.kind() {
-            ErrorKind::OutOfMemory => OpenFault::Memory,
-            _ => OpenFault::Failed,
+            ErrorKind::OutOfMemory => DiskFault::Memory,
+            _ => DiskFault::Failed,
         }
     }
 }
 
-impl From<AllocError> for OpenFault {
-    fn from(_error: AllocError) -> OpenFault {
-        OpenFault::Memory
+impl From<AllocError> for DiskFault {
+    fn from(_error: AllocError) -> DiskFault {
+        DiskFault::Memory
     }
 }
 
@@ -56,11 +56,11 @@ impl<'r> DiskFolder<'r> {
         rt: &'r HostRuntime,
         path: &str,
         mode: SyncMode,
-    ) -> Result<DiskFolder<'r>, OpenFault> {
+    ) -> Result<DiskFolder<'r>, DiskFault> {
         make_folder(rt, path)?;
         let lock = lock_folder(rt, path)?;
         let calls = Calls::new(rt, path, mode)?;
-        calls.settle()?;
+        calls.sync_everything()?;
         Ok(DiskFolder {
             calls,
             lock,
@@ -76,7 +76,7 @@ fn make_folder(rt: &HostRuntime, path: &str) -> io::Result<()> {
     }
 }
 
-fn lock_folder(rt: &HostRuntime, path: &str) -> Result<File, OpenFault> {
+fn lock_folder(rt: &HostRuntime, path: &str) -> Result<File, DiskFault> {
     let path = path_of(rt.alloc(), path, LOCK)?;
     let file = OpenOptions::new()
         .read(true)
@@ -85,8 +85,8 @@ fn lock_folder(rt: &HostRuntime, path: &str) -> Result<File, OpenFault> {
         .open(rt, &path)?;
     match file.try_lock() {
         Ok(()) => Ok(file),
-        Err(TryLockError::WouldBlock) => Err(OpenFault::Busy),
-        Err(TryLockError::Error(error)) => Err(OpenFault::from(error)),
+        Err(TryLockError::WouldBlock) => Err(DiskFault::Busy),
+        Err(TryLockError::Error(error)) => Err(DiskFault::from(error)),
     }
 }
 

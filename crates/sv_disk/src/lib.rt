@@ -7,4 +7,4 @@ mod folder;
 mod tests;
 
 pub use calls::SyncMode;
-pub use folder::{DiskFolder, OpenFault};
+pub use folder::{DiskFault, DiskFolder};

@@ -2,7 +2,7 @@
 ghost use Rattle.std.specs.Prelude.{◌≡◌, true};
 ghost use Rattle.sv_log.specs.Logs.{HasSizes};
 
-use crate::{DiskFolder, OpenFault, SyncMode};
+use crate::{DiskFault, DiskFolder, SyncMode};
 use std::fs;
 use std::process::Abort;
 use std::test::Fail;
@@ -96,13 +96,13 @@ fn a_folder_is_held_by_one(rt: HostRuntime) -> Result<(), Fail> {
     let _ = fs::remove_dir_all(&rt, path);
     let first = opened(&rt, &rt, path, SyncMode::Waits);
     match DiskFolder::open(&rt, path, SyncMode::Never) {
-        Err(fault) => assert!(rt; fault == OpenFault::Busy),
+        Err(fault) => assert!(rt; fault == DiskFault::Busy),
         Ok(_) => panic!(rt; "the folder is held"),
     }
     drop(first);
     drop(opened(&rt, &rt, path, SyncMode::Waits));
     match DiskFolder::open(&rt, "sv_disk_held/lock", SyncMode::Waits) {
-        Err(fault) => assert!(rt; fault == OpenFault::Failed),
+        Err(fault) => assert!(rt; fault == DiskFault::Failed),
         Ok(_) => panic!(rt; "a file is no folder"),
     }
     fs::remove_dir_all(&rt, path)?;

@@ -3,11 +3,11 @@ use Rattle.std.specs.Prelude.{◌≡◌, ℕ, ◌+◌, List, take, Option, Some,
 use Rattle.sv_scenario.specs.declared.fault.ScenarioFault.{ScenarioFault}
 use Rattle.sv_scenario.specs.declared.scenario.Scenario.{Scenario}
 use Rattle.sv_scenario.specs.Lines.{fault_line}
-use Rattle.sv_scenario.specs.Scenarios.{most_bytes, scenario_of}
+use Rattle.sv_scenario.specs.Scenarios.{most_scenario_bytes, scenario_of}
 
 -- A file is read so far and no further: one byte more than a scenario may have.
 abbrev pub read_limit : ℕ
-read_limit = most_bytes + 1
+read_limit = most_scenario_bytes + 1
 
 -- What the file that is named holds, where there is one and that is told.
 abbrev pub held_by_file : (List ℕ → Option (List ℕ)) → Option (List ℕ) → Option (List ℕ)

@@ -10,5 +10,5 @@ mod stage;
 pub use ending::{Ending, status_of, tell};
 pub use lines::{append_lines, tell_file, tell_line, tell_number, tell_numbers};
 pub use numbers::number_in;
-pub use reading::{given_scenario, scenario_bytes, scenario_in};
+pub use reading::{given_scenario, line_of_fault, scenario_bytes, scenario_in};
 pub use stage::PlayStage;

@@ -8,7 +8,7 @@ ghost use Rattle.sv_ending.specs.Lines.{ended_line, file_line};
 use itoa::Buffer;
 use std::alloc::AllocError;
 use sv_bytes::{Sink, write_all, write_pieces};
-use sv_world::Text;
+use sv_lists::Text;
 
 /// Appends lines, each with its end.
 pub fn append_lines(lines: &[Text], text: &mut String) -> Result<(), AllocError>

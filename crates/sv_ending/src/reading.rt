@@ -8,11 +8,11 @@ use crate::ending::Ending;
 use std::alloc::{AllocError, Global};
 use sv_bytes::{FileFault, Files, read_all};
 use sv_scenario::{
-    MOST_BYTES, ReadFault, Scenario, ScenarioFault, append_fault_line, read_scenario,
+    MOST_SCENARIO_BYTES, ReadFault, Scenario, ScenarioFault, append_fault_line, read_scenario,
 };
 
 /// A scenario's file is read so far and no further: one byte more than a scenario may have.
-const READ_LIMIT: usize = MOST_BYTES + 1;
+const READ_LIMIT: usize = MOST_SCENARIO_BYTES + 1;
 
 /// What is read of a scenario's file.
 pub fn scenario_bytes<F: Files>(alloc: Global, file: &str, files: &mut F) -> Result<Vec<u8>, Ending>
@@ -31,7 +31,7 @@ pub fn scenario_bytes<F: Files>(alloc: Global, file: &str, files: &mut F) -> Res
 }
 
 /// The line that tells of a fault.
-fn line_of_fault(alloc: Global, fault: &ScenarioFault) -> Result<String, AllocError>
+pub fn line_of_fault(alloc: Global, fault: &ScenarioFault) -> Result<String, AllocError>
     ensures { IfOk result (λ line. string_bytes line ≡ fault_line fault.now) }
 {
     let mut line = String::new(alloc);

@@ -2,136 +2,19 @@
 ghost use Rattle.std.specs.Prelude.{◌≡◌, ◌∷◌, ◌++◌, codes, string_bytes, OnOk};
 ghost use Rattle.std.specs.List.{flat_map};
 ghost use Rattle.std.specs.Fmt.{decimal};
-ghost use Rattle.sv_wire.specs.declared.message.Done1.{Done1};
 ghost use Rattle.sv_wire.specs.declared.message.Item.{Item};
-ghost use Rattle.sv_journal.specs.Pieces.{joined, bracketed, head_text, objects_text, result_text};
-ghost use Rattle.sv_journal.specs.Text.{action_text, request_text};
+ghost use Rattle.sv_journal.specs.Pieces.{joined, bracketed, head_text};
 ghost use Rattle.sv_entries.specs.Lines.{sent_item, sent_text, living_line};
 
-use itoa::Buffer;
 use std::alloc::AllocError;
-use sv_journal::{append_head, append_objects, append_values};
-use sv_text::put_action;
-use sv_wire::{Done1, Item, ObjectValue, Reply, Request};
-use sv_world::{Action, ClientId, ObjectId, Shape, check_action};
-
-fn put_number(number: u64, out: &mut String) -> Result<(), AllocError>
-    ensures { OnOk result (string_bytes out.new ≡ string_bytes out.old ++ decimal number) }
-{
-    let mut digits = Buffer::new();
-    out.push_str(digits.format(number))
-}
-
-/// A number behind a text.
-fn put_behind(front: &str, number: u64, out: &mut String) -> Result<(), AllocError>
-    ensures { OnOk result (string_bytes out.new ≡ string_bytes out.old ++ front.now ++ decimal number) }
-{
-    out.push_str(front)?;
-    put_number(number, out)
-}
-
-// ---- Requests
-
-fn put_join(
-    client: ClientId,
-    life: u32,
-    interest: &[ObjectId],
-    out: &mut String,
-) -> Result<(), AllocError>
-    ensures { OnOk result (string_bytes out.new ≡ string_bytes out.old ++ codes "join c" ++ decimal client.0 ++ codes " " ++ decimal life ++ codes " " ++ objects_text interest.now) }
-{
-    put_behind("join c", client.0 as u64, out)?;
-    put_behind(" ", life as u64, out)?;
-    out.push(' ')?;
-    append_objects(interest, out)
-}
-
-fn put_shown(shape: Shape, action: &Action, out: &mut String) -> Result<(), AllocError>
-    ensures { OnOk result (string_bytes out.new ≡ string_bytes out.old ++ action_text shape action.now) }
-{
-    match check_action(shape, action) {
-        Ok(()) => put_action(out, action),
-        Err(_) => out.push_str("bad"),
-    }
-}
-
-fn put_submit(shape: Shape, seq: u32, action: &Action, out: &mut String) -> Result<(), AllocError>
-    ensures { OnOk result (string_bytes out.new ≡ string_bytes out.old ++ codes "submit " ++ decimal seq ++ codes " " ++ action_text shape action.now) }
-{
-    put_behind("submit ", seq as u64, out)?;
-    out.push(' ')?;
-    put_shown(shape, action, out)
-}
-
-fn put_result(done: &Done1, out: &mut String) -> Result<(), AllocError>
-    ensures { OnOk result (string_bytes out.new ≡ string_bytes out.old ++ result_text done.now) }
-{
-    put_number(done.pos as u64, out)?;
-    out.push(':')?;
-    append_values(done.values.as_slice(), out)
-}
-
-fn put_more_results(results: &[Done1], out: &mut String) -> Result<(), AllocError>
-    ensures { OnOk result (string_bytes out.new ≡ string_bytes out.old ++ flat_map (λ (d : Done1). 32 ∷ result_text d) results.now) }
-{
-    for done in results {
-        out.push(' ')?;
-        put_result(done, out)?;
-    }
-    Ok(())
-}
-
-fn put_result_list(results: &[Done1], out: &mut String) -> Result<(), AllocError>
-    ensures { OnOk result (string_bytes out.new ≡ string_bytes out.old ++ joined 32 result_text results.now) }
-{
-    let [first, rest @ ..] = results else {
-        return Ok(());
-    };
-    put_result(first, out)?;
-    put_more_results(rest, out)
-}
-
-fn put_done(results: &[Done1], out: &mut String) -> Result<(), AllocError>
-    ensures { OnOk result (string_bytes out.new ≡ string_bytes out.old ++ codes "done " ++ bracketed result_text results.now) }
-{
-    out.push_str("done [")?;
-    put_result_list(results, out)?;
-    out.push(']')
-}
-
-fn put_observe(wait: u16, objects: &[ObjectId], out: &mut String) -> Result<(), AllocError>
-    ensures { OnOk result (string_bytes out.new ≡ string_bytes out.old ++ codes "observe " ++ decimal wait ++ codes " " ++ objects_text objects.now) }
-{
-    put_behind("observe ", wait as u64, out)?;
-    out.push(' ')?;
-    append_objects(objects, out)
-}
-
-fn put_request(shape: Shape, request: &Request, out: &mut String) -> Result<(), AllocError>
-    ensures { OnOk result (string_bytes out.new ≡ string_bytes out.old ++ request_text shape request.now) }
-{
-    match request {
-        Request::Join {
-            client,
-            life,
-            interest,
-        } => put_join(*client, *life, interest.as_slice(), out),
-        Request::Submit { seq, action } => put_submit(shape, *seq, action, out),
-        Request::Done { results } => put_done(results.as_slice(), out),
-        Request::Poll => out.push_str("poll"),
-        Request::Observe { objects, wait } => put_observe(*wait, objects.as_slice(), out),
-        Request::Leave => out.push_str("leave"),
-        Request::Bad => out.push_str("bad"),
-        Request::End => out.push_str("end"),
-    }
-}
-
-// ---- Replies
+use sv_journal::{append_head, put_behind, put_decimal, put_request};
+use sv_wire::{Item, ObjectValue, Reply, Request};
+use sv_world::Shape;
 
 fn put_item(item: &Item, out: &mut String) -> Result<(), AllocError>
     ensures { OnOk result (string_bytes out.new ≡ string_bytes out.old ++ sent_item item.now) }
 {
-    put_number(item.pos as u64, out)?;
+    put_decimal(item.pos as u64, out)?;
     put_behind(":c", item.client.0 as u64, out)?;
     put_behind(".", item.seq as u64, out)
 }
@@ -258,7 +141,7 @@ pub(crate) fn put_line(
 ) -> Result<(), AllocError>
     ensures { OnOk result (string_bytes out.new ≡ string_bytes out.old ++ living_line shape number session request.now reply.now) }
 {
-    put_number(number, out)?;
+    put_decimal(number, out)?;
     put_behind(" s", session, out)?;
     out.push(' ')?;
     put_request(shape, request, out)?;

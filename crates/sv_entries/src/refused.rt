@@ -5,7 +5,8 @@ ghost use Rattle.sv_world.specs.Faults.{first_fault_of_action};
 ghost use Rattle.sv_entries.specs.Refused.{zeros, setting, single};
 
 use std::alloc::{AllocError, Global};
-use sv_world::{Action, BadAction, Body, Boxed, Expr, List, ObjectId, Point, Reads, Shape, Stmt};
+use sv_lists::{Boxed, List};
+use sv_world::{Action, BadAction, Body, Expr, ObjectId, Point, Reads, Shape, Stmt};
 
 fn plus_zero(alloc: Global, sum: Expr) -> Result<Expr, AllocError>
     ensures { IfOk result (λ e. e ≡ expr.Add sum (expr.Lit (pos 0))) }

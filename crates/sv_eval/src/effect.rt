@@ -1,6 +1,7 @@
 //! The result of an action.
 
-use sv_world::{List, Value};
+use sv_lists::List;
+use sv_world::Value;
 
 /// The result of an action on the values of its reads.
 #[derive(Debug, Drop)]

@@ -6,7 +6,8 @@ ghost use Rattle.sv_eval.specs.Evaluation.{effect_of};
 use crate::Effect;
 use crate::run::run_body;
 use std::alloc::{AllocError, Global};
-use sv_world::{Action, List, Value, copy_value, copy_values, is_in_mask};
+use sv_lists::List;
+use sv_world::{Action, Value, copy_value, copy_values, is_in_mask};
 
 /// The result of an action on one value for each of its reads.
 ///

@@ -3,7 +3,8 @@ ghost use Rattle.std.specs.Prelude.{◌≡◌, IfOk};
 ghost use Rattle.sv_world.specs.Sets.{at_mask, numbers_of, write_set};
 
 use std::alloc::{AllocError, Global};
-use sv_world::{Action, List, ObjectId, is_in_mask};
+use sv_lists::List;
+use sv_world::{Action, ObjectId, is_in_mask};
 
 /// The objects that an action writes, in order: those that it reads at the slots in its mask.
 #[tactic(auto, using(crate::proofs::Masks::at_mask_map))]

@@ -5,8 +5,15 @@ use Rattle.sv_frame.specs.Answers.{Skips}
 use Rattle.sv_frame.specs.declared.reader.Next.{Next}
 use Rattle.sv_frame.specs.declared.reader.Next.TheVariants as nexts
 use Rattle.sv_wire.specs.declared.fault.Malformed.{Malformed}
+use Rattle.sv_wire.specs.declared.message.Request.{Request}
+use Rattle.sv_wire.specs.declared.message.Request.TheVariants as requests
 use Rattle.sv_exchange.specs.declared.inbox.Incoming.{Incoming}
 use Rattle.sv_exchange.specs.declared.inbox.Incoming.TheVariants as incoming
+
+-- the request that was read; a malformed payload is taken for Bad
+abbrev pub read_or_bad : Result Request Malformed → Request
+read_or_bad (Ok request) = request
+read_or_bad (Err fault) = requests.Bad
 
 -- the payload of the first whole frame, where there is one
 abbrev pub first_payload_of : List ℕ → Option (List ℕ)

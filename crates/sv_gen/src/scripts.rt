@@ -6,8 +6,9 @@ ghost use Rattle.sv_gen.specs.Generated.{round_steps, script, interest, plan, mo
 
 use crate::acts::act;
 use std::alloc::{AllocError, Global};
+use sv_lists::List;
 use sv_scenario::{Plan, Step};
-use sv_world::{List, ObjectId};
+use sv_world::ObjectId;
 
 /// Appends sixteen acts among four objects, and a sync.
 fn put_round(alloc: Global, half: u16, base: u16, steps: &mut Vec<Step>) -> Result<(), AllocError>

@@ -8,8 +8,9 @@ ghost use Rattle.sv_gen.specs.Generated.{opening, world, plan, scenario, most_lo
 
 use crate::scripts::plan;
 use std::alloc::{AllocError, Global};
+use sv_lists::List;
 use sv_scenario::{Plan, Scenario};
-use sv_world::{List, MOST_BOUND, Shape, Value, World};
+use sv_world::{MOST_BOUND, Shape, Value, World};
 
 /// The greatest load.
 pub const MOST_LOAD: u32 = 192;

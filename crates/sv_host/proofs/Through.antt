@@ -4,7 +4,7 @@ use Rattle.sv_journal.specs.declared.entry.Entry.{Entry}
 use Rattle.sv_journal.specs.Living.{living}
 use Rattle.sv_journal.specs.Serving.{LegalFor}
 use Rattle.sv_journal.specs.Sessions.{is_ended}
-use Rattle.sv_sequencer.specs.Rows.{has_entry}
+use Rattle.sv_core.specs.Rows.{has_entry}
 use Rattle.sv_living.specs.Sessions.{AreInOrder, is_open, open_sessions}
 use Rattle.sv_living.specs.World.{WorldView}
 use Rattle.sv_living.proofs.Turns.{open-parts}

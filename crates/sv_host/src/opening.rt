@@ -27,12 +27,12 @@ use crate::telling::tell_open;
 use std::alloc::{AllocError, Global};
 use std::hash::RandomState;
 use sv_bytes::{FileFault, Files, Sink, read_all};
+use sv_core::Opened;
 use sv_keeper::{Keeper, LineCause, OpenFault, Opening};
 use sv_keys::{Keys, KeysFault};
 use sv_living::Stewards;
 use sv_log::{Cause, Folder, Refusal};
 use sv_office::{Ages, Manners, Office, STEWARD_NUMBER, Steward};
-use sv_sequencer::Opened;
 use sv_site::Counts;
 use sv_world::Shape;
 use sv_worldfile::{

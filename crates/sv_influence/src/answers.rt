@@ -1,5 +1,6 @@
 //! What is answered of influence.
-use sv_world::{List, ObjectId};
+use sv_lists::List;
+use sv_world::ObjectId;
 
 /// What a relay of a position has for a session.
 #[derive(Debug, Drop)]

@@ -13,8 +13,9 @@ use crate::answers::Closure;
 use crate::numbers::Numbers;
 use std::alloc::{AllocError, Global};
 use std::sync::ledger::Ledger;
+use sv_lists::List;
 use sv_queue::{Queue, Steps};
-use sv_world::{List, MOST_ITEMS, MOST_OBJECTS, ObjectId};
+use sv_world::{MOST_ITEMS, MOST_OBJECTS, ObjectId};
 
 /// What a relay of an uncommitted position has for the session of a slot: the positions that the session lacks, and the objects whose committed
 /// values it needs with them.

@@ -12,8 +12,9 @@ use crate::answers::Closure;
 use crate::objects::ObjectSet;
 use std::alloc::{AllocError, Global};
 use std::sync::ledger::Ledger;
+use sv_lists::List;
 use sv_queue::{Queue, Steps};
-use sv_world::{List, MOST_OBJECTS, ObjectId};
+use sv_world::{MOST_OBJECTS, ObjectId};
 
 /// The same as [`closure`](crate::closure), by a walk over the queue from the position downwards with the set of the objects that are
 /// still to be had. A position that writes one of them is an item, unless it was sent: then its objects leave the set.

@@ -22,7 +22,7 @@ use sv_world::{ClientId, Shape, copy_objects};
 
 /// The client of a scenario that is played, and the port of its server.
 #[derive(Drop)]
-pub(crate) struct Seat<'a> {
+pub(crate) struct PlayedClient<'a> {
     pub(crate) scenario: &'a Scenario,
     pub(crate) number: u16,
     pub(crate) port: u16,
@@ -94,7 +94,7 @@ fn answer(cause: PlayerCause, trace: Trace, lines: Vec<Line>) -> Result<Joined, 
 /// Plays a client's script over new ends, and gives them back.
 fn play_over<D: Door>(
     alloc: Global,
-    seat: &Seat<'_>,
+    seat: &PlayedClient<'_>,
     client: Client,
     watch: &Watch,
     door: &mut D,
@@ -142,7 +142,7 @@ fn play_over<D: Door>(
 /// All ends are given back before it answers.
 pub(crate) fn join_as<D: Door>(
     alloc: Global,
-    seat: &Seat<'_>,
+    seat: &PlayedClient<'_>,
     door: &mut D,
 ) -> Result<Joined, JoinFault>
     requires good { IsGoodScenario seat.now.scenario.now }

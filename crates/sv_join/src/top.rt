@@ -11,7 +11,7 @@ ghost use Rattle.sv_ending.specs.declared.ending.Ending.TheVariants as plain;
 ghost use Rattle.sv_join.specs.declared.ending.JoinEnding.TheVariants as endings;
 
 use crate::ending::{JoinEnding, status_of, tell};
-use crate::joining::{Seat, join_as};
+use crate::joining::{PlayedClient, join_as};
 use crate::texts::join_text;
 use crate::words::{Join, file_of, join_of};
 use std::alloc::Global;
@@ -38,7 +38,7 @@ fn text_for<F: Files, D: Door>(
     if join.number as usize >= scenario.clients.len() {
         return Err(JoinEnding::Plain(Ending::Range));
     }
-    let seat = Seat {
+    let seat = PlayedClient {
         scenario: &scenario,
         number: join.number,
         port: join.port,

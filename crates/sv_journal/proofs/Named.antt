@@ -17,7 +17,7 @@ use Rattle.sv_wire.specs.declared.message.Request.TheVariants as requests
 use Rattle.sv_journal.specs.declared.entry.Entry.{Entry}
 use Rattle.sv_journal.specs.declared.entry.Logged.{Logged}
 use Rattle.sv_journal.specs.declared.entry.Logged.TheVariants as logged
-use Rattle.sv_journal.specs.History.{is_relay, client_of, outcomes_of, Outcome, Accepted, Dropped, Denied, outcome_in, is_client, is_submit_of, Authored, accepted, actions_of, next_seq, commit_of}
+use Rattle.sv_journal.specs.History.{is_relay, client_of, outcomes_of, Outcome, Accepted, Dropped, Denied, outcome_in, is_client, is_submit_of, Authored, accepted, actions_of, next_seq, commit_of, entry_of}
 use Rattle.sv_journal.specs.Sessions.{kept_count, outcome_at, kept_outcome, positions_in, sent_to}
 use Rattle.sv_journal.specs.Answer.{Rules, relay_of}
 use Rattle.sv_journal.specs.Serving.{Keeping, plain, reply_for, LegalFor, IsKeeping}
@@ -139,9 +139,6 @@ kept_within h k seq p =
     at (suc n) e = all_get (TellsWithin (length (accepted h))) (outcomes_of h k) n (Accepted p) (outcomes_within h k) e
 
 -- One reply after the entries h.
-abbrev entry_of : ℕ → Request → Logged → Entry
-entry_of s q w = record { session = s; request = q; reply = w }
-
 abbrev Named : List Entry → ℕ → Request → Logged → Type 0
 Named h s q w = NamesAccepted (length (accepted (entry_of s q w ∷ h))) w
 

@@ -169,3 +169,11 @@ logged_of (replies.Noted commit) = logged.Noted commit
 logged_of replies.Idle = logged.Idle
 logged_of (replies.Refused code detail) = logged.Refused code detail
 logged_of replies.Bye = logged.Bye
+
+-- The entry of a request and its reply.
+abbrev pub entry_of : ℕ → Request → Logged → Entry
+entry_of s request reply = record { session = s; request = request; reply = reply }
+
+-- The entry of a session's End.
+abbrev pub end_entry : ℕ → Entry
+end_entry s = entry_of s requests.End logged.Bye

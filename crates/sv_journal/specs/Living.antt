@@ -4,7 +4,7 @@ use Rattle.std.specs.Prelude.{ℕ, suc, Bool, false, ◌&&◌, ◌||◌, not, na
 use Rattle.sv_world.specs.declared.rights.Right.{Right}
 use Rattle.sv_world.specs.declared.world.World.{World}
 use Rattle.sv_world.specs.Control.{is_in, below}
-use Rattle.sv_world.specs.Limits.{most_positions}
+use Rattle.sv_world.specs.Limits.{client_numbers, most_positions}
 use Rattle.sv_journal.specs.declared.entry.Entry.{Entry}
 use Rattle.sv_journal.specs.History.{client_of, is_client, accepted, result_at, commit_of}
 use Rattle.sv_journal.specs.Sessions.{sent_to}
@@ -18,7 +18,7 @@ living_rules world bound reach rights = record {
   bound = bound;
   reach = reach;
   sessions = None;
-  clients = 65536;
+  clients = client_numbers;
   requests = None;
   leap = Some 1000;
   positions = most_positions;

@@ -3,8 +3,9 @@ ghost use Rattle.std.specs.Prelude.{◌≡◌};
 ghost use Rattle.sv_journal.specs.History.{logged_of};
 ghost use Rattle.sv_journal.specs.Sessions.{is_end, is_stopping};
 
+use sv_lists::List;
 use sv_wire::{ObjectValue, Refusal, Reply, Request};
-use sv_world::{List, ObjectId};
+use sv_world::ObjectId;
 
 /// A reply as the journal keeps it: a relay, and what was seen, name the positions of their items, whose actions stand in the journal already.
 #[derive(Debug, Drop)]

@@ -6,6 +6,7 @@ mod journal;
 mod laws;
 mod pieces;
 mod print;
+mod requests;
 mod rows;
 mod text;
 
@@ -20,5 +21,6 @@ pub use laws::{
 };
 pub use pieces::{append_head, append_values};
 pub use print::{print_journal, relays_name_accepted};
-pub use rows::{count_after, joining_client, make_client_rows, make_count_rows, new_seq};
+pub use requests::{put_behind, put_decimal, put_request};
+pub use rows::{count_after, joining, joining_client, make_client_rows, make_count_rows, new_seq};
 pub use text::{append_held, append_objects, append_value};

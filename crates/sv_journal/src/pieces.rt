@@ -1,16 +1,15 @@
-//! Heads, results and items as the journal prints them. Where memory runs out a part of what is appended may be left.
+//! Heads, values and items as the journal prints them. Where memory runs out a part of what is appended may be left.
 ghost use Rattle.std.specs.Prelude.{◌≡◌, ◌≤◌, ◌∷◌, ◌++◌, All, length, reverse, string_bytes, OnOk};
 ghost use Rattle.std.specs.List.{flat_map};
-ghost use Rattle.sv_wire.specs.declared.message.Done1.{Done1};
 ghost use Rattle.sv_wire.specs.declared.message.ObjectValue.{ObjectValue};
 ghost use Rattle.sv_journal.specs.History.{accepted};
-ghost use Rattle.sv_journal.specs.Pieces.{joined, bracketed, value_text, held_text, head_text, result_text};
+ghost use Rattle.sv_journal.specs.Pieces.{joined, bracketed, value_text, held_text, head_text};
 ghost use Rattle.sv_journal.specs.Text.{item_text};
 
 use crate::journal::Journal;
 use crate::text::{append_held, append_value};
 use std::alloc::AllocError;
-use sv_wire::{Done1, ObjectValue};
+use sv_wire::ObjectValue;
 use sv_world::Value;
 
 /// Appends a head, as `[0=(5) 3=(7)]`.
@@ -40,43 +39,6 @@ fn append_more_head_values(head: &[ObjectValue], out: &mut String) -> Result<(),
         append_held(held.object, held.value.as_slice(), out)?;
     }
     Ok(())
-}
-
-/// Appends results, as `[1:(6) 2:(7)(8)]`.
-pub fn append_results(results: &[Done1], out: &mut String) -> Result<(), AllocError>
-    ensures { OnOk result (string_bytes out.new ≡ string_bytes out.old ++ bracketed result_text results.now) }
-{
-    out.push('[')?;
-    append_result_list(results, out)?;
-    out.push(']')
-}
-
-fn append_result_list(results: &[Done1], out: &mut String) -> Result<(), AllocError>
-    ensures { OnOk result (string_bytes out.new ≡ string_bytes out.old ++ joined 32 result_text results.now) }
-{
-    let [first, rest @ ..] = results else {
-        return Ok(());
-    };
-    append_result(first, out)?;
-    append_more_results(rest, out)
-}
-
-fn append_more_results(results: &[Done1], out: &mut String) -> Result<(), AllocError>
-    ensures { OnOk result (string_bytes out.new ≡ string_bytes out.old ++ flat_map (λ (d : Done1). 32 ∷ result_text d) results.now) }
-{
-    for done in results {
-        out.push(' ')?;
-        append_result(done, out)?;
-    }
-    Ok(())
-}
-
-fn append_result(done: &Done1, out: &mut String) -> Result<(), AllocError>
-    ensures { OnOk result (string_bytes out.new ≡ string_bytes out.old ++ result_text done.now) }
-{
-    let pos = done.pos;
-    write!(out, "{pos}:")?;
-    append_values(done.values.as_slice(), out)
 }
 
 /// Appends values, as `(7)(8)`.

@@ -2,84 +2,16 @@
 ghost use Rattle.std.specs.Prelude.{◌≡◌, ◌≤◌, ◌++◌, All, length, reverse, codes, string_bytes, MatchBool, OnOk, OnErr};
 ghost use Rattle.std.specs.Fmt.{decimal};
 ghost use Rattle.sv_journal.specs.History.{accepted};
-ghost use Rattle.sv_journal.specs.Pieces.{bracketed, head_text, objects_text, result_text};
-ghost use Rattle.sv_journal.specs.Text.{item_text, action_text, request_text, reply_text, entry_line, entry_lines, journal_text, NamesAccepted, RelaysNameAccepted};
+ghost use Rattle.sv_journal.specs.Pieces.{bracketed, head_text};
+ghost use Rattle.sv_journal.specs.Text.{item_text, reply_text, entry_line, entry_lines, journal_text, NamesAccepted, RelaysNameAccepted};
 
 use crate::journal::Journal;
-use crate::pieces::{append_head, append_items, append_results};
-use crate::text::append_objects;
+use crate::pieces::{append_head, append_items};
+use crate::requests::put_request;
 use crate::{Entry, Logged};
 use std::alloc::AllocError;
-use sv_text::append_action;
-use sv_wire::{Done1, ObjectValue, Request};
-use sv_world::{Action, ClientId, ObjectId, Shape, check_action};
-
-fn append_shown(shape: Shape, action: &Action, out: &mut String) -> Result<(), AllocError>
-    ensures { OnOk result (string_bytes out.new ≡ string_bytes out.old ++ action_text shape action.now) }
-{
-    match check_action(shape, action) {
-        Ok(()) => append_action(action, out),
-        Err(_) => out.push_str("bad"),
-    }
-}
-
-fn append_join(
-    client: ClientId,
-    life: u32,
-    interest: &[ObjectId],
-    out: &mut String,
-) -> Result<(), AllocError>
-    ensures { OnOk result (string_bytes out.new ≡ string_bytes out.old ++ codes "join c" ++ decimal client.0 ++ codes " " ++ decimal life ++ codes " " ++ objects_text interest.now) }
-{
-    let number = client.0;
-    write!(out, "join c{number} {life} ")?;
-    append_objects(interest, out)
-}
-
-fn append_submit(
-    shape: Shape,
-    seq: u32,
-    action: &Action,
-    out: &mut String,
-) -> Result<(), AllocError>
-    ensures { OnOk result (string_bytes out.new ≡ string_bytes out.old ++ codes "submit " ++ decimal seq ++ codes " " ++ action_text shape action.now) }
-{
-    write!(out, "submit {seq} ")?;
-    append_shown(shape, action, out)
-}
-
-fn append_done(results: &[Done1], out: &mut String) -> Result<(), AllocError>
-    ensures { OnOk result (string_bytes out.new ≡ string_bytes out.old ++ codes "done " ++ bracketed result_text results.now) }
-{
-    out.push_str("done ")?;
-    append_results(results, out)
-}
-
-fn append_observe(wait: u16, objects: &[ObjectId], out: &mut String) -> Result<(), AllocError>
-    ensures { OnOk result (string_bytes out.new ≡ string_bytes out.old ++ codes "observe " ++ decimal wait ++ codes " " ++ objects_text objects.now) }
-{
-    write!(out, "observe {wait} ")?;
-    append_objects(objects, out)
-}
-
-fn append_request(shape: Shape, request: &Request, out: &mut String) -> Result<(), AllocError>
-    ensures { OnOk result (string_bytes out.new ≡ string_bytes out.old ++ request_text shape request.now) }
-{
-    match request {
-        Request::Join {
-            client,
-            life,
-            interest,
-        } => append_join(*client, *life, interest.as_slice(), out),
-        Request::Submit { seq, action } => append_submit(shape, *seq, action, out),
-        Request::Done { results } => append_done(results.as_slice(), out),
-        Request::Poll => out.push_str("poll"),
-        Request::Observe { objects, wait } => append_observe(*wait, objects.as_slice(), out),
-        Request::Leave => out.push_str("leave"),
-        Request::Bad => out.push_str("bad"),
-        Request::End => out.push_str("end"),
-    }
-}
+use sv_wire::ObjectValue;
+use sv_world::{ObjectId, Shape};
 
 fn append_welcome(commit: u32, head: &[ObjectValue], out: &mut String) -> Result<(), AllocError>
     ensures { OnOk result (string_bytes out.new ≡ string_bytes out.old ++ codes "welcome " ++ decimal commit ++ codes " " ++ head_text head.now) }
@@ -156,7 +88,7 @@ fn append_entry(
 {
     let session = entry.session;
     write!(out, "{number} s{session} ")?;
-    append_request(shape, &entry.request, out)?;
+    put_request(shape, &entry.request, out)?;
     out.push_str(" -> ")?;
     append_reply(journal, &entry.reply, out)?;
     out.push('\n')

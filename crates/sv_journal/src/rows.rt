@@ -40,6 +40,16 @@ pub fn make_count_rows(outcomes: &mut Vec<u32>) -> Result<(), AllocError>
     outcomes.resize(NUMBERS, 0)
 }
 
+/// The number of the client that a Join names.
+pub fn joining(request: &Request) -> Option<u16>
+    ensures { result ≡ joining request.now }
+{
+    match request {
+        Request::Join { client, .. } => Some(client.0),
+        _ => None,
+    }
+}
+
 /// The client that joins by an entry.
 pub fn joining_client(entry: &Entry) -> Option<ClientId>
     ensures { option_map (λ (c : ClientId). c.0) result ≡ (if is_welcome entry.now.reply then joining entry.now.request else None) }
@@ -47,9 +57,9 @@ pub fn joining_client(entry: &Entry) -> Option<ClientId>
     let Logged::Welcome { .. } = &entry.reply else {
         return None;
     };
-    match &entry.request {
-        Request::Join { client, .. } => Some(*client),
-        _ => None,
+    match joining(&entry.request) {
+        Some(number) => Some(ClientId(number)),
+        None => None,
     }
 }
 

@@ -8,8 +8,8 @@ use Rattle.sv_journal.specs.declared.entry.Entry.{Entry}
 use Rattle.sv_journal.specs.declared.entry.Logged.{Logged}
 use Rattle.sv_journal.specs.Answer.{Rules}
 use Rattle.sv_journal.specs.Sessions.{is_ended}
-use Rattle.sv_sequencer.specs.Rows.{has_entry}
-use Rattle.sv_sequencer.specs.Step.{entry_of}
+use Rattle.sv_core.specs.Rows.{has_entry}
+use Rattle.sv_journal.specs.History.{entry_of}
 use Rattle.sv_living.specs.Sessions.{is_open, next_session, open_sessions}
 use Rattle.sv_living.specs.World.{WorldView, after, reply_in}
 use Rattle.sv_lines.proofs.Splitting.{first_is}

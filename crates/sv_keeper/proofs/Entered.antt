@@ -6,7 +6,7 @@ use Rattle.sv_journal.specs.declared.entry.Entry.{Entry}
 use Rattle.sv_journal.specs.History.{accepted, full_reply}
 use Rattle.sv_journal.specs.Text.{entry_line}
 use Rattle.sv_world.specs.declared.world.Shape.{Shape}
-use Rattle.sv_sequencer.specs.Step.{entry_of}
+use Rattle.sv_journal.specs.History.{entry_of}
 use Rattle.sv_living.specs.World.{WorldView, after, reply_in}
 use Rattle.sv_log.specs.Pictures.{Disk}
 use Rattle.sv_log.specs.Texts.{IsText}

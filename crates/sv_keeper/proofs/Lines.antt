@@ -20,7 +20,7 @@ use Rattle.sv_journal.specs.declared.entry.Logged.TheVariants as logged
 use Rattle.sv_journal.specs.History.{Authored, authored_at, accepted, full_reply, client_of, new_action, next_seq, is_relay}
 use Rattle.sv_journal.specs.Pieces.{joined, bracketed, head_text}
 use Rattle.sv_journal.specs.Text.{item_text, action_text, request_text, reply_text, entry_line}
-use Rattle.sv_sequencer.specs.Step.{entry_of}
+use Rattle.sv_journal.specs.History.{entry_of}
 use Rattle.sv_living.specs.World.{WorldView, after, reply_in}
 use Rattle.sv_lines.specs.Told.{asking_text}
 use Rattle.sv_entries.specs.Lines.{sent_text, living_line}

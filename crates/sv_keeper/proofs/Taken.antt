@@ -3,7 +3,7 @@ use Rattle.std.proofs.Common.{◌≡◌, ◌≢◌, ℕ, suc, ◌+◌, ◌<◌, 
 use Rattle.std.proofs.lemmas.List.{append-nil}
 use Rattle.sv_journal.specs.declared.entry.Entry.{Entry}
 use Rattle.sv_journal.specs.Answer.{Rules}
-use Rattle.sv_sequencer.specs.Step.{entry_of}
+use Rattle.sv_journal.specs.History.{entry_of}
 use Rattle.sv_living.specs.World.{WorldView, after, reply_in}
 use Rattle.sv_keeper.specs.Histories.{history_text}
 use Rattle.sv_keeper.specs.Keeping.{text_of, next_line}

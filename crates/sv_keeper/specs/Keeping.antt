@@ -3,7 +3,7 @@ use Rattle.std.specs.Prelude.{◌≡◌, ◌⊎◌, ℕ, ◌≤◌, true, false,
 use Rattle.sv_wire.specs.declared.message.Request.{Request}
 use Rattle.sv_wire.specs.declared.message.Reply.{Reply}
 use Rattle.sv_journal.specs.History.{accepted, full_reply}
-use Rattle.sv_sequencer.specs.Step.{entry_of}
+use Rattle.sv_journal.specs.History.{entry_of}
 use Rattle.sv_living.specs.Sessions.{may_ask}
 use Rattle.sv_living.specs.World.{WorldView, after, reply_in, IsStepFault}
 use Rattle.sv_living.specs.declared.fault.StepFault.TheVariants as causes

@@ -19,10 +19,10 @@ use crate::putting::put_group;
 use crate::settled::Settled;
 use std::marker::Model;
 use sv_bytes::FileFault;
+use sv_core::Answer;
 use sv_entries::{LineBuffer, replies_have_one_text};
 use sv_living::{LivingCore, StepFault};
 use sv_log::{Folder, Log};
-use sv_sequencer::Answer;
 use sv_wire::{Reply, Request};
 use sv_world::{ClientId, ObjectId, Shape, Value};
 

@@ -25,10 +25,10 @@ use crate::place::{first_of, place_in};
 use crate::walking::{Walk, WalkStop};
 use std::alloc::{AllocError, Global};
 use sv_bytes::FileFault;
+use sv_core::Opened;
 use sv_entries::LineBuffer;
 use sv_living::{LivingCore, Stewards};
 use sv_log::{Folder, Log, Reading, read_log, state_name};
-use sv_sequencer::Opened;
 use sv_wire::Request;
 use sv_world::Shape;
 

@@ -7,7 +7,7 @@ use sv_log::segment_name;
 
 /// A line of a file. Lines count from 1.
 #[derive(Drop)]
-pub(crate) struct Place {
+pub(crate) struct LinePlace {
     pub(crate) file: String,
     pub(crate) line: u64,
 }
@@ -39,12 +39,12 @@ fn later_of(first: u64, start: u64, number: u64) -> u64
 }
 
 /// The place of the line of a number in the segment that begins with the line of another.
-pub(crate) fn place_in(alloc: Global, first: u64, number: u64) -> Result<Place, AllocError>
+pub(crate) fn place_in(alloc: Global, first: u64, number: u64) -> Result<LinePlace, AllocError>
     requires some { 1 ≤ first }
     requires within { first ≤ number }
     ensures { IfOk result (λ place. IsPlaceIn first number (string_bytes place.file) place.line) }
 {
-    Ok(Place {
+    Ok(LinePlace {
         file: segment_name(alloc, first)?,
         line: number - first + 1,
     })

@@ -5,13 +5,13 @@ ghost use Rattle.sv_keeper.specs.Walks.{IsTaken, AreTaken, IsAskedBy, IsWalk, Wh
 
 use crate::fault::LineCause;
 use std::alloc::{AllocError, Global};
+use sv_core::Answer;
 use sv_entries::{
     LineAsked, LineBuffer, LineRequest, bad_action, causes_are_told, line_at, replies_go_by_faults,
     replies_have_one_text,
 };
 use sv_lines::{Unread, take_line};
 use sv_living::{LivingCore, StepFault};
-use sv_sequencer::Answer;
 use sv_wire::Request;
 use sv_world::{BadAction, Shape};
 

@@ -14,7 +14,7 @@ use sv_bytes::{FileFault, Files, Sink, read_all};
 use sv_world::ClientId;
 
 /// How many bytes a file of keys may have.
-const MOST_BYTES: usize = 16_777_216;
+const MOST_KEY_BYTES: usize = 16_777_216;
 
 /// The keys of a file.
 ///
@@ -41,12 +41,12 @@ fn read_keys<L: Files>(alloc: Global, files: &mut L, name: &str) -> Result<Vec<u
     ensures err { IfErr result (λ fault. (n : ℕ) → fault ≢ faults.Line n) }
     ensures same { (n : List ℕ) → L.contents files.new n ≡ L.contents files.old n }
 {
-    let bytes = match read_all(alloc, files, name, MOST_BYTES + 1) {
+    let bytes = match read_all(alloc, files, name, MOST_KEY_BYTES + 1) {
         Ok(bytes) => bytes,
         Err(FileFault::Failed) => return Err(KeysFault::File),
         Err(FileFault::Memory) => return Err(KeysFault::Memory),
     };
-    if bytes.as_slice().len() > MOST_BYTES {
+    if bytes.as_slice().len() > MOST_KEY_BYTES {
         return Err(KeysFault::File);
     }
     Ok(bytes)

@@ -71,7 +71,7 @@ module _ {A : Type 0} (P : A → Type 0) (text : A → List ℕ) (LineStop : Lis
 
 -- ---- Objects, values and results
 
-object_is_read : IsRead ObjectFits (λ (o : ObjectId). decimal o.0) NoNumber object_read
+pub object_is_read : IsRead ObjectFits (λ (o : ObjectId). decimal o.0) NoNumber object_read
 unfolding object_read
 object_is_read o rest f stop = rw (number_is_read (2 ^ 16) (omega arith) o.0 rest f stop) refl
 
@@ -84,7 +84,7 @@ objects_are_read os rest f stop =
     (listed_read ObjectFits (λ (o : ObjectId). decimal o.0) NoNumber object_read object_is_read 93 32 (λ e. omega (arith, e)) (λ l. refl) (λ l. refl)
     (λ a x y p e. number_begins a.0 x 93 y (omega (arith, p)) refl e) os rest f)
 
-value_is_read : (v : List ℤ) (rest : List ℕ) → ValueFits v → value_read (joined 44 signed_decimal v ++ 41 ∷ rest) ≡ Some (v, rest)
+pub value_is_read : (v : List ℤ) (rest : List ℕ) → ValueFits v → value_read (joined 44 signed_decimal v ++ 41 ∷ rest) ≡ Some (v, rest)
 unfolding value_read
 value_is_read v rest f =
     listed_read IsI64 signed_decimal NoNumber signed_read signed_is_read 41 44 (λ e. omega (arith, e)) (λ l. refl) (λ l. refl)
@@ -116,7 +116,7 @@ values_read_by (suc turns) (v ∷ vs) so_far rest f stop few =
     ap (values_by (suc turns) so_far) regrouped
     ∙ rw (byte_there 40 (body ++ 41 ∷ tail), value_is_read v tail f.0) (more ∙ ap (λ (l : List (List ℤ)). Some (l, rest)) (append_assoc so_far (v ∷ []) vs))
 
-values_are_read : IsRead (AllByRecursion ValueFits) (flat_map value_text) NoValue values_read
+pub values_are_read : IsRead (AllByRecursion ValueFits) (flat_map value_text) NoValue values_read
 unfolding values_read
 values_are_read vs rest f stop =
     values_read_by (length (flat_map value_text vs ++ rest)) vs [] rest f stop (omega (arith, values_long vs, length-append (flat_map value_text vs) rest))

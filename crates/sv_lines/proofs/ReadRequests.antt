@@ -52,7 +52,7 @@ arrow_is_found s x f =
     let cut : n - 2 ≡ length s = omega (arith, long) in
     rw many (ap (λ (k : ℕ). Some (take k (s ++ arrow x))) cut ∙ ap Some (take-append_seam s (arrow x)))
 
-action_is_read : (shape : Shape) (a : Action) → IsTold shape (requests.Submit 0 a) → action_read shape (canonical a) ≡ Some a
+pub action_is_read : (shape : Shape) (a : Action) → IsTold shape (requests.Submit 0 a) → action_read shape (canonical a) ≡ Some a
 unfolding action_read good_action
 action_is_read shape a told =
     let p = printable shape a told.0.1 told.1 in

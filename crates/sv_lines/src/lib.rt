@@ -15,7 +15,8 @@ mod stop;
 
 pub use laws::requests_are_told;
 pub use lines::{line_ends, line_length, take_line, take_lines};
-pub use numbers::{expect, number_at, numeral_at};
-pub use request::{Asked, asked_at, request_at};
+pub use lists::{next_at, object_at, objects_at, value_at, values_at};
+pub use numbers::{behind, expect, number_at, numeral_at, small_at};
+pub use request::{Asked, action_at, asked_at, plain_width, request_at};
 pub use same::same_request;
 pub use stop::{LineStop, Unread};

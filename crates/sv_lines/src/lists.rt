@@ -5,12 +5,13 @@ ghost use Rattle.sv_lines.specs.Reading.{Gives, seen, next_read, joined_by, list
 use crate::numbers::{behind, expect, number_at, signed_at, small_at};
 use crate::stop::Unread;
 use std::alloc::Global;
+use sv_lists::List;
 use sv_wire::Done1;
-use sv_world::{List, ObjectId, Value};
+use sv_world::{ObjectId, Value};
 
 /// An object by its number, and what comes after it.
 #[tactic(auto, unfolding(crate::specs::Reading::object_read))]
-fn object_at(text: &[u8]) -> Result<(ObjectId, &[u8]), Unread>
+pub fn object_at(text: &[u8]) -> Result<(ObjectId, &[u8]), Unread>
     ensures { seen (λ x. (x.0, x.1.now)) result ≡ object_read text.now }
 {
     let (number, rest) = small_at(text)?;
@@ -19,7 +20,7 @@ fn object_at(text: &[u8]) -> Result<(ObjectId, &[u8]), Unread>
 
 /// Whether a list ends behind an element, and what comes next.
 #[tactic(auto, unfolding(crate::specs::Reading::next_read))]
-fn next_at<'a>(text: &'a [u8], close: &[u8], byte: &[u8]) -> Result<(bool, &'a [u8]), Unread>
+pub fn next_at<'a>(text: &'a [u8], close: &[u8], byte: &[u8]) -> Result<(bool, &'a [u8]), Unread>
     ensures { seen (λ x. (x.0, x.1.now)) result ≡ next_read close.now byte.now text.now }
 {
     if let Some(rest) = behind(text, close) {
@@ -89,7 +90,7 @@ fn joined_numbers(alloc: Global, turns: usize, text: &[u8]) -> Result<(Value, &[
 
 /// A value behind its bracket.
 #[tactic(auto, unfolding(crate::specs::Reading::value_read))]
-fn value_at(alloc: Global, text: &[u8]) -> Result<(Value, &[u8]), Unread>
+pub fn value_at(alloc: Global, text: &[u8]) -> Result<(Value, &[u8]), Unread>
     ensures { Gives (λ x. (x.0, x.1.now)) result (value_read text.now) }
 {
     if let Some(rest) = behind(text, b")") {
@@ -117,7 +118,7 @@ fn joined_values(alloc: Global, turns: usize, text: &[u8]) -> Result<(List<Value
 
 /// Values, as `(7)(8)`.
 #[tactic(auto, unfolding(crate::specs::Reading::values_read))]
-fn values_at(alloc: Global, text: &[u8]) -> Result<(List<Value>, &[u8]), Unread>
+pub fn values_at(alloc: Global, text: &[u8]) -> Result<(List<Value>, &[u8]), Unread>
     ensures { Gives (λ x. (x.0, x.1.now)) result (values_read text.now) }
 {
     joined_values(alloc, text.len(), text)

@@ -28,7 +28,7 @@ pub fn numeral_at(text: &[u8]) -> (&str, &[u8])
 }
 
 /// What comes after these bytes, where the text begins with them.
-pub(crate) fn behind<'a>(text: &'a [u8], front: &[u8]) -> Option<&'a [u8]>
+pub fn behind<'a>(text: &'a [u8], front: &[u8]) -> Option<&'a [u8]>
     ensures read { MatchOption result (behind_front front.now text.now ≡ None) (λ rest. behind_front front.now text.now ≡ Some rest.now) }
     ensures told { MatchOption result ((rest : List ℕ) → text.now ≢ front.now ++ rest) (λ rest. text.now ≡ front.now ++ rest.now) }
 {

@@ -31,7 +31,7 @@ fn join_at(alloc: Global, text: &[u8]) -> Result<Request, Unread>
 }
 
 /// How many of the first bytes an action may have before an arrow.
-fn plain_width(text: &[u8]) -> usize
+pub fn plain_width(text: &[u8]) -> usize
     ensures { result ≡ prefix_len is_plain text.now }
 {
     text.iter()
@@ -68,7 +68,7 @@ fn checked(shape: Shape, action: Action) -> Result<Action, Unread>
 
 /// An action that the check passes.
 #[tactic(auto, unfolding(crate::specs::Asking::action_read))]
-fn action_at(alloc: Global, shape: Shape, text: &str) -> Result<Action, Unread>
+pub fn action_at(alloc: Global, shape: Shape, text: &str) -> Result<Action, Unread>
     ensures { Gives (λ a. a) result (action_read shape text.now) }
 {
     if text.len() >= 1 << 32 {

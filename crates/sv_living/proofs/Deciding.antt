@@ -24,9 +24,9 @@ use Rattle.sv_journal.specs.Serving.{plain, is_poll, with_last_rows, with_result
 use Rattle.sv_journal.specs.Living.{Stewardship, is_stewards, counts, heeded, unreported, due_to, living}
 use Rattle.sv_journal.proofs.Plain.{reply-same}
 use Rattle.sv_journal.proofs.Stewards.{living-keeping}
-use Rattle.sv_sequencer.specs.declared.decision.Decision.{Decision}
-use Rattle.sv_sequencer.specs.declared.decision.Decision.TheVariants as decisions
-use Rattle.sv_sequencer.specs.Decisions.{reply_by, results_in, IsOld, Holds}
+use Rattle.sv_core.specs.declared.decision.Decision.{Decision}
+use Rattle.sv_core.specs.declared.decision.Decision.TheVariants as decisions
+use Rattle.sv_core.specs.Decisions.{reply_by, results_in, IsOld, Holds}
 use Rattle.sv_living.specs.Deciding.{answers_poll, is_report, first_relay, IsDecided, IsDuePoll}
 use Rattle.sv_living.specs.Keeping.{heard}
 use Rattle.sv_living.proofs.Heeding.{accepted_heeded, heard_none}

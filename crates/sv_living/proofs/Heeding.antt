@@ -11,7 +11,7 @@ use Rattle.sv_journal.specs.Serving.{with_results}
 use Rattle.sv_journal.specs.Living.{Stewardship, counts, heeded, living}
 use Rattle.sv_journal.proofs.Kept.{client-kept, accepted-kept}
 use Rattle.sv_journal.proofs.Stewards.{living-keeping}
-use Rattle.sv_sequencer.specs.Step.{entry_of}
+use Rattle.sv_journal.specs.History.{entry_of}
 use Rattle.sv_living.specs.Keeping.{heard}
 
 pub client_heeded : (w : Stewardship) (h : List Entry) (s : ℕ) → client_of (heeded w h) s ≡ client_of h s

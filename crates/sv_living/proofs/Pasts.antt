@@ -3,7 +3,7 @@ use Rattle.std.proofs.Common.{◌≡◌, ℕ, List, [], ◌∷◌, ◌++◌, len
 use Rattle.sv_wire.specs.declared.message.Request.{Request}
 use Rattle.sv_journal.specs.declared.entry.Entry.{Entry}
 use Rattle.sv_journal.specs.declared.entry.Logged.{Logged}
-use Rattle.sv_sequencer.specs.Step.{entry_of}
+use Rattle.sv_journal.specs.History.{entry_of}
 use Rattle.sv_living.specs.Past.{entries_of}
 
 pub entries-more : (asked : List (ℕ × Request)) (replied : List (ℕ × Logged)) (a : ℕ × Request) (b : ℕ × Logged) (h : List Entry) → length asked ≡ length replied

@@ -18,7 +18,7 @@ use Rattle.sv_journal.specs.Serving.{is_poll, with_last_rows, reply_for, LegalFo
 use Rattle.sv_journal.specs.Living.{Stewardship, heeded, due_to, living}
 use Rattle.sv_journal.proofs.Sizes.{SizeWithin, sized, served_bounded}
 use Rattle.sv_journal.proofs.Stewards.{living-keeping}
-use Rattle.sv_sequencer.specs.Seeing.{shows_nothing, RelaysFit, IsQuietAnswer}
+use Rattle.sv_core.specs.Seeing.{shows_nothing, RelaysFit, IsQuietAnswer}
 use Rattle.sv_living.specs.Quiet.{is_quiet, IsQuiet}
 use Rattle.sv_living.specs.Sessions.{is_open}
 use Rattle.sv_living.proofs.Deciding.{reply-open}

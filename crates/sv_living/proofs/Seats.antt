@@ -10,7 +10,7 @@ use Rattle.sv_world.specs.Control.{is_in}
 use Rattle.sv_world.specs.Faults.{is_ascending}
 use Rattle.sv_world.proofs.Members.{is_in-head, is_in-tail, is_in-cons_cases}
 use Rattle.sv_world.proofs.Ascending.{ascending-tail, ascending-head, ascending-cons, ascending-push}
-use Rattle.sv_sequencer.specs.declared.seats.Seat.{Seat}
+use Rattle.sv_core.specs.declared.seats.Seat.{Seat}
 use Rattle.sv_living.specs.Table.{seat_of, numbers_in, ends_below}
 
 abbrev pub others : ℕ → List Seat → List Seat

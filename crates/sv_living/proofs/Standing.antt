@@ -14,13 +14,13 @@ use Rattle.sv_journal.specs.Answer.{Rules}
 use Rattle.sv_journal.specs.Serving.{with_results, reply_for, LegalFor}
 use Rattle.sv_journal.specs.Living.{Stewardship, counts, heeded, living}
 use Rattle.sv_journal.proofs.Kept.{end-same}
-use Rattle.sv_sequencer.specs.declared.answer.Answer.{Answer}
-use Rattle.sv_sequencer.specs.declared.decision.Decision.{Decision}
-use Rattle.sv_sequencer.specs.declared.seats.Seat.{Seat}
-use Rattle.sv_sequencer.specs.declared.server_core.Core.{Core}
-use Rattle.sv_sequencer.specs.Cores.{core_rules, open_by, owed_by, session_at, first_seat, SitsAt, Keeps, IsUnseated, MayClose, CarriedOut, Remained, WasSeated, WasClosed, decided_entry}
-use Rattle.sv_sequencer.specs.Rows.{has_entry}
-use Rattle.sv_sequencer.specs.Step.{entry_of, end_entry}
+use Rattle.sv_core.specs.declared.answer.Answer.{Answer}
+use Rattle.sv_core.specs.declared.decision.Decision.{Decision}
+use Rattle.sv_core.specs.declared.seats.Seat.{Seat}
+use Rattle.sv_core.specs.declared.server_core.Core.{Core}
+use Rattle.sv_core.specs.Cores.{core_rules, open_by, owed_by, session_at, first_seat, SitsAt, Keeps, IsUnseated, MayClose, CarriedOut, Remained, WasSeated, WasClosed, decided_entry}
+use Rattle.sv_core.specs.Rows.{has_entry}
+use Rattle.sv_journal.specs.History.{entry_of, end_entry}
 use Rattle.sv_living.specs.declared.live.Live.{Live}
 use Rattle.sv_living.specs.Deciding.{IsDecided, is_report}
 use Rattle.sv_living.specs.Keeping.{rules_at, stewardship_at, AreOpen, KeepsLiving, heard, living_entry, CarriedOn, Began, Left, Moved, StoodStill}

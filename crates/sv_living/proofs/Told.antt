@@ -4,8 +4,8 @@ use Rattle.sv_wire.specs.declared.message.Request.{Request}
 use Rattle.sv_wire.specs.declared.message.Request.TheVariants as requests
 use Rattle.sv_journal.specs.declared.entry.Entry.{Entry}
 use Rattle.sv_journal.specs.Sessions.{is_end}
-use Rattle.sv_sequencer.specs.declared.answer.Answer.{Answer}
-use Rattle.sv_sequencer.specs.declared.seats.Seat.{Seat}
+use Rattle.sv_core.specs.declared.answer.Answer.{Answer}
+use Rattle.sv_core.specs.declared.seats.Seat.{Seat}
 use Rattle.sv_living.specs.Sessions.{may_ask}
 use Rattle.sv_living.specs.World.{IsStepFault, told}
 

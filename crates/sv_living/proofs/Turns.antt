@@ -11,11 +11,11 @@ use Rattle.sv_wire.specs.declared.message.Request.{Request}
 use Rattle.sv_journal.specs.declared.entry.Entry.{Entry}
 use Rattle.sv_journal.specs.declared.entry.Logged.{Logged}
 use Rattle.sv_journal.specs.Sessions.{is_end, is_ended}
-use Rattle.sv_sequencer.specs.declared.seats.Seat.{Seat}
-use Rattle.sv_sequencer.specs.declared.server_core.Core.{Core}
-use Rattle.sv_sequencer.specs.Cores.{open_by, session_at, SitsAt}
-use Rattle.sv_sequencer.specs.Rows.{has_entry}
-use Rattle.sv_sequencer.specs.Step.{entry_of, end_entry}
+use Rattle.sv_core.specs.declared.seats.Seat.{Seat}
+use Rattle.sv_core.specs.declared.server_core.Core.{Core}
+use Rattle.sv_core.specs.Cores.{open_by, session_at, SitsAt}
+use Rattle.sv_core.specs.Rows.{has_entry}
+use Rattle.sv_journal.specs.History.{entry_of, end_entry}
 use Rattle.sv_living.specs.Keeping.{AreOpen}
 use Rattle.sv_living.specs.Sessions.{is_open, next_session, open_sessions}
 use Rattle.sv_living.specs.Table.{numbers_in, ends_below}

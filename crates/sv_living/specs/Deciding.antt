@@ -9,9 +9,9 @@ use Rattle.sv_journal.specs.Sessions.{sent_to}
 use Rattle.sv_journal.specs.Answer.{Rules, reply_to_request, reply_to_poll, orphans}
 use Rattle.sv_journal.specs.Serving.{is_poll, reply_for}
 use Rattle.sv_journal.specs.Living.{Stewardship, is_stewards, heeded, living}
-use Rattle.sv_sequencer.specs.declared.decision.Decision.{Decision}
-use Rattle.sv_sequencer.specs.declared.decision.Decision.TheVariants as decisions
-use Rattle.sv_sequencer.specs.Decisions.{reply_by, Holds}
+use Rattle.sv_core.specs.declared.decision.Decision.{Decision}
+use Rattle.sv_core.specs.declared.decision.Decision.TheVariants as decisions
+use Rattle.sv_core.specs.Decisions.{reply_by, Holds}
 use Rattle.sv_living.specs.Keeping.{heard}
 
 -- The position is above the commit, has no result and was not sent to the session.

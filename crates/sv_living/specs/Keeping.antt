@@ -8,12 +8,12 @@ use Rattle.sv_journal.specs.History.{accepted, full_reply}
 use Rattle.sv_journal.specs.Answer.{Rules}
 use Rattle.sv_journal.specs.Serving.{with_results, reply_for, LegalFor}
 use Rattle.sv_journal.specs.Living.{Stewardship, counts, heeded, living}
-use Rattle.sv_sequencer.specs.declared.answer.Answer.{Answer}
-use Rattle.sv_sequencer.specs.declared.seats.Seat.{Seat}
-use Rattle.sv_sequencer.specs.declared.server_core.Core.{Core}
-use Rattle.sv_sequencer.specs.Cores.{core_rules, open_by, session_at, SitsAt, Keeps, WasSeated}
-use Rattle.sv_sequencer.specs.Rows.{has_entry}
-use Rattle.sv_sequencer.specs.Step.{entry_of, end_entry}
+use Rattle.sv_core.specs.declared.answer.Answer.{Answer}
+use Rattle.sv_core.specs.declared.seats.Seat.{Seat}
+use Rattle.sv_core.specs.declared.server_core.Core.{Core}
+use Rattle.sv_core.specs.Cores.{core_rules, open_by, session_at, SitsAt, Keeps, WasSeated}
+use Rattle.sv_core.specs.Rows.{has_entry}
+use Rattle.sv_journal.specs.History.{entry_of, end_entry}
 use Rattle.sv_living.specs.declared.live.Live.{Live}
 use Rattle.sv_living.specs.declared.stewards.Stewards.{Stewards}
 use Rattle.sv_living.specs.Sessions.{is_open, next_session, AreInOrder}

@@ -8,7 +8,7 @@ use Rattle.sv_journal.specs.History.{accepted, full_reply}
 use Rattle.sv_journal.specs.Answer.{Rules}
 use Rattle.sv_journal.specs.Serving.{reply_for}
 use Rattle.sv_journal.specs.Living.{Stewardship, living}
-use Rattle.sv_sequencer.specs.Seeing.{shows_nothing}
+use Rattle.sv_core.specs.Seeing.{shows_nothing}
 use Rattle.sv_living.specs.Sessions.{is_open, open_sessions}
 
 -- The least number of the sessions that are open.

@@ -5,7 +5,7 @@ use Rattle.sv_world.specs.Control.{below}
 use Rattle.sv_world.specs.Limits.{most_open}
 use Rattle.sv_journal.specs.declared.entry.Entry.{Entry}
 use Rattle.sv_journal.specs.Sessions.{is_ended}
-use Rattle.sv_sequencer.specs.Rows.{has_entry}
+use Rattle.sv_core.specs.Rows.{has_entry}
 
 -- A session is open: it has an entry, and had no End.
 abbrev pub is_open : List Entry → ℕ → Bool

@@ -7,8 +7,8 @@ use Rattle.sv_journal.specs.History.{accepted, full_reply}
 use Rattle.sv_journal.specs.Answer.{Rules}
 use Rattle.sv_journal.specs.Serving.{reply_for}
 use Rattle.sv_journal.specs.Living.{Stewardship, heeded, living}
-use Rattle.sv_sequencer.specs.declared.answer.Answer.{Answer}
-use Rattle.sv_sequencer.specs.Step.{entry_of}
+use Rattle.sv_core.specs.declared.answer.Answer.{Answer}
+use Rattle.sv_journal.specs.History.{entry_of}
 use Rattle.sv_living.specs.declared.fault.StepFault.{StepFault}
 use Rattle.sv_living.specs.declared.fault.StepFault.TheVariants as faults
 use Rattle.sv_living.specs.Sessions.{is_open, next_session, may_begin, may_ask}

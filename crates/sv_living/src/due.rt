@@ -3,10 +3,10 @@ ghost use Rattle.std.specs.Prelude.{◌≡◌, ℕ, List, ◌<◌, ◌≤◌, []
 ghost use Rattle.sv_journal.specs.declared.entry.Entry.{Entry};
 ghost use Rattle.sv_journal.specs.History.{accepted, commit_of};
 ghost use Rattle.sv_journal.specs.Living.{unreported};
-ghost use Rattle.sv_sequencer.specs.Cores.{SitsAt, Keeps};
+ghost use Rattle.sv_core.specs.Cores.{SitsAt, Keeps};
 ghost use Rattle.sv_living.specs.Deciding.{is_unreported, first_relay};
 
-use sv_sequencer::{Core, Decision, Seat};
+use sv_core::{Core, Decision, Seat};
 
 /// The lowest position above the commit that has no result and was not sent to a session.
 fn first_unreported(core: &Core, seat: Seat) -> Option<u32>

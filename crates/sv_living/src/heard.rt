@@ -4,12 +4,12 @@ ghost use Rattle.sv_wire.specs.declared.message.Request.TheVariants as requests;
 ghost use Rattle.sv_journal.specs.declared.entry.Entry.{Entry};
 ghost use Rattle.sv_journal.specs.Serving.{is_poll};
 ghost use Rattle.sv_journal.specs.Living.{is_stewards, counts, heeded};
-ghost use Rattle.sv_sequencer.specs.Cores.{SitsAt, Keeps};
+ghost use Rattle.sv_core.specs.Cores.{SitsAt, Keeps};
 ghost use Rattle.sv_living.specs.Deciding.{answers_poll, is_report};
 ghost use Rattle.sv_living.specs.Keeping.{Course, stewardship_of};
 
 use crate::stewards::Stewards;
-use sv_sequencer::{Core, Decision, Seat};
+use sv_core::{Core, Decision, Seat};
 use sv_wire::Request;
 
 /// Whether a session was joined as the steward. `h` is the history of all entries.

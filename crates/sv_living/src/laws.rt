@@ -5,8 +5,8 @@ ghost use Rattle.sv_journal.specs.declared.entry.Entry.{Entry};
 ghost use Rattle.sv_journal.specs.Sessions.{is_end};
 ghost use Rattle.sv_journal.specs.Answer.{Rules, reply_to_request};
 ghost use Rattle.sv_journal.specs.Living.{Stewardship, is_stewards, heeded, unreported};
-ghost use Rattle.sv_sequencer.specs.declared.decision.Decision.{Decision};
-ghost use Rattle.sv_sequencer.specs.Decisions.{reply_by, Holds};
+ghost use Rattle.sv_core.specs.declared.decision.Decision.{Decision};
+ghost use Rattle.sv_core.specs.Decisions.{reply_by, Holds};
 ghost use Rattle.sv_living.specs.Deciding.{answers_poll, first_relay, IsDecided};
 
 /// What a core decides by the results that count stands for the reply that the history of all entries gives, but where a steward polls and

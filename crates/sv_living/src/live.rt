@@ -10,7 +10,7 @@ ghost use Rattle.sv_living.specs.Sessions.{is_open, next_session, open_sessions,
 use crate::stewards::Stewards;
 use crate::table::OpenSessions;
 use std::alloc::{AllocError, Global};
-use sv_sequencer::{Core, Opened};
+use sv_core::{Core, Opened};
 use sv_wire::{Reply, Request};
 use sv_world::{MOST_OPEN, missing_influences_only_shrink};
 

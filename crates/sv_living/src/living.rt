@@ -20,8 +20,8 @@ use crate::past::Past;
 use crate::stewards::Stewards;
 use std::alloc::{AllocError, Global};
 use std::marker::Model;
+use sv_core::{Answer, Opened};
 use sv_journal::{accepted_actions_are_rightful, served_replies_are_messages};
-use sv_sequencer::{Answer, Opened};
 use sv_wire::{Reply, Request};
 use sv_world::{ClientId, ObjectId, Value};
 

@@ -1,6 +1,6 @@
 //! A history that only contracts know.
 ghost use Rattle.std.specs.Prelude.{◌≡◌, [], ◌∷◌};
-ghost use Rattle.sv_sequencer.specs.Step.{entry_of};
+ghost use Rattle.sv_journal.specs.History.{entry_of};
 
 use http_server::Log;
 use std::marker::Model;

@@ -7,8 +7,8 @@ ghost use Rattle.sv_journal.specs.declared.entry.Entry.{Entry};
 ghost use Rattle.sv_journal.specs.declared.entry.Logged.TheVariants as logged;
 ghost use Rattle.sv_journal.specs.Sessions.{is_end, is_ended};
 ghost use Rattle.sv_journal.specs.Living.{is_stewards, heeded};
-ghost use Rattle.sv_sequencer.specs.Cores.{core_rules, open_by, SitsAt, Keeps, IsUnseated, Remained};
-ghost use Rattle.sv_sequencer.specs.Rows.{has_entry};
+ghost use Rattle.sv_core.specs.Cores.{core_rules, open_by, SitsAt, Keeps, IsUnseated, Remained};
+ghost use Rattle.sv_core.specs.Rows.{has_entry};
 ghost use Rattle.sv_living.specs.Deciding.{answers_poll, IsDecided, IsDuePoll};
 ghost use Rattle.sv_living.specs.Keeping.{Course, stewardship_of, stewardship_at, KeepsLiving, Moved, StoodStill, CarriedOn, Began, Left};
 ghost use Rattle.sv_living.specs.Sessions.{is_open, most_session, may_begin, may_ask};
@@ -22,10 +22,10 @@ use crate::live::Live;
 use crate::stewards::Stewards;
 use crate::table::OpenSessions;
 use std::alloc::{AllocError, Global};
+use sv_core::{Answer, Core, Decision, Seat};
 use sv_journal::Logged;
-use sv_sequencer::{Answer, Core, Decision, Seat};
+use sv_lists::List;
 use sv_wire::{Reply, Request};
-use sv_world::List;
 
 /// What is done on a request that is no End. `g` is the history of all entries.
 #[tactic(auto, using(crate::proofs::Deciding::decided_other, crate::proofs::Deciding::decided_steward))]

@@ -1,12 +1,12 @@
 //! The sessions that are open, by their numbers.
 ghost use Rattle.std.specs.Prelude.{◌≡◌, ℕ, List, ◌∷◌, ◌++◌, [], false, true, filter, length, not, nat_eq, MatchOption, OnOk, OnErr};
 ghost use Rattle.sv_world.specs.Control.{is_in};
-ghost use Rattle.sv_sequencer.specs.declared.seats.Seat.{Seat};
+ghost use Rattle.sv_core.specs.declared.seats.Seat.{Seat};
 ghost use Rattle.sv_living.specs.Table.{seat_of, numbers_in, ends_below, IsByNumber, IsPlaceOf};
 
 use std::alloc::{AllocError, Global};
 use std::marker::Model;
-use sv_sequencer::Seat;
+use sv_core::Seat;
 
 /// Sessions with their slots, in the order of their numbers.
 #[derive(Drop)]
@@ -16,7 +16,7 @@ pub struct OpenSessions {
 
 impl Model for OpenSessions {
     ghost use Rattle.std.specs.Prelude.{List};
-    ghost use Rattle.sv_sequencer.specs.declared.seats.Seat.{Seat};
+    ghost use Rattle.sv_core.specs.declared.seats.Seat.{Seat};
     ghost use Rattle.sv_living.specs.Table.{IsByNumber};
 
     ghost Value = { List Seat };

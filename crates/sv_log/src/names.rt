@@ -87,13 +87,13 @@ pub fn kind_of(name: &str) -> NameKind
     ensures { Tells result name.now }
 {
     if let Some(rest) = behind(name.as_bytes(), SEGMENT.as_bytes()) {
-        return match number_in(rest) {
+        return match number_of_name(rest) {
             Some(number) => NameKind::Segment(number),
             None => NameKind::Wrong,
         };
     }
     if let Some(rest) = behind(name.as_bytes(), STATE.as_bytes()) {
-        return match number_in(rest) {
+        return match number_of_name(rest) {
             Some(number) => NameKind::State(number),
             None => NameKind::Wrong,
         };
@@ -109,7 +109,7 @@ fn behind<'a>(name: &'a [u8], kind: &[u8]) -> Option<&'a [u8]>
 }
 
 // The number of a name, of which this is what stands behind its kind.
-fn number_in(rest: &[u8]) -> Option<u64>
+fn number_of_name(rest: &[u8]) -> Option<u64>
     ensures { MatchOption result ((n : ℕ) → IsNumber n → rest.now ≢ number_part n) (λ n. IsNumber n × (rest.now ≡ number_part n)) }
 {
     if rest.len() != DIGITS + ENDING.len() {

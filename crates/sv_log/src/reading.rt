@@ -219,7 +219,7 @@ fn newest_state<F: Folder>(
     };
     for _ in 0..u64::MAX {
         let Some(number) = first_from(names, FileKind::State, newest.seen + 1) else {
-            return settled(alloc, newest);
+            return whole_or_none(alloc, newest);
         };
         look_at(alloc, folder, &mut newest, number)?;
     }
@@ -227,7 +227,7 @@ fn newest_state<F: Folder>(
 }
 
 // There is a whole state, or no state.
-fn settled(alloc: Global, newest: Newest) -> Result<Newest, Refusal>
+fn whole_or_none(alloc: Global, newest: Newest) -> Result<Newest, Refusal>
     ensures ok { IfOk result (λ n. (n ≡ newest) × (newest.state ≡ 0 → newest.seen ≡ 0)) }
     ensures err { IfErr result (λ r. (newest.state ≡ 0) × (0 < newest.seen)) }
     ensures cause { IfErr result (λ r. r.cause ≢ causes.Failed) }

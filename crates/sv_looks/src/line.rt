@@ -5,8 +5,9 @@ ghost use Rattle.sv_looks.specs.Lines.{look_line, moment_text};
 use crate::snapshot::Snapshot;
 use std::alloc::{AllocError, Global};
 use sv_journal::append_head;
+use sv_lists::Text;
 use sv_watch::Line;
-use sv_world::{ClientId, Text};
+use sv_world::ClientId;
 
 /// Appends who looked, and when.
 fn append_moment(

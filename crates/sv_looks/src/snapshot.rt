@@ -1,6 +1,7 @@
 //! The snapshot of a look, and of what was observed.
+use sv_lists::List;
 use sv_wire::ObjectValue;
-use sv_world::{ClientId, List};
+use sv_world::ClientId;
 
 /// What a client was told by a look, or of what it observed: the values of some objects, all at one position.
 #[derive(Debug, Drop)]

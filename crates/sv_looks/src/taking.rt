@@ -21,9 +21,10 @@ use crate::snapshot::Snapshot;
 use law_system::{Played, replicas_equal_serial_execution};
 use std::alloc::{AllocError, Global};
 use sv_client::{Client, Event, Trace, View};
+use sv_lists::List;
 use sv_report::do_again;
 use sv_wire::{Item, ObjectValue, Reply};
-use sv_world::{List, ObjectId, Shape, Value, copy_objects, copy_value};
+use sv_world::{ObjectId, Shape, Value, copy_objects, copy_value};
 
 /// The value of an object below a position. A client that took a relay holds one of each object that the last item reads.
 fn value_below(

@@ -9,7 +9,7 @@ use std::alloc::Global;
 use std::io::{self, ErrorKind};
 use std::net::{Net, SocketAddr};
 use std::rt::Stdin;
-use sv_disk::{DiskFolder, OpenFault, SyncMode};
+use sv_disk::{DiskFault, DiskFolder, SyncMode};
 use sv_host::{DoorFault, Doors, FolderFault, Folders};
 use sv_mio::MioPorts;
 
@@ -23,13 +23,13 @@ fn mode_of(syncs: bool) -> SyncMode
     }
 }
 
-fn fault_of(fault: OpenFault) -> FolderFault
+fn fault_of(fault: DiskFault) -> FolderFault
     ensures { result ≡ fault_of fault }
 {
     match fault {
-        OpenFault::Busy => FolderFault::Busy,
-        OpenFault::Failed => FolderFault::Failed,
-        OpenFault::Memory => FolderFault::Memory,
+        DiskFault::Busy => FolderFault::Busy,
+        DiskFault::Failed => FolderFault::Failed,
+        DiskFault::Memory => FolderFault::Memory,
     }
 }
 

@@ -21,7 +21,7 @@ const DOOR: Token = Token(usize::MAX);
 const INPUT: Token = Token(usize::MAX - 1);
 
 /// All connections' numbers are below it.
-const MOST_NUMBERS: u64 = u64::MAX - 1;
+const MOST_CONNECTIONS: u64 = u64::MAX - 1;
 
 /// The descriptor of the standard input.
 const STANDARD_INPUT: i32 = 0;
@@ -31,7 +31,7 @@ const EVENTS: usize = 256;
 
 /// A connection's stream.
 #[derive(Drop)]
-struct Line {
+struct Connection {
     stream: TcpStream,
     /// A read that does not fill its room may leave something behind.
     stops_short: bool,
@@ -45,7 +45,7 @@ pub struct MioPorts<I: Read + Drop> {
     poll: Poll,
     events: Events,
     door: TcpListener,
-    lines: Numbered<Line>,
+    connections: Numbered<Connection>,
     next: u64,
     /// How many waits there were, from 1 up.
     waits: u64,
@@ -85,7 +85,7 @@ impl<I: Read + Drop> MioPorts<I> {
             poll,
             events,
             door,
-            lines: Numbered::new(alloc),
+            connections: Numbered::new(alloc),
             next: 0,
             waits: 1,
             input,
@@ -122,15 +122,15 @@ impl<I: Read + Drop> MioPorts<I> {
         ensures { Accepts (told_of self.old) result (told_of self.new) }
     {
         let number = self.next;
-        if number >= MOST_NUMBERS || watch(&self.poll, &mut stream, number).is_err() {
+        if number >= MOST_CONNECTIONS || watch(&self.poll, &mut stream, number).is_err() {
             return Accepted::Failed;
         }
-        let line = Line {
+        let connection = Connection {
             stream,
             stops_short: false,
             emptied: 0,
         };
-        match self.lines.push(number, line) {
+        match self.connections.push(number, connection) {
             Ok(()) => {
                 self.next = number + 1;
                 Accepted::One(number)
@@ -156,23 +156,23 @@ fn may_stop(event: &Event) -> bool {
 }
 
 // Notes the connections of which a read may stop short from now on. The system tells it once, and the reads may be many turns later.
-fn note_stops(events: &Events, lines: &mut Numbered<Line>) {
+fn note_stops(events: &Events, connections: &mut Numbered<Connection>) {
     for event in events {
         if may_stop(event) {
             let number = event.token().0 as u64;
-            if let Some(mut line) = lines.take(number) {
-                line.stops_short = true;
-                lines.put(number, line);
+            if let Some(mut connection) = connections.take(number) {
+                connection.stops_short = true;
+                connections.put(number, connection);
             }
         }
     }
 }
 
 // Notes that a read behind this wait took all that had come of a connection.
-fn note_emptied(lines: &mut Numbered<Line>, number: u64, wait: u64) {
-    if let Some(mut line) = lines.take(number) {
-        line.emptied = wait;
-        lines.put(number, line);
+fn note_emptied(connections: &mut Numbered<Connection>, number: u64, wait: u64) {
+    if let Some(mut connection) = connections.take(number) {
+        connection.emptied = wait;
+        connections.put(number, connection);
     }
 }
 
@@ -234,7 +234,7 @@ impl<I: Read + Drop> Ports for MioPorts<I> {
             .poll(&mut self.events, Some(Duration::from_millis(limit)))
         {
             Ok(()) => {
-                note_stops(&self.events, &mut self.lines);
+                note_stops(&self.events, &mut self.connections);
                 self.tell(ready)
             }
             Err(_) => Waited::Failed,
@@ -250,16 +250,16 @@ impl<I: Read + Drop> Ports for MioPorts<I> {
     }
 
     fn read(&mut self, number: u64, into: &mut [u8]) -> PortRead {
-        let Some(line) = self.lines.get(number) else {
+        let Some(connection) = self.connections.get(number) else {
             return PortRead::Failed;
         };
-        if line.emptied == self.waits {
+        if connection.emptied == self.waits {
             return PortRead::NotYet;
         }
-        let answer = read_from(&mut &line.stream, into);
+        let answer = read_from(&mut &connection.stream, into);
         if let PortRead::Got(count) = answer {
-            if count < into.len() && !line.stops_short {
-                note_emptied(&mut self.lines, number, self.waits);
+            if count < into.len() && !connection.stops_short {
+                note_emptied(&mut self.connections, number, self.waits);
             }
             self.heard.note(number, &into[..count]);
         }
@@ -267,10 +267,10 @@ impl<I: Read + Drop> Ports for MioPorts<I> {
     }
 
     fn write(&mut self, number: u64, piece: &[u8], _settled: &Settled<'_>) -> PortWrote {
-        let Some(line) = self.lines.get(number) else {
+        let Some(connection) = self.connections.get(number) else {
             return PortWrote::Failed;
         };
-        let answer = write_to(&mut &line.stream, piece);
+        let answer = write_to(&mut &connection.stream, piece);
         if let PortWrote::Took(count) = answer {
             self.written.note(number, &piece[..count]);
         }
@@ -278,7 +278,7 @@ impl<I: Read + Drop> Ports for MioPorts<I> {
     }
 
     fn close(&mut self, number: u64) {
-        self.lines.remove(number);
+        self.connections.remove(number);
     }
 
     #[tactic(auto, using(sv_ports::proofs::Bytes::own_more))]

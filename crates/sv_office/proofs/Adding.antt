@@ -1,7 +1,7 @@
 -- Entries that are added, one call after the other.
 use Rattle.std.proofs.Common.{◌≡◌, ◌≢◌, inl, inr, ℕ, Bool, true, false, ◌||◌, nat_eq, List, Option, Some, None, refl, sym, ap, ◌∙◌, subst}
 use Rattle.sv_journal.specs.declared.entry.Entry.{Entry}
-use Rattle.sv_sequencer.specs.Rows.{has_entry}
+use Rattle.sv_core.specs.Rows.{has_entry}
 use Rattle.sv_living.specs.World.{WorldView}
 use Rattle.sv_office.specs.Entering.{AreAdded, GrowsBy, GoesOn, AsksIn, KeepsOwn}
 use Rattle.sv_office.specs.Trusting.{IsAuthority, IsSerial, StaysSerial}

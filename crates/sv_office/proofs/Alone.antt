@@ -10,8 +10,8 @@ use Rattle.sv_journal.specs.History.{client_of, either, is_client, is_welcome, j
 use Rattle.sv_journal.specs.Living.{is_stewards}
 use Rattle.sv_journal.specs.Sessions.{is_end, is_ended}
 use Rattle.law_journal.specs.Trusted.{StewardsJoin, UnbegunIsNobodys}
-use Rattle.sv_sequencer.specs.Rows.{has_entry}
-use Rattle.sv_sequencer.specs.Step.{entry_of}
+use Rattle.sv_core.specs.Rows.{has_entry}
+use Rattle.sv_journal.specs.History.{entry_of}
 use Rattle.sv_living.specs.Sessions.{is_open, may_ask, next_session, AreInOrder}
 use Rattle.sv_living.specs.World.{WorldView, after, reply_in}
 use Rattle.sv_keeper.specs.Views.{KeeperView}

@@ -11,8 +11,8 @@ use Rattle.sv_journal.specs.Laws.{AreWithinLimits}
 use Rattle.sv_journal.specs.Answer.{Rules}
 use Rattle.sv_journal.specs.Living.{Stewardship, living}
 use Rattle.sv_journal.specs.Serving.{Keeping, IsKeeping, LegalFor}
-use Rattle.sv_sequencer.specs.Rows.{has_entry}
-use Rattle.sv_sequencer.specs.Step.{entry_of}
+use Rattle.sv_core.specs.Rows.{has_entry}
+use Rattle.sv_journal.specs.History.{entry_of}
 use Rattle.law_system.specs.Told.{GoesBySerial, GotWhatWasTold, ReportsSerial, telling_by, told_in, told_to}
 use Rattle.law_journal.proofs.Counted.{unbegun-nobodys}
 use Rattle.sv_living.specs.World.{WorldView, after, reply_in}

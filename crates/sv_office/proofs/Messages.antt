@@ -13,8 +13,8 @@ use Rattle.sv_journal.specs.Laws.{AreWithinLimits, ServedRepliesAreMessages}
 use Rattle.sv_journal.specs.Living.{living}
 use Rattle.sv_journal.specs.Serving.{LegalFor, reply_for}
 use Rattle.sv_journal.proofs.Stewards.{living-keeping}
-use Rattle.sv_sequencer.specs.Seeing.{shows_nothing}
-use Rattle.sv_sequencer.specs.Step.{entry_of}
+use Rattle.sv_core.specs.Seeing.{shows_nothing}
+use Rattle.sv_journal.specs.History.{entry_of}
 use Rattle.sv_living.specs.Quiet.{IsQuiet}
 use Rattle.sv_living.specs.Sessions.{is_open}
 use Rattle.sv_living.specs.World.{WorldView, after, reply_in}

@@ -6,8 +6,8 @@ use Rattle.sv_wire.specs.declared.message.Request.{Request}
 use Rattle.sv_journal.specs.declared.entry.Entry.{Entry}
 use Rattle.sv_journal.specs.declared.entry.Logged.{Logged}
 use Rattle.sv_journal.specs.Sessions.{is_end, is_ended}
-use Rattle.sv_sequencer.specs.Rows.{has_entry}
-use Rattle.sv_sequencer.specs.Step.{entry_of}
+use Rattle.sv_core.specs.Rows.{has_entry}
+use Rattle.sv_journal.specs.History.{entry_of}
 use Rattle.sv_living.specs.Sessions.{is_open, next_session, may_begin, may_ask, AreInOrder}
 use Rattle.sv_living.proofs.Turns.{unended, open-parts}
 

@@ -8,7 +8,7 @@ use Rattle.sv_journal.specs.History.{actions_of}
 use Rattle.sv_journal.specs.Laws.{AreWithinLimits}
 use Rattle.sv_journal.specs.Living.{counts, is_stewards, living}
 use Rattle.sv_journal.specs.Serving.{LegalFor}
-use Rattle.sv_sequencer.specs.Step.{entry_of}
+use Rattle.sv_journal.specs.History.{entry_of}
 use Rattle.law_system.specs.Told.{GoesBySerial, ReportsSerial}
 use Rattle.law_journal.specs.Trusted.{BringsSerial, OthersBringNothing, SerialResultsMakeSerialWorlds, SerialResultsStay}
 use Rattle.sv_living.specs.World.{WorldView, after, reply_in}

@@ -9,7 +9,7 @@ use Rattle.sv_journal.specs.Answer.{Rules}
 use Rattle.sv_journal.specs.History.{accepted, full_reply}
 use Rattle.sv_journal.specs.Living.{Stewardship}
 use Rattle.sv_journal.specs.Sessions.{is_end, is_ended}
-use Rattle.sv_sequencer.specs.Rows.{has_entry}
+use Rattle.sv_core.specs.Rows.{has_entry}
 use Rattle.sv_living.specs.Sessions.{is_open, may_ask, AreInOrder}
 use Rattle.sv_living.specs.World.{WorldView, after, reply_in}
 use Rattle.sv_living.proofs.Turns.{open-parts}

@@ -8,7 +8,7 @@ use Rattle.sv_journal.specs.declared.entry.Entry.{Entry}
 use Rattle.sv_journal.specs.History.{accepted, actions_of}
 use Rattle.sv_journal.specs.Living.{living}
 use Rattle.sv_journal.specs.Sessions.{positions_in}
-use Rattle.sv_sequencer.specs.Rows.{has_entry}
+use Rattle.sv_core.specs.Rows.{has_entry}
 use Rattle.law_system.specs.Told.{ReportsSerial}
 use Rattle.sv_living.specs.World.{WorldView, after, reply_in}
 use Rattle.sv_client.specs.Kinds.{asks_for_done}

@@ -8,7 +8,7 @@ use Rattle.sv_journal.specs.declared.entry.Entry.{Entry}
 use Rattle.sv_journal.specs.declared.entry.Logged.TheVariants as logged
 use Rattle.sv_journal.specs.History.{accepted, full_reply, is_relay}
 use Rattle.sv_journal.specs.Sessions.{is_end, positions_in}
-use Rattle.sv_sequencer.specs.Rows.{has_entry}
+use Rattle.sv_core.specs.Rows.{has_entry}
 use Rattle.sv_living.specs.Sessions.{may_ask}
 use Rattle.sv_living.specs.World.{WorldView, after, reply_in}
 use Rattle.sv_keys.specs.Keeping.{KeysView}

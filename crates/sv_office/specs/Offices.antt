@@ -1,6 +1,6 @@
 -- An office, and how its steward stands.
 use Rattle.std.specs.Prelude.{◌≡◌, ℕ, true, Option, Some, None}
-use Rattle.sv_sequencer.specs.Rows.{has_entry}
+use Rattle.sv_core.specs.Rows.{has_entry}
 use Rattle.sv_journal.specs.Laws.{AreWithinLimits}
 use Rattle.sv_living.specs.World.{WorldView}
 use Rattle.sv_office.specs.declared.steward.Steward.{Steward}

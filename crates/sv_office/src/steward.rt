@@ -21,9 +21,10 @@ use std::alloc::{AllocError, Global};
 use sv_client::{LeanClient, PollFault, TakeFault};
 use sv_journal::living_worlds_are_served;
 use sv_keeper::Keeper;
+use sv_lists::List;
 use sv_log::Folder;
 use sv_wire::{Refusal, Reply, Request};
-use sv_world::{ClientId, List, Shape};
+use sv_world::{ClientId, Shape};
 
 /// How many sessions the steward begins at most.
 const MOST_SESSIONS: u32 = 4_000_000_000;

@@ -1,20 +1,20 @@
 -- Which payloads are heard as keys.
-use Rattle.std.proofs.Common.{◌≡◌, ℕ, ◌==◌, Bool, true, false, List, [], ◌∷◌, length, None, Some, Result, Ok, Err, refl, ap, ◌∙◌}
+use Rattle.std.proofs.Common.{◌≡◌, ℕ, ◌==◌, Bool, true, false, List, [], ◌∷◌, length, None, Some, Result, refl, ap, ◌∙◌}
 use Rattle.std.specs.Prelude.{if◌then◌else◌}
 use Rattle.std.proofs.lemmas.Bool.{eqb-true, eq-eqb}
 use Rattle.sha2.specs.Sha256.{sha256}
 use Rattle.sv_wire.specs.declared.fault.Malformed.{Malformed}
 use Rattle.sv_wire.specs.declared.message.Request.{Request}
 use Rattle.sv_wire.specs.Messages.{request_at}
+use Rattle.sv_exchange.specs.Incoming.{read_or_bad}
 use Rattle.sv_peer.specs.declared.heard.Heard.TheVariants as heard
-use Rattle.sv_peer.specs.Hellos.{hello_kind, is_key, key_if_fit, hello_bytes, key_behind, hello_or_bad, read_or_bad, request_or_bad, heard_in, ShowsKey}
+use Rattle.sv_peer.specs.Hellos.{hello_kind, is_key, key_if_fit, hello_bytes, key_behind, hello_or_bad, request_or_bad, heard_in, ShowsKey}
 
 pub key_heard : (key : List ℕ) → is_key key ≡ true → heard_in (hello_bytes key) ≡ heard.Hello (sha256 key)
 key_heard key fits = rw (eq-eqb (length key) (length key) refl, fits) refl
 
-not_digest : (r : Result Request Malformed) (digest : List ℕ) → read_or_bad r ≡ heard.Hello digest → ⊥
-not_digest (Ok m) digest is = cc is
-not_digest (Err f) digest is = cc is
+not_digest : (r : Result Request Malformed) (digest : List ℕ) → heard.Request (read_or_bad r) ≡ heard.Hello digest → ⊥
+not_digest r digest is = cc is
 
 -- a key that fits, behind its kind and its length
 record Behind (rest digest : List ℕ) : Type 0 where

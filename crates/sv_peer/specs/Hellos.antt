@@ -1,10 +1,9 @@
 -- The message by which a client shows its key, and what a payload is heard as.
-use Rattle.std.specs.Prelude.{◌≡◌, ℕ, ◌==◌, ◌&&◌, nat_le, Bool, true, List, [], ◌∷◌, length, Option, None, Some, Result, Ok, Err, if◌then◌else◌}
+use Rattle.std.specs.Prelude.{◌≡◌, ℕ, ◌==◌, ◌&&◌, nat_le, Bool, true, List, [], ◌∷◌, length, Option, None, Some, if◌then◌else◌}
 use Rattle.sha2.specs.Sha256.{sha256}
-use Rattle.sv_wire.specs.declared.fault.Malformed.{Malformed}
-use Rattle.sv_wire.specs.declared.message.Request.{Request}
 use Rattle.sv_wire.specs.declared.message.Request.TheVariants.{Bad}
 use Rattle.sv_wire.specs.Messages.{request_at}
+use Rattle.sv_exchange.specs.Incoming.{read_or_bad}
 use Rattle.sv_peer.specs.declared.heard.Heard.{Heard}
 use Rattle.sv_peer.specs.declared.heard.Heard.TheVariants as heard
 
@@ -33,13 +32,9 @@ abbrev pub hello_or_bad : Option (List ℕ) → Heard
 hello_or_bad None = heard.Request Bad
 hello_or_bad (Some key) = heard.Hello (sha256 key)
 
-abbrev pub read_or_bad : Result Request Malformed → Heard
-read_or_bad (Ok request) = heard.Request request
-read_or_bad (Err fault) = heard.Request Bad
-
 -- the request that a payload is read as, or Bad
 abbrev pub request_or_bad : List ℕ → Heard
-request_or_bad payload = read_or_bad (request_at payload)
+request_or_bad payload = heard.Request (read_or_bad (request_at payload))
 
 -- what a payload is heard as: a key, where it is of that kind, and else a request
 abbrev pub heard_in : List ℕ → Heard

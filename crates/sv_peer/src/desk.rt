@@ -6,7 +6,7 @@ ghost use Rattle.http_server.specs.declared.response.Response.{Response};
 use http_server::Service;
 
 /// Answers HTTP requests, and upgrades to a WebSocket.
-pub trait Desk: Service {
+pub trait WebDesk: Service {
     // The digest of the key that the last upgrade's request showed, until it is told.
     ghost shown: { Self → Option (List ℕ) };
 

@@ -11,8 +11,9 @@ mod peer;
 mod socket;
 mod web;
 
-pub use desk::Desk;
+pub use desk::WebDesk;
 pub use heard::Heard;
 pub use hello::digest_of;
 pub use manner::Manner;
 pub use peer::Peer;
+pub use web::FULL;

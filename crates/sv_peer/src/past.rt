@@ -7,11 +7,11 @@ use sv_wire::Reply;
 
 /// The replies that a connection was told. Contracts see them in order.
 #[derive(Drop)]
-pub struct Told {
+pub struct ToldReplies {
     log: Log<Reply, ()>,
 }
 
-impl Model for Told {
+impl Model for ToldReplies {
     ghost use Rattle.std.specs.Prelude.{List};
     ghost use Rattle.std.specs.Coded.{codes};
     ghost use Rattle.sv_wire.specs.declared.message.Reply.{Reply};
@@ -26,11 +26,11 @@ impl Model for Told {
     ghost view = { λ t. replies_of t.log.items };
 }
 
-impl Told {
-    pub fn new() -> Told
+impl ToldReplies {
+    pub fn new() -> ToldReplies
         ensures { result ≡ [] }
     {
-        Told { log: Log::new() }
+        ToldReplies { log: Log::new() }
     }
 
     pub fn add(&mut self, reply: &Reply)
@@ -42,11 +42,11 @@ impl Told {
 
 /// The bytes that were sent. Contracts see them in order.
 #[derive(Drop)]
-pub struct Sent {
+pub struct SentBytes {
     log: Log<Vec<u8>, usize>,
 }
 
-impl Model for Sent {
+impl Model for SentBytes {
     ghost use Rattle.std.specs.Prelude.{List, ℕ};
 
     ghost Value = { List ℕ };
@@ -56,11 +56,11 @@ impl Model for Sent {
     ghost view = { λ s. bytes_of s.log.items };
 }
 
-impl Sent {
-    pub fn new() -> Sent
+impl SentBytes {
+    pub fn new() -> SentBytes
         ensures { result ≡ [] }
     {
-        Sent { log: Log::new() }
+        SentBytes { log: Log::new() }
     }
 
     /// So many of these bytes were sent.

@@ -5,13 +5,13 @@ ghost use Rattle.sv_frame.specs.Frames.{greatest_frame, FitsFrame};
 ghost use Rattle.sv_peer.specs.View.{new_peer, is_letter, begun, IsInStep, Keeps, Tells, Upgrades, Answers, TakesIn, Hears, Nexts, TakesFrame, Puts, after_sent};
 ghost use Rattle.sv_peer.specs.Invariant.{manner_of, heard_by, HandsNothing};
 
-use crate::desk::Desk;
+use crate::desk::WebDesk;
 use crate::heard::Heard;
 use crate::hello::heard_of;
 use crate::manner::Manner;
-use crate::past::{Sent, Told};
+use crate::past::{SentBytes, ToldReplies};
 use crate::socket::Socket;
-use crate::web::{Course, Web};
+use crate::web::{Web, WebCourse};
 use std::alloc::{AllocError, Global};
 use std::hash::RandomState;
 use std::marker::Model;
@@ -45,8 +45,8 @@ pub struct Peer {
     shown: Option<[u8; 32]>,
     output: Vec<u8>,
     payload: Vec<u8>,
-    told: Told,
-    sent: Sent,
+    told: ToldReplies,
+    sent: SentBytes,
 }
 
 impl Model for Peer {
@@ -157,8 +157,8 @@ impl Peer {
             shown: None,
             output: Vec::new(alloc),
             payload: Vec::new(alloc),
-            told: Told::new(),
-            sent: Sent::new(),
+            told: ToldReplies::new(),
+            sent: SentBytes::new(),
         }
     }
 
@@ -202,7 +202,7 @@ impl Peer {
 
     // It speaks HTTP no more.
     #[inline(never)]
-    fn upgrade<D: Desk>(&mut self, desk: &mut D) -> Result<(), AllocError>
+    fn upgrade<D: WebDesk>(&mut self, desk: &mut D) -> Result<(), AllocError>
         requires { self.old.manner ≡ Manner.Http }
         ensures upgrades { Upgrades self.old self.new }
         ensures desk { D.keeps desk.old desk.new }
@@ -213,7 +213,7 @@ impl Peer {
     }
 
     #[inline(never)]
-    fn hear_web<D: Desk>(&mut self, piece: &[u8], desk: &mut D) -> Result<(), AllocError>
+    fn hear_web<D: WebDesk>(&mut self, piece: &[u8], desk: &mut D) -> Result<(), AllocError>
         requires { self.old.manner ≡ Manner.Http }
         ensures answers { Answers self.old self.new }
         ensures desk { D.keeps desk.old desk.new }
@@ -222,16 +222,16 @@ impl Peer {
             return Ok(());
         };
         match web.hear(desk, piece, &mut self.output)? {
-            Course::On => Ok(()),
-            Course::Closed => {
+            WebCourse::On => Ok(()),
+            WebCourse::Closed => {
                 self.voice = Voice::Closed;
                 Ok(())
             }
-            Course::Upgraded => self.upgrade(desk),
+            WebCourse::Upgraded => self.upgrade(desk),
         }
     }
 
-    fn take_in<D: Desk>(&mut self, piece: &[u8], desk: &mut D) -> Result<(), AllocError>
+    fn take_in<D: WebDesk>(&mut self, piece: &[u8], desk: &mut D) -> Result<(), AllocError>
         ensures ok { OnOk result (TakesIn self.old.manner self.old piece.now self.new) }
         ensures kept { Keeps self.old self.new }
         ensures desk { D.keeps desk.old desk.new }
@@ -249,7 +249,7 @@ impl Peer {
 
     /// Takes bytes in that came, at most as many as there is room for. HTTP requests are answered by the desk. After an error the connection can
     /// only be closed.
-    pub fn hear<D: Desk>(
+    pub fn hear<D: WebDesk>(
         &mut self,
         piece: &[u8],
         keys: RandomState,

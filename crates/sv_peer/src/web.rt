@@ -2,7 +2,7 @@
 ghost use Rattle.std.specs.Prelude.{◌≡◌, []};
 ghost use Rattle.sv_peer.specs.Webs.{handed_by, HandsOut};
 
-use crate::desk::Desk;
+use crate::desk::WebDesk;
 use crate::socket::Socket;
 use http_server::{Config, Connection, State};
 use std::alloc::{AllocError, Global};
@@ -12,10 +12,10 @@ use std::hash::RandomState;
 const MOST_BODY: usize = 65_536;
 
 /// While so many bytes wait to be sent, no more requests are answered.
-const FULL: usize = 65_536;
+pub const FULL: usize = 65_536;
 
 /// How many steps are made at once.
-const MOST_STEPS: u32 = 1000;
+const STEPS_AT_ONCE: u32 = 1000;
 
 /// A connection that speaks HTTP.
 #[derive(Drop)]
@@ -29,7 +29,7 @@ pub struct Web {
 
 /// What becomes of a connection that speaks HTTP.
 #[derive(Clone, Copy, Drop)]
-pub enum Course {
+pub enum WebCourse {
     /// It goes on.
     On,
     /// It is to be a WebSocket.
@@ -86,7 +86,7 @@ impl Web {
     }
 
     // One step. False where nothing came of it.
-    fn step<D: Desk>(&mut self, desk: &mut D, output: &mut Vec<u8>) -> Result<bool, AllocError>
+    fn step<D: WebDesk>(&mut self, desk: &mut D, output: &mut Vec<u8>) -> Result<bool, AllocError>
         ensures handed { HandsOut self.old self.new output.old.items output.new.items }
         ensures desk { D.keeps desk.old desk.new }
     {
@@ -97,12 +97,12 @@ impl Web {
     }
 
     // Answers what came, as long as not too much waits to be sent.
-    fn go_on<D: Desk>(&mut self, desk: &mut D, output: &mut Vec<u8>) -> Result<(), AllocError>
+    fn go_on<D: WebDesk>(&mut self, desk: &mut D, output: &mut Vec<u8>) -> Result<(), AllocError>
         ensures handed { HandsOut self.old self.new output.old.items output.new.items }
         ensures desk { D.keeps desk.old desk.new }
     {
         self.is_paused = true;
-        'steps: for _ in 0..MOST_STEPS {
+        'steps: for _ in 0..STEPS_AT_ONCE {
             if output.len() >= FULL {
                 return Ok(());
             }
@@ -115,24 +115,24 @@ impl Web {
     }
 
     /// Takes bytes in that came, and answers the requests that are whole. What is answered is put behind the output.
-    pub fn hear<D: Desk>(
+    pub fn hear<D: WebDesk>(
         &mut self,
         desk: &mut D,
         piece: &[u8],
         output: &mut Vec<u8>,
-    ) -> Result<Course, AllocError>
+    ) -> Result<WebCourse, AllocError>
         ensures handed { HandsOut self.old self.new output.old.items output.new.items }
         ensures desk { D.keeps desk.old desk.new }
     {
         self.rest.extend_from_slice(piece)?;
         self.go_on(desk, output)?;
         if !self.connection.is_done() {
-            return Ok(Course::On);
+            return Ok(WebCourse::On);
         }
         if self.connection.state() == State::Upgraded {
-            Ok(Course::Upgraded)
+            Ok(WebCourse::Upgraded)
         } else {
-            Ok(Course::Closed)
+            Ok(WebCourse::Closed)
         }
     }
 

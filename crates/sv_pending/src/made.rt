@@ -2,7 +2,8 @@
 ghost use Rattle.std.specs.Prelude.{◌≡◌, IfOk};
 
 use std::alloc::{AllocError, Global};
-use sv_world::{Action, List, Value, copy_action, copy_values};
+use sv_lists::List;
+use sv_world::{Action, Value, copy_action, copy_values};
 
 /// An action that was made and is not settled yet, with the client's number for it.
 #[derive(Debug, Drop)]

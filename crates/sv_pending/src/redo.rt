@@ -10,8 +10,9 @@ use crate::Overlay;
 use crate::made::{Kept, Made};
 use std::alloc::{AllocError, Global};
 use sv_eval::eval;
+use sv_lists::List as Items;
 use sv_versions::Versions;
-use sv_world::{Action, List as Items, ObjectId, Value, copy_value, is_in_mask};
+use sv_world::{Action, ObjectId, Value, copy_value, is_in_mask};
 
 /// The place of an object among those that an action writes.
 fn place_of(action: &Action, object: ObjectId) -> Option<usize>

@@ -25,9 +25,10 @@ use std::alloc::Global;
 use std::marker::Model;
 use sv_client::{LeanClient, MOST_NUMBERS, View};
 use sv_link::End;
+use sv_lists::List;
 use sv_text::{ParseFault, parse_action};
 use sv_wire::{Reply, Request};
-use sv_world::{Action, List, ObjectId, copy_objects};
+use sv_world::{Action, ObjectId, copy_objects};
 
 /// A client over one connection, and a listener that is called for each change of what it sees of its interest.
 ///

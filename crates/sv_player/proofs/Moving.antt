@@ -29,7 +29,8 @@ use Rattle.sv_player.specs.declared.outcome.Parting.TheVariants as partings
 use Rattle.sv_player.specs.declared.playing.Player.{Player}
 use Rattle.sv_player.specs.declared.outcome.PlayerCause.{PlayerCause}
 use Rattle.sv_player.specs.Carried.{request_frames, IsLinked}
-use Rattle.sv_player.specs.Awaiting.{IsAwaited, can_do_first, can_go_on}
+use Rattle.sv_script.specs.Next.{can_do_first, can_go_on}
+use Rattle.sv_player.specs.Awaiting.{IsAwaited}
 use Rattle.sv_player.specs.Going.{IsGoing, Did, IsHere, IsReady}
 use Rattle.sv_player.specs.Partings.{parting_step, parting_event, parting_ending}
 use Rattle.sv_player.specs.Sessions.{IsAt, Onward, HasEnded, Ended, Stopped, SessionGoesOn, Got, IsMoved, IsKeptBack}
@@ -69,7 +70,7 @@ module _ (s : ℕ) (p q : Player) (b c : Buffers) (old new : Told) (at : IsAt s 
   pub shown_on : (objects : List ObjectId) (rest : List Step) → unsynced p.client.who p.client.events p.left.now ≡ steps.Show objects ∷ rest → Did (events.Show objects) rest p q → IsMoved (Ok None) s p q b old
   shown_on objects rest next did =
       let turn =
-      goes_by s (events.Show objects) rest p q old b.reader b.outbox (before_move s p b old at ready) (show_due s p b old at ready objects rest next) b old refl did (none_posted old b.outbox)
+      goes_by s (events.Show objects) rest p q old b.inbox b.outbox (before_move s p b old at ready) (show_due s p b old at ready objects rest next) b old refl did (none_posted old b.outbox)
       (All-nil IsRequest) in
       moved_on s (events.Show objects) p q b old turn
       (ready_after s (events.Show objects) p q b old turn (still_within p.client.who p.client.events p.left.now (steps.Show objects) rest ready next) refl refl ready.welcomed)
@@ -100,9 +101,9 @@ ends_by s ending e left p q b end at none may come awaited of same asks gets how
       onward = onward_by s e p q of did.who did.script did.first did.watched did.events;
       current = rw did.events (same ∙ at.current);
       how = rw did.events how;
-      sent = rw (did.who, did.events, asks) (all_sent p.client.who p.client.events s end b.reader b.outbox at.linked none);
+      sent = rw (did.who, did.events, asks) (all_sent p.client.who p.client.events s end b.inbox b.outbox at.linked none);
       messages = rw (did.who, did.events, asks) at.linked.messages;
-      rest = b.reader;
+      rest = b.inbox;
       received = rw (did.events, gets) at.linked.received;
     }
 
@@ -137,9 +138,9 @@ bye_ends s p q b end g =
       onward = g.turn.onward;
       current = g.turn.at.current;
       how = (p.client.events, g.turn.events ∙ ap (λ (r : Reply). events.Got s r ∷ p.client.events) (only_bye g.reply bye));
-      sent = all_sent q.client.who q.client.events s end b.reader b.outbox g.turn.at.linked (g.whole refl);
+      sent = all_sent q.client.who q.client.events s end b.inbox b.outbox g.turn.at.linked (g.whole refl);
       messages = g.turn.at.linked.messages;
-      rest = b.reader;
+      rest = b.inbox;
       received = g.turn.at.linked.received;
     }
 

@@ -10,12 +10,18 @@ use Rattle.sv_wire.specs.declared.message.Request.{Request}
 use Rattle.sv_wire.specs.Spelling.{request_bytes}
 use Rattle.sv_exchange.specs.Outgoing.{Posts, LeavesUnsent, KeepsBack}
 use Rattle.sv_player.specs.Carried.{request_frames, Posted, PostedPart}
-use Rattle.sv_player.specs.Waiting.{PutBehind, IsFlushed}
+use Rattle.sv_player.specs.Waiting.{PutBehind}
 use Rattle.sv_player.proofs.Linking.{frames_append, frames_none, frames_one, prefix_more, posted_more, posted_part, part_more, posted_none}
 
 sent_part : (old new : Told) (waiting : List ℕ) (answer : Sent) → Sends old waiting answer new → PostedPart old waiting [] new
 sent_part old new waiting answer s =
     record { sent = take s.size waiting; told = s.grew; part = (drop s.size waiting, take-append-drop s.size waiting ∙ sym (append-nil waiting)) }
+
+-- all that waited was sent; or sending ended early
+abbrev pub IsFlushed : Sent → Told → List ℕ → Told → List ℕ → Type 0
+IsFlushed answers.Whole old waiting new left = (new ≡ sending old waiting) × (left ≡ [])
+IsFlushed answers.Failed old waiting new left = PostedPart old waiting [] new
+IsFlushed answers.Memory old waiting new left = PostedPart old waiting [] new
 
 pub flushed : (answer : Sent) (old new : Told) (waiting left : List ℕ) → Sends old waiting answer new → LeavesUnsent answer waiting left → IsFlushed answer old waiting new left
 flushed answers.Whole old new waiting left s l = (s.grew ∙ ap (λ (w : List ℕ). sending old w) (ap (λ n. take n waiting) (s.whole refl) ∙ take_all (length waiting) waiting (omega arith)), l)

@@ -29,7 +29,8 @@ use Rattle.sv_script.specs.Telling.{same_view, change_of, changes_of}
 use Rattle.sv_script.proofs.Shifted.{up_welcomed, up_follows}
 use Rattle.sv_player.specs.declared.outcome.ReplyFault.{ReplyFault}
 use Rattle.sv_player.specs.declared.outcome.ReplyFault.TheVariants as faults
-use Rattle.sv_player.specs.Awaiting.{may_ask, can_do, can_do_first, can_go_on, IsAwaited, GetsAreAwaited}
+use Rattle.sv_script.specs.Next.{may_ask, can_do, can_do_first, can_go_on}
+use Rattle.sv_player.specs.Awaiting.{IsAwaited, GetsAreAwaited}
 use Rattle.sv_player.specs.Carried.{BeginsWithReplies}
 use Rattle.sv_player.specs.Stops.{IsBad, IsBadRest, IsShut, is_cut}
 use Rattle.sv_player.specs.Played.{has_quit, has_left}

@@ -1,21 +1,22 @@
 -- Awaiting a reply, and what stops a player there.
 use Rattle.std.proofs.Common.{◌≡◌, ◌≢◌, ◌⊎◌, inl, inr, ℕ, ◌+◌, ◌<◌, Bool, true, false, eqb, List, [], ◌∷◌, ◌++◌, length, drop, Option, Some, None, refl, sym, ap, subst, ◌∙◌, arith, append-nil}
-use Rattle.std.specs.Prelude.{Ok, Err, if◌then◌else◌}
+use Rattle.std.specs.Prelude.{Result, Ok, Err, IfOk, IsSome, is_none, if◌then◌else◌}
 use Rattle.std.proofs.lemmas.List.{length-drop}
 use Rattle.std.specs.Global.{Vec}
 use Rattle.std.proofs.Common.{Bor}
 use Rattle.std.specs.Prelude.{option_map}
 use Rattle.sv_frame.specs.Frames.{first_frame, too_long}
-use Rattle.sv_frame.specs.Answers.{IsAnswer}
-use Rattle.sv_frame.specs.declared.reader.Next.{Next}
-use Rattle.sv_frame.specs.declared.reader.Next.TheVariants.{Frame, NotYet, TooLong}
-use Rattle.sv_frame.proofs.Fronts.{no_frame_if_too_long}
+use Rattle.sv_frame.specs.Answers.{Came}
 use Rattle.sv_link.specs.Ends.{Told, sending}
 use Rattle.sv_link.specs.declared.ends.Sent.{Sent}
 use Rattle.sv_link.specs.declared.ends.Sent.TheVariants as answers
 use Rattle.sv_wire.specs.declared.message.Request.{Request}
 use Rattle.sv_wire.specs.declared.message.Reply.{Reply}
 use Rattle.sv_wire.specs.declared.message.Reply.TheVariants as replies
+use Rattle.sv_wire.specs.Messages.{reply_at}
+use Rattle.sv_exchange.specs.Incoming.{ReadsFirst}
+use Rattle.sv_exchange.specs.declared.inbox.Incoming.{Incoming}
+use Rattle.sv_exchange.specs.declared.inbox.Incoming.TheVariants.{Whole, NotYet, Malformed, TooLong, Memory}
 use Rattle.sv_client.specs.declared.trace.Event.{Event}
 use Rattle.sv_client.specs.declared.trace.Event.TheVariants as events
 use Rattle.sv_client.specs.Traces.{asked, got}
@@ -31,14 +32,14 @@ use Rattle.sv_player.specs.Carried.{request_frames, BeginsWithReplies, PostedPar
 use Rattle.sv_script.specs.Following.{is_bye}
 use Rattle.sv_player.specs.Going.{IsHere}
 use Rattle.sv_player.specs.declared.outcome.ReplyFault.TheVariants as faults
-use Rattle.sv_player.specs.Waiting.{IsFlushed, MoreCame, CameToEnd}
-use Rattle.sv_player.specs.Sessions.{IsAt, Stopped, IsReason, IsFrameFault, IsSent}
+use Rattle.sv_player.specs.Sessions.{IsAt, Stopped, IsStill, IsReason, IsFrameFault, IsSent}
+use Rattle.sv_player.proofs.Posting.{IsFlushed}
 use Rattle.sv_player.proofs.Linking.{frames_none, begins_more, linked_part}
 use Rattle.sv_player.proofs.Turns.{onward_self, begun_idle}
 
 -- ---- What waits is sent, and bytes come
 
-pub flushed_at : (s : ℕ) (p : Player) (b c : Buffers) (old new : Told) → IsAt s p b old → new ≡ sending old b.outbox → c.outbox ≡ [] → c.reader ≡ b.reader → IsAt s p c new
+pub flushed_at : (s : ℕ) (p : Player) (b c : Buffers) (old new : Told) → IsAt s p b old → new ≡ sending old b.outbox → c.outbox ≡ [] → c.inbox ≡ b.inbox → IsAt s p c new
 flushed_at s p b c old new at sent none same =
     record {
       going = at.going;
@@ -53,8 +54,8 @@ flushed_at s p b c old new at sent none same =
           };
     }
 
-pub grew_at : (s : ℕ) (p : Player) (b c : Buffers) (old new : Told) → IsAt s p b old → MoreCame old b.reader new c.reader → c.outbox ≡ b.outbox → IsAt s p c new
-grew_at s p b c old new at grew same =
+pub grew_at : (s : ℕ) (p : Player) (b c : Buffers) (old new : Told) (n : ℕ) → IsAt s p b old → Came old b.inbox n new c.inbox → c.outbox ≡ b.outbox → IsAt s p c new
+grew_at s p b c old new n at grew same =
     record {
       going = at.going;
       current = at.current;
@@ -64,7 +65,7 @@ grew_at s p b c old new at grew same =
             open_is = ap (λ (t : Told). t.closed) grew.told ∙ at.linked.open_is;
             sent = rw (grew.told, same) at.linked.sent;
             messages = at.linked.messages;
-            received = rw (grew.told, grew.rest) (begins_more old.received b.reader grew.bytes (got p.client.events s) at.linked.received);
+            received = rw (grew.told, grew.rest) (begins_more old.received b.inbox grew.bytes (got p.client.events s) at.linked.received);
           };
     }
 
@@ -91,7 +92,7 @@ stops_at s p b end cause at here none reason =
       awaited = at.going.awaited;
       current = λ n. at.current;
       open_is = at.open_is;
-      part = record { sent = ([], append-nil end.sent ∙ sent); rest = b.reader; received = at.linked.received };
+      part = record { sent = ([], append-nil end.sent ∙ sent); rest = b.inbox; received = at.linked.received };
       whole = λ x y. sent;
       messages = λ x y. at.linked.messages;
       told = λ n. at.going.told;
@@ -114,7 +115,7 @@ stops_sending s p b end new cause at here why posted =
       current = λ n. at.current;
       open_is = at.open_is;
       part =
-          linked_part p.client.who t t s [] (sym (append-nil (asked p.client.who.client p.client.who.interest t s))) end new b.reader b.outbox refl at.linked
+          linked_part p.client.who t t s [] (sym (append-nil (asked p.client.who.client p.client.who.interest t s))) end new b.inbox b.outbox refl at.linked
           (subst (λ (bytes : List ℕ). PostedPart end b.outbox bytes new) (sym frames_none) posted);
       whole = λ x y. absurd (elim why [ inl l ↦ x l | inr m ↦ y m ]);
       messages = λ x y. absurd (elim why [ inl l ↦ x l | inr m ↦ y m ]);
@@ -144,58 +145,80 @@ awaited_in s p b end at some =
     let more : 0 < length (drop n all) = subst (λ (rs : List Request). 0 < length rs) (outstanding_in p.client.who p.client.events s at.current) some in
     omega (arith, more, length-drop n all)
 
-pub shut_reason : (s : ℕ) (p : Player) (b : Buffers) (end : Told) → IsAt s p b end → 0 < length (outstanding p.client.who p.client.events) → end.ended ≡ true → NoneCame b.reader → IsShut p.client.who p.client.events s end
+pub shut_reason : (s : ℕ) (p : Player) (b : Buffers) (end : Told) → IsAt s p b end → 0 < length (outstanding p.client.who p.client.events) → end.ended ≡ true → NoneCame b.inbox → IsShut p.client.who p.client.events s end
 shut_reason s p b end at some ended none =
-    record { awaited = awaited_in s p b end at some; ended = ended; rest = b.reader; received = at.linked.received; none = none }
+    record { awaited = awaited_in s p b end at some; ended = ended; rest = b.inbox; received = at.linked.received; none = none }
 
--- A try to send what waits did not send it all.
-pub flush_stops : (s : ℕ) (p : Player) (b : Buffers) (end new : Told) (left : List ℕ) (sent : Sent) (cause : PlayerCause) → IsAt s p b end → IsHere p.client.who p.client.events p.left.now →
-    IsFlushed sent end b.outbox new left → IsSent sent (Err cause) → Stopped s p p new cause
-flush_stops s p b end new left answers.Whole cause at here flushed is = cc
-flush_stops s p b end new left answers.Failed cause at here flushed is = stops_sending s p b end new cause at here (inl cc) flushed
-flush_stops s p b end new left answers.Memory cause at here flushed is = stops_sending s p b end new cause at here (inr cc) flushed
+-- ---- All is sent
 
--- It did.
-pub flush_sends : (s : ℕ) (p : Player) (b c : Buffers) (end new : Told) (sent : Sent) → IsAt s p b end → IsFlushed sent end b.outbox new c.outbox → IsSent sent (Ok tt) → c.reader ≡ b.reader →
-    IsAt s p c new × (c.outbox ≡ [])
-flush_sends s p b c end new answers.Whole at flushed is same = (flushed_at s p b c end new at flushed.0 flushed.1 same, flushed.1)
-flush_sends s p b c end new answers.Failed at flushed is same = cc
-flush_sends s p b c end new answers.Memory at flushed is same = cc
+module _ (s : ℕ) (p : Player) (b c : Buffers) (old new : Told) (at : IsAt s p b old) (here : IsHere p.client.who p.client.events p.left.now) where
+  -- What a try to send what waits answers.
+  pub flush_still : (sent : Sent) (result : Result Unit PlayerCause) → IsFlushed sent old b.outbox new c.outbox → IsSent sent result → c.inbox ≡ b.inbox → IsStill result s p c new
+  flush_still answers.Whole result flushed is same = subst (λ (r : Result Unit PlayerCause). IsStill r s p c new) (sym is) (flushed_at s p b c old new at flushed.0 flushed.1 same)
+  flush_still answers.Failed result flushed is same = subst (λ (r : Result Unit PlayerCause). IsStill r s p c new) (sym is) (stops_sending s p b old new causes.LinkFault at here (inl refl) flushed)
+  flush_still answers.Memory result flushed is same = subst (λ (r : Result Unit PlayerCause). IsStill r s p c new) (sym is) (stops_sending s p b old new causes.Memory at here (inr refl) flushed)
+
+pub flush_empties : (sent : Sent) (result : Result Unit PlayerCause) (old new : Told) (waiting left : List ℕ) → IsFlushed sent old waiting new left → IsSent sent result → IfOk result (λ _. left ≡ [])
+flush_empties answers.Whole result old new waiting left flushed is = subst (λ (r : Result Unit PlayerCause). IfOk r (λ _. left ≡ [])) (sym is) flushed.1
+flush_empties answers.Failed result old new waiting left flushed is = subst (λ (r : Result Unit PlayerCause). IfOk r (λ _. left ≡ [])) (sym is) tt
+flush_empties answers.Memory result old new waiting left flushed is = subst (λ (r : Result Unit PlayerCause). IfOk r (λ _. left ≡ [])) (sym is) tt
 
 -- ---- The first frame
-
-pub frame_first : (answer : Next) (rest : List ℕ) → IsAnswer answer rest → first_frame rest ≢ None → ((payload : Bor (List ℕ)) → answer ≡ Frame payload → ⊥) → ⊥
-frame_first (Frame payload) rest is came never = never payload refl
-frame_first NotYet rest is came never = came is.0
-frame_first (TooLong n) rest is came never = came (no_frame_if_too_long rest n is)
 
 pub frame_came : (rest payload : List ℕ) → first_payload rest ≡ Some payload → first_frame rest ≢ None
 frame_came rest payload e n =
     (let none : ◌≡◌ {A = Option (List ℕ)} None (Some payload) = ap (λ (o : Option (List ℕ × List ℕ)). option_map (λ (f : List ℕ × List ℕ). f.0) o) (sym n) ∙ e in cc)
 
+frame_none : (o : Option (List ℕ × List ℕ)) → ◌≡◌ {A = Option (List ℕ)} None (option_map (λ (f : List ℕ × List ℕ). f.0) o) → o ≡ None
+frame_none None e = refl
+frame_none (Some f) e = cc
+
+-- No payload is told just where no frame came.
+pub untold : (o : Option (Bor (List ℕ))) (rest : List ℕ) → option_map (λ (p : Bor (List ℕ)). p.now) o ≡ first_payload rest → o ≡ None → first_frame rest ≡ None
+untold o rest is none = frame_none (first_frame rest) (ap (option_map (λ (p : Bor (List ℕ)). p.now)) (sym none) ∙ is)
+
+pub is_untold : (o : Option (Bor (List ℕ))) (rest : List ℕ) → option_map (λ (p : Bor (List ℕ)). p.now) o ≡ first_payload rest → is_none o ≡ true → first_frame rest ≡ None
+is_untold None rest is none = untold None rest is refl
+is_untold (Some p) rest is none = cc
+
+pub is_told : (o : Option (Bor (List ℕ))) (rest : List ℕ) → option_map (λ (p : Bor (List ℕ)). p.now) o ≡ first_payload rest → is_none o ≡ false → first_frame rest ≢ None
+is_told None rest is none = cc
+is_told (Some p) rest is none = frame_came rest p.now (sym is)
+
+payload_none : (rest payload : List ℕ) → first_frame rest ≡ None → first_payload rest ≡ Some payload → ⊥
+payload_none rest payload none first = frame_came rest payload first none
+
+-- Where no frame came, none is read.
+pub none_read : (i : Incoming Reply) (rest : List ℕ) → ReadsFirst reply_at i rest → first_frame rest ≡ None → (i ≡ NotYet → ⊥) → ((n : ℕ) → i ≡ TooLong n → ⊥) → ⊥
+none_read (Whole reply) rest reads none a b = payload_none rest reads.payload none reads.first
+none_read NotYet rest reads none a b = a refl
+none_read (Malformed fault) rest reads none a b = payload_none rest reads.payload none reads.first
+none_read (TooLong n) rest reads none a b = b n refl
+none_read Memory rest reads none a b =
+    (let never : ◌≡◌ {A = Bool} false true = subst (λ (o : Option (List ℕ × List ℕ)). IsSome (option_map (λ (f : List ℕ × List ℕ). f.0) o)) none reads in cc)
+
 -- ---- What ends a wait
 
-module _ (s : ℕ) (p : Player) (b c : Buffers) (old new : Told) (at : IsAt s p b old) (here : IsHere p.client.who p.client.events p.left.now) (none : b.outbox ≡ []) (same : c.outbox ≡ b.outbox) where
-  pub wait_stops : (cause : PlayerCause) → MoreCame old b.reader new c.reader → IsReason p.client.who p.client.events p.first s new cause → Stopped s p p new cause
-  wait_stops cause grew reason = stops_at s p c new cause (grew_at s p b c old new at grew same) here (same ∙ none) reason
+module _ (s : ℕ) (p : Player) (b : Buffers) (end : Told) (at : IsAt s p b end) (here : IsHere p.client.who p.client.events p.left.now) (none : b.outbox ≡ []) where
+  -- The end failed, or memory ended.
+  pub wait_stops : (new : Told) (cause : PlayerCause) → new ≡ end → IsReason p.client.who p.client.events p.first s end cause → Stopped s p p new cause
+  wait_stops new cause same reason = subst (λ (t : Told). Stopped s p p t cause) (sym same) (stops_at s p b end cause at here none reason)
 
   -- The next frame is too long.
-  pub long_stops : (session n : ℕ) (payload : Vec ℕ) → session ≡ s + p.first → payload.items ≡ [] → MoreCame old b.reader new c.reader → too_long c.reader ≡ Some n →
-      Stopped s p p new (causes.BadReply session payload (faults.TooLong n))
-  long_stops session n payload number empty grew long =
-      wait_stops (causes.BadReply session payload (faults.TooLong n)) grew
-      (number, record { rest = c.reader; received = (grew_at s p b c old new at grew same).linked.received; bad = (empty, long) })
+  pub long_stops : (session n : ℕ) (payload : Vec ℕ) → session ≡ s + p.first → payload.items ≡ [] → too_long b.inbox ≡ Some n → Stopped s p p end (causes.BadReply session payload (faults.TooLong n))
+  long_stops session n payload number empty long =
+      stops_at s p b end (causes.BadReply session payload (faults.TooLong n)) at here none (number, record { rest = b.inbox; received = at.linked.received; bad = (empty, long) })
 
   -- No more will come.
-  pub shut_stops : 0 < length (outstanding p.client.who p.client.events) → CameToEnd old b.reader new c.reader → Stopped s p p new causes.Closed
-  shut_stops some g =
-      let there = ended_at s p c g.last new (grew_at s p b c old g.last at g.grew same) g.ended in
-      stops_at s p c new causes.Closed there here (same ∙ none) (shut_reason s p c new there some (ap (λ (t : Told). t.ended) g.ended) g.none)
+  pub shut_stops : (new : Told) → 0 < length (outstanding p.client.who p.client.events) → NoneCame b.inbox → new ≡ record end { ended = true } → Stopped s p p new causes.Closed
+  shut_stops new some came ended =
+      let there = ended_at s p b end new at ended in
+      stops_at s p b new causes.Closed there here none (shut_reason s p b new there some (ap (λ (t : Told). t.ended) ended) came)
 
 -- The first frame holds no reply that is taken.
 pub frame_stops : (s : ℕ) (p : Player) (b : Buffers) (end : Told) (cause : PlayerCause) → IsAt s p b end → IsHere p.client.who p.client.events p.left.now → b.outbox ≡ [] →
-    IsFrameFault p.client.who p.client.events (s + p.first) b.reader cause → Stopped s p p end cause
-frame_stops s p b end cause at here none fault = stops_at s p b end cause at here none (frame_reason p.client.who p.client.events p.first s end b.reader cause at.linked.received fault)
+    IsFrameFault p.client.who p.client.events (s + p.first) b.inbox cause → Stopped s p p end cause
+frame_stops s p b end cause at here none fault = stops_at s p b end cause at here none (frame_reason p.client.who p.client.events p.first s end b.inbox cause at.linked.received fault)
 
 -- ---- A Bye asks nothing
 

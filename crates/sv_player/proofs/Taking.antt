@@ -23,7 +23,7 @@ use Rattle.sv_player.specs.Carried.{request_frames, BeginsWithReplies, Posted, P
 use Rattle.sv_script.specs.Following.{is_bye}
 use Rattle.sv_script.proofs.Shifted.{bye_finishes}
 use Rattle.sv_player.specs.Going.{IsGoing, Did, DidInPart, IsHere}
-use Rattle.sv_player.specs.Awaiting.{can_go_on}
+use Rattle.sv_script.specs.Next.{can_go_on}
 use Rattle.sv_player.specs.Sessions.{IsAt, IsFirst, Got, Stopped, IsReason}
 use Rattle.sv_player.proofs.Linking.{frames_append, begins_next, fits, sent_posted, sent_part, messages_more}
 use Rattle.sv_player.proofs.Onward.{asks_here}
@@ -48,7 +48,7 @@ skipped before after payload first skips = go (first_frame before) refl first sk
         subst (λ (w : List ℕ). TakesOff w before after × FitsFrame w) same (k, fits before p r e)
 
 module _ (s : ℕ) (reply : Reply) (p q : Player) (b : Buffers) (end : Told) (at : IsAt s p b end) (here : IsHere p.client.who p.client.events p.left.now)
-    (waits : can_go_on p.client.who p.client.events p.left.now ≡ false) (first : IsFirst b.reader reply) where
+    (waits : can_go_on p.client.who p.client.events p.left.now ≡ false) (first : IsFirst b.inbox reply) where
   abbrev t : List Event
   t = p.client.events
 
@@ -67,14 +67,14 @@ module _ (s : ℕ) (reply : Reply) (p q : Player) (b : Buffers) (end : Told) (at
   asks_are : asked p.client.who.client p.client.who.interest (e ∷ t) s ≡ asked p.client.who.client p.client.who.interest t s ++ asks
   asks_are = asks_here p.client.who s t e at.current
 
-  received : (reader : List ℕ) → Skips b.reader reader → BeginsWithReplies end.received (got (e ∷ t) s) reader
+  received : (reader : List ℕ) → Skips b.inbox reader → BeginsWithReplies end.received (got (e ∷ t) s) reader
   received reader skips =
-      let off = skipped b.reader reader first.payload first.first skips in
+      let off = skipped b.inbox reader first.payload first.first skips in
       subst (λ (gots : List Reply). BeginsWithReplies end.received gots reader) (sym (got_one s reply t))
-      (begins_next end.received b.reader reader first.payload (got t s) reply at.linked.received off.0 off.1 first.read)
+      (begins_next end.received b.inbox reader first.payload (got t s) reply at.linked.received off.0 off.1 first.read)
 
   -- Its Done, if it makes one, was posted.
-  pub got_goes : IsFineHere → (new : Told) (c : Buffers) → Did e p.left.now p q → Skips b.reader c.reader → Posted end b.outbox (request_frames asks) new c.outbox → All IsRequest asks → (is_bye reply ≡ true → c.outbox ≡ []) →
+  pub got_goes : IsFineHere → (new : Told) (c : Buffers) → Did e p.left.now p q → Skips b.inbox c.inbox → Posted end b.outbox (request_frames asks) new c.outbox → All IsRequest asks → (is_bye reply ≡ true → c.outbox ≡ []) →
       Got s (is_bye reply) p q c new
   got_goes fine new c did skips posted messages quiet =
       record {
@@ -90,9 +90,9 @@ module _ (s : ℕ) (reply : Reply) (p q : Player) (b : Buffers) (end : Told) (at
                         rw (did.who, did.events)
                         (record {
                           open_is = ap (λ (x : Told). x.closed) posted.told ∙ at.linked.open_is;
-                          sent = sent_posted p.client.who t (e ∷ t) s asks asks_are end new b.reader b.outbox c.outbox at.linked posted;
+                          sent = sent_posted p.client.who t (e ∷ t) s asks asks_are end new b.inbox b.outbox c.outbox at.linked posted;
                           messages = messages_more p.client.who t (e ∷ t) s asks asks_are at.linked.messages messages;
-                          received = subst (λ (bytes : List ℕ). BeginsWithReplies bytes (got (e ∷ t) s) c.reader) (sym (ap (λ (x : Told). x.received) posted.told)) (received c.reader skips);
+                          received = subst (λ (bytes : List ℕ). BeginsWithReplies bytes (got (e ∷ t) s) c.inbox) (sym (ap (λ (x : Told). x.received) posted.told)) (received c.inbox skips);
                         });
                   };
               onward = onward_by s e p q refl did.who did.script did.first did.watched did.events;
@@ -105,7 +105,7 @@ module _ (s : ℕ) (reply : Reply) (p q : Player) (b : Buffers) (end : Told) (at
       }
 
   -- Sending its Done ended early.
-  pub got_stops : IsFineHere → (new : Told) (reader : List ℕ) (cause : PlayerCause) → (cause ≡ causes.LinkFault) ⊎ (cause ≡ causes.Memory) → Did e p.left.now p q → Skips b.reader reader → PostedPart end b.outbox (request_frames asks) new → is_bye reply ≡ false → Stopped s p q new cause
+  pub got_stops : IsFineHere → (new : Told) (reader : List ℕ) (cause : PlayerCause) → (cause ≡ causes.LinkFault) ⊎ (cause ≡ causes.Memory) → Did e p.left.now p q → Skips b.inbox reader → PostedPart end b.outbox (request_frames asks) new → is_bye reply ≡ false → Stopped s p q new cause
   got_stops fine new reader cause why did skips posted other =
       record {
         onward = onward_by s e p q refl did.who did.script did.first did.watched did.events;
@@ -118,7 +118,7 @@ module _ (s : ℕ) (reply : Reply) (p q : Player) (b : Buffers) (end : Told) (at
         part =
             rw (did.who, did.events)
             (record {
-              sent = sent_part p.client.who t (e ∷ t) s asks asks_are end new b.reader b.outbox at.linked posted;
+              sent = sent_part p.client.who t (e ∷ t) s asks asks_are end new b.inbox b.outbox at.linked posted;
               rest = reader;
               received = subst (λ (bytes : List ℕ). BeginsWithReplies bytes (got (e ∷ t) s) reader) (sym (ap (λ (x : Told). x.received) posted.told)) (received reader skips);
             });
@@ -134,7 +134,7 @@ module _ (s : ℕ) (reply : Reply) (p q : Player) (b : Buffers) (end : Told) (at
       }
 
   -- Memory ended, before the reply was in the trace or after it.
-  pub got_early : (reader : List ℕ) → (q.client.events ≡ e ∷ t → IsFineHere) → DidInPart e p q → Skips b.reader reader → Stopped s p q end causes.Memory
+  pub got_early : (reader : List ℕ) → (q.client.events ≡ e ∷ t → IsFineHere) → DidInPart e p q → Skips b.inbox reader → Stopped s p q end causes.Memory
   got_early reader fine part skips = go part.events
     where
       go : (q.client.events ≡ t) ⊎ (q.client.events ≡ e ∷ t) → Stopped s p q end causes.Memory
@@ -147,7 +147,7 @@ module _ (s : ℕ) (reply : Reply) (p q : Player) (b : Buffers) (end : Told) (at
             awaited = awaited_as p.client.who q.client.who p.script.now q.script.now t q.client.events part.who part.script same at.going.awaited;
             current = λ n. absurd (n refl);
             open_is = rw same at.open_is;
-            part = rw (part.who, same) (record { sent = (b.outbox, at.linked.sent); rest = b.reader; received = at.linked.received });
+            part = rw (part.who, same) (record { sent = (b.outbox, at.linked.sent); rest = b.inbox; received = at.linked.received });
             whole = λ x y. absurd (y refl);
             messages = λ x y. absurd (y refl);
             told = λ n. absurd (n refl);

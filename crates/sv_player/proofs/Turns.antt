@@ -106,7 +106,7 @@ module _ (s : ℕ) (e : Event) (left : List Step) (p q : Player) (end : Told) (r
   asks = newly_asked p.client.who t e
 
   -- It was done and posted.
-  pub goes_by : (b : Buffers) (new : Told) → b.reader ≡ reader → Did e left p q → Posted end outbox (request_frames asks) new b.outbox → All IsRequest asks → SessionGoesOn s e p q b new
+  pub goes_by : (b : Buffers) (new : Told) → b.inbox ≡ reader → Did e left p q → Posted end outbox (request_frames asks) new b.outbox → All IsRequest asks → SessionGoesOn s e p q b new
   goes_by b new same did posted fine =
       record {
         at =
@@ -185,7 +185,7 @@ module _ (s : ℕ) (e : Event) (left : List Step) (p q : Player) (end : Told) (r
           }
 
   -- What a try to send it answers.
-  pub turn_by : (sent : Sent) (result : Result Unit PlayerCause) (b : Buffers) (new : Told) → IsSent sent result → b.reader ≡ reader → Did e left p q → PutBehind sent end outbox (request_frames asks) new b.outbox →
+  pub turn_by : (sent : Sent) (result : Result Unit PlayerCause) (b : Buffers) (new : Told) → IsSent sent result → b.inbox ≡ reader → Did e left p q → PutBehind sent end outbox (request_frames asks) new b.outbox →
       (sent ≡ answers.Whole → All IsRequest asks) → IsTurn result s e p q b new
   turn_by answers.Whole result b new is same did posted fine = subst (λ (r : Result Unit PlayerCause). IsTurn r s e p q b new) (sym is) (goes_by b new same did posted (fine refl))
   turn_by answers.Failed result b new is same did posted fine = subst (λ (r : Result Unit PlayerCause). IsTurn r s e p q b new) (sym is) (stops_by new causes.LinkFault (inl refl) did posted)
@@ -258,7 +258,7 @@ join_due p going needed few =
 -- ---- Moves that are due
 
 module _ (s : ℕ) (p : Player) (b : Buffers) (end : Told) (at : IsAt s p b end) (ready : IsReady p.client.who p.client.events p.left.now) where
-  pub before_move : IsBefore s p end b.reader b.outbox
+  pub before_move : IsBefore s p end b.inbox b.outbox
   before_move = record { going = at.going; linked = at.linked; idle = begun_idle p.client.who p.client.events s end.received at.going.proper at.current }
 
   pub make_due : (action : Action) (rest : List Step) → unsynced p.client.who p.client.events p.left.now ≡ steps.Act action ∷ rest → length (pending_of p.client.events) < 8 →

@@ -1,41 +1,15 @@
 -- Where a client waits for a reply: only where its next step can't be done yet.
 -- Events stand with the latest first: `e ∷ t` is t, and then e.
-use Rattle.std.specs.Prelude.{◌≡◌, Bool, true, false, ◌&&◌, nat_lt, List, [], ◌∷◌, length, reverse}
-use Rattle.sv_world.specs.Limits.{most_outstanding, most_pending}
+use Rattle.std.specs.Prelude.{◌≡◌, false, List, [], ◌∷◌, reverse}
 use Rattle.sv_world.specs.declared.world.Shape.{Shape}
 use Rattle.sv_client.specs.declared.trace.Event.{Event}
 use Rattle.sv_client.specs.declared.trace.Event.TheVariants as events
 use Rattle.sv_client.specs.declared.trace.Trace.{Trace}
-use Rattle.sv_client.specs.Traces.{pending_of}
-use Rattle.sv_client.specs.Taking.{Identity, outstanding}
+use Rattle.sv_client.specs.Taking.{Identity}
 use Rattle.sv_client.specs.Proper.{identity_of}
 use Rattle.sv_scenario.specs.declared.scenario.Step.{Step}
-use Rattle.sv_scenario.specs.declared.scenario.Step.TheVariants as steps
-use Rattle.sv_script.specs.Following.{FollowsTo, is_welcomed, unsynced}
-
--- one more request may be outstanding
-abbrev pub may_ask : Identity → List Event → Bool
-may_ask who t = nat_lt (length (outstanding who t)) most_outstanding
-
--- A step can be done now: an action, where one more may be pending and one more request outstanding; a Poll or an Observe, where one more
--- request may be; a show, a cut or a quit always. A sync that was not passed can't.
-abbrev pub can_do : Identity → List Event → Step → Bool
-can_do who t (steps.Act action) = nat_lt (length (pending_of t)) most_pending && may_ask who t
-can_do who t steps.Poll = may_ask who t
-can_do who t (steps.Observe objects) = may_ask who t
-can_do who t steps.Sync = false
-can_do who t (steps.Show objects) = true
-can_do who t steps.Cut = true
-can_do who t steps.Quit = true
-
--- the first of the steps can be done now. At the script's end there is none
-abbrev pub can_do_first : Identity → List Event → List Step → Bool
-can_do_first who t [] = false
-can_do_first who t (step ∷ ss) = can_do who t step
-
--- The session has its Welcome, and the next of the steps that are left can be done now.
-abbrev pub can_go_on : Identity → List Event → List Step → Bool
-can_go_on who t left = is_welcomed t && can_do_first who t (unsynced who t left)
+use Rattle.sv_script.specs.Following.{FollowsTo}
+use Rattle.sv_script.specs.Next.{can_go_on}
 
 -- an event is no reply, or one that came where the client could not go on
 abbrev pub IsAwaited : Identity → List Event → List Step → Event → Type 0

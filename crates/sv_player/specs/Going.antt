@@ -2,29 +2,28 @@
 -- Events stand with the latest first: `e ∷ t` is t, and then e.
 use Rattle.std.specs.Prelude.{◌≡◌, ◌⊎◌, ℕ, suc, ◌+◌, ◌<◌, ◌≤◌, Bool, true, false, List, [], ◌∷◌, map, length}
 use Rattle.std.specs.List.{AllByRecursion}
-use Rattle.sv_world.specs.Limits.{most_outstanding, most_pending, most_sessions, most_steps}
+use Rattle.sv_world.specs.Limits.{most_sessions, most_steps}
 use Rattle.sv_world.specs.Worlds.{IsGoodShape}
 use Rattle.sv_world.specs.declared.world.ObjectId.{ObjectId}
 use Rattle.sv_watch.specs.Told.{change_line}
+use Rattle.sv_wire.specs.declared.message.Request.{Request}
 use Rattle.sv_wire.specs.declared.message.Request.TheVariants as requests
 use Rattle.sv_client.specs.declared.trace.Event.{Event}
-use Rattle.sv_client.specs.Traces.{joins, makes, pending_of}
+use Rattle.sv_client.specs.Traces.{joins, makes}
 use Rattle.sv_client.specs.Taking.{Identity, outstanding}
 use Rattle.sv_client.specs.Proper.{IsGoodIdentity, AreProper, in_session}
+use Rattle.sv_client.specs.Seen.{latest_session, newly_asked}
 use Rattle.sv_scenario.specs.declared.scenario.Plan.{Plan}
 use Rattle.sv_scenario.specs.declared.scenario.Step.{Step}
-use Rattle.sv_scenario.specs.declared.scenario.Step.TheVariants as steps
 use Rattle.sv_scenario.specs.Limits.{IsGoodStep, IsGoodPlan}
 use Rattle.sv_scenario.specs.Sessions.{cuts_in}
-use Rattle.sv_script.specs.Following.{FollowsTo, unsynced, after_syncs, must_join, is_welcomed, is_finished}
+use Rattle.sv_script.specs.Following.{FollowsTo, unsynced, must_join, is_welcomed, is_finished}
+use Rattle.sv_script.specs.Next.{can_go_on}
 use Rattle.sv_script.specs.Telling.{changes_of}
-use Rattle.sv_player.specs.declared.moves.Move.{Move}
-use Rattle.sv_player.specs.declared.moves.Move.TheVariants as moves
 use Rattle.sv_player.specs.declared.playing.Player.{Player}
 use Rattle.sv_player.specs.declared.telling.Seen.{Seen}
 use Rattle.sv_player.specs.Seen.{seen_by}
-use Rattle.sv_player.specs.Partings.{parting_step}
-use Rattle.sv_player.specs.Awaiting.{can_do_first, GetsAreAwaited}
+use Rattle.sv_player.specs.Awaiting.{GetsAreAwaited}
 
 abbrev pub scripted_plan : Identity → List Step → Plan
 scripted_plan who script = record { interest = who.interest; steps = script }
@@ -114,15 +113,32 @@ pub record IsReady (who : Identity) (t : List Event) (left : List Step) : Type 0
   pub here_is : IsHere who t left
   pub welcomed : is_welcomed t ≡ true
 
--- ---- The next move
+-- ---- What holds of a player now
 
--- what a player does next, in a session that has its Welcome
-abbrev pub IsMove : Move → Identity → List Event → List Step → Type 0
-IsMove moves.Wait who t left = (0 < length (outstanding who t)) × (can_do_first who t (unsynced who t left) ≡ false)
-IsMove moves.Leave who t left = (outstanding who t ≡ []) × (after_syncs left ≡ [])
-IsMove (moves.Make making) who t left =
-    (unsynced who t left ≡ steps.Act making.action.now ∷ making.rest.now) × (length (pending_of t) < most_pending) × (length (outstanding who t) < most_outstanding)
-IsMove (moves.Poll rest) who t left = (unsynced who t left ≡ steps.Poll ∷ rest.now) × (length (outstanding who t) < most_outstanding)
-IsMove (moves.Observe objects rest) who t left = (unsynced who t left ≡ steps.Observe objects.now ∷ rest.now) × (length (outstanding who t) < most_outstanding)
-IsMove (moves.Show objects rest) who t left = unsynced who t left ≡ steps.Show objects.now ∷ rest.now
-IsMove (moves.Part parting rest) who t left = unsynced who t left ≡ parting_step parting ∷ rest.now
+-- its session, from 0
+abbrev pub own_session : Player → ℕ
+own_session p = latest_session p.client.events
+
+-- the number of its session
+abbrev pub own_number : Player → ℕ
+own_number p = own_session p + p.first
+
+abbrev pub outstanding_of : Player → List Request
+outstanding_of p = outstanding p.client.who p.client.events
+
+-- what it asks by an event
+abbrev pub asked_by : Player → Event → List Request
+asked_by p e = newly_asked p.client.who p.client.events e
+
+-- the steps that are left, without the syncs that may be passed now
+abbrev pub next_steps : Player → List Step
+next_steps p = unsynced p.client.who p.client.events p.left.now
+
+abbrev pub can_go_on_now : Player → Bool
+can_go_on_now p = can_go_on p.client.who p.client.events p.left.now
+
+abbrev pub IsHereNow : Player → Type 0
+IsHereNow p = IsHere p.client.who p.client.events p.left.now
+
+abbrev pub IsReadyNow : Player → Type 0
+IsReadyNow p = IsReady p.client.who p.client.events p.left.now

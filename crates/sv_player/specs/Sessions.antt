@@ -27,16 +27,20 @@ use Rattle.sv_player.specs.declared.outcome.PlayerCause.TheVariants as causes
 use Rattle.sv_player.specs.declared.playing.Player.{Player}
 use Rattle.sv_player.specs.declared.outcome.SessionEnd.{SessionEnd}
 use Rattle.sv_player.specs.declared.outcome.SessionEnd.TheVariants as endings
-use Rattle.sv_player.specs.Carried.{request_frames, BeginsWithReplies, Posted, PostedPart, IsLinked, IsLinkedInPart}
+use Rattle.sv_player.specs.Carried.{request_frames, which_end, BeginsWithReplies, Posted, PostedPart, IsLinked, IsLinkedInPart}
 use Rattle.sv_player.specs.Awaiting.{GetsAreAwaited}
-use Rattle.sv_player.specs.Going.{AreTold, IsGoing, IsHere, IsReady}
+use Rattle.sv_player.specs.Going.{AreTold, IsGoing, IsHere, IsReady, own_session}
 
 -- The player is in session s, over this end.
 pub record IsAt (s : ℕ) (p : Player) (b : Buffers) (end : Told) : Type 0 where
   pub going : IsGoing p
   pub current : current_session p.client.events ≡ Some s
   pub open_is : is_cut p.client.events s ≡ false
-  pub linked : IsLinked p.client.who p.client.events s end b.reader b.outbox
+  pub linked : IsLinked p.client.who p.client.events s end b.inbox b.outbox
+
+-- It is in the session that it began last.
+abbrev pub IsInSession : Player → Buffers → Told → Type 0
+IsInSession p b end = IsAt (own_session p) p b end
 
 -- What happened to the player happened in session s: nothing was asked, got or cut in any other.
 pub record Onward (s : ℕ) (old new : Player) : Type 0 where
@@ -113,6 +117,11 @@ pub record SessionGoesOn (s : ℕ) (e : Event) (old new : Player) (b : Buffers) 
   pub onward : Onward s old new
   pub events : new.client.events ≡ e ∷ old.client.events
 
+-- Nothing more happened to the player in session s; or something stopped it.
+abbrev pub IsStill : Result Unit PlayerCause → ℕ → Player → Buffers → Told → Type 0
+IsStill (Ok _) s p b end = IsAt s p b end
+IsStill (Err cause) s p b end = Stopped s p p end cause
+
 -- what an event of a player answers
 abbrev pub IsTurn : Result Unit PlayerCause → ℕ → Event → Player → Player → Buffers → Told → Type 0
 IsTurn (Ok _) s e old new b end = SessionGoesOn s e old new b end
@@ -164,6 +173,13 @@ abbrev pub FaultCause : {A : Type 0} → ℕ → ℕ → Result A PlayerCause �
 FaultCause before now (Ok _) = now ≡ before
 FaultCause before now (Err causes.LinkFault) = Rose before now
 FaultCause before now (Err _) = now ≡ before
+
+-- It is the same end, whose count of faults rises just where it stopped the player, and which stays calm.
+module _ {E : Type 0} (told : E → Told) (faults : E → ℕ) (calm : E → Type 0) where
+  pub record KeepsEnd {A : Type 0} (old new : E) (result : Result A PlayerCause) : Type 0 where
+    pub same : which_end (told new) ≡ which_end (told old)
+    pub cause : FaultCause (faults old) (faults new) result
+    pub calm_is : calm old → calm new
 
 -- bytes were put behind what waited; or sending ended early
 abbrev pub IsAnswered : Result Unit PlayerCause → Told → List ℕ → List ℕ → Told → List ℕ → Type 0

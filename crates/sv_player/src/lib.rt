@@ -2,10 +2,10 @@
 #![tactic(auto)]
 
 mod buffers;
-mod moves;
 mod outcome;
 mod play;
 mod playing;
+mod replies;
 mod session;
 mod telling;
 

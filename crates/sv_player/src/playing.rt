@@ -16,10 +16,11 @@ ghost use Rattle.sv_player.specs.Going.{IsGoing, Did, DidInPart};
 use crate::telling::{Seen, tell_changes};
 use std::alloc::{AllocError, Global};
 use sv_client::{Client, MakeFault, ObserveFault, PollFault, TakeFault, TraceMark};
+use sv_lists::List;
 use sv_scenario::Step;
 use sv_watch::{Line, Watch};
 use sv_wire::{Reply, Request};
-use sv_world::{Action, List, ObjectId, copy_action, copy_objects};
+use sv_world::{Action, ObjectId, copy_action, copy_objects};
 
 /// A client on its way through its script.
 #[derive(Drop)]

@@ -20,7 +20,8 @@ use std::alloc::{AllocError, Global};
 use std::collections::VecDeque;
 use std::marker::Model;
 use std::sync::ledger::Ledger;
-use sv_world::{Action, ClientId, List, MOST_OPEN, ObjectId, Shape, Value, World};
+use sv_lists::List;
+use sv_world::{Action, ClientId, MOST_OPEN, ObjectId, Shape, Value, World};
 
 /// How many slots there is room for at first.
 const FIRST_ROOM: u16 = 64;

@@ -1,6 +1,7 @@
 //! An action in the queue.
 use crate::slots::Slots;
-use sv_world::{Action, ClientId, List, Value};
+use sv_lists::List;
+use sv_world::{Action, ClientId, Value};
 
 /// An accepted action that is not committed yet.
 #[derive(Debug, Drop)]

@@ -13,7 +13,8 @@ ghost use Rattle.sv_queue.specs.Written.{CanWrite, IsChangedAt, writes_before};
 use crate::rooms::BLOCK;
 use crate::slots::Slots;
 use std::alloc::{AllocError, Global};
-use sv_world::{Action, List, ObjectId, Value};
+use sv_lists::List;
+use sv_world::{Action, ObjectId, Value};
 
 /// The object in a slot of an action's reads, where the action may write it.
 pub fn written_at(action: &Action, slot: usize) -> Option<ObjectId>

@@ -17,7 +17,8 @@ use Rattle.law_schedule.specs.Serving.{Server, served}
 use Rattle.law_schedule.specs.Schedule.{plain_server}
 use Rattle.law_schedule.specs.Served.{RepliesNameAccepted}
 use Rattle.law_schedule.proofs.SoundReplies.{replies-grow}
-use Rattle.sv_sequencer.specs.Step.{SequencerView, history, entry_of, GrewByEntry, Answered}
+use Rattle.sv_journal.specs.History.{entry_of}
+use Rattle.sv_sequencer.specs.Step.{SequencerView, history, GrewByEntry, Answered}
 use Rattle.sv_session.specs.Requests.{stop_of}
 use Rattle.sv_exchange.specs.View.{ExchangeView, TakesRequest}
 use Rattle.sv_journal.proofs.Stays.{logged-back}

@@ -7,8 +7,9 @@ use crate::server::Server;
 use law_system::Played;
 use std::alloc::{AllocError, Global};
 use sv_client::Trace;
+use sv_lists::List;
 use sv_sequencer::Sequencer;
-use sv_world::{List, ObjectId, Shape, Value, copy_value};
+use sv_world::{ObjectId, Shape, Value, copy_value};
 
 /// What is left of a run over worlds of this shape: its sequencer's journal and committed values, and what each client did.
 pub fn played_of(

@@ -19,9 +19,10 @@ ghost use Rattle.sv_replay.specs.Machine.{player_of, AreFlags, IsReady, Does, Mo
 use std::alloc::{AllocError, Global};
 use sv_client::{Client, MakeFault, ObserveFault, PollFault, TakeFault, Trace, TraceMark};
 use sv_exchange::Exchange;
+use sv_lists::List;
 use sv_scenario::Step;
 use sv_wire::Request;
-use sv_world::{Action, List, MOST_OUTSTANDING, MOST_PENDING, ObjectId, copy_action, copy_objects};
+use sv_world::{Action, MOST_OUTSTANDING, MOST_PENDING, ObjectId, copy_action, copy_objects};
 
 /// A client that plays its script.
 #[derive(Drop)]

@@ -22,8 +22,8 @@ use law_schedule::scheduled_runs_are_replays;
 use law_system::Played;
 use std::alloc::{AllocError, Global};
 use sv_client::Trace;
+use sv_lists::List;
 use sv_scenario::Scenario;
-use sv_world::List;
 
 /// So many rounds are always enough.
 const MOST_ROUNDS: u16 = 1000;

@@ -10,8 +10,9 @@ ghost use Rattle.sv_report.specs.Again.{MayDo, again};
 
 use std::alloc::{AllocError, Global};
 use sv_client::{Client, Event, MakeFault, ObserveFault, PollFault, TakeFault, TraceMark};
+use sv_lists::List;
 use sv_wire::{Reply, copy_reply};
-use sv_world::{Action, List, ObjectId, copy_action, copy_objects};
+use sv_world::{Action, ObjectId, copy_action, copy_objects};
 
 fn join_again(client: &mut Client) -> Result<(), AllocError>
     requires { joins client.old.events < most_sessions }

@@ -13,11 +13,11 @@ pub fn append_world(commit: u32, values: &[Value], out: &mut String) -> Result<(
 {
     let mut text = String::new(*out.allocator());
     write!(text, "world {commit}\n")?;
-    append_values(values, &mut text)?;
+    append_value_lines(values, &mut text)?;
     out.push_str(&text)
 }
 
-fn append_values(values: &[Value], out: &mut String) -> Result<(), AllocError>
+fn append_value_lines(values: &[Value], out: &mut String) -> Result<(), AllocError>
     ensures { OnOk result (string_bytes out.new ≡ string_bytes out.old ++ value_lines 0 values.now) }
 {
     for (object, value) in values.iter().enumerate() {

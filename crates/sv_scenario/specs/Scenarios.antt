@@ -51,12 +51,12 @@ abbrev pub value_in : List ℕ → Read Data
 value_in text = given causes.Json (read text)
 
 -- The bytes that a file may have.
-abbrev pub most_bytes : ℕ
-most_bytes = 4194304
+abbrev pub most_scenario_bytes : ℕ
+most_scenario_bytes = 4194304
 
 -- A file has at most so many bytes, which are the UTF-8 of a JSON text.
 unfoldable pub scenario_of : List ℕ → Read Scenario
 scenario_of bytes =
-    cond (nat_lt most_bytes (length bytes)) (refuse causes.Size)
+    cond (nat_lt most_scenario_bytes (length bytes)) (refuse causes.Size)
     (cond (is_utf8 bytes) (value_in bytes >>= scenario_in)
     (refuse causes.Json))

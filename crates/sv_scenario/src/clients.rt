@@ -19,7 +19,8 @@ use crate::steps::steps_of;
 use crate::{Plan, ReadFault, ScenarioCause, Step};
 use serde_json::Value;
 use std::alloc::Global;
-use sv_world::{List, MOST_CLIENTS, ObjectId, Shape};
+use sv_lists::List;
+use sv_world::{MOST_CLIENTS, ObjectId, Shape};
 
 fn interest_in(alloc: Global, shape: Shape, value: &Value) -> Result<List<ObjectId>, ReadFault>
     ensures { Gives (λ v. v) result (value_at (codes "interest") (interest_of shape.objects) (view value.now)) }

@@ -3,8 +3,9 @@
 ghost use Rattle.std.specs.Prelude.{◌≡◌};
 
 use std::alloc::{AllocError, AllocFailed};
+use sv_lists::Text;
 use sv_text::TextFault;
-use sv_world::{BadAction, Text};
+use sv_world::BadAction;
 
 /// What is wrong at a place of a scenario file.
 #[derive(Clone, Copy, Debug, Drop, PartialEq, Eq)]

@@ -10,7 +10,8 @@ use crate::place::{at_place, refuse};
 use crate::{ReadFault, ScenarioCause};
 use serde_json::Value;
 use std::alloc::Global;
-use sv_world::{List, MOST_INTEREST, MOST_READS, MOST_SHOWN, ObjectId};
+use sv_lists::List;
+use sv_world::{MOST_INTEREST, MOST_READS, MOST_SHOWN, ObjectId};
 
 fn known(alloc: Global, objects: u16, number: u32) -> Result<ObjectId, ReadFault>
     ensures { Gives (λ o. o) result (known objects number) }

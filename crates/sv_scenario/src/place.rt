@@ -5,7 +5,7 @@ ghost use Rattle.sv_scenario.specs.Faults.{inside, IsInside, IsAtKey};
 
 use crate::{ReadFault, ScenarioCause, ScenarioFault};
 use std::alloc::{AllocError, Global};
-use sv_world::Text;
+use sv_lists::Text;
 
 /// The value that is read is itself at fault. It takes no memory.
 pub fn refuse(alloc: Global, cause: ScenarioCause) -> ReadFault

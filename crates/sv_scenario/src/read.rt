@@ -22,13 +22,14 @@ use crate::turns::turns_of;
 use crate::{Plan, ReadFault, Scenario, ScenarioCause, Turn};
 use serde_json::Value;
 use std::alloc::Global;
-use sv_world::{List, MOST_ATTRS, MOST_BOUND, MOST_REACH, Shape, Value as ObjectValue, World};
+use sv_lists::List;
+use sv_world::{MOST_ATTRS, MOST_BOUND, MOST_REACH, Shape, Value as ObjectValue, World};
 
 /// The bytes that a file may have.
-pub const MOST_BYTES: usize = 4_194_304;
+pub const MOST_SCENARIO_BYTES: usize = 4_194_304;
 
 /// The whole number of a key, in a range.
-pub fn number_in(
+pub fn number_of_key(
     alloc: Global,
     key: &str,
     low: u32,
@@ -54,7 +55,7 @@ fn values_in(alloc: Global, attrs: u32, value: &Value) -> Result<Vec<ObjectValue
 fn world_of(alloc: Global, value: &Value) -> Result<World, ReadFault>
     ensures { Gives (λ w. w) result (world_of (view value.now)) }
 {
-    let attrs = number_in(alloc, "attrs", 1, MOST_ATTRS as u32, value)?;
+    let attrs = number_of_key(alloc, "attrs", 1, MOST_ATTRS as u32, value)?;
     let values = values_in(alloc, attrs, value)?;
     let shape = Shape {
         objects: values.len() as u16,
@@ -119,7 +120,7 @@ fn scenario_in(alloc: Global, value: &Value) -> Result<Scenario, ReadFault>
         value,
     )?;
     let world = world_of(alloc, value)?;
-    let bound = number_in(alloc, "bound", 0, MOST_BOUND as u32, value)?;
+    let bound = number_of_key(alloc, "bound", 0, MOST_BOUND as u32, value)?;
     let reach = reach_in(alloc, value)?;
     let clients = clients_in(alloc, world.shape, value)?;
     let schedule = schedule_in(alloc, clients.as_slice(), value)?;
@@ -157,7 +158,7 @@ pub fn value_in(alloc: Global, text: &str) -> Result<Value, ReadFault>
 fn scenario_of(alloc: Global, bytes: &[u8]) -> Result<Scenario, ReadFault>
     ensures { Gives (λ s. s) result (scenario_of bytes.now) }
 {
-    if bytes.len() > MOST_BYTES {
+    if bytes.len() > MOST_SCENARIO_BYTES {
         return Err(refuse(alloc, ScenarioCause::Size));
     }
     let Ok(text) = str::from_utf8(bytes) else {

@@ -1,6 +1,7 @@
 //! What a scenario file says.
 
-use sv_world::{Action, List, ObjectId, World};
+use sv_lists::List;
+use sv_world::{Action, ObjectId, World};
 
 /// A run: an opening world, the limits on actions, a script for each client, and the turns of a replay.
 #[derive(Debug, Drop)]

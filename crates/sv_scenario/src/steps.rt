@@ -10,17 +10,18 @@ ghost use Rattle.sv_scenario.specs.Scripts.{read_text, act_of, act_step, show_st
 use crate::numbers::list_within;
 use crate::objects::{observed_of, shown_of};
 use crate::place::{at_key, at_place, refuse};
-use crate::{MOST_BYTES, ReadFault, ScenarioCause, Step};
+use crate::{MOST_SCENARIO_BYTES, ReadFault, ScenarioCause, Step};
 use serde_json::Value;
 use std::alloc::Global;
+use sv_lists::List;
 use sv_text::{ParseFault, parse_action};
-use sv_world::{Action, List, MOST_STEPS, Shape, check_action};
+use sv_world::{Action, MOST_STEPS, Shape, check_action};
 
 fn read_text(alloc: Global, text: &str) -> Result<Action, ReadFault>
     ensures { Gives (λ a. a) result (read_text (reading (tokens_of text.now))) }
 {
     // No text in a file is longer than the file.
-    if text.len() > MOST_BYTES {
+    if text.len() > MOST_SCENARIO_BYTES {
         return Err(ReadFault::Memory);
     }
     match parse_action(alloc, text) {

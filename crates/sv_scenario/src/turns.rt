@@ -12,7 +12,8 @@ use crate::place::{at_place, refuse};
 use crate::{ReadFault, ScenarioCause, Turn};
 use serde_json::Value;
 use std::alloc::Global;
-use sv_world::{List, MOST_TURNS};
+use sv_lists::List;
+use sv_world::MOST_TURNS;
 
 /// The number that one or two digits write, if they are digits.
 fn two_digits(digits: &[u8]) -> u16

@@ -1,6 +1,7 @@
 -- The lemmas of this crate, file by file.
 pub mod Beginnings
 pub mod Steps
+pub mod Choosing
 pub mod Pending
 pub mod Due
 pub mod Counts

@@ -1,4 +1,4 @@
--- What a core is made of, the core, the sequencer, and the right to a lock of it may go to another thread.
+-- What a sequencer is made of, the sequencer, and the right to a lock of it may go to another thread.
 use mir.Syntax.{Sym}
 use denote.RattleType.{RattleType}
 use denote.Struct.Field.{row_field}
@@ -7,40 +7,21 @@ use denote.Param.Send.{IsSend, IsSync, sendable}
 use denote.Param.SendFields.{as_row_send, declared_send}
 use Rattle.std.proofs.Common.{[], ◌∷◌}
 use Rattle.std.proofs.Crossing.{crosses}
-use Rattle.sv_world.specs.contracts.action.Action as action
 use Rattle.sv_wire.specs.contracts.message.Request as request
 use Rattle.sv_wire.specs.contracts.message.Reply as reply
 use Rattle.sv_journal.specs.contracts.entry.Entry as entry
 use Rattle.sv_journal.specs.contracts.entry.Logged as logged
-use Rattle.sv_queue.specs.contracts.waiting.Waiting as queued
-use Rattle.sv_queue.specs.contracts.queue.Queue as queue
-use Rattle.sv_queue.proofs.sources.Sources.TheSendSync as sources
-use Rattle.sv_queue.proofs.writers.Writers.TheSendSync as writers
-use Rattle.sv_queue.proofs.slots.Slots.TheSendSync as slots
 use Rattle.sv_journal.specs.contracts.journal.Journal as journal
-use Rattle.sv_world.proofs.list.List.TheSendSync as lists
+use Rattle.sv_lists.proofs.list.List.TheSendSync as lists
 use Rattle.sv_world.proofs.short.Short.TheSendSync as shorts
-use Rattle.sv_world.proofs.body.Body.TheSendSync as bodies
 use Rattle.sv_lock.specs.contracts.lock.SeqLock as lock
 use Rattle.sv_lock.specs.contracts.pass.Pass as pass
 use Rattle.sv_lock.proofs.lock.SeqLock.TheSendSync as locks
 use Rattle.sv_lock.proofs.pass.Pass.TheSendSync as passes
-use Rattle.sv_sequencer.specs.contracts.opened.Opened as opened
+use Rattle.sv_core.specs.contracts.opened.Opened as opened
 use Rattle.sv_sequencer.specs.contracts.object.SequencerObject.TheImpl.{ghosts}
 use Rattle.sv_sequencer.specs.contracts.sequencer.Sequencer as sequencer
-use Rattle.sv_sequencer.specs.contracts.server_core.Core as cores
-
-action-sends : IsSend action.the_row
-action-sends = search (shorts.the_send, bodies.the_send, sendable, crosses) depth 30
-
-action-field-sends : IsSend (action.the_field).row
-action-field-sends = search (shorts.the_send, bodies.the_send, sendable, crosses) depth 30
-
-queued-sends : IsSend queued.the_row
-queued-sends = search (action-field-sends, lists.the_send, shorts.the_send, sendable, crosses) depth 30
-
-queue-sends : IsSend queue.the_row
-queue-sends = search (queued-sends, lists.the_send, shorts.the_send, sources.the_send, writers.the_send, slots.the_send, sendable, crosses) depth 40
+use Rattle.sv_core.proofs.Sent.{action-field-sends, core-field-sends}
 
 request-field-sends : IsSend (request.the_field).row
 request-field-sends = search (lists.the_send, shorts.the_send, action-field-sends, sendable, crosses) depth 30 fits 10000
@@ -54,13 +35,7 @@ entry-sends = search (request-field-sends, logged-field-sends, sendable, crosses
 journal-sends : IsSend journal.the_row
 journal-sends = search (entry-sends, sendable, crosses) depth 40
 
--- A core may go to another thread. A sequencer is too large for one search.
-pub core-sends : IsSend cores.the_row
-core-sends = search (queue-sends, sendable, crosses) depth 40 fits 10000
-
-pub core-field-sends : IsSend (cores.the_field).row
-core-field-sends = search (queue-sends, sendable, crosses) depth 40 fits 10000
-
+-- A sequencer is too large for one search.
 pub sequencer-sends : IsSend sequencer.the_row
 sequencer-sends = search (core-field-sends, journal-sends, sendable, crosses) depth 40 fits 10000
 

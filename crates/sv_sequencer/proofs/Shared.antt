@@ -11,7 +11,8 @@ use Rattle.sv_journal.specs.Sessions.{is_end, is_ended}
 use Rattle.sv_journal.specs.Answer.{reply_to}
 use Rattle.sv_journal.proofs.Stays.{logged-back}
 use Rattle.sv_lock.specs.Histories.{entries_of}
-use Rattle.sv_sequencer.specs.Step.{SequencerView, history, entry_of, Answered}
+use Rattle.sv_journal.specs.History.{entry_of}
+use Rattle.sv_sequencer.specs.Step.{SequencerView, history, Answered}
 use Rattle.sv_sequencer.specs.Shared.{IsFullReply, IsWhole}
 
 -- The journal grew by the entry of the answer.

@@ -1,32 +1,21 @@
 -- One step of a sequencer, put together.
-use Rattle.std.proofs.Common.{◌≡◌, ℕ, ◌<◌, ◌≤◌, false, true≢false, ℤ, List, [], ◌∷◌, map, reverse, All, Option, Some, IsSome, Result, Ok, Err, IfOk, OnErr, refl, sym, ◌∙◌, ap, subst, arith}
+use Rattle.std.proofs.Common.{◌≡◌, ℕ, ◌≤◌, false, true≢false, List, [], ◌∷◌, reverse, Some, IsSome, Result, Ok, Err, IfOk, OnErr, refl, sym, ◌∙◌, ap, subst, arith}
 use Rattle.std.proofs.lemmas.List.{reverse-append}
-use Rattle.sv_world.specs.declared.world.World.{World}
-use Rattle.sv_wire.specs.declared.message.ObjectValue.{ObjectValue}
-use Rattle.sv_wire.specs.declared.message.Item.{Item}
 use Rattle.sv_wire.specs.declared.message.Reply.{Reply}
-use Rattle.sv_wire.specs.declared.message.Reply.TheVariants as replies
 use Rattle.sv_wire.specs.declared.message.Request.{Request}
 use Rattle.sv_wire.specs.declared.message.Request.TheVariants as requests
 use Rattle.sv_journal.specs.declared.entry.Entry.{Entry}
-use Rattle.sv_journal.specs.declared.entry.Logged.TheVariants as logged
 use Rattle.sv_journal.specs.View.{JournalView}
-use Rattle.sv_journal.specs.History.{Authored, item_at, full_reply}
 use Rattle.sv_journal.specs.Sessions.{is_end}
 use Rattle.sv_journal.specs.Answer.{Rules, MayBeSession, reply_to_request, reply_to, Legal}
-use Rattle.sv_influence.proofs.Places.{members-all}
-use Rattle.sv_queue.specs.Queue.{QueueView, IsUncommitted}
-use Rattle.sv_sequencer.specs.declared.decision.Decision.{Decision}
+use Rattle.sv_core.specs.declared.decision.Decision.{Decision}
 use Rattle.sv_sequencer.specs.declared.sequencer.Sequencer.TheInside.{Inside}
-use Rattle.sv_sequencer.specs.declared.server_core.Core.{Core}
-use Rattle.sv_sequencer.specs.Cores.{core_rules, owed_by, session_at, Keeps, SitByNumber, decided_entry}
-use Rattle.sv_sequencer.specs.Decisions.{reply_by}
+use Rattle.sv_core.specs.declared.server_core.Core.{Core}
+use Rattle.sv_core.specs.Cores.{core_rules, owed_by, session_at, Keeps, SitByNumber, decided_entry}
+use Rattle.sv_core.specs.Decisions.{reply_by}
 use Rattle.sv_sequencer.specs.Entering.{HasRoomForEnds, TookEntry, EnteredReply, NothingEntered}
-use Rattle.sv_sequencer.specs.Fits.{QueueFits}
 use Rattle.sv_sequencer.specs.Invariant.{model_of, IsSequencer}
-use Rattle.sv_sequencer.specs.Relays.{item_in}
 use Rattle.sv_sequencer.specs.Step.{SequencerView}
-use Rattle.sv_sequencer.proofs.Replies.{items-are}
 
 -- A request that is no End is answered by the table.
 pub reply-open : (r : Rules) (h : List Entry) (s : ℕ) (q : Request) → is_end q ≡ false → reply_to r h s q ≡ reply_to_request r h s q
@@ -84,25 +73,3 @@ after-reply a core j s q d (Err error) is told done none = record {
   seats = still-seated a.core core none.core.rules none.core.seats is.seats;
   room = (let enough : owed_by a.core ≤ a.journal.spare = is.room in omega (arith, none.core.owed, none.room));
 }
-
--- What a reply sends, in full, from what a fitting queue has at its positions.
-items-whole : (w : World) (A : List Authored) (R : ℕ → Option (List (List ℤ))) (S : ℕ → List ℕ) (N : ℕ → ℕ → List ℕ) (v : QueueView)
-    (ps : List ℕ) (items : List Item) → QueueFits w A R S N v → items ≡ map (item_in v) ps → All (IsUncommitted v) ps → items ≡ map (item_at A) ps
-items-whole w A R S N v ps items f are within = are ∙ items-are w A R S N v ps f (λ p m.
-    let both = members-all (IsUncommitted v) ps within p m in
-    let low : v.commit < p = both.0 in
-    (low, omega (arith, both.1, f.last)))
-
--- A relay in full.
-pub relayed-whole : (w : World) (A : List Authored) (R : ℕ → Option (List (List ℤ))) (S : ℕ → List ℕ) (N : ℕ → ℕ → List ℕ) (v : QueueView)
-    (seq c : ℕ) (head sent : List ObjectValue) (ps : List ℕ) (items : List Item) → QueueFits w A R S N v → sent ≡ head → items ≡ map (item_in v) ps → All (IsUncommitted v) ps →
-    replies.Relay seq c sent items ≡ full_reply A (logged.Relay seq c head ps)
-relayed-whole w A R S N v seq c head sent ps items f same are within =
-    ap (λ xs. replies.Relay seq c xs items) same ∙ ap (replies.Relay seq c head) (items-whole w A R S N v ps items f are within)
-
--- What is seen, in full.
-pub seen-whole : (w : World) (A : List Authored) (R : ℕ → Option (List (List ℤ))) (S : ℕ → List ℕ) (N : ℕ → ℕ → List ℕ) (v : QueueView)
-    (n c : ℕ) (head sent : List ObjectValue) (ps : List ℕ) (items : List Item) → QueueFits w A R S N v → sent ≡ head → items ≡ map (item_in v) ps → All (IsUncommitted v) ps →
-    replies.Seen n c sent items ≡ full_reply A (logged.Seen n c head ps)
-seen-whole w A R S N v n c head sent ps items f same are within =
-    ap (λ xs. replies.Seen n c xs items) same ∙ ap (replies.Seen n c head) (items-whole w A R S N v ps items f are within)

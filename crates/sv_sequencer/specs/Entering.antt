@@ -7,11 +7,11 @@ use Rattle.sv_wire.specs.declared.message.Request.{Request}
 use Rattle.sv_journal.specs.declared.entry.Entry.{Entry}
 use Rattle.sv_journal.specs.History.{accepted, full_reply}
 use Rattle.sv_journal.specs.View.{JournalView}
-use Rattle.sv_sequencer.specs.declared.decision.Decision.{Decision}
-use Rattle.sv_sequencer.specs.declared.server_core.Core.{Core}
-use Rattle.sv_sequencer.specs.Cores.{core_rules, session_at, owed_by, Keeps, Remained, decided_entry}
-use Rattle.sv_sequencer.specs.Decisions.{reply_by}
-use Rattle.sv_sequencer.specs.Step.{entry_of}
+use Rattle.sv_core.specs.declared.decision.Decision.{Decision}
+use Rattle.sv_core.specs.declared.server_core.Core.{Core}
+use Rattle.sv_core.specs.Cores.{core_rules, session_at, owed_by, Keeps, Remained, decided_entry}
+use Rattle.sv_core.specs.Decisions.{reply_by}
+use Rattle.sv_journal.specs.History.{entry_of}
 
 -- The journal has room for the Ends that are to come.
 abbrev pub HasRoomForEnds : Core → JournalView → Type 0

@@ -2,7 +2,7 @@
 use Rattle.std.specs.Prelude.{reverse}
 use Rattle.sv_journal.specs.Answer.{Legal}
 use Rattle.sv_sequencer.specs.declared.sequencer.Sequencer.TheInside.{Inside}
-use Rattle.sv_sequencer.specs.Cores.{core_rules, Keeps, SitByNumber}
+use Rattle.sv_core.specs.Cores.{core_rules, Keeps, SitByNumber}
 use Rattle.sv_sequencer.specs.Entering.{HasRoomForEnds}
 use Rattle.sv_sequencer.specs.Step.{SequencerView}
 

@@ -2,11 +2,8 @@
 use Rattle.std.specs.Prelude.{◌≡◌, ℕ, List, [], ◌∷◌, ◌++◌, reverse}
 use Rattle.sv_wire.specs.declared.message.Reply.{Reply}
 use Rattle.sv_wire.specs.declared.message.Request.{Request}
-use Rattle.sv_wire.specs.declared.message.Request.TheVariants as requests
 use Rattle.sv_journal.specs.declared.entry.Entry.{Entry}
-use Rattle.sv_journal.specs.declared.entry.Logged.{Logged}
-use Rattle.sv_journal.specs.declared.entry.Logged.TheVariants as logged
-use Rattle.sv_journal.specs.History.{accepted, full_reply}
+use Rattle.sv_journal.specs.History.{accepted, entry_of, full_reply}
 use Rattle.sv_journal.specs.View.{JournalView}
 use Rattle.sv_journal.specs.Answer.{Rules, reply_to}
 
@@ -18,14 +15,6 @@ pub record SequencerView : Type 0 where
 -- The entries of its journal, the latest first.
 abbrev pub history : SequencerView → List Entry
 history v = reverse v.journal.entries
-
--- The entry of a request and its reply.
-abbrev pub entry_of : ℕ → Request → Logged → Entry
-entry_of s request reply = record { session = s; request = request; reply = reply }
-
--- The entry of a session's End.
-abbrev pub end_entry : ℕ → Entry
-end_entry s = entry_of s requests.End logged.Bye
 
 -- The journal grew by just an entry.
 pub record GrewByEntry (old new : SequencerView) (e : Entry) : Type 0 where

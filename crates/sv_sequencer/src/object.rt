@@ -4,11 +4,11 @@ ghost use Rattle.sv_journal.specs.Sessions.{is_end};
 ghost use Rattle.sv_journal.specs.Answer.{Legal};
 ghost use Rattle.sv_sequencer.specs.Shared.{IsWhole, MayAsk};
 ghost use Rattle.sv_journal.specs.History.{logged_of};
-ghost use Rattle.sv_sequencer.specs.Step.{entry_of};
+ghost use Rattle.sv_journal.specs.History.{entry_of};
 
-use crate::opened::Opened;
 use crate::sequencer::Sequencer;
 use std::alloc::AllocError;
+use sv_core::Opened;
 use sv_journal::Entry;
 use sv_lock::Object;
 use sv_wire::{Reply, Request};

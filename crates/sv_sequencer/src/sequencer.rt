@@ -8,10 +8,9 @@ ghost use Rattle.sv_journal.specs.Sessions.{is_ended};
 ghost use Rattle.sv_sequencer.specs.Step.{history};
 
 use crate::entering::open_core;
-use crate::seats::Seat;
-use crate::server_core::Core;
 use std::alloc::{AllocError, Global};
 use std::marker::Model;
+use sv_core::{Core, Seat};
 use sv_journal::Journal;
 use sv_world::{ObjectId, Value, World};
 

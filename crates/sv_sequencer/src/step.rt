@@ -3,13 +3,13 @@ ghost use Rattle.std.specs.Prelude.{◌≡◌, List, true, false, IfOk, IsOk, On
 ghost use Rattle.sv_journal.specs.declared.entry.Entry.{Entry};
 ghost use Rattle.sv_journal.specs.Sessions.{is_end, is_ended};
 ghost use Rattle.sv_journal.specs.Answer.{MayBeSession, Legal};
-ghost use Rattle.sv_sequencer.specs.Step.{history, end_entry, GrewByEntry, Answered, Stayed};
+ghost use Rattle.sv_journal.specs.History.{end_entry};
+ghost use Rattle.sv_sequencer.specs.Step.{history, GrewByEntry, Answered, Stayed};
 
-use crate::decision::Decided;
 use crate::entering::{enter_end, enter_reply};
-use crate::seats::Seat;
 use crate::sequencer::Sequencer;
 use std::alloc::AllocError;
+use sv_core::{Decided, Seat};
 use sv_wire::{Reply, Request};
 
 impl Sequencer {

@@ -19,7 +19,7 @@ use Rattle.sv_journal.specs.Answer.{Rules, Legal, reply_to}
 use Rattle.sv_journal.specs.Laws.{AreWithinLimits, LegalRelaysNameAccepted, LegalRepliesAreMessages}
 use Rattle.sv_journal.specs.Text.{NamesAccepted, RelaysNameAccepted}
 use Rattle.sv_sequencer.specs.Shared.{IsFullReply, IsWhole}
-use Rattle.sv_sequencer.specs.Step.{entry_of}
+use Rattle.sv_journal.specs.History.{entry_of}
 use Rattle.sv_lock.specs.Histories.{GoesOn}
 use Rattle.sv_lock.specs.Passes.{session_number}
 use Rattle.sv_link.specs.Ends.{Told}

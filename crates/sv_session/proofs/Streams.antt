@@ -8,7 +8,8 @@ use Rattle.sv_frame.proofs.Splitting.{split-none, split-some}
 use Rattle.sv_wire.specs.declared.message.Request.{Request}
 use Rattle.sv_wire.specs.declared.message.Request.TheVariants as requests
 use Rattle.sv_wire.specs.Messages.{request_at}
-use Rattle.sv_session.specs.Requests.{read_or_bad, request_for, requests_read}
+use Rattle.sv_exchange.specs.Incoming.{read_or_bad}
+use Rattle.sv_session.specs.Requests.{request_for, requests_read}
 use Rattle.sv_session.specs.Rounds.{BeginsWithRequests}
 
 -- the requests of a stream, by what it splits into

@@ -8,8 +8,8 @@ use Rattle.sv_wire.specs.declared.fault.Malformed.{Malformed}
 use Rattle.sv_wire.specs.declared.message.Request.{Request}
 use Rattle.sv_wire.specs.declared.message.Request.TheVariants as requests
 use Rattle.sv_wire.specs.Messages.{request_at}
-use Rattle.sv_exchange.specs.Incoming.{FirstReads}
-use Rattle.sv_session.specs.Requests.{read_or_bad, requests_read}
+use Rattle.sv_exchange.specs.Incoming.{read_or_bad, FirstReads}
+use Rattle.sv_session.specs.Requests.{requests_read}
 use Rattle.sv_session.specs.Rounds.{BeginsWithRequests, TakesOffRequest}
 use Rattle.sv_session.proofs.Streams.{first_request, begins_with_frame, long_is_bad}
 use Rattle.sv_session.proofs.Decoded.{decoded_no_end}

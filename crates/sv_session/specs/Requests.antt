@@ -1,15 +1,15 @@
 -- The requests in the bytes that come, the bytes of the replies, and which replies stop a session.
-use Rattle.std.specs.Prelude.{◌≡◌, ℕ, ◌==◌, ◌++◌, List, [], ◌∷◌, map, reverse, Option, Some, None, Result, Ok, Err, if◌then◌else◌}
+use Rattle.std.specs.Prelude.{◌≡◌, ℕ, ◌==◌, ◌++◌, List, [], ◌∷◌, map, reverse, Option, Some, None, if◌then◌else◌}
 use Rattle.sv_frame.specs.Frames.{frames_of}
 use Rattle.sv_frame.specs.Streams.{StreamItem, incoming_items}
 use Rattle.sv_frame.specs.Streams.StreamItem.{Payload, TooLong}
-use Rattle.sv_wire.specs.declared.fault.Malformed.{Malformed}
 use Rattle.sv_wire.specs.declared.message.Request.{Request}
 use Rattle.sv_wire.specs.declared.message.Request.TheVariants as requests
 use Rattle.sv_wire.specs.declared.refusal.Refusal.TheVariants as refusals
 use Rattle.sv_wire.specs.Refusals.{code_of}
 use Rattle.sv_wire.specs.Messages.{request_at}
 use Rattle.sv_wire.specs.Spelling.{reply_bytes}
+use Rattle.sv_exchange.specs.Incoming.{read_or_bad}
 use Rattle.sv_journal.specs.declared.entry.Entry.{Entry}
 use Rattle.sv_journal.specs.declared.entry.Logged.{Logged}
 use Rattle.sv_journal.specs.declared.entry.Logged.TheVariants as logged
@@ -18,11 +18,6 @@ use Rattle.sv_session.specs.declared.outcome.SessionOut.{SessionOut}
 use Rattle.sv_session.specs.declared.outcome.SessionOut.TheVariants as outs
 
 -- ---- Requests
-
--- the request that was read; a malformed payload is taken for Bad
-abbrev pub read_or_bad : Result Request Malformed → Request
-read_or_bad (Ok request) = request
-read_or_bad (Err fault) = requests.Bad
 
 -- the request that is taken for what came: for a payload, or for a length over the limit
 abbrev pub request_for : StreamItem → Request

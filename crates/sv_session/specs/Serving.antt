@@ -10,7 +10,7 @@ use Rattle.sv_journal.specs.declared.entry.Logged.TheVariants as logged
 use Rattle.sv_journal.specs.Sessions.{is_end}
 use Rattle.sv_journal.specs.Answer.{Rules, MayBeSession, Legal}
 use Rattle.sv_journal.specs.Laws.{AreWithinLimits}
-use Rattle.sv_sequencer.specs.Step.{entry_of}
+use Rattle.sv_journal.specs.History.{entry_of}
 use Rattle.sv_lock.specs.Histories.{entries_of}
 use Rattle.sv_lock.specs.Passes.{LockView, PassView, session_number}
 use Rattle.sv_link.specs.Ends.{Told}

@@ -31,7 +31,7 @@ impl<R: Wait, G: Gate> SessionLoop<'_, R, G> {
     fn step(
         &self,
         pass: &mut Pass<Sequencer>,
-        turn: u32,
+        number: u32,
         request: Request,
     ) -> Result<Reply, AllocError>
         requires may { MayServe self.now.lock.now pass.old }
@@ -44,7 +44,7 @@ impl<R: Wait, G: Gate> SessionLoop<'_, R, G> {
         };
         legal_relays_name_accepted();
         legal_replies_are_messages();
-        self.gate.pass(session, turn);
+        self.gate.pass(session, number);
         self.lock.call(self.rt, pass, request)
     }
 
@@ -54,7 +54,7 @@ impl<R: Wait, G: Gate> SessionLoop<'_, R, G> {
         pass: &mut Pass<Sequencer>,
         end: &mut E,
         buffers: &mut Boxes,
-        turn: &mut u32,
+        number: &mut u32,
     ) -> Option<SessionOut>
         requires may { MayServe self.now.lock.now pass.old }
         requires open { (E.told end.old).closed ≡ false }
@@ -67,8 +67,8 @@ impl<R: Wait, G: Gate> SessionLoop<'_, R, G> {
             Taken::NotYet => return read_on(buffers, end),
             Taken::Memory => return Some(SessionOut::Memory),
         };
-        *turn = turn.saturating_add(1);
-        let Ok(reply) = self.step(pass, *turn, request) else {
+        *number = number.saturating_add(1);
+        let Ok(reply) = self.step(pass, *number, request) else {
             return Some(SessionOut::Memory);
         };
         post(&reply, &mut buffers.outbox, end)
@@ -88,9 +88,9 @@ impl<R: Wait, G: Gate> SessionLoop<'_, R, G> {
         ensures calm { E.calm end.old → (result ≢ SessionOut.LinkFault) × E.calm end.new }
     {
         full_replies_stay();
-        let mut turn = 0;
+        let mut number = 0;
         for _ in self.rt.forever() {
-            match self.round(pass, end, buffers, &mut turn) {
+            match self.round(pass, end, buffers, &mut number) {
                 None => {}
                 Some(out) => return out,
             }

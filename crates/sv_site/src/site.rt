@@ -13,10 +13,10 @@ use http::{HeaderValue, Request, StatusCode, header};
 use http_server::{Response, Service};
 use std::alloc::{AllocError, Global};
 use sv_bytes::{FileFault, Files, read_all};
-use sv_peer::Desk;
+use sv_peer::WebDesk;
 
 /// How many bytes a file of the site may have.
-const MOST_BYTES: usize = 1 << 26;
+const MOST_SITE_BYTES: usize = 1 << 26;
 
 /// What HTTP requests are answered from.
 #[derive(Drop)]
@@ -95,8 +95,8 @@ fn put_file<L: Files>(
     ensures status { OnOk result ((response.new.status ≡ 200) ⊎ (response.new.status ≡ 404)) }
     ensures same { (n : List ℕ) → L.contents files.new n ≡ L.contents files.old n }
 {
-    match read_all(alloc, files, name, MOST_BYTES + 1) {
-        Ok(bytes) if bytes.len() <= MOST_BYTES => {
+    match read_all(alloc, files, name, MOST_SITE_BYTES + 1) {
+        Ok(bytes) if bytes.len() <= MOST_SITE_BYTES => {
             let body = Bytes::copy_from_slice(alloc, &bytes)?;
             put(response, kind_of(name), body)
         }
@@ -189,7 +189,7 @@ impl<L: Files> Service for Site<'_, L> {
     }
 }
 
-impl<L: Files> Desk for Site<'_, L> {
+impl<L: Files> WebDesk for Site<'_, L> {
     ghost use Rattle.sv_site.specs.Lending.{KeepsFiles, keeps_itself, keeps_on};
 
     ghost shown = { λ site. site.key };

@@ -1,5 +1,5 @@
 -- The grammar of action texts, apart from how they are read: what stands in a list of tokens from one place to another.
-use Rattle.std.specs.Prelude.{◌≡◌, ℕ, zero, suc, ◌+◌, ◌<◌, ◌≤◌, ◌^◌, ℤ, pos, negsuc, true, false, ◌⊎◌, List, [], ◌∷◌, length, bit_or, Some, int_le}
+use Rattle.std.specs.Prelude.{◌≡◌, ℕ, zero, suc, ◌+◌, ◌<◌, ◌≤◌, ◌^◌, ℤ, pos, true, false, ◌⊎◌, List, [], ◌∷◌, length, bit_or, Some, int_le}
 use Rattle.sv_world.specs.declared.world.ObjectId.{ObjectId}
 use Rattle.sv_world.specs.declared.action.Point.{Point}
 use Rattle.sv_world.specs.declared.action.Action.{Action}
@@ -9,7 +9,7 @@ use Rattle.sv_world.specs.declared.action.Cond.{Cond}
 use Rattle.sv_world.specs.declared.action.Cond.TheVariants as test
 use Rattle.sv_world.specs.declared.action.Stmt.{Stmt}
 use Rattle.sv_world.specs.declared.action.Stmt.TheVariants as stmt
-use Rattle.sv_world.specs.Limits.{most_reads, most_nodes, most_depth}
+use Rattle.sv_world.specs.Limits.{most_reads, most_nodes, most_depth, least_coordinate, greatest_coordinate}
 use Rattle.sv_world.specs.Parts.{binary_by as with_op, compare_by as with_comparison, join_by as with_joint}
 use Rattle.sv_text.specs.declared.token.Mark.{Mark}
 use Rattle.sv_text.specs.declared.token.Mark.TheVariants as marks
@@ -223,7 +223,7 @@ pub record AreWrites (reads : List ObjectId) (mask : ℕ) (text rest : List Lexe
   pub bits : IsMask reads 0 objects mask
 
 abbrev pub IsCoordinate : ℤ → List Lexeme → List Lexeme → Type 0
-IsCoordinate z text rest = (int_le (negsuc 999999) z ≡ true) × (int_le z (pos 1000000) ≡ true) × IsNumber z text rest
+IsCoordinate z text rest = (int_le least_coordinate z ≡ true) × (int_le z greatest_coordinate ≡ true) × IsNumber z text rest
 
 -- at number number
 pub record IsOrigin (p : Point) (text rest : List Lexeme) : Type 0 where

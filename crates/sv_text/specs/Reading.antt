@@ -10,7 +10,7 @@ use Rattle.sv_world.specs.declared.action.Cond.{Cond}
 use Rattle.sv_world.specs.declared.action.Cond.TheVariants as test
 use Rattle.sv_world.specs.declared.action.Stmt.{Stmt}
 use Rattle.sv_world.specs.declared.action.Stmt.TheVariants as stmt
-use Rattle.sv_world.specs.Limits.{most_reads, most_nodes, most_depth}
+use Rattle.sv_world.specs.Limits.{most_reads, most_nodes, most_depth, least_coordinate, greatest_coordinate}
 use Rattle.sv_world.specs.Sets.{object_numbered}
 use Rattle.sv_world.specs.Parts.{binary_by as with_op, compare_by as with_comparison, join_by as with_joint}
 use Rattle.sv_text.specs.declared.fault.TextCause.{TextCause}
@@ -212,7 +212,7 @@ writes_from reads mask least (t ∷ ts) =
     cond (is_number_at (t ∷ ts)) (write_at reads least (t ∷ ts) >>= λ w. writes_from reads (bit_or mask (2 ^ w.1)) (w.0 + 1) ts) (Ok (mask, t ∷ ts))
 
 unfoldable pub coordinate_at : List Lexeme → Result ℤ TextFault
-coordinate_at ts = number_at (negsuc 999999) (pos 1000000) ts
+coordinate_at ts = number_at least_coordinate greatest_coordinate ts
 
 unfoldable pub origin_at : List Lexeme → Result (Point × List Lexeme) TextFault
 origin_at ts = cond (is_at marks.At ts)

@@ -8,7 +8,7 @@ use crate::cursor::Cursor;
 use crate::token::{Mark, Token};
 use crate::{ParseFault, TextCause, TextFault};
 use std::alloc::Global;
-use sv_world::{MOST_READS, ObjectId, Point, Reads};
+use sv_world::{GREATEST_COORDINATE, LEAST_COORDINATE, MOST_READS, ObjectId, Point, Reads};
 
 #[tactic(auto, unfolding(crate::specs::Reading::object_number_at))]
 fn object_number_at(cursor: &Cursor<'_>) -> Result<u16, TextFault>
@@ -140,7 +140,7 @@ pub fn writes_at(reads: &[ObjectId], cursor: &mut Cursor<'_>) -> Result<u16, Tex
 fn coordinate_at(cursor: &Cursor<'_>) -> Result<i32, TextFault>
     ensures { result ≡ coordinate_at cursor.now }
 {
-    let coordinate = cursor.number_at(-1_000_000, 1_000_000)?;
+    let coordinate = cursor.number_at(i64::from(LEAST_COORDINATE), i64::from(GREATEST_COORDINATE))?;
     Ok(coordinate as i32)
 }
 

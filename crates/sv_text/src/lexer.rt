@@ -20,7 +20,8 @@ fn byte_at(bytes: &[u8], at: usize) -> u8
 fn is_blank(byte: u8) -> bool
     ensures { result ≡ is_blank byte }
 {
-    matches!(byte, b' ' | b'\t' | b'\r' | b'\n')
+    // One test for most bytes that are none.
+    byte <= b' ' && matches!(byte, b' ' | b'\t' | b'\r' | b'\n')
 }
 
 fn letter_count(bytes: &[u8]) -> usize
@@ -46,9 +47,11 @@ fn is_digit_at(bytes: &[u8], at: usize) -> bool
 fn with_digit(number: u64, digit: u8) -> u64
     ensures { result ≡ min (10 * number + (digit - 48)) 18446744073709551615 }
 {
-    number
-        .saturating_mul(10)
-        .saturating_add(u64::from(digit.saturating_sub(b'0')))
+    let value = u64::from(digit.saturating_sub(b'0'));
+    if number < 1 << 60 {
+        return number * 10 + value;
+    }
+    number.saturating_mul(10).saturating_add(value)
 }
 
 /// How many digits stand from a place on, and the number that they write, or the greatest u64 where that is less.
@@ -175,11 +178,10 @@ fn sign_of(byte: u8) -> Token
 fn sign_at(bytes: &[u8]) -> (Token, usize)
     ensures { result ≡ sign_at bytes.now }
 {
-    let is_doubled = byte_at(bytes, 1) == b'=';
     match byte_at(bytes, 0) {
-        b'=' if is_doubled => (Token::Mark(Mark::Equal), 2),
+        b'=' if byte_at(bytes, 1) == b'=' => (Token::Mark(Mark::Equal), 2),
         b'=' => (Token::Bad(TextCause::Character), 1),
-        b'<' if is_doubled => (Token::Mark(Mark::LessEqual), 2),
+        b'<' if byte_at(bytes, 1) == b'=' => (Token::Mark(Mark::LessEqual), 2),
         b'<' => (Token::Mark(Mark::Less), 1),
         byte => (sign_of(byte), 1),
     }

@@ -2,7 +2,7 @@
 use denote.Param.Send.{IsSend, IsSync, sendable}
 use Rattle.std.proofs.Crossing.{crosses}
 use Rattle.sv_world.specs.contracts.action.Action as action
-use Rattle.sv_world.proofs.list.List.TheSendSync as lists
+use Rattle.sv_lists.proofs.list.List.TheSendSync as lists
 use Rattle.sv_world.proofs.short.Short.TheSendSync as shorts
 use Rattle.sv_world.proofs.body.Body.TheSendSync as bodies
 use Rattle.sv_wire.specs.contracts.message.Reply as reply

@@ -1,8 +1,8 @@
 //! What a run on threads answers.
 use std::alloc::{AllocError, AllocFailed};
 use sv_client::Trace;
+use sv_lists::List;
 use sv_watch::Line;
-use sv_world::List;
 use thiserror::Error;
 
 /// What the clients did, and the lines that tell the changes of their views, client by client.

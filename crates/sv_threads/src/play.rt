@@ -19,11 +19,11 @@ use std::alloc::{AllocError, Global};
 use std::sync::Wait;
 use std::thread::Threads;
 use sv_link::{Crew, Gate, Net, Ran};
+use sv_lists::List;
 use sv_lock::{Pass, SeqLock};
 use sv_scenario::{Scenario, sessions_of};
 use sv_sequencer::Sequencer;
 use sv_watch::{Line, Watch};
-use sv_world::List;
 
 /// Runs a scenario on threads: one job for each session, over the locked sequencer, and one for each client.
 ///

@@ -1,5 +1,6 @@
 //! Changes of views.
-use sv_world::{ClientId, ObjectId, Text, Value};
+use sv_lists::Text;
+use sv_world::{ClientId, ObjectId, Value};
 
 /// A client's view of an object that an event of its trace changed.
 #[derive(Debug, Drop)]

@@ -5,7 +5,8 @@ ghost use Rattle.std.specs.Fmt.{signed_decimal};
 
 use crate::{Change, Line};
 use std::alloc::{AllocError, Global};
-use sv_world::{Text, Value};
+use sv_lists::Text;
+use sv_world::Value;
 
 /// The line that tells a change, as `told c0 2 0 ? -> (5)`: the client, the event, the object, and the views before and after.
 pub fn told_line(alloc: Global, change: &Change) -> Result<Line, AllocError>

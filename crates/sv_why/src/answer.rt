@@ -1,5 +1,6 @@
 //! Why an object has its value.
-use sv_world::{List, Value};
+use sv_lists::List;
+use sv_world::Value;
 
 /// Why an object has its value at a position.
 #[derive(Debug, Drop)]

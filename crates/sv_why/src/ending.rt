@@ -7,8 +7,9 @@ use crate::execution::execute;
 use law_system::Played;
 use std::alloc::{AllocError, Global};
 use sv_journal::Journal;
+use sv_lists::List;
 use sv_scenario::Scenario;
-use sv_world::{List, Value, copy_values};
+use sv_world::{Value, copy_values};
 
 /// The world after so many accepted actions, which are all of the journal.
 fn world_by(

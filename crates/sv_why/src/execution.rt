@@ -5,7 +5,8 @@ ghost use Rattle.sv_eval.specs.Serial.{put_all, values_at, world_after};
 
 use std::alloc::{AllocError, Global};
 use sv_eval::{eval, written_objects};
-use sv_world::{Action, List, ObjectId, Value, copy_value};
+use sv_lists::List;
+use sv_world::{Action, ObjectId, Value, copy_value};
 
 /// An object's value, without numbers where the object is beyond the world.
 pub(crate) fn value_of(

@@ -9,10 +9,11 @@ ghost use Rattle.sv_why.specs.Walks.{is_wanted, walk};
 
 use std::alloc::{AllocError, Global};
 use sv_journal::Journal;
-use sv_world::{List, ObjectId, is_in_mask};
+use sv_lists::List;
+use sv_world::{ObjectId, is_in_mask};
 
 /// How many numbers there are for objects.
-const NUMBERS: usize = 65_536;
+const OBJECT_NUMBERS: usize = 65_536;
 
 fn is_wanted(wanted: &List<bool>, object: ObjectId) -> bool
     ensures { result ≡ is_wanted wanted.now object.0 }
@@ -84,7 +85,7 @@ fn flags_for(alloc: Global, object: ObjectId) -> Result<List<bool>, AllocError>
     ensures count { IfOk result (λ flags. length flags ≡ 65536) }
     ensures marked { IfOk result (λ flags. (x : ℕ) → is_wanted flags x ≡ nat_eq x object.0) }
 {
-    let mut flags = List::from_vec(vec![in alloc; false; NUMBERS]?);
+    let mut flags = List::from_vec(vec![in alloc; false; OBJECT_NUMBERS]?);
     want(&mut flags, object);
     Ok(flags)
 }

@@ -9,7 +9,8 @@ use crate::fields::{count_of, i32_of, list_for, objects_of, u16_of, u32_of};
 use crate::message::Item;
 use crate::stmts::body_of;
 use std::alloc::Global;
-use sv_world::{Action, ClientId, List, MOST_READS, Point};
+use sv_lists::List;
+use sv_world::{Action, ClientId, MOST_READS, Point};
 
 #[tactic(auto, unfolding(crate::specs::Messages::mask_from))]
 fn mask_of(count: u8, bytes: &[u8]) -> Result<(u16, &[u8]), ReadFault>

@@ -4,7 +4,8 @@ ghost use Rattle.sv_wire.specs.declared.message.Reply.TheVariants as reply;
 
 use crate::message::{Done1, Item, ObjectValue, Reply, Request};
 use std::alloc::{AllocError, Global};
-use sv_world::{List, copy_action, copy_objects, copy_value, copy_values};
+use sv_lists::List;
+use sv_world::{copy_action, copy_objects, copy_value, copy_values};
 
 fn copy_held(alloc: Global, held: &ObjectValue) -> Result<ObjectValue, AllocError>
     ensures { IfOk result (λ copy. copy ≡ held.now) }

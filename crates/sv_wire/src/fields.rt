@@ -8,7 +8,8 @@ use crate::fault::{ReadFault, WireCause, stop_at};
 use crate::message::{Done1, ObjectValue};
 use byteorder::{BigEndian, ByteOrder};
 use std::alloc::{AllocError, Global};
-use sv_world::{List, MOST_ATTRS, MOST_READS, ObjectId, Reads, Value};
+use sv_lists::List;
+use sv_world::{MOST_ATTRS, MOST_READS, ObjectId, Reads, Value};
 
 /// The objects of a head: as many as the actions of a relay read.
 pub const MOST_HELD: u16 = 528;

@@ -1,5 +1,6 @@
 //! Requests, which clients send, and replies, which the server sends.
-use sv_world::{Action, ClientId, List, ObjectId, Value};
+use sv_lists::List;
+use sv_world::{Action, ClientId, ObjectId, Value};
 
 /// The value of an object.
 #[derive(Debug, Drop)]

@@ -11,7 +11,8 @@ use crate::kinds::{ReplyKind, reply_kind};
 use crate::message::{Item, ObjectValue, Reply};
 use crate::refusal::LAST_CODE;
 use std::alloc::Global;
-use sv_world::{List, MOST_ITEMS, ObjectId};
+use sv_lists::List;
+use sv_world::{MOST_ITEMS, ObjectId};
 
 /// A head, and the actions that are evaluated on it.
 type Work = (List<ObjectValue>, List<Item>);

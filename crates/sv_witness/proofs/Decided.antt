@@ -21,10 +21,10 @@ use Rattle.sv_journal.specs.History.{Authored, is_noted, client_of, is_client, i
 use Rattle.sv_journal.specs.Sessions.{is_end, is_over, is_live, asked_in, life_of, kept_outcome}
 use Rattle.sv_journal.specs.Answer.{Rules, refused_as, is_above, is_full, is_bad_done, is_good_interest, is_no_next_life, is_spent, reply_by_rights, reply_to_checked, reply_to_submit, reply_to_join, reply_to_client, reply_to_member, reply_to_request, reply_to_poll}
 use Rattle.sv_journal.specs.Serving.{is_poll, with_last_rows, noted_after, polled_after}
-use Rattle.sv_sequencer.specs.declared.decision.Decision.{Decision}
-use Rattle.sv_sequencer.specs.declared.decision.Decision.TheVariants as decisions
-use Rattle.sv_sequencer.specs.Decisions.{reply_by, results_in, IsOld, Holds}
-use Rattle.sv_sequencer.proofs.Kept.{old-poll}
+use Rattle.sv_core.specs.declared.decision.Decision.{Decision}
+use Rattle.sv_core.specs.declared.decision.Decision.TheVariants as decisions
+use Rattle.sv_core.specs.Decisions.{reply_by, results_in, IsOld, Holds}
+use Rattle.sv_core.proofs.Kept.{old-poll}
 use Rattle.law_system.proofs.Aligned.{is_submit}
 use Rattle.sv_witness.specs.Reports.{agreed_history, due_to}
 use Rattle.sv_witness.specs.Standing.{emptied, answers_poll, first_relay}

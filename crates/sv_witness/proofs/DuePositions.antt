@@ -12,10 +12,10 @@ use Rattle.sv_journal.specs.declared.entry.Entry.{Entry}
 use Rattle.sv_journal.specs.History.{Authored, client_of, accepted, result_at}
 use Rattle.sv_journal.specs.Sessions.{sent_to}
 use Rattle.sv_journal.specs.Answer.{Rules}
-use Rattle.sv_sequencer.specs.declared.sessions.SessionRow.{SessionRow}
-use Rattle.sv_sequencer.specs.Agreement.{sent_at, named_at, FitsSeats}
-use Rattle.sv_sequencer.specs.Rows.{no_session, seat_in}
-use Rattle.sv_sequencer.proofs.FitRelays.{sent-is}
+use Rattle.sv_core.specs.declared.sessions.SessionRow.{SessionRow}
+use Rattle.sv_core.specs.Agreement.{sent_at, named_at, FitsSeats}
+use Rattle.sv_core.specs.Rows.{no_session, seat_in}
+use Rattle.sv_core.proofs.FitRelays.{sent-is}
 use Rattle.sv_witness.specs.Reports.{is_by, has_reported, reports_of, agreed_history, agreed_result, agreed_commit, is_due, due_to}
 use Rattle.sv_witness.specs.Kept.{RowView, kept_at, KeepsReports}
 use Rattle.sv_witness.specs.Due.{is_due_in, due_in}

@@ -10,10 +10,10 @@ use Rattle.sv_journal.specs.History.{client_of, reported, commit_of}
 use Rattle.sv_journal.specs.Answer.{is_bad_result, is_bad_done}
 use Rattle.sv_journal.specs.Serving.{noted_after}
 use Rattle.sv_journal.specs.View.{JournalView}
-use Rattle.sv_sequencer.specs.declared.decision.Decision.TheVariants as decisions
-use Rattle.sv_sequencer.specs.declared.server_core.Core.{Core}
-use Rattle.sv_sequencer.specs.Cores.{core_rules, queue_of, Keeps}
-use Rattle.sv_sequencer.specs.Decisions.{results_in}
+use Rattle.sv_core.specs.declared.decision.Decision.TheVariants as decisions
+use Rattle.sv_core.specs.declared.server_core.Core.{Core}
+use Rattle.sv_core.specs.Cores.{core_rules, queue_of, Keeps}
+use Rattle.sv_core.specs.Decisions.{results_in}
 use Rattle.sv_sequencer.specs.Entering.{EnteredReply}
 use Rattle.sv_witness.specs.declared.report.Dispute.{Dispute}
 use Rattle.sv_witness.specs.Reports.{agreed_history, agreed_commit}

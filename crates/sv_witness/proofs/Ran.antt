@@ -11,7 +11,8 @@ use Rattle.sv_journal.specs.declared.entry.Entry.{Entry}
 use Rattle.sv_journal.specs.History.{client_of, is_client, accepted, full_reply}
 use Rattle.sv_journal.specs.Answer.{Rules}
 use Rattle.sv_scenario.specs.declared.scenario.Scenario.{Scenario}
-use Rattle.sv_sequencer.specs.Step.{SequencerView, history, entry_of}
+use Rattle.sv_journal.specs.History.{entry_of}
+use Rattle.sv_sequencer.specs.Step.{SequencerView, history}
 use Rattle.law_schedule.specs.Serving.{Server, served, traces_of}
 use Rattle.law_schedule.specs.Schedule.{rules_of}
 use Rattle.sv_replay.specs.Serving.{Answers}

@@ -13,9 +13,9 @@ use Rattle.sv_journal.specs.declared.entry.Logged.TheVariants as logged
 use Rattle.sv_journal.specs.History.{is_noted, client_of, accepted, reports}
 use Rattle.sv_journal.specs.Sessions.{is_over, asked_in, sent_to}
 use Rattle.sv_journal.specs.Answer.{Rules, refused_as, is_bad_done, commit_with, reply_to_member, is_spent, reply_to_request}
-use Rattle.sv_sequencer.specs.declared.decision.Decision.{Decision}
-use Rattle.sv_sequencer.specs.declared.decision.Decision.TheVariants as decisions
-use Rattle.sv_sequencer.specs.Decisions.{reply_by}
+use Rattle.sv_core.specs.declared.decision.Decision.{Decision}
+use Rattle.sv_core.specs.declared.decision.Decision.TheVariants as decisions
+use Rattle.sv_core.specs.Decisions.{reply_by}
 use Rattle.sv_witness.specs.declared.report.Report.{Report}
 use Rattle.sv_witness.specs.Reports.{has_reported, counted_in, agreed_values, brings_agreement, reports_of, agreed_history, agreed_result, agreed_commit, is_due, due_to}
 use Rattle.sv_journal.specs.Serving.{is_poll, with_last_rows, with_results}

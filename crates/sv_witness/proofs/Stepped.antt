@@ -13,13 +13,14 @@ use Rattle.sv_journal.specs.Sessions.{is_ended}
 use Rattle.sv_journal.specs.View.{JournalView}
 use Rattle.sv_journal.specs.Answer.{Rules, MayBeSession, is_bad_done}
 use Rattle.sv_journal.proofs.Kept.{end-same}
-use Rattle.sv_sequencer.specs.declared.decision.Decision.{Decision}
-use Rattle.sv_sequencer.specs.declared.decision.Decision.TheVariants as decisions
-use Rattle.sv_sequencer.specs.declared.server_core.Core.{Core}
-use Rattle.sv_sequencer.specs.Cores.{core_rules, session_at, owed_by, queue_of, Keeps, SitByNumber}
-use Rattle.sv_sequencer.specs.Decisions.{reply_by}
+use Rattle.sv_core.specs.declared.decision.Decision.{Decision}
+use Rattle.sv_core.specs.declared.decision.Decision.TheVariants as decisions
+use Rattle.sv_core.specs.declared.server_core.Core.{Core}
+use Rattle.sv_core.specs.Cores.{core_rules, session_at, owed_by, queue_of, Keeps, SitByNumber}
+use Rattle.sv_core.specs.Decisions.{reply_by}
 use Rattle.sv_sequencer.specs.Entering.{HasRoomForEnds, EnteredReply, NothingEntered}
-use Rattle.sv_sequencer.specs.Step.{SequencerView, history, entry_of, end_entry}
+use Rattle.sv_journal.specs.History.{entry_of, end_entry}
+use Rattle.sv_sequencer.specs.Step.{SequencerView, history}
 use Rattle.sv_witness.specs.declared.report.Dispute.{Dispute}
 use Rattle.sv_witness.specs.declared.witness.Witness.TheInside.{Inside}
 use Rattle.sv_witness.specs.Reports.{agreed_history, agreed_commit}

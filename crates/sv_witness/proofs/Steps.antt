@@ -14,8 +14,8 @@ use Rattle.sv_journal.specs.declared.entry.Logged.TheVariants as logged
 use Rattle.sv_journal.specs.History.{Authored, is_noted, client_of, accepted, actions_of, reported, result_at, commit_of, full_reply}
 use Rattle.sv_journal.specs.Answer.{Rules, is_bad_result, is_bad_done, commit_with, relay_of, reply_to_poll}
 use Rattle.sv_journal.proofs.Results.{some_good}
-use Rattle.sv_sequencer.specs.Fits.{QueueFits}
-use Rattle.sv_sequencer.specs.Step.{entry_of}
+use Rattle.sv_core.specs.Fits.{QueueFits}
+use Rattle.sv_journal.specs.History.{entry_of}
 use Rattle.sv_witness.specs.declared.report.Dispute.{Dispute}
 use Rattle.sv_witness.specs.Reports.{agreed_history, agreed_result, agreed_commit, due_to}
 use Rattle.sv_journal.specs.Serving.{noted_after, polled_after}

@@ -5,7 +5,7 @@ use Rattle.sv_journal.specs.declared.entry.Entry.{Entry}
 use Rattle.sv_journal.specs.declared.entry.Logged.TheVariants as logged
 use Rattle.sv_journal.specs.Answer.{Rules}
 use Rattle.sv_journal.specs.Examples.{opened, act, join, done, observe, held, Row}
-use Rattle.sv_sequencer.specs.Step.{entry_of}
+use Rattle.sv_journal.specs.History.{entry_of}
 use Rattle.sv_witness.specs.declared.report.Report.{Report}
 use Rattle.sv_witness.specs.declared.report.Dispute.{Dispute}
 use Rattle.sv_witness.specs.Reports.{agreed_commit, agreed_world}

@@ -1,6 +1,6 @@
 -- What a witnessing server's fields keep.
 use Rattle.std.specs.Prelude.{reverse}
-use Rattle.sv_sequencer.specs.Cores.{core_rules, Keeps, SitByNumber}
+use Rattle.sv_core.specs.Cores.{core_rules, Keeps, SitByNumber}
 use Rattle.sv_sequencer.specs.Entering.{HasRoomForEnds}
 use Rattle.sv_sequencer.specs.Step.{SequencerView}
 use Rattle.sv_witness.specs.declared.witness.Witness.TheInside.{Inside}

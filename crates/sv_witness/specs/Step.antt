@@ -3,7 +3,8 @@ use Rattle.std.specs.Prelude.{◌≡◌, ℕ}
 use Rattle.sv_wire.specs.declared.message.Reply.{Reply}
 use Rattle.sv_wire.specs.declared.message.Request.{Request}
 use Rattle.sv_journal.specs.History.{accepted, full_reply}
-use Rattle.sv_sequencer.specs.Step.{SequencerView, history, entry_of, GrewByEntry}
+use Rattle.sv_journal.specs.History.{entry_of}
+use Rattle.sv_sequencer.specs.Step.{SequencerView, history, GrewByEntry}
 use Rattle.sv_witness.specs.Witnessed.{witnessed_reply}
 
 -- A step answered a request by the witnessed reply, in full.

@@ -4,8 +4,9 @@ ghost use Rattle.sv_wire.specs.declared.message.Request.TheVariants as requests;
 ghost use Rattle.sv_witness.specs.Lies.{greatest_int, lied, lied_result, lied_value};
 
 use std::alloc::{AllocError, Global};
+use sv_lists::List;
 use sv_wire::{Done1, Request};
-use sv_world::{List, Value, copy_value};
+use sv_world::{Value, copy_value};
 
 /// 1 more, where there is one more.
 fn raised(number: i64) -> i64

@@ -1,5 +1,6 @@
 //! Reports, and disputes between two of them.
-use sv_world::{ClientId, List, Value};
+use sv_lists::List;
+use sv_world::{ClientId, Value};
 
 /// What a client reported of a position.
 #[derive(Debug, Drop)]

@@ -6,7 +6,7 @@ ghost use Rattle.sv_journal.specs.Answer.{MayBeSession};
 ghost use Rattle.sv_sequencer.specs.Step.{history};
 
 use crate::witness::Witness;
-use sv_sequencer::Seat;
+use sv_core::Seat;
 
 impl Witness {
     /// How many sessions there may be.

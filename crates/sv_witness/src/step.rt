@@ -9,10 +9,11 @@ ghost use Rattle.sv_journal.specs.History.{client_of, is_noted};
 ghost use Rattle.sv_journal.specs.Sessions.{is_end, is_ended};
 ghost use Rattle.sv_journal.specs.Answer.{MayBeSession, is_bad_done};
 ghost use Rattle.sv_journal.specs.Serving.{is_poll, noted_after, polled_after};
-ghost use Rattle.sv_sequencer.specs.Cores.{core_rules, session_at, queue_of, Keeps};
-ghost use Rattle.sv_sequencer.specs.Decisions.{Holds, reply_by, results_in};
+ghost use Rattle.sv_core.specs.Cores.{core_rules, session_at, queue_of, Keeps};
+ghost use Rattle.sv_core.specs.Decisions.{Holds, reply_by, results_in};
 ghost use Rattle.sv_sequencer.specs.Entering.{EnteredReply, NothingEntered};
-ghost use Rattle.sv_sequencer.specs.Step.{history, end_entry, GrewByEntry, Stayed};
+ghost use Rattle.sv_journal.specs.History.{end_entry};
+ghost use Rattle.sv_sequencer.specs.Step.{history, GrewByEntry, Stayed};
 ghost use Rattle.sv_witness.specs.Reports.{agreed_history};
 ghost use Rattle.sv_witness.specs.Kept.{kept_at, HasRoomFor, counted_results, agreed_results, new_disputes};
 ghost use Rattle.sv_witness.specs.Due.{due_in};
@@ -27,13 +28,12 @@ use crate::reports::{Reports, add_all, reserve_all};
 use crate::testimony::{Asker, Testimony};
 use crate::witness::Witness;
 use std::alloc::{AllocError, Global};
+use sv_core::{Core, Decided, Decision, Seat, reported_by};
 use sv_journal::Journal;
+use sv_lists::List;
 use sv_queue::Queue;
-use sv_sequencer::{
-    Core, Decided, Decision, Seat, enter_asked, enter_end, enter_reply, reported_by,
-};
+use sv_sequencer::{enter_asked, enter_end, enter_reply};
 use sv_wire::{Done1, Reply, Request};
-use sv_world::List;
 
 fn is_poll(request: &Request) -> bool
     ensures { result ≡ is_poll request.now }

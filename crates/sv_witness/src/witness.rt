@@ -9,8 +9,8 @@ use crate::report::Dispute;
 use crate::testimony::Testimony;
 use std::alloc::Global;
 use std::marker::Model;
+use sv_core::Core;
 use sv_journal::Journal;
-use sv_sequencer::Core;
 use sv_world::{ObjectId, Value};
 
 /// A server's core that trusts no client alone: it installs a result once two different clients report it.

@@ -1,7 +1,7 @@
 -- What is wrong with an action, if anything.
-use Rattle.std.specs.Prelude.{◌≡◌, ℕ, ◌^◌, ◌<◌, ◌≤◌, Bool, true, not, ◌&&◌, ◌==◌, nat_lt, nat_le, ℤ, pos, negsuc, int_le, List, [], ◌∷◌, length, All, if◌then◌else◌, Option, Some, None}
+use Rattle.std.specs.Prelude.{◌≡◌, ℕ, ◌^◌, ◌<◌, ◌≤◌, Bool, true, not, ◌&&◌, ◌==◌, nat_lt, nat_le, ℤ, int_le, List, [], ◌∷◌, length, All, if◌then◌else◌, Option, Some, None}
 use Rattle.std.specs.List.{list_all, list_any}
-use Rattle.sv_world.specs.Limits.{most_reads, most_nodes, most_depth}
+use Rattle.sv_world.specs.Limits.{most_reads, most_nodes, most_depth, least_coordinate, greatest_coordinate}
 use Rattle.sv_world.specs.Sets.{is_in_mask, read_set}
 use Rattle.sv_world.specs.Trees.{body_nodes, body_depth, body_passes}
 use Rattle.sv_world.specs.declared.action.Action.{Action}
@@ -49,9 +49,9 @@ is_too_large a = nat_lt most_nodes (body_nodes a.body)
 unfoldable pub is_too_deep : Action → Bool
 is_too_deep a = nat_lt most_depth (body_depth a.body)
 
--- Whether a coordinate is from -1,000,000 to 1,000,000.
+-- Whether a coordinate is one of a place in the plane.
 abbrev pub is_in_plane : ℤ → Bool
-is_in_plane x = int_le (negsuc 999999) x && int_le x (pos 1000000)
+is_in_plane x = int_le least_coordinate x && int_le x greatest_coordinate
 
 -- Whether both coordinates of the origin are.
 unfoldable pub has_origin : Action → Bool

@@ -1,5 +1,5 @@
 -- The limits of the subject: how many there may be of what. `src/limits.rt` has the same numbers for code.
-use Rattle.std.specs.Prelude.{ℕ}
+use Rattle.std.specs.Prelude.{ℕ, ℤ, pos, negsuc}
 
 -- The objects of a world.
 abbrev pub most_objects : ℕ
@@ -44,6 +44,17 @@ most_bound = 32
 -- The greatest reach: no two places in the plane are farther apart.
 abbrev pub most_reach : ℕ
 most_reach = 2000000
+
+-- The least and the greatest coordinate of a place in the plane: 1,000,000 from its middle.
+abbrev pub least_coordinate : ℤ
+least_coordinate = negsuc 999999
+
+abbrev pub greatest_coordinate : ℤ
+greatest_coordinate = pos 1000000
+
+-- The numbers that the clients of a living world may have, from 0 on.
+abbrev pub client_numbers : ℕ
+client_numbers = 65536
 
 -- The objects of a client's interest.
 abbrev pub most_interest : ℕ

@@ -1,6 +1,7 @@
 //! Actions, and the trees of their bodies.
 
-use crate::{Body, Boxed, List, Reads};
+use crate::{Body, Reads};
+use sv_lists::{Boxed, List};
 
 /// A number computed from the values that an action reads.
 #[derive(Debug, Drop)]

@@ -8,7 +8,10 @@ ghost use Rattle.sv_world.specs.Faults.{is_ascending, has_no_reads, has_too_many
 
 use crate::fits::{Limits, block_fits};
 use crate::names::{NameTest, passes_in_nodes, weight};
-use crate::{Action, MOST_DEPTH, MOST_NODES, MOST_READS, NodeCursor, ObjectId, Shape};
+use crate::{
+    Action, GREATEST_COORDINATE, LEAST_COORDINATE, MOST_DEPTH, MOST_NODES, MOST_READS, NodeCursor,
+    ObjectId, Shape,
+};
 
 /// Why an action is refused, in the order in which the causes are looked for.
 #[derive(Clone, Copy, Debug, Drop, PartialEq, Eq)]
@@ -241,7 +244,7 @@ fn is_too_large(action: &Action) -> bool
 fn is_in_plane(coordinate: i32) -> bool
     ensures { result ≡ is_in_plane coordinate }
 {
-    coordinate >= -1_000_000 && coordinate <= 1_000_000
+    coordinate >= LEAST_COORDINATE && coordinate <= GREATEST_COORDINATE
 }
 
 #[tactic(auto, unfolding(crate::specs::Faults::has_origin))]

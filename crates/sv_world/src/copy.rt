@@ -1,8 +1,9 @@
 //! Equal copies of values, objects and actions.
 ghost use Rattle.std.specs.Prelude.{◌≡◌, IfOk};
 
-use crate::{Action, List, ObjectId, Reads, Value};
+use crate::{Action, ObjectId, Reads, Value};
 use std::alloc::{AllocError, Global};
+use sv_lists::List;
 
 /// An equal copy.
 pub fn copy_value(alloc: Global, value: &Value) -> Result<Value, AllocError>

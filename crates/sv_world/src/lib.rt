@@ -3,7 +3,6 @@
 
 mod action;
 mod body;
-mod boxed;
 mod check;
 mod copy;
 mod cursor;
@@ -14,19 +13,16 @@ mod flatten;
 mod heads;
 mod laws;
 mod limits;
-mod list;
 mod names;
 mod node;
 mod numbers;
 mod rights;
 mod short;
 mod spelling;
-mod text;
 mod world;
 
 pub use action::{Action, Cond, Expr, Point, Stmt};
 pub use body::Body;
-pub use boxed::Boxed;
 pub use check::{
     BadAction, are_below, check_action, good_actions_have_no_fault, is_ascending, may_be_observed,
 };
@@ -50,17 +46,15 @@ pub use laws::{
     missing_influences_only_shrink, only_marks_above_the_commit_count,
 };
 pub use limits::{
-    MOST_ATTRS, MOST_BOUND, MOST_CLIENTS, MOST_DEPTH, MOST_INTEREST, MOST_ITEMS, MOST_NODES,
-    MOST_OBJECTS, MOST_OPEN, MOST_OUTSTANDING, MOST_PENDING, MOST_POSITIONS, MOST_REACH,
-    MOST_READS, MOST_REQUESTS, MOST_SCENARIO_OBJECTS, MOST_SESSIONS, MOST_SHOWN, MOST_STEPS,
-    MOST_TURNS, limits_are_those_of_contracts,
+    CLIENT_NUMBERS, GREATEST_COORDINATE, LEAST_COORDINATE, MOST_ATTRS, MOST_BOUND, MOST_CLIENTS,
+    MOST_DEPTH, MOST_INTEREST, MOST_ITEMS, MOST_NODES, MOST_OBJECTS, MOST_OPEN, MOST_OUTSTANDING,
+    MOST_PENDING, MOST_POSITIONS, MOST_REACH, MOST_READS, MOST_REQUESTS, MOST_SCENARIO_OBJECTS,
+    MOST_SESSIONS, MOST_SHOWN, MOST_STEPS, MOST_TURNS, limits_are_those_of_contracts,
 };
-pub use list::List;
 pub use names::is_in_mask;
 pub use node::{Comparison, Connective, Node, Operator};
 pub use numbers::{read_object, read_objects};
 pub use rights::{NumberRange, Right, first_forbidden, may_write};
 pub use short::Short;
 pub use spelling::bodies_are_spelled;
-pub use text::Text;
 pub use world::{ClientId, ObjectId, Reads, Shape, Value, World};

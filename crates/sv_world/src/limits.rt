@@ -1,6 +1,6 @@
 //! The limits of the subject: how many there may be of what. `specs/Limits.antt` has the same numbers for contracts.
 ghost use Rattle.std.specs.Prelude.{◌≡◌};
-ghost use Rattle.sv_world.specs.Limits.{most_objects, most_scenario_objects, most_attrs, most_reads, most_nodes, most_depth, most_clients, most_sessions, most_open, most_bound, most_reach};
+ghost use Rattle.sv_world.specs.Limits.{most_objects, most_scenario_objects, most_attrs, most_reads, most_nodes, most_depth, most_clients, most_sessions, most_open, most_bound, most_reach, least_coordinate, greatest_coordinate, client_numbers};
 ghost use Rattle.sv_world.specs.Limits.{most_interest, most_requests, most_items, most_positions, most_pending, most_outstanding, most_steps, most_shown, most_turns};
 
 /// The objects of a world.
@@ -36,6 +36,14 @@ pub const MOST_BOUND: u8 = 32;
 /// The greatest reach: no two places in the plane are farther apart.
 pub const MOST_REACH: u32 = 2_000_000;
 
+/// The least and the greatest coordinate of a place in the plane.
+pub const LEAST_COORDINATE: i32 = -1_000_000;
+
+pub const GREATEST_COORDINATE: i32 = 1_000_000;
+
+/// The numbers that the clients of a living world may have, from 0 on.
+pub const CLIENT_NUMBERS: u32 = 65_536;
+
 /// The objects of a client's interest.
 pub const MOST_INTEREST: usize = 64;
 
@@ -70,6 +78,8 @@ pub fn limits_are_those_of_contracts()
     ensures servers { (MOST_CLIENTS ≡ most_clients) × (MOST_SESSIONS ≡ most_sessions) × (MOST_OPEN ≡ most_open) × (MOST_BOUND ≡ most_bound) }
     ensures messages { (MOST_INTEREST ≡ most_interest) × (MOST_REQUESTS ≡ most_requests) × (MOST_ITEMS ≡ most_items) }
     ensures positions { MOST_POSITIONS ≡ most_positions }
+    ensures plane { (LEAST_COORDINATE ≡ least_coordinate) × (GREATEST_COORDINATE ≡ greatest_coordinate) }
+    ensures living { CLIENT_NUMBERS ≡ client_numbers }
     ensures clients { (MOST_PENDING ≡ most_pending) × (MOST_OUTSTANDING ≡ most_outstanding) }
     ensures scripts { (MOST_STEPS ≡ most_steps) × (MOST_SHOWN ≡ most_shown) × (MOST_TURNS ≡ most_turns) }
 {}

@@ -5,7 +5,8 @@ ghost use Rattle.sv_world.specs.declared.world.ObjectId.{ObjectId};
 ghost use Rattle.sv_world.specs.Rights.{is_in_range, allows, may_write, first_of, first_forbidden};
 ghost use Rattle.sv_world.specs.Sets.{at_mask, numbers_of};
 
-use crate::{Action, ClientId, List, ObjectId, is_in_mask};
+use crate::{Action, ClientId, ObjectId, is_in_mask};
+use sv_lists::List;
 
 /// Numbers from a first to a last one. There are none where the last is below the first.
 #[derive(Clone, Copy, Debug, Drop, PartialEq, Eq)]

@@ -1,6 +1,7 @@
 //! Worlds, and the numbers of their objects and of clients.
 
-use crate::{List, Short};
+use crate::Short;
+use sv_lists::List;
 
 /// An object's number, from 0 up.
 #[derive(Clone, Copy, Debug, Default, Drop, PartialEq, Eq, PartialOrd, Ord)]

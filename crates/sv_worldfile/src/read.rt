@@ -13,12 +13,11 @@ use crate::rights::rights_of;
 use crate::{ReadFault, Results, ScenarioCause, WorldFile};
 use serde_json::Value;
 use std::alloc::Global;
+use sv_lists::List;
 use sv_scenario::{
-    at_key, each_value, keys_of, list_within, needed, number_in, reach_in, refuse, value_in,
+    at_key, each_value, keys_of, list_within, needed, number_of_key, reach_in, refuse, value_in,
 };
-use sv_world::{
-    List, MOST_ATTRS, MOST_BOUND, MOST_OBJECTS, Right, Shape, Value as ObjectValue, World,
-};
+use sv_world::{MOST_ATTRS, MOST_BOUND, MOST_OBJECTS, Right, Shape, Value as ObjectValue, World};
 
 /// The bytes that a file may have.
 pub const MOST_BYTES: usize = 16_777_216;
@@ -45,7 +44,7 @@ fn values_in(alloc: Global, attrs: u32, value: &Value) -> Result<Vec<ObjectValue
 fn world_of(alloc: Global, value: &Value) -> Result<World, ReadFault>
     ensures { Gives (λ w. w) result (world_of (view value.now)) }
 {
-    let attrs = number_in(alloc, "attrs", 1, MOST_ATTRS as u32, value)?;
+    let attrs = number_of_key(alloc, "attrs", 1, MOST_ATTRS as u32, value)?;
     let values = values_in(alloc, attrs, value)?;
     let shape = Shape {
         objects: values.len() as u16,
@@ -108,7 +107,7 @@ fn world_file_in(alloc: Global, value: &Value) -> Result<WorldFile, ReadFault>
         value,
     )?;
     let world = world_of(alloc, value)?;
-    let bound = number_in(alloc, "bound", 0, MOST_BOUND as u32, value)?;
+    let bound = number_of_key(alloc, "bound", 0, MOST_BOUND as u32, value)?;
     let reach = reach_in(alloc, value)?;
     let rights = rights_in(alloc, world.shape.objects, value)?;
     let results = results_in(alloc, value)?;

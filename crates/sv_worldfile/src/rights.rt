@@ -8,11 +8,12 @@ ghost use Rattle.sv_worldfile.specs.Rights.{next_client, pair_of, clients_of, ob
 
 use serde_json::Value;
 use std::alloc::Global;
+use sv_lists::List;
 use sv_scenario::{
     ReadFault, ScenarioCause, at_key, at_place, keys_of, list_within, needed, next_object,
     number_within, refuse,
 };
-use sv_world::{List, NumberRange, Right};
+use sv_world::{NumberRange, Right};
 
 /// The rights that a file may have.
 const MOST_RIGHTS: usize = 65_536;

@@ -1,6 +1,7 @@
 //! What a world file says.
 
-use sv_world::{List, Right, World};
+use sv_lists::List;
+use sv_world::{Right, World};
 
 /// The rules of a world without end.
 #[derive(Debug, Drop)]

@@ -4,7 +4,8 @@ ghost use Rattle.sv_world.specs.Worlds.{IsGoodWorld};
 
 use std::alloc::Global;
 use std::test::Fail;
-use sv_world::{List, Shape, Value, World};
+use sv_lists::List;
+use sv_world::{Shape, Value, World};
 
 fn value_of(alloc: Global, number: i64) -> Result<Value, Fail>
     ensures { IfOk result (λ value. value ≡ number ∷ []) }

@@ -11,7 +11,8 @@ use std::alloc::Global;
 use std::test::Fail;
 use steps::{Step, goes};
 use sv_client::{Client, Event, Trace};
-use sv_world::{ClientId, List, ObjectId, Shape};
+use sv_lists::List;
+use sv_world::{ClientId, ObjectId, Shape};
 
 /// All objects that the client has an interest in: the first, or none.
 fn interest_of(alloc: Global, in_first: bool) -> Result<List<ObjectId>, Fail>

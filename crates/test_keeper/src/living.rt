@@ -10,12 +10,13 @@ mod stewards;
 
 use std::alloc::Global;
 use std::test::Fail;
+use sv_core::{Answer, Opened};
 use sv_journal::{Entry as Line, Journal};
 use sv_lines::Asked;
+use sv_lists::List;
 use sv_living::{LivingCore, Stewards};
-use sv_sequencer::{Answer, Opened};
 use sv_wire::Request;
-use sv_world::{List, NumberRange, Right};
+use sv_world::{NumberRange, Right};
 use test_asked::{asked_in, check_lines, world_of};
 
 /// A living world of objects of one number each.

@@ -6,10 +6,10 @@ ghost use Rattle.sv_log.specs.Rests.{IsAtRest};
 use crate::lines::{LINES, is_found, text_of};
 use std::alloc::{AllocError, Global};
 use std::test::Fail;
+use sv_core::Opened;
 use sv_keeper::{Keeper, OpenFault, Opening};
 use sv_living::Stewards;
 use sv_log::{Loss, MemFolder, read_log};
-use sv_sequencer::Opened;
 use test_asked::{asked_in, world_of};
 
 pub(crate) const OWN: &str = "world.json";

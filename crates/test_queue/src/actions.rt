@@ -3,7 +3,8 @@ ghost use Rattle.std.specs.Prelude.{◌≡◌, ◌≤◌, [], ◌∷◌, IfOk};
 ghost use Rattle.sv_world.specs.Worlds.{IsGoodWorld};
 
 use std::alloc::{AllocError, Global};
-use sv_world::{Action, Body, List, ObjectId, Point, Reads, Shape, Value, World};
+use sv_lists::List;
+use sv_world::{Action, Body, ObjectId, Point, Reads, Shape, Value, World};
 
 pub fn value(alloc: Global, number: i64) -> Result<Value, AllocError>
     ensures { IfOk result (λ value. value ≡ number ∷ []) }

@@ -7,8 +7,9 @@ use std::alloc::{AllocError, Global};
 use std::marker::Brand;
 use std::sync::ledger::{Blank, Ledger};
 use sv_influence::{Chain, Closure, chain, closure};
+use sv_lists::List;
 use sv_queue::{Queue, Slots, Steps};
-use sv_world::{Action, ClientId, List, MOST_OPEN, ObjectId, check_action};
+use sv_world::{Action, ClientId, MOST_OPEN, ObjectId, check_action};
 
 /// What changes a queue. A push answers the position, an install the count, and the others answer 0.
 #[derive(Clone, Copy)]

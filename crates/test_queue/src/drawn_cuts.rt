@@ -10,8 +10,9 @@ use std::marker::Brand;
 use std::sync::ledger::{Blank, Ledger};
 use std::test::Fail;
 use sv_influence::{Closure, Cut, closure, plain_closure};
+use sv_lists::List;
 use sv_queue::{Queue, Steps};
-use sv_world::{List, ObjectId};
+use sv_world::ObjectId;
 
 /// Sends a session what it lacks of a position, so that its marks stay closed.
 fn send<L: Ledger>(

@@ -5,8 +5,9 @@ use sv_journal::{
     Entry, Journal, Logged, append_held, append_objects, append_value, print_journal,
     relays_name_accepted,
 };
+use sv_lists::List;
 use sv_wire::Request;
-use sv_world::{Action, Body, ClientId, List, ObjectId, Point, Reads, Shape};
+use sv_world::{Action, Body, ClientId, ObjectId, Point, Reads, Shape};
 
 #[test]
 fn values_and_objects_are_printed(rt: HostRuntime) -> Result<(), Fail> {

@@ -6,11 +6,12 @@ use crate::vectors::*;
 use std::alloc::Global;
 use std::process::Abort;
 use std::test::Fail;
+use sv_lists::List;
 use sv_wire::{
     Malformed, Reply, Request, WireCause, WireFault, copy_reply, copy_request, decode_reply,
     decode_request, encode_reply, encode_request,
 };
-use sv_world::{ClientId, List, ObjectId};
+use sv_world::{ClientId, ObjectId};
 
 // A tree that is let go at the end of its scope makes a long proof; a call that takes it makes none.
 /// Whether a request is written as that payload.

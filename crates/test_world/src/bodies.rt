@@ -1,6 +1,7 @@
 //! Bodies of many statements and of many levels, made of trees.
 use std::alloc::{AllocError, Global};
-use sv_world::{Body, Boxed, Cond, Expr, List, Stmt, has_short_blocks};
+use sv_lists::{Boxed, List};
+use sv_world::{Body, Cond, Expr, Stmt, has_short_blocks};
 
 /// What a body is made of. A statement that sets a number to a literal has two nodes.
 #[derive(Clone, Copy)]

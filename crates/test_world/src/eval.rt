@@ -5,7 +5,8 @@ use crate::texts::action_of;
 use std::alloc::{AllocError, Global};
 use std::test::Fail;
 use sv_eval::eval;
-use sv_world::{Action, List, ObjectId, Point, Reads, Value};
+use sv_lists::List;
+use sv_world::{Action, ObjectId, Point, Reads, Value};
 
 /// An operator, its two operands and the result on each line. A result outside 64 bits is void, and so is division by zero.
 const OPERATIONS: &str = "\

@@ -3,11 +3,12 @@ use crate::bodies::Built::{Chained, Negated, Nested, Sets, Sums};
 use crate::bodies::{Built, around, body_of, flat, stmts_of};
 use std::alloc::{AllocError, Global};
 use std::test::Fail;
+use sv_lists::{Boxed, List, Text};
 use sv_world::{
-    Action, Boxed, ClientId, Comparison, Cond, Expr, List, Node, ObjectId, Operator, Point, Reads,
-    Shape, Short, Stmt, Text, Value, World, check_action, copy_action, copy_objects, copy_value,
-    copy_values, good_actions_have_no_fault, has_short_blocks, is_ascending, is_in_mask,
-    same_bodies_are_equal, same_body,
+    Action, ClientId, Comparison, Cond, Expr, Node, ObjectId, Operator, Point, Reads, Shape, Short,
+    Stmt, Value, World, check_action, copy_action, copy_objects, copy_value, copy_values,
+    good_actions_have_no_fault, has_short_blocks, is_ascending, is_in_mask, same_bodies_are_equal,
+    same_body,
 };
 
 const ONE: Shape = Shape {

@@ -247,7 +247,7 @@ def test_lines(script):
     script.same(script.run("explain", "nothing"), (2, b"", b"dimboetu: docs/ERRORS.md has no such line\n"), "explain nothing")
     for words, text in ((("serve", "x", "link", "6"), "the port is in use"), (("replay", "x", "scenario: /a: text 1 4", "3"), "not among the reads"),
                         (("replay", "x", "wrong line 2", "9"), "another scenario"), (("replay", "x", "wrong line 9", "9"), "first wrong line"),
-                        (("replay", "x", "log: journal-1.txt:4 reply", "13"), "not the one that is due"), (("replay", "x", "log: world.json world", "13"), "another world"),
+                        (("replay", "x", "log: journal-1.txt:4 reply", "13"), "not the answer that is due"), (("replay", "x", "log: world.json world", "13"), "another world"),
                         (("replay", "x", "log: world", "5"), "can't be written"), (("join", "x", "range", "10"), "has no client K"), (("witness", "x", "range", "10"), "has no client K"),
                         (("why", "x", "range", "10"), "no such object"), (("replay", "x", "scenario: /bound: range", "3"), "HOSTING.md"),
                         (("replay", "x", "scenario: /clients: key", "3"), "'host' takes a world without 'clients'"), (("replay", "x", "log: a/b", "5"), "the folder above is missing"),

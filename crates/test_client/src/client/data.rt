@@ -1,9 +1,10 @@
 //! Actions and replies as plain data, and what they stand for.
 use std::alloc::Global;
 use std::test::Fail;
+use sv_lists::List;
 use sv_text::parse_action;
 use sv_wire::{Item, ObjectValue, Reply};
-use sv_world::{Action, ClientId, List, ObjectId, Value};
+use sv_world::{Action, ClientId, ObjectId, Value};
 
 /// What an action sets its first object to, in a world of one number for each object.
 #[derive(Clone, Copy)]

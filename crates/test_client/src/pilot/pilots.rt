@@ -8,9 +8,10 @@ use crate::pilot::notes::Notes;
 use std::alloc::Global;
 use std::test::Fail;
 use sv_client::LeanClient;
+use sv_lists::List;
 use sv_pilot::{Pilot, Trouble};
 use sv_text::{ParseFault, parse_action};
-use sv_world::{ClientId, List, ObjectId, Shape};
+use sv_world::{ClientId, ObjectId, Shape};
 use test_calls::ScriptEnd;
 use test_calls::frames::joined;
 

@@ -1,9 +1,10 @@
 //! What lines tell, by few words.
 use std::alloc::Global;
 use std::test::Fail;
+use sv_lists::List;
 use sv_text::parse_action;
 use sv_wire::{Done1, Item, ObjectValue, Request};
-use sv_world::{ClientId, List, ObjectId, Value};
+use sv_world::{ClientId, ObjectId, Value};
 
 pub fn objects(alloc: Global, numbers: &[u16]) -> Result<List<ObjectId>, Fail> {
     let mut objects = List::new(alloc);

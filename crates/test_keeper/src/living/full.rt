@@ -2,8 +2,8 @@
 use super::{NOBODY, Setting, check_on};
 use std::alloc::Global;
 use std::test::Fail;
+use sv_core::Opened;
 use sv_living::LivingCore;
-use sv_sequencer::Opened;
 use test_asked::world_of;
 
 const SETTING: Setting = Setting {

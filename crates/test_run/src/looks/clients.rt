@@ -2,9 +2,10 @@
 use std::alloc::{AllocError, Global};
 use std::test::Fail;
 use sv_client::{Client, MakeFault};
+use sv_lists::List;
 use sv_looks::{is_look, look};
 use sv_wire::Request;
-use sv_world::{Action, ClientId, List, ObjectId, Point, Shape};
+use sv_world::{Action, ClientId, ObjectId, Point, Shape};
 
 /// A world of 18 objects with one attribute.
 const SHAPE: Shape = Shape {

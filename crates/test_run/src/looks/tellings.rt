@@ -1,9 +1,10 @@
 //! The line of a snapshot.
 use std::alloc::{AllocError, Global};
 use std::test::Fail;
+use sv_lists::List;
 use sv_looks::{Snapshot, look_line};
 use sv_wire::ObjectValue;
-use sv_world::{ClientId, List, ObjectId, Value};
+use sv_world::{ClientId, ObjectId, Value};
 
 /// A snapshot of two objects with two numbers each.
 fn snapshot(alloc: Global, seq: Option<u32>, pos: u32) -> Result<Snapshot, AllocError> {

@@ -10,9 +10,10 @@ use crate::journal::add_made;
 use std::alloc::{AllocError, Global};
 use std::test::Fail;
 use sv_journal::{Entry, Journal};
+use sv_lists::List;
 use sv_sequencer::Sequencer;
 use sv_wire::{Done1, Request, copy_request};
-use sv_world::{Action, Body, ClientId, List, ObjectId, Point, Reads, Shape, Value};
+use sv_world::{Action, Body, ClientId, ObjectId, Point, Reads, Shape, Value};
 use test_asked::{printed, values_of, world_of};
 
 const JOURNALS: u64 = 120;

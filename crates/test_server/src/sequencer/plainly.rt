@@ -8,9 +8,10 @@ use super::scans::{
 };
 use std::alloc::{AllocError, Global};
 use sv_journal::{Entry, Logged};
+use sv_lists::List;
 use sv_wire::{Done1, ObjectValue, Request};
 use sv_world::{
-    Action, Body, ClientId, List, ObjectId, Point, Reads, Shape, Value, check_action, copy_value,
+    Action, Body, ClientId, ObjectId, Point, Reads, Shape, Value, check_action, copy_value,
     is_ascending,
 };
 

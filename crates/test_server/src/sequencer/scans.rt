@@ -3,8 +3,9 @@
 //! Positions count from 1, and an action at a position is the one before it in `actions`.
 use std::alloc::{AllocError, Global};
 use sv_journal::{Entry, Logged};
+use sv_lists::List;
 use sv_wire::{Done1, ObjectValue, Request};
-use sv_world::{Action, List, Value, is_in_mask};
+use sv_world::{Action, Value, is_in_mask};
 
 /// An outcome: whose it is, the entry that told it, and the action's position, 0 for a dropped one.
 #[derive(Clone, Copy, Drop)]

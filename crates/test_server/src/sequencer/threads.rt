@@ -11,10 +11,11 @@ use std::test::Fail;
 use std::thread;
 use std::thread::Threads;
 use sv_journal::{Entry, Logged};
+use sv_lists::List;
 use sv_lock::{Pass, SeqLock};
 use sv_sequencer::Sequencer;
 use sv_wire::Request;
-use sv_world::{ClientId, List};
+use sv_world::ClientId;
 
 /// Joins as a client, and polls 100 times.
 fn visit<R: Wait>(

@@ -5,7 +5,8 @@ ghost use Rattle.sv_worldfile.specs.Limits.{IsGoodWorldFile};
 use crate::worldfile::lines::{is_line, quoted};
 use std::alloc::Global;
 use std::test::Fail;
-use sv_world::{List, NumberRange, Right, Shape, Value};
+use sv_lists::List;
+use sv_world::{NumberRange, Right, Shape, Value};
 use sv_worldfile::{Results, WorldFile, read_world};
 
 /// Texts of world files.

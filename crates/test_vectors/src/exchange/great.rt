@@ -4,9 +4,10 @@ ghost use Rattle.sv_wire.specs.Laws.{IsReply};
 ghost use Rattle.test_vectors.specs.Worked.{greatest_number, great_heads, great_reads, great_body, great_action, great_items};
 
 use std::alloc::{AllocError, Global};
+use sv_lists::List;
 use sv_wire::{Item, ObjectValue, Reply};
 use sv_world::{
-    Action, Body, ClientId, Expr, List, ObjectId, Point, Reads, Stmt, Value, has_short_blocks,
+    Action, Body, ClientId, Expr, ObjectId, Point, Reads, Stmt, Value, has_short_blocks,
 };
 
 fn great_value(alloc: Global) -> Result<Value, AllocError>

@@ -1,7 +1,7 @@
 -- The first one found is the first of all.
 use Rattle.std.proofs.Common.{suc, ◌+◌, length, sym, ◌∙◌, arith}
 use Rattle.sv_journal.specs.History.{accepted}
-use Rattle.sv_sequencer.proofs.Abandoned.{none-below, first-below}
+use Rattle.sv_core.proofs.Abandoned.{none-below, first-below}
 use Rattle.sv_living.specs.Deciding.{is_unreported}
 use Rattle.sv_living.proofs.due.first_unreported.Goals as goal
 

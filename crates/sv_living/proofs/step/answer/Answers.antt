@@ -3,8 +3,8 @@ use Rattle.std.proofs.Common.{sym, ap, ◌∙◌, subst}
 use Rattle.sv_wire.specs.declared.message.Request.{Request}
 use Rattle.sv_journal.specs.Sessions.{is_end}
 use Rattle.sv_journal.specs.Living.{heeded}
-use Rattle.sv_sequencer.specs.Cores.{core_rules, CarriedOut}
-use Rattle.sv_sequencer.specs.Decisions.{Holds}
+use Rattle.sv_core.specs.Cores.{core_rules, CarriedOut}
+use Rattle.sv_core.specs.Decisions.{Holds}
 use Rattle.sv_living.specs.Keeping.{CarriedOn}
 use Rattle.sv_living.proofs.Standing.{silenced, heard-whole, carried-on}
 use Rattle.sv_living.proofs.Told.{if-ok}

@@ -1,6 +1,6 @@
 -- What was entered is taken out again.
 use Rattle.std.proofs.Common.{List, refl, ap, ◌∙◌}
-use Rattle.sv_sequencer.specs.declared.seats.Seat.{Seat}
+use Rattle.sv_core.specs.declared.seats.Seat.{Seat}
 use Rattle.sv_living.proofs.Seats.{others, others-push}
 use Rattle.sv_living.proofs.step.answer_first.Goals as goal
 

@@ -2,7 +2,7 @@
 use Rattle.std.proofs.Common.{◌≡◌, ℕ, true, Option, sym, ap, ◌∙◌, subst}
 use Rattle.sv_journal.specs.Answer.{MayBeSession}
 use Rattle.sv_journal.specs.Living.{heeded}
-use Rattle.sv_sequencer.specs.Rows.{has_entry}
+use Rattle.sv_core.specs.Rows.{has_entry}
 use Rattle.sv_living.specs.Keeping.{CarriedOn}
 use Rattle.sv_living.specs.Table.{ends_below}
 use Rattle.sv_living.proofs.Standing.{entry-heeded, may-leave, reclosed, sits}

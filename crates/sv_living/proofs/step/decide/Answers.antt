@@ -1,6 +1,6 @@
 -- The steward's Poll, which is known not to be refused.
 use Rattle.std.proofs.Common.{sym, subst}
-use Rattle.sv_sequencer.specs.Cores.{core_rules}
+use Rattle.sv_core.specs.Cores.{core_rules}
 use Rattle.sv_living.specs.Deciding.{IsDecided}
 use Rattle.sv_living.proofs.Deciding.{decided_poll}
 use Rattle.sv_living.proofs.step.decide.Goals as goal

@@ -1,7 +1,7 @@
 -- The history that the core goes by, and then with the End.
 use Rattle.std.proofs.Common.{◌∷◌}
 use Rattle.sv_journal.specs.Living.{heeded}
-use Rattle.sv_sequencer.specs.Step.{end_entry}
+use Rattle.sv_journal.specs.History.{end_entry}
 use Rattle.sv_living.proofs.step.leave.Given as goal
 
 abbrev pub ghost-end : goal.ghost-end

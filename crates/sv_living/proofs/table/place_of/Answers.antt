@@ -1,7 +1,7 @@
 -- The one at which those below the session end, or none.
 use Rattle.std.proofs.Common.{ltb, arith, rules}
 use Rattle.std.proofs.lemmas.List.Sorted.{IsPartitionPoint-from_clause, IsPartitionedBy-ltb}
-use Rattle.sv_sequencer.specs.declared.seats.Seat.{Seat}
+use Rattle.sv_core.specs.declared.seats.Seat.{Seat}
 use Rattle.sv_living.proofs.Seats.{in-order, point-none}
 use Rattle.sv_living.proofs.table.place_of.Goals as goal
 

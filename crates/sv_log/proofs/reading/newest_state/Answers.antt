@@ -17,21 +17,21 @@ returns-in_default-clause-newest g c = λ h.
     let p = seen (g.F.Folder.disk c.args.folder.now) in
     let names = map string_bytes c.args.names.now in
     let first = subst (IsFirst file.State names (c.loop.newest.seen + 1)) c.in_default.is c.first_from.ensures in
-    if_ok c.settled.result _ _ c.settled.ensures.ok
+    if_ok c.whole_or_none.result _ _ c.whole_or_none.ensures.ok
     (λ n is. subst (IsNewest p) (ap (λ (x : Newest). x.state) (sym is.0))
     (newest_last p names (c.requires.listed (c.loop.invariant.honest h)) c.loop.newest.state c.loop.newest.seen (c.loop.invariant.so_far h) first is.1))
 
 pub returns-in_default-clause-bytes : goal.returns-in_default-clause-bytes
 returns-in_default-clause-bytes g c = λ h.
     let p = seen (g.F.Folder.disk c.args.folder.now) in
-    if_ok c.settled.result _ _ c.settled.ensures.ok (λ n is. subst (λ (x : Newest). x.bytes.items ≡ state_at p x.state) (sym is.0) (c.loop.invariant.bytes h))
+    if_ok c.whole_or_none.result _ _ c.whole_or_none.ensures.ok (λ n is. subst (λ (x : Newest). x.bytes.items ≡ state_at p x.state) (sym is.0) (c.loop.invariant.bytes h))
 
 pub returns-in_default-clause-refused : goal.returns-in_default-clause-refused
 returns-in_default-clause-refused g c = λ h.
     let p = seen (g.F.Folder.disk c.args.folder.now) in
     let names = map string_bytes c.args.names.now in
     let first = subst (IsFirst file.State names (c.loop.newest.seen + 1)) c.in_default.is c.first_from.ensures in
-    if_err c.settled.result _ _ c.settled.ensures.err
+    if_err c.whole_or_none.result _ _ c.whole_or_none.ensures.err
     (λ r is world. just_why r.cause
     (no_whole_state p names (c.requires.listed (c.loop.invariant.honest h)) c.loop.newest.seen (subst (λ (s : ℕ). IsNewestSoFar p s c.loop.newest.seen) is.0 (c.loop.invariant.so_far h)) is.1 first world))
 

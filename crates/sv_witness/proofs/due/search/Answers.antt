@@ -1,7 +1,7 @@
 -- What the check leaves to prove of `search`.
 use Rattle.std.proofs.Common.{suc, ◌+◌, sym, ◌∙◌, arith}
 use Rattle.sv_queue.specs.Queue.{last_position}
-use Rattle.sv_sequencer.proofs.Abandoned.{none-below, first-below}
+use Rattle.sv_core.proofs.Abandoned.{none-below, first-below}
 use Rattle.sv_witness.specs.Due.{is_due_in}
 use Rattle.sv_witness.proofs.due.search.Goals as goal
 

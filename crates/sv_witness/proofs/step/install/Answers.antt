@@ -4,8 +4,8 @@ use Rattle.std.specs.List.{list_any}
 use Rattle.sv_wire.specs.declared.message.Done1.{Done1}
 use Rattle.sv_wire.specs.declared.message.Request.TheVariants as requests
 use Rattle.sv_journal.specs.Answer.{is_bad_result}
-use Rattle.sv_sequencer.specs.declared.decision.Decision.TheVariants as decisions
-use Rattle.sv_sequencer.specs.Cores.{core_rules}
+use Rattle.sv_core.specs.declared.decision.Decision.TheVariants as decisions
+use Rattle.sv_core.specs.Cores.{core_rules}
 use Rattle.sv_sequencer.specs.Entering.{EnteredReply}
 use Rattle.sv_witness.specs.Reports.{agreed_history}
 use Rattle.sv_witness.proofs.Installed.{install-good, install-once, installed}

@@ -2,7 +2,7 @@
 use Rattle.std.proofs.Common.{ℕ, Option, sym, ◌∙◌, subst}
 use Rattle.sv_journal.specs.Answer.{MayBeSession}
 use Rattle.sv_journal.specs.Living.{Stewardship, heeded}
-use Rattle.sv_sequencer.specs.Cores.{Keeps, Remained, WasSeated}
+use Rattle.sv_core.specs.Cores.{Keeps, Remained, WasSeated}
 use Rattle.sv_living.specs.Keeping.{Left}
 use Rattle.sv_living.proofs.Standing.{entry-heeded, unseated-next, room-for, stood-still, stepped-unused, sits}
 use Rattle.sv_living.proofs.Told.{on-err}

@@ -1,7 +1,7 @@
 -- The table has just the open sessions, in order.
 use Rattle.std.proofs.Common.{◌≡◌, ℕ, List, [], ◌∷◌, map, Option, Some, None, MatchOption, sym, ◌∙◌, ap}
 use Rattle.sv_journal.specs.declared.entry.Entry.{Entry}
-use Rattle.sv_sequencer.specs.declared.seats.Seat.{Seat}
+use Rattle.sv_core.specs.declared.seats.Seat.{Seat}
 use Rattle.sv_living.specs.Quiet.{IsFirstOpen}
 use Rattle.sv_living.specs.Sessions.{open_sessions}
 use Rattle.sv_living.specs.Table.{numbers_in}

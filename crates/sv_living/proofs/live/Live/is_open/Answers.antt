@@ -1,6 +1,6 @@
 -- The table has just the open sessions.
 use Rattle.std.proofs.Common.{Option, is_some, ap, ◌∙◌}
-use Rattle.sv_sequencer.specs.declared.seats.Seat.{Seat}
+use Rattle.sv_core.specs.declared.seats.Seat.{Seat}
 use Rattle.sv_living.proofs.Seats.{seat-some}
 use Rattle.sv_living.proofs.live.Live.is_open.Goals as goal
 

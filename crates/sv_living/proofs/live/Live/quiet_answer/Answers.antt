@@ -6,8 +6,8 @@ use Rattle.sv_wire.specs.declared.message.Request.TheVariants as requests
 use Rattle.sv_journal.specs.Sessions.{is_end}
 use Rattle.sv_journal.specs.Serving.{LegalFor}
 use Rattle.sv_journal.specs.Living.{Stewardship, heeded, living}
-use Rattle.sv_sequencer.specs.Cores.{Keeps}
-use Rattle.sv_sequencer.specs.Seeing.{IsQuietAnswer}
+use Rattle.sv_core.specs.Cores.{Keeps}
+use Rattle.sv_core.specs.Seeing.{IsQuietAnswer}
 use Rattle.sv_living.specs.Keeping.{rules_at, stewardship_at}
 use Rattle.sv_living.specs.Quiet.{IsQuiet}
 use Rattle.sv_living.specs.Sessions.{is_open}

@@ -1,6 +1,6 @@
 -- By where the session stands.
 use Rattle.std.proofs.Common.{◌≡◌, ℕ, true, refl, sym, ◌∙◌, subst, true≢false, ne_eqb, Result, IfOk, IfErr, IsOk, MatchResult}
-use Rattle.sv_sequencer.specs.declared.answer.Answer.{Answer}
+use Rattle.sv_core.specs.declared.answer.Answer.{Answer}
 use Rattle.sv_living.specs.declared.fault.StepFault.{StepFault}
 use Rattle.sv_living.specs.Keeping.{Moved, StoodStill}
 use Rattle.sv_living.specs.Sessions.{is_open, next_session, may_ask}

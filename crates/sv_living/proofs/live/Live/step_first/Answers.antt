@@ -1,8 +1,8 @@
 -- The session began, or all is as it was.
 use Rattle.std.proofs.Common.{List, sym, subst}
 use Rattle.sv_journal.specs.Living.{Stewardship, heeded}
-use Rattle.sv_sequencer.specs.declared.seats.Seat.{Seat}
-use Rattle.sv_sequencer.specs.Cores.{Keeps, Remained}
+use Rattle.sv_core.specs.declared.seats.Seat.{Seat}
+use Rattle.sv_core.specs.Cores.{Keeps, Remained}
 use Rattle.sv_living.specs.Keeping.{Began, StoodStill}
 use Rattle.sv_living.proofs.Standing.{unseated-next, room-for, stood-still, stepped-first}
 use Rattle.sv_living.proofs.Told.{no-end}

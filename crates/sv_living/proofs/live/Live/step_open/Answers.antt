@@ -3,8 +3,8 @@ use Rattle.std.proofs.Common.{List, sym, ◌∙◌, subst, true≢false}
 use Rattle.sv_wire.specs.declared.message.Request.{Request}
 use Rattle.sv_wire.specs.declared.message.Request.TheVariants as requests
 use Rattle.sv_journal.specs.Living.{Stewardship, heeded}
-use Rattle.sv_sequencer.specs.declared.seats.Seat.{Seat}
-use Rattle.sv_sequencer.specs.Cores.{Remained}
+use Rattle.sv_core.specs.declared.seats.Seat.{Seat}
+use Rattle.sv_core.specs.Cores.{Remained}
 use Rattle.sv_living.specs.Keeping.{CarriedOn, Left, Moved, StoodStill}
 use Rattle.sv_living.proofs.Standing.{stood-still, stepped-open, stepped-end}
 use Rattle.sv_living.proofs.Told.{if-ok, on-errs, no-end}

@@ -1,6 +1,6 @@
 -- It stands at the front.
 use Rattle.std.proofs.Common.{◌≡◌, ℕ, List, [], ◌∷◌, Option, None, Some, slice_get, Bool, true, false, is_some, sym, ◌∙◌, ap, subst, true≢false}
-use Rattle.sv_sequencer.specs.declared.seats.Seat.{Seat}
+use Rattle.sv_core.specs.declared.seats.Seat.{Seat}
 use Rattle.sv_living.specs.Table.{numbers_in}
 use Rattle.sv_living.proofs.table.OpenSessions.first.Goals as goal
 

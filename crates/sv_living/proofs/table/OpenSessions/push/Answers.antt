@@ -1,6 +1,6 @@
 -- It is above all.
 use Rattle.std.proofs.Common.{◌≡◌, List, true, subst, sym}
-use Rattle.sv_sequencer.specs.declared.seats.Seat.{Seat}
+use Rattle.sv_core.specs.declared.seats.Seat.{Seat}
 use Rattle.sv_living.specs.Table.{IsByNumber, ends_below}
 use Rattle.sv_living.proofs.Seats.{push-ascending}
 use Rattle.sv_living.proofs.table.OpenSessions.push.Goals as goal

@@ -1,7 +1,7 @@
 -- By its place.
 use Rattle.std.proofs.Common.{◌≡◌, List, ◌<◌, false, length, get_or, sym, ap, subst, ◌∙◌}
 use Rattle.sv_world.specs.Control.{is_in}
-use Rattle.sv_sequencer.specs.declared.seats.Seat.{Seat}
+use Rattle.sv_core.specs.declared.seats.Seat.{Seat}
 use Rattle.sv_living.specs.Table.{numbers_in, IsByNumber}
 use Rattle.sv_living.proofs.Seats.{others, others-none, others-at, others-ascending}
 use Rattle.sv_living.proofs.table.OpenSessions.remove.Goals as goal

@@ -1,7 +1,7 @@
 -- By its place.
 use Rattle.std.proofs.Common.{◌≡◌, List, ◌<◌, false, length, get_or, Some, sym, ap, subst, ◌∙◌}
 use Rattle.sv_world.specs.Control.{is_in}
-use Rattle.sv_sequencer.specs.declared.seats.Seat.{Seat}
+use Rattle.sv_core.specs.declared.seats.Seat.{Seat}
 use Rattle.sv_living.specs.Table.{seat_of, numbers_in}
 use Rattle.sv_living.proofs.Seats.{seat-none, seat-at}
 use Rattle.sv_living.proofs.table.OpenSessions.seat_of.Goals as goal

@@ -6,7 +6,7 @@ use Rattle.sv_player.proofs.Posting.{one_more, ended_at, none_posted, kept_next,
 use Rattle.sv_player.proofs.buffers.Buffers.post_all.Goals as goal
 
 pub loop-request-init : goal.loop-request-init
-loop-request-init g c = record { posted = none_posted (g.E.End.told c.args.end.now) c.args.self.now.outbox; kept = λ fits. refl; are_messages = All-nil IsRequest; reader = refl; same_end = refl; same = refl; calm = λ x. x }
+loop-request-init g c = record { posted = none_posted (g.E.End.told c.args.end.now) c.args.self.now.outbox; kept = λ fits. refl; are_messages = All-nil IsRequest; inbox = refl; same_end = refl; same = refl; calm = λ x. x }
 
 pub returns-in-Failed-clause-kept : goal.returns-in-Failed-clause-kept
 returns-in-Failed-clause-kept g c =
@@ -36,7 +36,7 @@ loop-request-preserved g c = record {
   are_messages =
       All-more IsRequest c.args.requests.now c.loop-request.request-index c.request-item.result c.loop-request-test.true c.loop-request.invariant.are_messages
       (subst IsRequest c.request-item.is c.post.ensures.is_message);
-  reader = c.post.ensures.reader ∙ c.loop-request.invariant.reader;
+  inbox = c.post.ensures.inbox ∙ c.loop-request.invariant.inbox;
   same_end = c.post.ensures.same_end ∙ c.loop-request.invariant.same_end;
   same = c.in-Whole.ensures.cause ∙ c.loop-request.invariant.same;
   calm = λ was. (c.post.ensures.calm (c.loop-request.invariant.calm was)).1;

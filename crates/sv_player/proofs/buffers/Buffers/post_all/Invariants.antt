@@ -11,7 +11,7 @@ invariant-loop-request g l = record {
   posted : Posted (g.E.End.told l.fn.end) l.fn.self.outbox (request_frames (take l.request-index l.requests)) (g.E.End.told l.end) l.self.outbox;
   kept : KeepsBack l.fn.self.outbox (length (request_frames (take l.request-index l.requests))) (g.E.End.told l.fn.end) (g.E.End.told l.end);
   are_messages : All IsRequest (take l.request-index l.requests);
-  reader : l.self.reader ≡ l.fn.self.reader;
+  inbox : l.self.inbox ≡ l.fn.self.inbox;
   same_end : which_end (g.E.End.told l.end) ≡ which_end (g.E.End.told l.fn.end);
   same : g.E.End.faults l.end ≡ g.E.End.faults l.fn.end;
   calm : g.E.End.calm l.fn.end → g.E.End.calm l.end;

@@ -31,7 +31,7 @@ returns-in_err-requests-clause-turn g c =
     let s = joins p.client.events in
     let failed = err_from_is_err_and c.from_residual.result c.from_residual.ensures.1 in
     rw (failed.1, failed.2)
-    (stops_early s (events.Join s) p.left.now p c.join.new.self end b.reader b.outbox (before_join p end b.reader b.outbox c.requires.going c.requires.fresh c.requires.empty)
+    (stops_early s (events.Join s) p.left.now p c.join.new.self end b.inbox b.outbox (before_join p end b.inbox b.outbox c.requires.going c.requires.fresh c.requires.empty)
     (join_due p c.requires.going c.requires.needed c.requires.few) (did_nothing (events.Join s) p c.join.new.self c.in_err-requests.ensures.err) (uncut_next p.client.who p.client.events c.requires.going.proper))
 
 pub returns-clause-turn : goal.returns-clause-turn
@@ -43,9 +43,9 @@ returns-clause-turn g c =
     let new = g.E.End.told c.post_all.new.end in
     let same = c.deref.ensures.value ∙ c.in_ok-requests.ensures.requests in
     let sent = subst (λ (rs : List Request). PutBehind c.post_all.result end b.outbox (request_frames rs) new c.post_all.new.self.outbox) same c.post_all.ensures.posts in
-    turn_by s (events.Join s) p.left.now p c.join.new.self end b.reader b.outbox (before_join p end b.reader b.outbox c.requires.going c.requires.fresh c.requires.empty)
+    turn_by s (events.Join s) p.left.now p c.join.new.self end b.inbox b.outbox (before_join p end b.inbox b.outbox c.requires.going c.requires.fresh c.requires.empty)
     (join_due p c.requires.going c.requires.needed c.requires.few)
-    c.post_all.result c.sent_whole.result c.post_all.new.self new c.sent_whole.ensures c.post_all.ensures.reader c.in_ok-requests.ensures.ok sent
+    c.post_all.result c.sent_whole.result c.post_all.new.self new c.sent_whole.ensures c.post_all.ensures.inbox c.in_ok-requests.ensures.ok sent
     (λ whole. subst (All IsRequest) same (c.post_all.ensures.are_messages whole))
 
 pub returns-clause-kept : goal.returns-clause-kept

@@ -25,9 +25,9 @@ returns-clause-turn g c =
     let s = latest_session p.client.events in
     let new = g.E.End.told c.post.new.end in
     let sent = subst (λ (rs : List Request). PutBehind c.post.result end b.outbox (request_frames rs) new c.post.new.self.outbox) c.in_ok-request.ensures.request c.post.ensures.posts in
-    turn_by s events.Leave [] p c.leave.new.self end b.reader b.outbox (before_move s p b end c.requires.at c.requires.ready)
+    turn_by s events.Leave [] p c.leave.new.self end b.inbox b.outbox (before_move s p b end c.requires.at c.requires.ready)
     (leave_due s p b end c.requires.at c.requires.ready c.requires.settled c.requires.done)
-    c.post.result c.sent_whole.result c.post.new.self new c.sent_whole.ensures c.post.ensures.reader c.in_ok-request.ensures.ok sent
+    c.post.result c.sent_whole.result c.post.new.self new c.sent_whole.ensures c.post.ensures.inbox c.in_ok-request.ensures.ok sent
     (λ _. subst (All IsRequest) c.in_ok-request.ensures.request (All-cons IsRequest c.in_ok-request.request [] c.post.ensures.is_message (All-nil IsRequest)))
 
 pub returns-in_err-request-clause-turn : goal.returns-in_err-request-clause-turn
@@ -38,7 +38,7 @@ returns-in_err-request-clause-turn g c =
     let s = latest_session p.client.events in
     let failed = err_from_is_err_and c.from_residual.result c.from_residual.ensures.1 in
     rw (failed.1, failed.2)
-    (stops_early s events.Leave [] p c.leave.new.self end b.reader b.outbox (before_move s p b end c.requires.at c.requires.ready)
+    (stops_early s events.Leave [] p c.leave.new.self end b.inbox b.outbox (before_move s p b end c.requires.at c.requires.ready)
     (leave_due s p b end c.requires.at c.requires.ready c.requires.settled c.requires.done) (did_nothing events.Leave p c.leave.new.self c.in_err-request.ensures.err) c.requires.at.open_is)
 
 pub returns-clause-kept : goal.returns-clause-kept

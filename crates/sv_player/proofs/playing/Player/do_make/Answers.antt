@@ -19,12 +19,12 @@ pub make-requires-clause-count : goal.make-requires-clause-count
 make-requires-clause-count g c = few_counted c.args.self.now c.requires.at.going
 
 pub make-requires-clause-may : goal.make-requires-clause-may
-make-requires-clause-may g c = may_make c.args.self.now c.args.making.now.action.now c.args.making.now.rest.now c.requires.at.going c.requires.ready c.requires.next c.requires.room.0 c.requires.room.1
+make-requires-clause-may g c = may_make c.args.self.now c.args.action.now c.args.rest.now c.requires.at.going c.requires.ready c.requires.next c.requires.room.0 c.requires.room.1
 
 pub post-requires-clause-message : goal.post-requires-clause-message
 post-requires-clause-message g c =
-    make_asks c.args.self.now.client.who c.args.self.now.client.events c.args.making.now.action.now c.in_ok-request.request
-    (may_make c.args.self.now c.args.making.now.action.now c.args.making.now.rest.now c.requires.at.going c.requires.ready c.requires.next c.requires.room.0 c.requires.room.1) c.in_ok-request.ensures.request
+    make_asks c.args.self.now.client.who c.args.self.now.client.events c.args.action.now c.in_ok-request.request
+    (may_make c.args.self.now c.args.action.now c.args.rest.now c.requires.at.going c.requires.ready c.requires.next c.requires.room.0 c.requires.room.1) c.in_ok-request.ensures.request
 
 pub returns-clause-turn : goal.returns-clause-turn
 returns-clause-turn g c =
@@ -34,9 +34,9 @@ returns-clause-turn g c =
     let s = latest_session p.client.events in
     let new = g.E.End.told c.post.new.end in
     let sent = subst (λ (rs : List Request). PutBehind c.post.result end b.outbox (request_frames rs) new c.post.new.self.outbox) c.in_ok-request.ensures.request c.post.ensures.posts in
-    turn_by s (events.Make c.args.making.now.action.now) c.args.making.now.rest.now p c.make.new.self end b.reader b.outbox (before_move s p b end c.requires.at c.requires.ready)
-    (make_due s p b end c.requires.at c.requires.ready c.args.making.now.action.now c.args.making.now.rest.now c.requires.next c.requires.room.0 c.requires.room.1)
-    c.post.result c.sent_whole.result c.post.new.self new c.sent_whole.ensures c.post.ensures.reader c.in_ok-request.ensures.ok sent
+    turn_by s (events.Make c.args.action.now) c.args.rest.now p c.make.new.self end b.inbox b.outbox (before_move s p b end c.requires.at c.requires.ready)
+    (make_due s p b end c.requires.at c.requires.ready c.args.action.now c.args.rest.now c.requires.next c.requires.room.0 c.requires.room.1)
+    c.post.result c.sent_whole.result c.post.new.self new c.sent_whole.ensures c.post.ensures.inbox c.in_ok-request.ensures.ok sent
     (λ _. subst (All IsRequest) c.in_ok-request.ensures.request (All-cons IsRequest c.in_ok-request.request [] c.post.ensures.is_message (All-nil IsRequest)))
 
 pub returns-in_err-request-clause-turn : goal.returns-in_err-request-clause-turn
@@ -47,8 +47,8 @@ returns-in_err-request-clause-turn g c =
     let s = latest_session p.client.events in
     let failed = err_from_is_err_and c.from_residual.result c.from_residual.ensures.1 in
     rw (failed.1, failed.2)
-    (stops_early s (events.Make c.args.making.now.action.now) c.args.making.now.rest.now p c.make.new.self end b.reader b.outbox (before_move s p b end c.requires.at c.requires.ready)
-    (make_due s p b end c.requires.at c.requires.ready c.args.making.now.action.now c.args.making.now.rest.now c.requires.next c.requires.room.0 c.requires.room.1) c.in_err-request.ensures.err c.requires.at.open_is)
+    (stops_early s (events.Make c.args.action.now) c.args.rest.now p c.make.new.self end b.inbox b.outbox (before_move s p b end c.requires.at c.requires.ready)
+    (make_due s p b end c.requires.at c.requires.ready c.args.action.now c.args.rest.now c.requires.next c.requires.room.0 c.requires.room.1) c.in_err-request.ensures.err c.requires.at.open_is)
 
 pub returns-clause-kept : goal.returns-clause-kept
 returns-clause-kept g c =

@@ -9,17 +9,24 @@ use Rattle.sv_player.specs.Carried.{request_frames}
 use Rattle.sv_client.specs.Seen.{latest_session}
 use Rattle.sv_client.specs.declared.fault.TakeFault.TheVariants as faults
 use Rattle.sv_player.specs.declared.playing.Player.{Player}
-use Rattle.sv_player.specs.Sessions.{Stopped, IsFrameFault}
+use Rattle.sv_player.specs.Going.{IsHere}
+use Rattle.sv_player.specs.Sessions.{IsAt, Stopped}
 use Rattle.sv_player.specs.declared.buffers.Buffers.{Buffers}
 use Rattle.sv_player.proofs.Going.{few_counted}
 use Rattle.sv_player.proofs.Wire.{reply_asks}
 use Rattle.sv_player.proofs.Taking.{got_early}
-use Rattle.sv_player.proofs.Receiving.{frame_stops, flush_stops, flush_sends}
+use Rattle.sv_player.proofs.Receiving.{frame_stops, frame_came}
 use Rattle.sv_player.proofs.Answering.{answer_goes, answer_stops}
 use Rattle.sv_player.proofs.playing.Player.take_reply.Goals as goal
 
 pub take-requires-clause-count : goal.take-requires-clause-count
 take-requires-clause-count g c = few_counted c.args.self.now c.requires.at.going
+
+pub skip-requires : goal.skip-requires
+skip-requires g c = frame_came c.args.buffers.now.inbox c.requires.first.payload c.requires.first.first
+
+pub skip-requires-in-Err-Memory : goal.skip-requires-in-Err-Memory
+skip-requires-in-Err-Memory g c = frame_came c.args.buffers.now.inbox c.requires.first.payload c.requires.first.first
 
 pub answer-requires-clause-messages : goal.answer-requires-clause-messages
 answer-requires-clause-messages g c =
@@ -33,7 +40,7 @@ returns-in_err-answer-in-Ok-clause-received g c =
     let b = c.args.buffers.now in
     let end = g.E.End.told c.args.end.now in
     let s = latest_session p.client.events in
-    let mid : Buffers = record { reader = c.skip.new.self; outbox = b.outbox } in
+    let mid : Buffers = record { inbox = c.skip.new.self; outbox = b.outbox } in
     let failed = err_from_is_err_and c.from_residual.result c.from_residual.ensures.1 in
     rw (failed.1, failed.2)
     (answer_stops s c.args.reply p c.take.new.self b end c.requires.at c.requires.here c.requires.waits c.requires.first c.requires.flushed c.in-Ok.ensures.fine
@@ -46,9 +53,9 @@ returns-in_ok-answer-in-Ok-clause-received g c =
     let b = c.args.buffers.now in
     let end = g.E.End.told c.args.end.now in
     let s = latest_session p.client.events in
-    let mid : Buffers = record { reader = c.skip.new.self; outbox = b.outbox } in
+    let mid : Buffers = record { inbox = c.skip.new.self; outbox = b.outbox } in
     answer_goes s c.args.reply p c.take.new.self b end c.requires.at c.requires.here c.requires.waits c.requires.first c.requires.flushed c.in-Ok.ensures.fine
-    c.in-Ok.ensures.ok c.in-Ok.done c.in-Ok.ensures.done mid c.answer.new.buffers (g.E.End.told c.answer.new.end) c.skip.ensures refl c.is_bye-bye.result c.is_bye-bye.ensures c.answer.ensures.reader
+    c.in-Ok.ensures.ok c.in-Ok.done c.in-Ok.ensures.done mid c.answer.new.buffers (g.E.End.told c.answer.new.end) c.skip.ensures refl c.is_bye-bye.result c.is_bye-bye.ensures c.answer.ensures.inbox
     c.in_ok-answer-in-Ok.ensures.posted c.in_ok-answer-in-Ok.ensures.are_messages c.answer.ensures.quiet
 
 pub returns-in_ok-answer-in-Ok-clause-kept : goal.returns-in_ok-answer-in-Ok-clause-kept
@@ -65,30 +72,32 @@ returns-in-Err-Memory-clause-received g c =
     got_early s c.args.reply p c.take.new.self b end c.requires.at c.requires.here c.requires.waits c.requires.first c.skip-in-Err-Memory.new.self c.in-Err-Memory.ensures.known
     c.in-Err-Memory.ensures.part c.skip-in-Err-Memory.ensures
 
-pub returns-in_err-sent_whole-in-Err-clause-received : goal.returns-in_err-sent_whole-in-Err-clause-received
-returns-in_err-sent_whole-in-Err-clause-received g c =
-    let p = c.args.self.now in
-    let b = c.args.buffers.now in
-    let end = g.E.End.told c.args.end.now in
-    let s = latest_session p.client.events in
+-- A refused reply leaves the player as it was.
+pub send_all-requires-clause-at : goal.send_all-requires-clause-at
+send_all-requires-clause-at g c =
     let some : (c.in-Err.fault ≢ faults.Memory) = search rules in
-    let same = c.in-Err.ensures.refused some in
-    let failed = err_from_is_err_and c.from_residual-in_err-sent_whole-in-Err.result c.from_residual-in_err-sent_whole-in-Err.ensures.1 in
-    rw (failed.1, failed.2)
-    (subst (λ (q : Player). Stopped s p q (g.E.End.told c.flush.new.end) c.in_err-sent_whole-in-Err.field-0.0) (sym same)
-    (flush_stops s p b end (g.E.End.told c.flush.new.end) c.flush.new.self.outbox c.flush.result c.in_err-sent_whole-in-Err.field-0.0 c.requires.at c.requires.here c.flush.ensures.sends
-    c.in_err-sent_whole-in-Err.ensures))
+    subst (λ (q : Player). IsAt (latest_session q.client.events) q c.args.buffers.now (g.E.End.told c.args.end.now)) (sym (c.in-Err.ensures.refused some)) c.requires.at
 
-pub returns-in_ok-sent_whole-in-Err-clause-received : goal.returns-in_ok-sent_whole-in-Err-clause-received
-returns-in_ok-sent_whole-in-Err-clause-received g c =
-    let p = c.args.self.now in
-    let b = c.args.buffers.now in
-    let end = g.E.End.told c.args.end.now in
-    let new = g.E.End.told c.flush.new.end in
-    let s = latest_session p.client.events in
+pub send_all-requires-clause-here : goal.send_all-requires-clause-here
+send_all-requires-clause-here g c =
+    let some : (c.in-Err.fault ≢ faults.Memory) = search rules in
+    subst (λ (q : Player). IsHere q.client.who q.client.events q.left.now) (sym (c.in-Err.ensures.refused some)) c.requires.here
+
+pub returns-in_err-send_all-in-Err-clause-received : goal.returns-in_err-send_all-in-Err-clause-received
+returns-in_err-send_all-in-Err-clause-received g c =
+    let some : (c.in-Err.fault ≢ faults.Memory) = search rules in
+    let q = c.take.new.self in
+    let end = g.E.End.told c.send_all.new.end in
+    let failed = err_from_is_err_and c.from_residual-in_err-send_all-in-Err.result c.from_residual-in_err-send_all-in-Err.ensures.1 in
+    rw (failed.1, failed.2)
+    (subst (λ (p : Player). Stopped (latest_session p.client.events) p q end c.in_err-send_all-in-Err.field-0.0) (c.in-Err.ensures.refused some) c.in_err-send_all-in-Err.ensures.still)
+
+pub returns-in_ok-send_all-in-Err-clause-received : goal.returns-in_ok-send_all-in-Err-clause-received
+returns-in_ok-send_all-in-Err-clause-received g c =
     let some : (c.in-Err.fault ≢ faults.Memory) = search rules in
     let same = c.in-Err.ensures.refused some in
-    let all = flush_sends s p b c.flush.new.self end new c.flush.result c.requires.at c.flush.ensures.sends c.in_ok-sent_whole-in-Err.ensures c.flush.ensures.reader in
-    subst (λ (q : Player). Stopped s p q new c.refusal.result) (sym same)
-    (frame_stops s p c.flush.new.self new c.refusal.result all.0 c.requires.here all.1
-    (subst (λ (q : Player). IsFrameFault q.client.who q.client.events (latest_session q.client.events + q.first) c.flush.new.self.reader c.refusal.result) same c.refusal.ensures))
+    let q = c.take.new.self in
+    let end = g.E.End.told c.send_all.new.end in
+    subst (λ (p : Player). Stopped (latest_session p.client.events) p q end c.refusal.result) same
+    (frame_stops (latest_session q.client.events) q c.send_all.new.buffers end c.refusal.result c.in_ok-send_all-in-Err.ensures.still
+    (subst (λ (p : Player). IsHere p.client.who p.client.events p.left.now) (sym same) c.requires.here) c.in_ok-send_all-in-Err.ensures.sent c.refusal.ensures)

@@ -2,8 +2,8 @@
 use Rattle.std.proofs.Common.{◌≡◌, ◌<◌, List, IfOk, OnErr, sym, ◌∙◌, ap, subst}
 use Rattle.sv_journal.specs.declared.entry.Entry.{Entry}
 use Rattle.sv_journal.specs.Answer.{reply_to}
-use Rattle.sv_sequencer.specs.Cores.{core_rules, Keeps}
-use Rattle.sv_sequencer.specs.Decisions.{reply_by}
+use Rattle.sv_core.specs.Cores.{core_rules, Keeps}
+use Rattle.sv_core.specs.Decisions.{reply_by}
 use Rattle.sv_sequencer.specs.Entering.{EnteredReply, NothingEntered}
 use Rattle.sv_sequencer.specs.Step.{SequencerView, history}
 use Rattle.sv_sequencer.proofs.Stepped.{sits-by-view, reply-open, after-reply}

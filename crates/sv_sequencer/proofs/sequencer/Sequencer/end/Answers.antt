@@ -1,9 +1,10 @@
 -- What the check leaves to prove of `Sequencer::end`.
 use Rattle.std.proofs.Common.{◌<◌, List, refl, sym, ◌∙◌, ap, subst}
 use Rattle.sv_journal.specs.declared.entry.Entry.{Entry}
-use Rattle.sv_sequencer.specs.Cores.{Keeps}
+use Rattle.sv_core.specs.Cores.{Keeps}
 use Rattle.sv_sequencer.specs.Entering.{TookEntry}
-use Rattle.sv_sequencer.specs.Step.{SequencerView, history, end_entry}
+use Rattle.sv_journal.specs.History.{end_entry}
+use Rattle.sv_sequencer.specs.Step.{SequencerView, history}
 use Rattle.sv_sequencer.proofs.Stepped.{sits-by-view, after-entry}
 use Rattle.sv_sequencer.proofs.sequencer.Sequencer.end.Goals as goal
 

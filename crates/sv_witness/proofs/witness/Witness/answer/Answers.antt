@@ -2,8 +2,8 @@
 use Rattle.std.proofs.Common.{◌≡◌, List, sym, ◌∙◌, ap, subst}
 use Rattle.sv_journal.specs.declared.entry.Entry.{Entry}
 use Rattle.sv_journal.specs.Answer.{MayBeSession, reply_to_request}
-use Rattle.sv_sequencer.specs.Cores.{Keeps}
-use Rattle.sv_sequencer.specs.Decisions.{reply_by, Holds}
+use Rattle.sv_core.specs.Cores.{Keeps}
+use Rattle.sv_core.specs.Decisions.{reply_by, Holds}
 use Rattle.sv_sequencer.specs.Step.{SequencerView, history}
 use Rattle.sv_witness.specs.Reports.{agreed_history}
 use Rattle.sv_witness.proofs.Decided.{note-done, note-good, note-reply, poll-asked, poll-reply, keep-holds, keep-reply, keep-quiet}

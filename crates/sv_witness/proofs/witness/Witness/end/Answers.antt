@@ -2,8 +2,9 @@
 use Rattle.std.proofs.Common.{List, ◌∷◌, reverse, sym, ◌∙◌, ap, subst}
 use Rattle.sv_journal.specs.Answer.{MayBeSession}
 use Rattle.sv_journal.specs.declared.entry.Entry.{Entry}
-use Rattle.sv_sequencer.specs.Cores.{Keeps}
-use Rattle.sv_sequencer.specs.Step.{SequencerView, history, end_entry}
+use Rattle.sv_core.specs.Cores.{Keeps}
+use Rattle.sv_journal.specs.History.{end_entry}
+use Rattle.sv_sequencer.specs.Step.{SequencerView, history}
 use Rattle.sv_witness.specs.Reports.{agreed_history}
 use Rattle.sv_witness.proofs.Stepped.{after-end, ended-agreed, grown}
 use Rattle.sv_witness.proofs.witness.Witness.end.Goals as goal

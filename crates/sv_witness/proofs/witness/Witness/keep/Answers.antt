@@ -3,8 +3,8 @@ use Rattle.std.proofs.Common.{List, OnErr, refl, sym, ◌∙◌, ap, subst}
 use Rattle.std.proofs.lemmas.Result.{IfOk-weaker, on_err_weaker}
 use Rattle.sv_journal.specs.Answer.{MayBeSession}
 use Rattle.sv_journal.specs.declared.entry.Entry.{Entry}
-use Rattle.sv_sequencer.specs.Cores.{Keeps}
-use Rattle.sv_sequencer.specs.Decisions.{Holds}
+use Rattle.sv_core.specs.Cores.{Keeps}
+use Rattle.sv_core.specs.Decisions.{Holds}
 use Rattle.sv_sequencer.specs.Entering.{NothingEntered}
 use Rattle.sv_sequencer.specs.Step.{SequencerView, history}
 use Rattle.sv_witness.specs.Reports.{agreed_history}

@@ -7,8 +7,8 @@ use Rattle.sv_journal.specs.declared.entry.Entry.{Entry}
 use Rattle.sv_journal.specs.History.{client_of}
 use Rattle.sv_journal.specs.Answer.{MayBeSession, is_bad_done}
 use Rattle.sv_journal.specs.Serving.{noted_after}
-use Rattle.sv_sequencer.specs.Cores.{core_rules, session_at, queue_of}
-use Rattle.sv_sequencer.specs.Decisions.{results_in}
+use Rattle.sv_core.specs.Cores.{core_rules, session_at, queue_of}
+use Rattle.sv_core.specs.Decisions.{results_in}
 use Rattle.sv_sequencer.specs.Entering.{NothingEntered}
 use Rattle.sv_sequencer.specs.Step.{SequencerView, history}
 use Rattle.sv_witness.specs.declared.testimony.Asker.{Asker}

@@ -1,0 +1,2 @@
+-- The definitions of lists, boxes and texts.
+pub mod formers

@@ -1,6 +1,0 @@
--- What gets smaller in `mark_all`.
-use Rattle.std.proofs.Common.{length}
-use Rattle.sv_sequencer.proofs.relays.+mark_all.Given as goal
-
-abbrev pub decreases-mark_all : goal.decreases-mark_all
-decreases-mark_all l = length l.positions.now

@@ -1,5 +1,0 @@
--- The ghost arguments of `relay_in`.
-use Rattle.sv_sequencer.proofs.relays.relay_in.Given as goal
-
-abbrev pub ghosts-counted : goal.ghosts-counted
-ghosts-counted a = record { name = a.blank.name; parts = a.blank.parts }

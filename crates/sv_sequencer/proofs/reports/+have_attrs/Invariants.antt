@@ -1,6 +1,0 @@
--- What gets smaller in `have_attrs`.
-use Rattle.std.proofs.Common.{length}
-use Rattle.sv_sequencer.proofs.reports.+have_attrs.Given as goal
-
-abbrev pub decreases-have_attrs : goal.decreases-have_attrs
-decreases-have_attrs l = length l.values.now

@@ -1,6 +1,0 @@
--- What gets smaller in `is_one_bad`.
-use Rattle.std.proofs.Common.{length}
-use Rattle.sv_sequencer.proofs.reports.+is_one_bad.Given as goal
-
-abbrev pub decreases-is_one_bad : goal.decreases-is_one_bad
-decreases-is_one_bad g l = length l.results.now

@@ -1,5 +1,0 @@
--- The ghost arguments of `are_bad`.
-use Rattle.sv_sequencer.proofs.reports.are_bad.Given as goal
-
-abbrev pub ghosts-is_any_bad : goal.ghosts-is_any_bad
-ghosts-is_any_bad a = record { name = a.blank.name; parts = a.blank.parts }

@@ -1,5 +1,0 @@
--- The ghost arguments of `Core::decide_accepted`.
-use Rattle.sv_sequencer.proofs.server_core.Core.decide_accepted.Given as goal
-
-abbrev pub ghost-is_committed : goal.ghost-is_committed
-ghost-is_committed g a = g.h

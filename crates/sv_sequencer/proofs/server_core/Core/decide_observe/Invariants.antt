@@ -1,5 +1,0 @@
--- The ghost arguments of `Core::decide_observe`.
-use Rattle.sv_sequencer.proofs.server_core.Core.decide_observe.Given as goal
-
-abbrev pub ghost-shape : goal.ghost-shape
-ghost-shape g a = g.h

@@ -1,5 +1,0 @@
--- The ghost arguments of `Core::decide_poll`.
-use Rattle.sv_sequencer.proofs.server_core.Core.decide_poll.Given as goal
-
-abbrev pub ghost-orphan : goal.ghost-orphan
-ghost-orphan g a = g.h

@@ -1,5 +1,0 @@
--- The ghost arguments of `Core::is_missing`.
-use Rattle.sv_sequencer.proofs.server_core.Core.is_missing.Given as goal
-
-abbrev pub ghosts-is_missing : goal.ghosts-is_missing
-ghosts-is_missing a = record { name = a.blank.name; parts = a.blank.parts }
