@@ -3,7 +3,7 @@ use Rattle.std.specs.Prelude.{ℕ, List, [], ◌∷◌, Option, Some, None, opti
 use Rattle.std.specs.Str.{bytes_eq}
 use Rattle.sv_ending.specs.Numbers.{number_between}
 use Rattle.sv_audit.specs.declared.words.Audit.{Audit}
-use Rattle.sv_audit.specs.declared.words.Place.{Place}
+use Rattle.sv_audit.specs.declared.words.ObjectAtPosition.{ObjectAtPosition}
 use Rattle.sv_audit.specs.declared.words.Question.{Question as Asks}
 use Rattle.sv_audit.specs.declared.words.Question.TheVariants as asks
 
@@ -24,7 +24,7 @@ pub record Asked : Type 0 where
   pub report : List ℕ
   pub question : Question
 
-abbrev pub place_by : Place → Asking
+abbrev pub place_by : ObjectAtPosition → Asking
 place_by place = record { object = place.object.0; pos = place.pos }
 
 abbrev pub question_by : Asks → Question

@@ -12,7 +12,7 @@ const WORDS_LINE: &[u8] = b"words: check SCENARIO REPORT\n";
 
 /// An object, and a position among the accepted actions.
 #[derive(Clone, Copy, Debug, Drop)]
-pub(crate) struct Place {
+pub(crate) struct ObjectAtPosition {
     pub(crate) object: ObjectId,
     pub(crate) pos: u32,
 }
@@ -25,7 +25,7 @@ pub(crate) enum Question {
     /// The world at its end.
     World,
     /// Why the object has its value at the position.
-    Why(Place),
+    Why(ObjectAtPosition),
 }
 
 /// What is asked for, of a scenario and a report.
@@ -36,18 +36,22 @@ pub(crate) struct Audit<'a> {
     pub(crate) question: Question,
 }
 
-fn place_of(object: &str, pos: &str) -> Option<Place>
+fn place_of(object: &str, pos: &str) -> Option<ObjectAtPosition>
     ensures { option_map place_by result ≡ place_if (number_between 0 65535 object.now) (number_between 0 4294967295 pos.now) }
 {
     let object = number_in(object, 0, 65_535)?;
     let pos = number_in(pos, 0, u32::MAX)?;
-    Some(Place {
+    Some(ObjectAtPosition {
         object: ObjectId(object as u16),
         pos,
     })
 }
 
-fn why_of<'a>(scenario: &'a str, report: &'a str, place: Option<Place>) -> Option<Audit<'a>>
+fn why_of<'a>(
+    scenario: &'a str,
+    report: &'a str,
+    place: Option<ObjectAtPosition>,
+) -> Option<Audit<'a>>
     ensures { option_map asked_by result ≡ why_if scenario.entry.now report.entry.now (option_map place_by place) }
 {
     Some(Audit {

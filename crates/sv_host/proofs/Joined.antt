@@ -9,7 +9,7 @@ use Rattle.sv_keys.specs.Keeping.{KeysView, AreHeld, has_key}
 use Rattle.sv_keeper.specs.Views.{KeeperView}
 use Rattle.sv_log.specs.Pictures.{Disk}
 use Rattle.sv_log.specs.declared.folder.Folder.{Ghosts}
-use Rattle.sv_ports.specs.Told.{Told}
+use Rattle.sv_ports.specs.Traffic.{Traffic}
 use Rattle.sv_office.specs.Admitting.{is_admitted, is_observe, is_stewards_number, number_in, shows_key, steward_number}
 use Rattle.sv_office.specs.Entering.{AreAdded, CameOfHeld, GoesOn, IsEndOf, IsReport, IsStewards, MayEnter, is_report}
 use Rattle.sv_office.specs.Renewing.{AreHeldFor, KeepsKeys}
@@ -20,7 +20,7 @@ use Rattle.sv_office.proofs.Renewed.{held_as, kept_same, kept_then}
 use Rattle.sv_host.specs.Joining.{IsNoJoin, JoinByKeys, LetsIn, LetsNobodyIn, LetsStewardIn, MayJoin, MayJoinAs}
 use Rattle.sv_host.specs.Causes.{HasStopped}
 use Rattle.sv_host.specs.Rooms.{IsAnEnd}
-use Rattle.sv_host.specs.Served.{BreaksOff}
+use Rattle.sv_host.specs.Served.{HostBreaksOff}
 use Rattle.sv_host.specs.Staffing.{AreKeysFor, AreRead}
 use Rattle.sv_host.specs.declared.ending.Stopped.{Stopped}
 
@@ -238,7 +238,7 @@ module _ {contents now : List ℕ → Option (List ℕ)} (named : Option (List �
   may_before : (e : Entry) → MayJoin now named e → MayJoin contents named e
   may_before e may = may_as files named (number_in e.request) may
 
-  pub stopped_before : {F : Type 0} (disk : F → Disk) (is_honest : F → Type 0) (first : KeeperView F) (before after : Told) (name : List ℕ) (stopped : Stopped)
+  pub stopped_before : {F : Type 0} (disk : F → Disk) (is_honest : F → Type 0) (first : KeeperView F) (before after : Traffic) (name : List ℕ) (stopped : Stopped)
       → HasStopped disk is_honest (MayJoin now named) first before after name stopped → HasStopped disk is_honest (MayJoin contents named) first before after name stopped
   stopped_before disk is_honest first before after name stopped was = record {
     keeper = was.keeper;
@@ -253,7 +253,7 @@ module _ {contents now : List ℕ → Option (List ℕ)} (named : Option (List �
     commit = was.commit;
   }
 
-  pub broke_before : (before after : Told) (first : WorldView) → BreaksOff (MayJoin now named) before after first → BreaksOff (MayJoin contents named) before after first
+  pub broke_before : (before after : Traffic) (first : WorldView) → HostBreaksOff (MayJoin now named) before after first → HostBreaksOff (MayJoin contents named) before after first
   broke_before before after first broke = record {
     last = broke.last;
     goes = broke.goes;

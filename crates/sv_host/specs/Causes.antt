@@ -19,7 +19,7 @@ use Rattle.sv_log.specs.declared.reading.Cause.{Cause}
 use Rattle.sv_log.specs.declared.reading.Cause.TheVariants as causes
 use Rattle.sv_keys.specs.KeyLines.{IsWrongAt}
 use Rattle.sv_keeper.specs.Histories.{HoldsFirst}
-use Rattle.sv_keeper.specs.Keeping.{AreSettled}
+use Rattle.sv_keeper.specs.Keeping.{AreDurable}
 use Rattle.sv_keeper.specs.Opened.{start_of, IsOpened, WhyNotOpened}
 use Rattle.sv_keeper.specs.Views.{KeeperView}
 use Rattle.sv_keeper.specs.declared.fault.LineCause.{LineCause}
@@ -30,13 +30,13 @@ use Rattle.sv_worldfile.specs.declared.world_file.Results.{Results}
 use Rattle.sv_worldfile.specs.declared.world_file.Results.TheVariants as results
 use Rattle.sv_worldfile.specs.declared.world_file.WorldFile.{WorldFile}
 use Rattle.sv_worldfile.specs.WorldFiles.{most_bytes, world_file_of}
-use Rattle.sv_ports.specs.Told.{Told, nothing_told}
+use Rattle.sv_ports.specs.Traffic.{Traffic, nothing_told}
 use Rattle.sv_office.specs.Admitting.{steward_number}
 use Rattle.sv_office.specs.Entering.{AreAdded}
 use Rattle.sv_host.specs.Inputs.{WasToldToStop}
 use Rattle.sv_host.specs.Joining.{MayJoin}
 use Rattle.sv_host.specs.Rooms.{Continues, HaveBegun, IsAnEnd}
-use Rattle.sv_host.specs.Served.{BreaksOff, OnlyWrote}
+use Rattle.sv_host.specs.Served.{HostBreaksOff, OnlyWrote}
 use Rattle.sv_host.specs.Words.{Asked, Ask, AsksNothing}
 use Rattle.sv_host.specs.declared.ending.HostEnd.{HostEnd}
 use Rattle.sv_host.specs.declared.ending.HostEnd.TheVariants as endings
@@ -244,7 +244,7 @@ module _ {F : Type 0} (disk : F → Disk) (is_honest : F → Type 0) where
   -- lines.
   pub record IsAtEnd (keeper : KeeperView F) : Type 0 where
     pub ended : open_sessions keeper.world.history ≡ []
-    pub settled : AreSettled disk is_honest keeper
+    pub durable : AreDurable disk is_honest keeper
     pub legal : LegalFor (living keeper.world.stewardship) keeper.world.rules keeper.world.history
     pub order : AreInOrder keeper.world.history
     pub crash : is_honest keeper.log.segment.folder → (world : List ℕ) → shown disk keeper.log world_name ≡ Some world
@@ -253,7 +253,7 @@ module _ {F : Type 0} (disk : F → Disk) (is_honest : F → Type 0) where
 
   -- The world was served until the input told to stop: it went on, who joined might, and what was written is what connections were told before the last
   -- Ends. This is told of it: the folder's name, how many entries there are, and the commit.
-  pub record HasStopped (may_join : Entry → Type 0) (first : KeeperView F) (before after : Told) (name : List ℕ) (stopped : Stopped) : Type 0 where
+  pub record HasStopped (may_join : Entry → Type 0) (first : KeeperView F) (before after : Traffic) (name : List ℕ) (stopped : Stopped) : Type 0 where
     pub keeper : KeeperView F
     pub goes : Continues first.world keeper.world
     pub joins : AreAdded may_join first.world.history keeper.world.history
@@ -290,7 +290,7 @@ module _ {F : Type 0} (disk : F → Disk) (is_honest : F → Type 0) where
       pub first : KeeperView F
       pub begun : IsOpened disk is_honest (disk over.folder) over.bytes (start_in over.file) first
 
-    module _ (before after : Told) where
+    module _ (before after : Traffic) where
       -- The log of the folder was opened, and its world served until it was to stop.
       pub record WasServed (asked : Asked) (stopped : Stopped) : Type 0 where
         pub log : HasOpened asked
@@ -299,7 +299,7 @@ module _ {F : Type 0} (disk : F → Disk) (is_honest : F → Type 0) where
       -- The log of the folder was opened, and its world served until it broke off.
       pub record WasServedFirst (asked : Asked) : Type 0 where
         pub log : HasOpened asked
-        pub broke : BreaksOff (MayJoin contents asked.keys) before after log.first.world
+        pub broke : HostBreaksOff (MayJoin contents asked.keys) before after log.first.world
 
       -- What was written where it was not told to stop: nothing through any door, or what connections of the folder's world were told.
       abbrev pub WroteFirst : Asked → Type 0

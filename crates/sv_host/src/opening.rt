@@ -31,7 +31,7 @@ use sv_core::Opened;
 use sv_keeper::{Keeper, LineCause, OpenFault, Opening};
 use sv_keys::{Keys, KeysFault};
 use sv_living::Stewards;
-use sv_log::{Cause, Folder, Refusal};
+use sv_log::{Cause, Folder, LogRefusal};
 use sv_office::{Ages, Manners, Office, STEWARD_NUMBER, Steward};
 use sv_site::Counts;
 use sv_world::Shape;
@@ -136,7 +136,7 @@ fn file_place(alloc: Global, file: &str, line: u64, word: &str) -> Result<String
     }
 }
 
-fn refused(alloc: Global, folder: &str, refusal: &Refusal) -> Result<HostEnd, AllocError>
+fn refused(alloc: Global, folder: &str, refusal: &LogRefusal) -> Result<HostEnd, AllocError>
     ensures { IfOk result (EndsUnopened folder.now (OpenFault.Refused refusal.now)) }
 {
     match refusal.cause {

@@ -7,7 +7,7 @@ ghost use Rattle.sv_journal.specs.Laws.{AreWithinLimits};
 ghost use Rattle.sv_living.specs.Sessions.{open_sessions, AreInOrder};
 ghost use Rattle.sv_living.specs.World.{heeded_in};
 ghost use Rattle.sv_worldfile.specs.Limits.{IsGoodWorldFile};
-ghost use Rattle.sv_ports.specs.Told.{nothing_told};
+ghost use Rattle.sv_ports.specs.Traffic.{nothing_told};
 ghost use Rattle.sv_office.specs.Offices.{session_of};
 ghost use Rattle.sv_office.specs.Renewing.{AreHeldFor};
 ghost use Rattle.sv_host.specs.Causes.{EndsFor, HasStopped, IsAtEnd, IsHalted, IsPrepared, WasServed, WhyBehind, WhyEnds, WhyStopped, WroteFirst};
@@ -15,7 +15,7 @@ ghost use Rattle.sv_host.specs.Inputs.{WasToldToStop};
 ghost use Rattle.sv_host.specs.Joining.{JoinByKeys, LetsStewardIn, MayJoin};
 ghost use Rattle.sv_host.specs.Lines.{standing_line};
 ghost use Rattle.sv_host.specs.Rooms.{AnyEntry, AreServed, Continues, IsAnEnd};
-ghost use Rattle.sv_host.specs.Served.{BreaksOff, OnlyWrote};
+ghost use Rattle.sv_host.specs.Served.{HostBreaksOff, OnlyWrote};
 ghost use Rattle.sv_host.specs.Staffing.{AreRead, IsOfficeFor, IsStaffFor};
 ghost use Rattle.sv_host.specs.Statuses.{EndsBy, IsEarly, IsStatus, IsToldLast};
 ghost use Rattle.sv_host.specs.Words.{AsksNothing, asked_by};
@@ -74,7 +74,7 @@ fn door_of<D: Doors>(alloc: Global, options: &Options<'_>, doors: &mut D) -> Res
 
 /// What the server works with. Each is borrowed for itself.
 #[derive(Drop)]
-pub struct Place<'r, 'd, 's, 'c, 'l, 'e, R, D, S, C, L, E> {
+pub struct HostParts<'r, 'd, 's, 'c, 'l, 'e, R, D, S, C, L, E> {
     pub rt: &'r R,
     pub alloc: Global,
     pub random: RandomState,
@@ -144,7 +144,7 @@ fn tell_door<D: Doors, E: Sink, F: Folder>(
 // Serves who comes through a door that was opened, until it is told to stop, and tells where it is.
 #[tactic(auto, using(crate::proofs::Through::nothing_wrote, crate::proofs::Written::continues_same, crate::proofs::Joined::join_same))]
 fn serve_door<R: Wait, D: Doors, S, C: Clock, L: Files, E: Sink, F: Folder>(
-    place: &mut Place<'_, '_, '_, '_, '_, '_, R, D, S, C, L, E>,
+    place: &mut HostParts<'_, '_, '_, '_, '_, '_, R, D, S, C, L, E>,
     options: &Options<'_>,
     ports: &mut D::P,
     host: &mut Host<F>,
@@ -181,7 +181,7 @@ fn serve_door<R: Wait, D: Doors, S, C: Clock, L: Files, E: Sink, F: Folder>(
 // The door is opened, it is served, and the door is closed.
 #[tactic(auto, using(crate::proofs::Top2::halted_why, crate::proofs::Through::nothing_wrote, crate::proofs::Through::between_wrote, crate::proofs::Through::between_asked, crate::proofs::Written::continues_same, crate::proofs::Joined::join_same))]
 fn serve_between<R: Wait, D: Doors, S, C: Clock, L: Files, E: Sink, F: Folder>(
-    place: &mut Place<'_, '_, '_, '_, '_, '_, R, D, S, C, L, E>,
+    place: &mut HostParts<'_, '_, '_, '_, '_, '_, R, D, S, C, L, E>,
     options: &Options<'_>,
     host: &mut Host<F>,
 ) -> Result<(), HostEnd>
@@ -207,7 +207,7 @@ fn serve_between<R: Wait, D: Doors, S, C: Clock, L: Files, E: Sink, F: Folder>(
 // The steward joins, and then it is served, until it is told to stop.
 #[tactic(auto, using(crate::proofs::Top2::halted_why, crate::proofs::Through::nothing_wrote, crate::proofs::Written::continues_then))]
 fn serve_at<R: Wait, D: Doors, S, C: Clock, L: Files, E: Sink, F: Folder>(
-    place: &mut Place<'_, '_, '_, '_, '_, '_, R, D, S, C, L, E>,
+    place: &mut HostParts<'_, '_, '_, '_, '_, '_, R, D, S, C, L, E>,
     options: &Options<'_>,
     host: &mut Host<F>,
 ) -> Result<(), HostEnd>
@@ -229,7 +229,7 @@ fn serve_at<R: Wait, D: Doors, S, C: Clock, L: Files, E: Sink, F: Folder>(
 // Serves a world, and answers how it stands then.
 #[tactic(auto, using(crate::proofs::Through::nothing_wrote, crate::proofs::Written::continues_same, crate::proofs::Joined::join_same))]
 fn serve_host<R: Wait, D: Doors, S, C: Clock, L: Files, E: Sink, F: Folder>(
-    place: &mut Place<'_, '_, '_, '_, '_, '_, R, D, S, C, L, E>,
+    place: &mut HostParts<'_, '_, '_, '_, '_, '_, R, D, S, C, L, E>,
     options: &Options<'_>,
     host: &mut Host<F>,
 ) -> Result<Stopped, HostEnd>
@@ -257,7 +257,7 @@ fn serve_host<R: Wait, D: Doors, S, C: Clock, L: Files, E: Sink, F: Folder>(
 
 // Serves a kept world.
 fn serve_kept<R: Wait, D: Doors, S, C: Clock, L: Files, E: Sink, F: Folder + Drop>(
-    place: &mut Place<'_, '_, '_, '_, '_, '_, R, D, S, C, L, E>,
+    place: &mut HostParts<'_, '_, '_, '_, '_, '_, R, D, S, C, L, E>,
     options: &Options<'_>,
     keeper: Keeper<F>,
     staff: Staff,
@@ -271,7 +271,7 @@ fn serve_kept<R: Wait, D: Doors, S, C: Clock, L: Files, E: Sink, F: Folder + Dro
         (D.told place.old.doors.now) (D.told place.new.doors.now) options.now.folder.now) }
     ensures why { IfErr result (WhyStopped (D.refuses place.old.doors.now options.now.at.now) options.now.at.now) }
     ensures broke { (named : Option (List ℕ)) → AreHeldFor (L.contents place.old.files.now) named staff.keys
-        → BreaksOff (MayJoin (L.contents place.old.files.now) named) (D.told place.old.doors.now) (D.told place.new.doors.now) keeper.world }
+        → HostBreaksOff (MayJoin (L.contents place.old.files.now) named) (D.told place.old.doors.now) (D.told place.new.doors.now) keeper.world }
 {
     tell_keeper("start", options.folder, &keeper, place.err);
     keeper.is_lawful();
@@ -286,7 +286,7 @@ fn serve_kept<R: Wait, D: Doors, S, C: Clock, L: Files, E: Sink, F: Folder + Dro
 // Opens the folder, and serves its world.
 #[tactic(auto, using(crate::proofs::Top2::folder_behind, crate::proofs::Rules::limits_in))]
 fn serve_prepared<R: Wait, D: Doors, S: Folders, C: Clock, L: Files, E: Sink>(
-    place: &mut Place<'_, '_, '_, '_, '_, '_, R, D, S, C, L, E>,
+    place: &mut HostParts<'_, '_, '_, '_, '_, '_, R, D, S, C, L, E>,
     options: &Options<'_>,
     prepared: Prepared,
     staff: Staff,
@@ -318,7 +318,7 @@ fn serve_prepared<R: Wait, D: Doors, S: Folders, C: Clock, L: Files, E: Sink>(
 // Reads the files, and serves what they ask for.
 #[tactic(auto, using(crate::proofs::Top2::keys_before, crate::proofs::Top2::late))]
 fn run<R: Wait, D: Doors, S: Folders, C: Clock, L: Files, E: Sink>(
-    place: &mut Place<'_, '_, '_, '_, '_, '_, R, D, S, C, L, E>,
+    place: &mut HostParts<'_, '_, '_, '_, '_, '_, R, D, S, C, L, E>,
     options: &Options<'_>,
 ) -> Result<Stopped, HostEnd>
     ensures done { IfOk result (WasServed S.F.disk S.F.is_honest (S.opens place.old.folders.now) (L.contents place.old.files.now)
@@ -340,7 +340,7 @@ fn run<R: Wait, D: Doors, S: Folders, C: Clock, L: Files, E: Sink>(
 }
 
 fn ending_of<R: Wait, D: Doors, S: Folders, C: Clock, L: Files, E: Sink>(
-    place: &mut Place<'_, '_, '_, '_, '_, '_, R, D, S, C, L, E>,
+    place: &mut HostParts<'_, '_, '_, '_, '_, '_, R, D, S, C, L, E>,
     words: &[String],
 ) -> HostEnd
     ensures words { AsksNothing (map string_bytes words.now) → (result ≡ endings.Words) ⊎ (result ≡ endings.Memory) }
@@ -365,9 +365,9 @@ fn ending_of<R: Wait, D: Doors, S: Folders, C: Clock, L: Files, E: Sink>(
 /// Serves a living world, and answers the status with which the program ends.
 ///
 /// The words leave out the program's own name. They are `host WORLD DIR` and options. The status is 0 where it was told to stop: then each
-/// session has its End, and its log is settled.
+/// session has its End, and its log is durable.
 pub fn run_host<R: Wait, D: Doors, S: Folders, C: Clock, L: Files, E: Sink>(
-    place: &mut Place<'_, '_, '_, '_, '_, '_, R, D, S, C, L, E>,
+    place: &mut HostParts<'_, '_, '_, '_, '_, '_, R, D, S, C, L, E>,
     words: &[String],
 ) -> u8
     ensures range { IsStatus result }

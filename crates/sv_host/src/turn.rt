@@ -113,7 +113,7 @@ impl<F: Folder> Host<F> {
         self.look_at_held()
     }
 
-    // What is ready is stepped, all lines are settled at once, and then the replies go out.
+    // What is ready is stepped, all lines are durable at once, and then the replies go out.
     fn serve_all<P: Ports, L: Files, E: Sink>(
         &mut self,
         outside: &mut Outside<'_, '_, '_, P, L, E>,

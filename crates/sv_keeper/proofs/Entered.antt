@@ -62,7 +62,7 @@ module _ {F : Type 0} (disk : F → Disk) (is_honest : F → Type 0) (old : Keep
     sizes = is.sizes;
     lines = text-append old.group line is.lines (line_text v.rules.world.shape entry_after v.history);
     part = omega (arith, is.part);
-    settled = λ none. absurd (some none);
+    durable = λ none. absurd (some none);
     opened = is.opened;
     text = λ honest. sym (append_assoc (log_text disk old.log) old.group line) ∙ ap (λ (l : List ℕ). l ++ line) (is.text honest);
     on_disk = λ honest.

@@ -1,6 +1,6 @@
 //! Connections over TCP.
 ghost use Rattle.std.specs.Prelude.{◌≡◌, length, IfOk};
-ghost use Rattle.sv_ports.specs.Told.{nothing_told, Accepts, ReadsSome, WritesSome};
+ghost use Rattle.sv_ports.specs.Traffic.{nothing_told, Accepts, ReadsSome, WritesSome};
 ghost use Rattle.sv_mio.specs.Answers.{ReadAnswer, WroteAnswer};
 ghost use Rattle.sv_mio.specs.Ports.{told_of};
 
@@ -13,7 +13,7 @@ use std::io::{self, ErrorKind, Read, Write};
 use std::net::{Net, SocketAddr};
 use std::time::Duration;
 use sv_bytes::{read_again, write_again};
-use sv_keeper::Settled;
+use sv_keeper::Durable;
 use sv_ports::{Accepted, Numbered, Pieces, PortRead, PortWrote, Ports, Ready, Waited};
 
 const DOOR: Token = Token(usize::MAX);
@@ -266,7 +266,7 @@ impl<I: Read + Drop> Ports for MioPorts<I> {
         answer
     }
 
-    fn write(&mut self, number: u64, piece: &[u8], _settled: &Settled<'_>) -> PortWrote {
+    fn write(&mut self, number: u64, piece: &[u8], _settled: &Durable<'_>) -> PortWrote {
         let Some(connection) = self.connections.get(number) else {
             return PortWrote::Failed;
         };

@@ -3,7 +3,7 @@ use Rattle.std.proofs.Common.{◌≡◌, ◌≢◌, ◌⊎◌, inl, inr, ℕ, Bo
 use Rattle.sv_wire.specs.declared.message.Request.{Request}
 use Rattle.sv_living.specs.World.{WorldView}
 use Rattle.sv_log.specs.declared.folder.Folder.{Ghosts}
-use Rattle.sv_ports.specs.Told.{Told, bytes_of, Reads}
+use Rattle.sv_ports.specs.Traffic.{Traffic, bytes_of, Reads}
 use Rattle.sv_ports.specs.declared.ports.PortRead.{PortRead}
 use Rattle.sv_ports.specs.declared.ports.PortRead.TheVariants as reads
 use Rattle.sv_ports.proofs.Bytes.{bytes-more, own_more}
@@ -160,11 +160,11 @@ module _ {F : Type 0} {k : Ghosts F} where
       → AreApart next.session (session_of b.steward)
   turn_apart a b guest next turn away s has is = apart_stays a.keeper.world a.sound.begun away (keeps_one turn.asked) s has (sym turn.steward ∙ is)
 
-nothing_more : (number : ℕ) (told : Told) → OnlyHeard number told told
+nothing_more : (number : ℕ) (told : Traffic) → OnlyHeard number told told
 nothing_more number told = record { more = []; own = sym (append-nil (bytes_of number told.heard)); others = λ other apart. refl; rest = refl }
 
-pub heard_piece : (number : ℕ) (old new : Told) (piece : List ℕ) → new ≡ record old { heard = old.heard ++ (number, piece) ∷ [] } → OnlyHeard number old new
-heard_piece number old new piece is = subst (λ (told : Told). OnlyHeard number old told) (sym is) (record {
+pub heard_piece : (number : ℕ) (old new : Traffic) (piece : List ℕ) → new ≡ record old { heard = old.heard ++ (number, piece) ∷ [] } → OnlyHeard number old new
+heard_piece number old new piece is = subst (λ (told : Traffic). OnlyHeard number old told) (sym is) (record {
   more = piece;
   own = own_more number old.heard piece;
   others = λ other apart. bytes-more other number old.heard piece
@@ -172,21 +172,21 @@ heard_piece number old new piece is = subst (λ (told : Told). OnlyHeard number 
   rest = refl;
 })
 
-pub heard_nothing : (number : ℕ) (old new : Told) → new ≡ old → OnlyHeard number old new
-heard_nothing number old new same = subst (λ (told : Told). OnlyHeard number old told) (sym same) (nothing_more number old)
+pub heard_nothing : (number : ℕ) (old new : Traffic) → new ≡ old → OnlyHeard number old new
+heard_nothing number old new same = subst (λ (told : Traffic). OnlyHeard number old told) (sym same) (nothing_more number old)
 
-pub reads_heard : (number : ℕ) (old new : Told) (into : List ℕ) (answer : PortRead) → Reads old number into answer new → OnlyHeard number old new
+pub reads_heard : (number : ℕ) (old new : Traffic) (into : List ℕ) (answer : PortRead) → Reads old number into answer new → OnlyHeard number old new
 reads_heard number old new into (reads.Got n) is = heard_piece number old new (take n into) is.2
 reads_heard number old new into reads.NotYet is = heard_nothing number old new is
 reads_heard number old new into reads.Ended is = heard_nothing number old new is
 reads_heard number old new into reads.Failed is = heard_nothing number old new is
 
-pub heard_then : (number : ℕ) (old mid new : Told) → OnlyHeard number old mid → OnlyHeard number mid new → OnlyHeard number old new
+pub heard_then : (number : ℕ) (old mid new : Traffic) → OnlyHeard number old mid → OnlyHeard number mid new → OnlyHeard number old new
 heard_then number old mid new first next = record {
   more = first.more ++ next.more;
   own = next.own ∙ ap (λ (bytes : List ℕ). bytes ++ next.more) first.own ∙ append_assoc (bytes_of number old.heard) first.more next.more;
   others = λ other apart. next.others other apart ∙ first.others other apart;
-  rest = next.rest ∙ ap (λ (told : Told). record told { heard = new.heard }) first.rest;
+  rest = next.rest ∙ ap (λ (told : Traffic). record told { heard = new.heard }) first.rest;
 }
 
 -- A connection of which more was heard twice.

@@ -23,7 +23,7 @@ use Rattle.sv_client.specs.Answers.{got_now}
 use Rattle.sv_client.specs.Seen.{newly_asked}
 use Rattle.sv_client.specs.Taking.{Identity}
 use Rattle.sv_office.specs.Admitting.{number_in, steward_number}
-use Rattle.sv_office.specs.Entering.{AreAdded, GrowsBy, AsksIn, IsEntry, WasEntered}
+use Rattle.sv_office.specs.Entering.{AreAdded, GrowsBy, AsksIn, IsEntryOf, WasEntered}
 use Rattle.sv_office.specs.Knowing.{IsAlone, IsAloneIn, IsTrusted, IsUpToDate}
 use Rattle.sv_office.specs.Offices.{AreApart, session_of}
 use Rattle.sv_office.specs.Telling.{IsServed, IsServedIn}
@@ -58,7 +58,7 @@ up_to_date v w steward same is one has behind =
     is one has behind ∙ sym (told_as v w one.session (subst (λ (o : Option Steward). (t : ℕ) → session_of o ≡ Some t → told_to w.history t ≡ told_to v.history t) has same))
 
 -- Something was asked in a session that is not the steward's.
-pub told_asking : (v w : WorldView) (s : ℕ) (request : Request) (mine : Option ℕ) → GrowsBy (IsEntry s request) v w → AreApart (Some s) mine
+pub told_asking : (v w : WorldView) (s : ℕ) (request : Request) (mine : Option ℕ) → GrowsBy (IsEntryOf s request) v w → AreApart (Some s) mine
     → (t : ℕ) → mine ≡ Some t → told_to w.history t ≡ told_to v.history t
 told_asking v w s request mine on away t is = told_beside on.added t (λ e entered same. away s refl (is ∙ ap (λ (x : ℕ). Some x) (sym same ∙ entered.0)))
 
@@ -132,7 +132,7 @@ the_one e = cc
 
 module _ {F : Type 0} where
   -- Somebody else asked.
-  pub trusted_asked : (old new : KeeperView F) (steward : Option Steward) (s : ℕ) (request : Request) → GrowsBy (IsEntry s request) old.world new.world
+  pub trusted_asked : (old new : KeeperView F) (steward : Option Steward) (s : ℕ) (request : Request) → GrowsBy (IsEntryOf s request) old.world new.world
       → ((mine : Option ℕ) → IsAloneIn old mine → IsAloneIn new mine) → AreApart (Some s) (session_of steward) → IsTrusted old steward → IsTrusted new steward
   trusted_asked old new steward s request on others away t = record {
     alone = others (session_of steward) t.alone;
@@ -160,8 +160,8 @@ module _ {F : Type 0} where
     told = up_to_date old.world new.world steward (λ n is. ap (λ (x : WorldView). told_to x.history n) same) t.told;
   }
 
-  pub still_settled : (old new : KeeperView F) → (old.is_broken ≡ true → new ≡ old) → new.is_broken ≡ false → old.is_broken ≡ false
-  still_settled old new broken sound = go old.is_broken refl
+  pub still_durable : (old new : KeeperView F) → (old.is_broken ≡ true → new ≡ old) → new.is_broken ≡ false → old.is_broken ≡ false
+  still_durable old new broken sound = go old.is_broken refl
     where
       go : (b : Bool) → old.is_broken ≡ b → old.is_broken ≡ false
       go true is = ap (λ (k : KeeperView F). k.is_broken) (sym (broken is)) ∙ sound

@@ -16,7 +16,7 @@ use Rattle.sv_living.proofs.Turns.{open-parts}
 use Rattle.sv_office.specs.Entering.{AreAdded, GrowsBy, GoesOn, AsksIn, IsGuests, WasEntered}
 use Rattle.sv_office.specs.Laws.{OthersStay, AllStay}
 use Rattle.sv_wire.specs.declared.message.Request.TheVariants as requests
-use Rattle.sv_office.specs.Guests.{Closes, closed}
+use Rattle.sv_office.specs.Guests.{ClosesGuest, closed}
 use Rattle.sv_office.specs.Telling.{WereTold, WereToldIn, is_gone, IsTold, IsServed, IsServedIn, IsOwed, WouldShowNothing}
 use Rattle.sv_office.specs.declared.guest.Guest.{Guest}
 use Rattle.sv_office.specs.declared.guest.Standing.{Standing}
@@ -192,7 +192,7 @@ closed_gone standing.Closing e = refl
 closed_gone standing.Gone e = e
 
 -- A connection that is closed stands as it stood.
-pub served_closed : (v : WorldView) (old new : Guest) → Closes old new → IsServed v old → IsServed v new
+pub served_closed : (v : WorldView) (old new : Guest) → ClosesGuest old new → IsServed v old → IsServed v new
 served_closed v old new c = served_as v old new c.session c.told
     (λ here. closed_gone old.standing (subst (λ (x : Standing). is_gone x ≡ false) c.standing here))
     (λ shut is. closed_shut old.standing (sym c.standing ∙ is))

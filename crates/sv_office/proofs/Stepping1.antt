@@ -10,7 +10,7 @@ use Rattle.sv_journal.specs.History.{accepted}
 use Rattle.sv_living.specs.Sessions.{AreInOrder}
 use Rattle.sv_living.specs.World.{WorldView, after}
 use Rattle.sv_keys.specs.Keeping.{KeysView}
-use Rattle.sv_office.specs.Entering.{GoesOn, KeepsOwn, AsksIn, AsksInOne, IsEntry, IsReport, IsEndOf, IsEnded, Follows, CameOf, CameOfHeld, CameOfAsking, MayEnter, MayHold, WasAnswered, WasFollowed, WasReleased}
+use Rattle.sv_office.specs.Entering.{GoesOn, KeepsOwn, AsksIn, AsksInOne, IsEntryOf, IsReport, IsEndOf, IsEnded, Follows, CameOf, CameOfHeld, CameOfAsking, MayEnter, MayHold, WasAnswered, WasFollowed, WasReleased}
 use Rattle.sv_office.specs.Guests.{HasYetToAsk, Stays}
 use Rattle.sv_office.specs.Offices.{AreApart, HasBegun}
 use Rattle.sv_office.specs.Taking.{WasTaken}
@@ -98,7 +98,7 @@ apart_asking v mine steward s begun away asks = apart_stays v begun away (asking
 
 -- The request may have been entered, and then the End of the session.
 pub entered_ended_came : {v m w : WorldView} {own : Option ℕ} (steward mine : Option ℕ) (s : ℕ) (request : Request) → AsksIn v.history mine s
-    → GoesOn (IsEntry s request) v m → own ≡ mine → GoesOn (IsEndOf own) m w → GoesOn (CameOf v.history steward mine request) v w
+    → GoesOn (IsEntryOf s request) v m → own ≡ mine → GoesOn (IsEndOf own) m w → GoesOn (CameOf v.history steward mine request) v w
 entered_ended_came steward mine s request asks on same more =
     goes_then (entered_came steward mine s request asks on) (goes_as (λ e is. inr (inl (sym same ∙ is.0), inl is.1)) more)
 

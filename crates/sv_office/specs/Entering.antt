@@ -37,8 +37,8 @@ pub record GoesOn (may : Entry → Type 0) (v w : WorldView) : Type 0 where
   pub serial : StaysSerial v w
 
 -- The entry of a request of a session.
-abbrev pub IsEntry : ℕ → Request → Entry → Type 0
-IsEntry s request e = (e.session ≡ s) × (e.request ≡ request)
+abbrev pub IsEntryOf : ℕ → Request → Entry → Type 0
+IsEntryOf s request e = (e.session ≡ s) × (e.request ≡ request)
 
 -- A request of a session was entered, and answered in full.
 pub record WasEntered (v w : WorldView) (s : ℕ) (request : Request) (reply : Reply) : Type 0 where

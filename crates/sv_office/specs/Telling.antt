@@ -7,7 +7,7 @@ use Rattle.sv_journal.specs.Answer.{Rules}
 use Rattle.sv_journal.specs.History.{accepted, full_reply}
 use Rattle.sv_journal.specs.Living.{Stewardship}
 use Rattle.sv_journal.specs.Sessions.{is_end, is_ended}
-use Rattle.sv_living.specs.Quiet.{IsQuiet}
+use Rattle.sv_living.specs.Quiet.{IsQuietReply}
 use Rattle.sv_living.specs.Sessions.{is_open}
 use Rattle.sv_living.specs.World.{WorldView}
 use Rattle.sv_office.specs.Admitting.{is_observe}
@@ -23,7 +23,7 @@ pub data WereTold (r : Rules) (w : Stewardship) (s : ℕ) : List Entry → List 
   entry : {h : List Entry} {e : Entry} {told now : List Reply} → e.session ≡ s → is_end e.request ≡ false → WereTold r w s h told
       → now ≡ told ++ full_reply (accepted (e ∷ h)) e.reply ∷ [] → WereTold r w s (e ∷ h) now
   ended : {h : List Entry} {e : Entry} {told : List Reply} → e.session ≡ s → is_end e.request ≡ true → WereTold r w s h told → WereTold r w s (e ∷ h) told
-  quiet : {h : List Entry} {told now : List Reply} (request : Request) (reply : Reply) → IsQuiet r w h s request (Some reply) → WereTold r w s h told
+  quiet : {h : List Entry} {told now : List Reply} (request : Request) (reply : Reply) → IsQuietReply r w h s request (Some reply) → WereTold r w s h told
       → now ≡ told ++ reply ∷ [] → WereTold r w s h now
 
 abbrev pub WereToldIn : WorldView → ℕ → List Reply → Type 0
@@ -57,8 +57,8 @@ pub record IsOwed (v : WorldView) (guest : Guest) (reply : Reply) : Type 0 where
 -- A connection's request would be answered without an entry, by this reply, which shows nothing.
 abbrev pub WouldShowNothing : WorldView → Guest → Request → Reply → Type 0
 WouldShowNothing v guest request reply = (is_observe request ≡ true)
-    × ((s : ℕ) × (guest.session ≡ Some s) × IsQuiet v.rules v.stewardship v.history s request (Some reply))
+    × ((s : ℕ) × (guest.session ≡ Some s) × IsQuietReply v.rules v.stewardship v.history s request (Some reply))
 
 -- No request of it would be.
 abbrev pub ShowsSomething : WorldView → Guest → Request → Type 0
-ShowsSomething v guest request = (s : ℕ) → guest.session ≡ Some s → is_observe request ≡ true → IsQuiet v.rules v.stewardship v.history s request None
+ShowsSomething v guest request = (s : ℕ) → guest.session ≡ Some s → is_observe request ≡ true → IsQuietReply v.rules v.stewardship v.history s request None

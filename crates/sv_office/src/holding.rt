@@ -10,7 +10,7 @@ ghost use Rattle.sv_office.specs.declared.guest.Standing.TheVariants as standing
 use crate::guest::Guest;
 use crate::halt::Halt;
 use crate::office::Office;
-use crate::waiting::Waiting;
+use crate::waiting::HeldObserve;
 use sv_log::Folder;
 use sv_wire::Request;
 
@@ -60,18 +60,18 @@ impl<F: Folder> Office<F> {
     }
 
     /// How the held Observe of a connection stands.
-    pub fn standing_of_held(&self, guest: &Guest) -> Waiting
+    pub fn standing_of_held(&self, guest: &Guest) -> HeldObserve
         ensures { self.now.keeper.is_broken ≡ false → IsWaiting self.now.keeper.world self.now.time guest.now result }
     {
         let Some(held) = &guest.held else {
-            return Waiting::Nothing;
+            return HeldObserve::Nothing;
         };
         if held.until <= self.time {
-            return Waiting::Due;
+            return HeldObserve::Due;
         }
         match self.quiet_answer(guest, &held.request) {
-            Some(_) => Waiting::Until(held.until),
-            None => Waiting::Due,
+            Some(_) => HeldObserve::Until(held.until),
+            None => HeldObserve::Due,
         }
     }
 }

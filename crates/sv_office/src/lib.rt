@@ -25,4 +25,4 @@ pub use office::{Manners, Office};
 pub use outside::Outside;
 pub use stepping::STEWARD_NUMBER;
 pub use steward::Steward;
-pub use waiting::Waiting;
+pub use waiting::HeldObserve;

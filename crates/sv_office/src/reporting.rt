@@ -1,6 +1,6 @@
 //! When the steward reports.
 ghost use Rattle.std.specs.Prelude.{◌≡◌, OnOk};
-ghost use Rattle.sv_keeper.specs.Keeping.{AreSettled};
+ghost use Rattle.sv_keeper.specs.Keeping.{AreDurable};
 ghost use Rattle.sv_office.specs.Entering.{GoesOn, IsReport, IsStewards, KeepsOwn, WasReported};
 ghost use Rattle.sv_office.specs.Offices.{session_of};
 
@@ -135,13 +135,13 @@ impl<F: Folder> Office<F> {
     /// The steward joins and reports, before anybody is served.
     pub fn begin(&mut self) -> Result<(), Halt>
         ensures added { GoesOn (IsStewards self.old.keeper.world.history (session_of self.old.steward)) self.old.keeper.world self.new.keeper.world }
-        ensures settled { OnOk result (AreSettled F.disk F.is_honest self.new.keeper) }
+        ensures durable { OnOk result (AreDurable F.disk F.is_honest self.new.keeper) }
         ensures keys { self.new.keys ≡ self.old.keys }
         ensures manners { self.new.manners ≡ self.old.manners }
     {
         self.join()?;
         self.report_all()?;
-        match self.keeper.settle() {
+        match self.keeper.make_durable() {
             Ok(()) => Ok(()),
             Err(_) => Err(Halt::Log),
         }

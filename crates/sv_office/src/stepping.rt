@@ -6,7 +6,7 @@ ghost use Rattle.sv_journal.specs.declared.entry.Entry.{Entry};
 ghost use Rattle.sv_journal.specs.History.{accepted, full_reply};
 ghost use Rattle.sv_journal.specs.Laws.{AreWithinLimits};
 ghost use Rattle.sv_journal.specs.Sessions.{is_end};
-ghost use Rattle.sv_living.specs.Quiet.{IsQuiet};
+ghost use Rattle.sv_living.specs.Quiet.{IsQuietReply};
 ghost use Rattle.sv_living.specs.Sessions.{AreInOrder};
 ghost use Rattle.sv_living.specs.World.{WorldView, after, reply_in};
 ghost use Rattle.sv_wire.specs.declared.message.Reply.{Reply};
@@ -89,7 +89,7 @@ fn answers_are_messages<F: Folder>(keeper: &Keeper<F>)
         → IsWireReply (full_reply (accepted (after keeper.now.world s request).history) (reply_in keeper.now.world s request)) }
     ensures order { AreInOrder keeper.now.world.history }
     ensures quiet { (s : ℕ) → (request : Request) → (reply : Reply)
-        → IsQuiet keeper.now.world.rules keeper.now.world.stewardship keeper.now.world.history s request (Some reply) → IsWireReply reply }
+        → IsQuietReply keeper.now.world.rules keeper.now.world.stewardship keeper.now.world.history s request (Some reply) → IsWireReply reply }
 {
     keeper.is_lawful();
     served_replies_are_messages();

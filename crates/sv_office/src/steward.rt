@@ -9,7 +9,7 @@ ghost use Rattle.law_system.specs.Told.{ReportsSerial, all_got};
 ghost use Rattle.sv_living.specs.World.{after};
 ghost use Rattle.sv_wire.specs.declared.message.Request.TheVariants as requests;
 ghost use Rattle.sv_office.specs.Admitting.{steward_number};
-ghost use Rattle.sv_office.specs.Entering.{KeepsOwn, GoesOn, IsEntry, IsReport, IsReported, IsStewards};
+ghost use Rattle.sv_office.specs.Entering.{KeepsOwn, GoesOn, IsEntryOf, IsReport, IsReported, IsStewards};
 ghost use Rattle.sv_office.specs.Stewarding.{Reports, is_refused};
 ghost use Rattle.sv_office.specs.Trusting.{IsLawful, IsSerial};
 
@@ -248,7 +248,7 @@ impl Steward {
         requires serial { IsSerial keeper.old.world → ReportsSerial keeper.old.world.rules.world.values (actions_of keeper.old.world.history) done.now }
         ensures session { self.new.session ≡ self.old.session }
         ensures reported { OnOk result (keeper.new.world ≡ after keeper.old.world session done.now) }
-        ensures added { GoesOn (IsEntry session done.now) keeper.old.world keeper.new.world }
+        ensures added { GoesOn (IsEntryOf session done.now) keeper.old.world keeper.new.world }
         ensures told { IsUpToDate keeper.new.world self.new }
         ensures alone { IsAloneIn keeper.old self.old.session → IsAloneIn keeper.new self.new.session }
     {

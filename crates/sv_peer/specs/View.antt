@@ -39,7 +39,7 @@ abbrev pub IsInStep : PeerView → Type 0
 IsInStep peer = Says peer.manner peer.told (peer.sent ++ peer.output)
 
 -- nothing more was told or sent, and what waits still does
-pub record Keeps (old new : PeerView) : Type 0 where
+pub record PeerKeeps (old new : PeerView) : Type 0 where
   pub told : new.told ≡ old.told
   pub sent : new.sent ≡ old.sent
   pub more : List ℕ

@@ -2,7 +2,7 @@
 ghost use Rattle.std.specs.Prelude.{◌≡◌, ◌⊎◌, ◌+◌, ◌-◌, ◌++◌, [], length, take, drop, IfOk, OnOk, OnErr, IsTrue};
 ghost use Rattle.sv_wire.specs.Laws.{IsReply};
 ghost use Rattle.sv_frame.specs.Frames.{greatest_frame, FitsFrame};
-ghost use Rattle.sv_peer.specs.View.{new_peer, is_letter, begun, IsInStep, Keeps, Tells, Upgrades, Answers, TakesIn, Hears, Nexts, TakesFrame, Puts, after_sent};
+ghost use Rattle.sv_peer.specs.View.{new_peer, is_letter, begun, IsInStep, PeerKeeps, Tells, Upgrades, Answers, TakesIn, Hears, Nexts, TakesFrame, Puts, after_sent};
 ghost use Rattle.sv_peer.specs.Invariant.{manner_of, heard_by, HandsNothing};
 
 use crate::desk::WebDesk;
@@ -16,7 +16,7 @@ use std::alloc::{AllocError, Global};
 use std::hash::RandomState;
 use std::marker::Model;
 use sv_exchange::Message;
-use sv_frame::{FrameReader, Next, put_frame};
+use sv_frame::{FrameReader, NextFrame, put_frame};
 use sv_wire::{Reply, Request};
 use websocket::protocol::CloseCode;
 
@@ -71,10 +71,10 @@ fn next_framed(alloc: Global, reader: &mut FrameReader) -> Heard
     ensures { TakesFrame reader.old result reader.new }
 {
     let heard = match reader.first() {
-        Next::NotYet => return Heard::NotYet,
+        NextFrame::NotYet => return Heard::NotYet,
         // It stays: no frame can be read from here on.
-        Next::TooLong(_) => return Heard::Request(Request::Bad),
-        Next::Frame(payload) => heard_of(alloc, payload),
+        NextFrame::TooLong(_) => return Heard::Request(Request::Bad),
+        NextFrame::Frame(payload) => heard_of(alloc, payload),
     };
     if let Heard::Memory = &heard {
         return heard;
@@ -233,7 +233,7 @@ impl Peer {
 
     fn take_in<D: WebDesk>(&mut self, piece: &[u8], desk: &mut D) -> Result<(), AllocError>
         ensures ok { OnOk result (TakesIn self.old.manner self.old piece.now self.new) }
-        ensures kept { Keeps self.old self.new }
+        ensures kept { PeerKeeps self.old self.new }
         ensures desk { D.keeps desk.old desk.new }
     {
         match &mut self.voice {
@@ -256,7 +256,7 @@ impl Peer {
         desk: &mut D,
     ) -> Result<(), AllocError>
         ensures ok { OnOk result (Hears self.old piece.now self.new) }
-        ensures kept { Keeps self.old self.new }
+        ensures kept { PeerKeeps self.old self.new }
         // What a desk keeps stays.
         ensures desk { D.keeps desk.old desk.new }
     {
@@ -282,7 +282,7 @@ impl Peer {
     /// Takes what came next.
     pub fn next(&mut self) -> Heard
         ensures next { Nexts self.old result self.new }
-        ensures kept { Keeps self.old self.new }
+        ensures kept { PeerKeeps self.old self.new }
     {
         if let Some(digest) = self.shown.take() {
             return Heard::Hello(digest);
@@ -310,7 +310,7 @@ impl Peer {
 
     /// Puts the end behind what is to be sent, where the way it is spoken has one.
     pub fn finish(&mut self)
-        ensures kept { Keeps self.old self.new }
+        ensures kept { PeerKeeps self.old self.new }
         ensures same { self.new ≡ record self.old { output = self.new.output } }
         ensures frames { self.old.manner ≡ Manner.Frames → self.new ≡ self.old }
     {

@@ -1,6 +1,6 @@
 //! What a script moves: connections that are made, and the bytes on them.
 ghost use Rattle.std.specs.Prelude.{◌≡◌, ◌≤◌, length, vec_len};
-ghost use Rattle.sv_ports.specs.Told.{ReadsSome, WritesSome};
+ghost use Rattle.sv_ports.specs.Traffic.{ReadsSome, WritesSome};
 
 use crate::memory::Step;
 use crate::ports::{PortRead, PortWrote, Ready};

@@ -6,7 +6,7 @@ ghost use Rattle.sv_journal.specs.declared.entry.Entry.{Entry};
 ghost use Rattle.sv_journal.specs.Sessions.{is_end, is_ended};
 ghost use Rattle.sv_journal.specs.Answer.{scenario_rules};
 ghost use Rattle.sv_core.specs.Cores.{core_rules, owed_by, session_at, Keeps, CarriedOut, SitByNumber};
-ghost use Rattle.sv_core.specs.Decisions.{Holds};
+ghost use Rattle.sv_core.specs.Decisions.{DecisionHolds};
 ghost use Rattle.sv_sequencer.specs.Entering.{HasRoomForEnds, TookEntry, EnteredReply, NothingEntered};
 ghost use Rattle.sv_journal.specs.History.{entry_of, end_entry};
 
@@ -77,7 +77,7 @@ pub fn enter_reply(
     requires keeps { Keeps core.old h }
     requires seat { session_at core.old decided.session ≡ Some decided.session }
     requires more { is_end request ≡ false }
-    requires holds { Holds (core_rules core.old) h decided.session request decided.decision }
+    requires holds { DecisionHolds (core_rules core.old) h decided.session request decided.decision }
     ensures ok { IfOk result (EnteredReply core.old core.new journal.old journal.new h decided.session request request decided.decision) }
     ensures err { OnErr result (NothingEntered core.old core.new journal.old journal.new h) }
 {
@@ -103,7 +103,7 @@ pub fn enter_asked(
     requires keeps { Keeps core.old h }
     requires seat { session_at core.old decided.session ≡ Some decided.session }
     requires more { is_end taken.now ≡ false }
-    requires holds { Holds (core_rules core.old) h decided.session taken.now decided.decision }
+    requires holds { DecisionHolds (core_rules core.old) h decided.session taken.now decided.decision }
     ensures ok { IfOk result (EnteredReply core.old core.new journal.old journal.new h decided.session asked taken.now decided.decision) }
     ensures err { OnErr result (NothingEntered core.old core.new journal.old journal.new h) }
 {
@@ -127,7 +127,7 @@ fn carry_out(
     requires keeps { Keeps core.old h }
     requires seat { session_at core.old decided.session ≡ Some decided.session }
     requires more { is_end request.now ≡ false }
-    requires holds { Holds (core_rules core.old) h decided.session request.now decided.decision }
+    requires holds { DecisionHolds (core_rules core.old) h decided.session request.now decided.decision }
     ensures ok { IfOk result (CarriedOut core.old core.new h decided.session request.now decided.decision) }
     ensures entries { journal.new.entries ≡ journal.old.entries }
     ensures room { OnOk result (owed_by core.new < journal.new.spare) }
