@@ -1,11 +1,12 @@
 //! What the words of a call ask for.
-ghost use Rattle.std.specs.Prelude.{◌≡◌, map, string_bytes, option_map};
+ghost use Rattle.std.specs.Prelude.{◌≡◌, ◌-◌, ◌^◌, map, string_bytes, option_map};
 ghost use Rattle.std.specs.Option.{option_copied};
+ghost use Rattle.sv_world.specs.Limits.{most_objects};
 ghost use Rattle.sv_ending.specs.Numbers.{number_between};
 ghost use Rattle.sv_audit.specs.Words.{asked_by, asked_if, asked_of, line_for, place_by, place_if, plain_question, question_by, report_named, scenario_named, why_if, words_line};
 
 use sv_ending::number_in;
-use sv_world::ObjectId;
+use sv_world::{MOST_OBJECTS, ObjectId};
 
 /// The line that tells which words there are.
 const WORDS_LINE: &[u8] = b"words: check SCENARIO REPORT\n";
@@ -37,9 +38,9 @@ pub(crate) struct Audit<'a> {
 }
 
 fn place_of(object: &str, pos: &str) -> Option<ObjectAtPosition>
-    ensures { option_map place_by result ≡ place_if (number_between 0 65535 object.now) (number_between 0 4294967295 pos.now) }
+    ensures { option_map place_by result ≡ place_if (number_between 0 most_objects object.now) (number_between 0 (2 ^ 32 - 1) pos.now) }
 {
-    let object = number_in(object, 0, 65_535)?;
+    let object = number_in(object, 0, MOST_OBJECTS as u32)?;
     let pos = number_in(pos, 0, u32::MAX)?;
     Some(ObjectAtPosition {
         object: ObjectId(object as u16),

@@ -50,10 +50,7 @@ pub fn enter_end(core: &mut Core, journal: &mut Journal, session: u16)
     requires room { HasRoomForEnds core.old journal.old }
     ensures { TookEntry core.old core.new journal.old journal.new h (end_entry session) (end_entry session) }
 {
-    let seat = Seat {
-        slot: session,
-        session: session as u64,
-    };
+    let seat = Seat::own(session);
     core.end(seat);
     journal.push(Entry {
         session,
@@ -135,10 +132,7 @@ fn carry_out(
 {
     let Decided { session, decision } = decided;
     journal.reserve(core.owed() as usize + 1)?;
-    let seat = Seat {
-        slot: session,
-        session: session as u64,
-    };
+    let seat = Seat::own(session);
     core.carry_out(seat, request, decision)
 }
 

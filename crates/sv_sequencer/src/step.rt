@@ -64,10 +64,7 @@ impl Sequencer {
         ensures ok { IfOk result (StepAnswered self.old self.new session request) }
         ensures err { OnErr result (Stayed self.old self.new) }
     {
-        let seat = Seat {
-            slot: session,
-            session: session as u64,
-        };
+        let seat = Seat::own(session);
         let decision = self.core.decide(seat, &request);
         enter_reply(
             &mut self.core,

@@ -229,10 +229,7 @@ impl Witness {
         ensures ok { IfOk result (Witnesses self.old self.new session request) }
         ensures err { OnErr result (Stayed self.old self.new) }
     {
-        let seat = Seat {
-            slot: session,
-            session: session as u64,
-        };
+        let seat = Seat::own(session);
         let decision = self.core.decide(seat, &request);
         if let Decision::Note = decision {
             return self.note_results(session, request);
@@ -279,10 +276,7 @@ impl Witness {
         ensures ok { IfOk result (Witnesses self.old self.new session request) }
         ensures err { OnErr result (Stayed self.old self.new) }
     {
-        let seat = Seat {
-            slot: session,
-            session: session as u64,
-        };
+        let seat = Seat::own(session);
         let Some(client) = self.core.client(seat) else {
             unreachable!();
         };
@@ -303,10 +297,7 @@ impl Witness {
         ensures ok { IfOk result (Witnesses self.old self.new session request) }
         ensures err { OnErr result (Stayed self.old self.new) }
     {
-        let seat = Seat {
-            slot: session,
-            session: session as u64,
-        };
+        let seat = Seat::own(session);
         let Some(client) = self.core.client(seat) else {
             unreachable!();
         };
