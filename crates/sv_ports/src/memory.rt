@@ -95,7 +95,7 @@ impl Ports for MemPorts {
         answer
     }
 
-    fn write(&mut self, number: u64, piece: &[u8], _settled: &Durable<'_>) -> PortWrote {
+    fn write(&mut self, number: u64, piece: &[u8], _durable: &Durable<'_>) -> PortWrote {
         let answer = self.wires.write(number, piece);
         if let PortWrote::Took(count) = answer {
             self.written.note(number, &piece[..count]);

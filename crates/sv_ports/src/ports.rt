@@ -94,8 +94,8 @@ pub trait Ports {
     fn read(&mut self, number: u64, into: &mut [u8]) -> PortRead
         ensures { Reads (told self.old) number into.new result (told self.new) };
 
-    /// Writes the front of a piece, as much as is taken at once. Nothing is written before all lines are settled.
-    fn write(&mut self, number: u64, piece: &[u8], settled: &Durable<'_>) -> PortWrote
+    /// Writes the front of a piece, as much as is taken at once. Nothing is written before all lines are durable.
+    fn write(&mut self, number: u64, piece: &[u8], durable: &Durable<'_>) -> PortWrote
         ensures { Writes (told self.old) number piece.now result (told self.new) };
 
     /// Closes a connection.
