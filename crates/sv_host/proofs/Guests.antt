@@ -10,8 +10,8 @@ use Rattle.sv_ports.specs.declared.numbered.NumberedPlace.{NumberedPlace}
 use Rattle.sv_ports.specs.Numbered.{item_of, with_item, without}
 use Rattle.sv_keys.specs.Keeping.{KeysView}
 use Rattle.sv_office.specs.Entering.{AsksIn, CameOfHeld, GoesOn, IsEndOf, IsOf, KeepsOwn, MayEnter}
-use Rattle.sv_office.specs.Offices.{AreApart, HasBegun}
-use Rattle.sv_office.specs.Telling.{IsServed, IsServedIn, is_gone}
+use Rattle.sv_office.specs.Offices.{IsNotStewards, HasBegun}
+use Rattle.sv_office.specs.Telling.{IsServedGuest, IsServedIn, is_gone}
 use Rattle.sv_office.specs.declared.guest.Guest.{Guest}
 use Rattle.sv_office.specs.declared.guest.Held.{Held}
 use Rattle.sv_office.specs.declared.guest.Standing.TheVariants as standing
@@ -102,12 +102,12 @@ put_at n guest ps m b at = go (same_or_not m n)
 
 module _ {v : WorldView} {steward : Option ℕ} (n : ℕ) (ps qs : List (NumberedPlace Guest)) (guest : Guest) (out : IsServedOut v steward ps guest)
     (at : (m : ℕ) (b : Guest) → item_of m qs ≡ Some b → ((m ≡ n) × (b ≡ guest)) ⊎ (item_of m ps ≡ Some b)) where
-  is_served : (m : ℕ) (b : Guest) → ((m ≡ n) × (b ≡ guest)) ⊎ (item_of m ps ≡ Some b) → IsServed v b
-  is_served m b (inl (same, is)) = subst (λ (x : Guest). IsServed v x) (sym is) out.served
+  is_served : (m : ℕ) (b : Guest) → ((m ≡ n) × (b ≡ guest)) ⊎ (item_of m ps ≡ Some b) → IsServedGuest v b
+  is_served m b (inl (same, is)) = subst (λ (x : Guest). IsServedGuest v x) (sym is) out.served
   is_served m b (inr there) = out.others.served m b there
 
-  is_apart : (m : ℕ) (b : Guest) → ((m ≡ n) × (b ≡ guest)) ⊎ (item_of m ps ≡ Some b) → AreApart b.session steward
-  is_apart m b (inl (same, is)) = subst (λ (x : Guest). AreApart x.session steward) (sym is) out.apart
+  is_apart : (m : ℕ) (b : Guest) → ((m ≡ n) × (b ≡ guest)) ⊎ (item_of m ps ≡ Some b) → IsNotStewards b.session steward
+  is_apart m b (inl (same, is)) = subst (λ (x : Guest). IsNotStewards x.session steward) (sym is) out.apart
   is_apart m b (inr there) = out.others.apart m b there
 
   are_one : (k m s : ℕ) (a b : Guest) → ((k ≡ n) × (a ≡ guest)) ⊎ (item_of k ps ≡ Some a) → ((m ≡ n) × (b ≡ guest)) ⊎ (item_of m ps ≡ Some b)
@@ -153,7 +153,7 @@ new_in {v} {steward} n ps guest are none nothing = joined n ps (ps ++ record { n
 abbrev pub AreOwn : List Entry → Option ℕ → Option ℕ → (Entry → Type 0) → Type 0
 AreOwn h steward mine may = (e : Entry) → may e → IsOf steward e ⊎ AsksIn h mine e.session
 
-has_begun : (v : WorldView) (guest : Guest) (s : ℕ) → IsServed v guest → guest.session ≡ Some s → has_entry v.history s ≡ true
+has_begun : (v : WorldView) (guest : Guest) (s : ℕ) → IsServedGuest v guest → guest.session ≡ Some s → has_entry v.history s ≡ true
 has_begun v guest s served is = go (subst (λ (o : Option ℕ). IsServedIn v guest o) is served)
   where
     go : IsServedIn v guest (Some s) → has_entry v.history s ≡ true
@@ -180,7 +180,7 @@ module _ {may : Entry → Type 0} {v w : WorldView} {steward : Option ℕ} (orde
 
   -- One that was taken out had its turn.
   pub out_goes : (ps : List (NumberedPlace Guest)) (guest next : Guest) (stewards : Option ℕ) → HasBegun v steward → AreOwn v.history steward guest.session may
-      → KeepsOwn v.history guest.session next.session → stewards ≡ steward → IsServed w next → IsServedOut v steward ps guest → IsServedOut w stewards ps next
+      → KeepsOwn v.history guest.session next.session → stewards ≡ steward → IsServedGuest w next → IsServedOut v steward ps guest → IsServedOut w stewards ps next
   out_goes ps guest next stewards begun own keeps same served out = subst (λ (o : Option ℕ). IsServedOut w o ps next) (sym same) (record {
     others = others_stay ps guest.session own out.other out.others;
     served = served;
@@ -204,7 +204,7 @@ pub out_as : {v : WorldView} {steward : Option ℕ} {ps : List (NumberedPlace Gu
 out_as {v} {steward} {ps} old new same told stands out = record {
   others = out.others;
   served = served_as v old new same told (here stands) (shut stands) out.served;
-  apart = subst (λ (o : Option ℕ). AreApart o steward) (sym same) out.apart;
+  apart = subst (λ (o : Option ℕ). IsNotStewards o steward) (sym same) out.apart;
   other = λ n s b at is mine. out.other n s b at is (sym same ∙ mine);
 }
   where

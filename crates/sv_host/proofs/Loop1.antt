@@ -8,7 +8,7 @@ use Rattle.sv_ports.specs.Numbered.{item_of, with_item, without}
 use Rattle.sv_keys.specs.Keeping.{KeysView}
 use Rattle.sv_office.specs.Entering.{CameOfHeld, GoesOn, IsEndOf, IsReport, KeepsOwn, MayEnter}
 use Rattle.sv_office.specs.Offices.{HasBegun}
-use Rattle.sv_office.specs.Telling.{IsServed}
+use Rattle.sv_office.specs.Telling.{IsServedGuest}
 use Rattle.sv_office.specs.declared.guest.Guest.{Guest}
 use Rattle.sv_host.specs.Rooms.{AreServed, IsServedOut, WasSent}
 use Rattle.sv_host.proofs.Guests.{all_stay, emptied_one, end_own, entered_own, held_own, keeps_none, new_in, out_as, out_goes, put_in, taken_out, without_one}
@@ -52,7 +52,7 @@ pub sent_none : (n : ℕ) (ps qs : List (NumberedPlace Guest)) → qs ≡ with_i
 sent_none n ps qs left v steward are = took_none n ps qs left are
 
 module _ {v w : WorldView} {steward stewards : Option ℕ} {ps : List (NumberedPlace Guest)} {guest next : Guest} (begun : HasBegun v steward) (order : AreInOrder w.history)
-    (same : stewards ≡ steward) (served : IsServed w next) (out : IsServedOut v steward ps guest) where
+    (same : stewards ≡ steward) (served : IsServedGuest w next) (out : IsServedOut v steward ps guest) where
   -- A connection had its turn.
   pub heard_out : (keys : Option KeysView) (key : Option (List ℕ)) → GoesOn (MayEnter v.history steward guest.session keys key) v w
       → KeepsOwn v.history guest.session next.session → IsServedOut w stewards ps next

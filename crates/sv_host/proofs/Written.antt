@@ -18,7 +18,7 @@ use Rattle.sv_ports.specs.Numbered.{IsAbove, item_of, with_item, without}
 use Rattle.sv_ports.proofs.Bytes.{bytes-more, own_more}
 use Rattle.sv_office.specs.Entering.{GoesOn}
 use Rattle.sv_office.specs.Guests.{OnlyHeard}
-use Rattle.sv_office.specs.Telling.{IsServed}
+use Rattle.sv_office.specs.Telling.{IsServedGuest}
 use Rattle.sv_office.specs.declared.guest.Guest.{Guest}
 use Rattle.sv_office.specs.declared.guest.Standing.TheVariants as standing
 use Rattle.sv_office.proofs.Adding.{goes_as, goes_nowhere, goes_then}
@@ -200,7 +200,7 @@ module _ {v : WorldView} {told : Traffic} (n : ℕ) (ps qs : List (NumberedPlace
       gone m low none (inr unlike) = out.others.gone m (not_left n m unlike) low (sym (other_item n m (Some guest) ps unlike) ∙ none)
 
   -- It is gone for good.
-  pub written_gone : (guest : Guest) → qs ≡ without n ps → guest.session ≡ None → IsServed v guest → IsInStep guest.peer → IsWritten v told ps n guest
+  pub written_gone : (guest : Guest) → qs ≡ without n ps → guest.session ≡ None → IsServedGuest v guest → IsInStep guest.peer → IsWritten v told ps n guest
       → AreWritten v told qs
   written_gone guest left over served steps out = subst (λ (xs : List (NumberedPlace Guest)). AreWritten v told xs) (sym left)
       (part_written (fewer n ps) (λ m differ low none. gone m low none (same_or_not m n)) out.others)

@@ -9,31 +9,31 @@ use Rattle.sv_ports.specs.Numbered.{item_of, has_number}
 use Rattle.sv_ports.specs.Traffic.{Traffic, bytes_of}
 use Rattle.sv_peer.specs.View.{PeerView, IsInStep}
 use Rattle.sv_office.specs.Entering.{GoesOn}
-use Rattle.sv_office.specs.Offices.{AreApart}
-use Rattle.sv_office.specs.Telling.{IsServed, IsTold}
+use Rattle.sv_office.specs.Offices.{IsNotStewards}
+use Rattle.sv_office.specs.Telling.{IsServedGuest, WasTold}
 use Rattle.sv_office.specs.declared.guest.Guest.{Guest}
 use Rattle.sv_office.specs.declared.guest.Standing.TheVariants as standing
 
 -- Each connection was told what its session's entries say, no two have the same session, and none has the steward's.
 pub record AreServed (v : WorldView) (steward : Option ℕ) (guests : List (NumberedPlace Guest)) : Type 0 where
-  pub served : (n : ℕ) (guest : Guest) → item_of n guests ≡ Some guest → IsServed v guest
-  pub apart : (n : ℕ) (guest : Guest) → item_of n guests ≡ Some guest → AreApart guest.session steward
+  pub served : (n : ℕ) (guest : Guest) → item_of n guests ≡ Some guest → IsServedGuest v guest
+  pub apart : (n : ℕ) (guest : Guest) → item_of n guests ≡ Some guest → IsNotStewards guest.session steward
   pub distinct : (n m s : ℕ) (a b : Guest) → item_of n guests ≡ Some a → item_of m guests ≡ Some b → a.session ≡ Some s → b.session ≡ Some s → n ≡ m
 
 -- A connection that was taken out is served as the others are, and its session is none of theirs.
 pub record IsServedOut (v : WorldView) (steward : Option ℕ) (guests : List (NumberedPlace Guest)) (guest : Guest) : Type 0 where
   pub others : AreServed v steward guests
-  pub served : IsServed v guest
-  pub apart : AreApart guest.session steward
+  pub served : IsServedGuest v guest
+  pub apart : IsNotStewards guest.session steward
   pub other : (n s : ℕ) (b : Guest) → item_of n guests ≡ Some b → b.session ≡ Some s → guest.session ≡ Some s → ⊥
 
 -- A connection was told what its session was, or, where it broke, the first of these replies; whether the session is over or not. Without one it was told
 -- nothing, or its session is over.
 abbrev pub WasToldIn : WorldView → Guest → Option ℕ → Type 0
-WasToldIn v guest (Some s) = IsTold v s guest
-WasToldIn v guest None = (guest.peer.told ≡ []) ⊎ ((s : ℕ) × (is_ended v.history s ≡ true) × IsTold v s guest)
+WasToldIn v guest (Some s) = WasTold v s guest
+WasToldIn v guest None = (guest.peer.told ≡ []) ⊎ ((s : ℕ) × (is_ended v.history s ≡ true) × WasTold v s guest)
 
-pub record WereToldIn (v : WorldView) (guests : List (NumberedPlace Guest)) : Type 0 where
+pub record AllWereTold (v : WorldView) (guests : List (NumberedPlace Guest)) : Type 0 where
   pub told : (n : ℕ) (guest : Guest) → item_of n guests ≡ Some guest → WasToldIn v guest guest.session
 
 -- An entry is an End.
@@ -59,7 +59,7 @@ Continues v w = GoesOn AnyEntry v w
 -- its session's entries say.
 pub record WasWritten (v : WorldView) (told : Traffic) (n : ℕ) : Type 0 where
   pub guest : Guest
-  pub served : IsServed v guest
+  pub served : IsServedGuest v guest
   pub in_step : IsInStep guest.peer
   pub sent : bytes_of n told.written ≡ guest.peer.sent
 

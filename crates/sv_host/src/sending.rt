@@ -132,7 +132,7 @@ fn send_each<P: Ports>(
 }
 
 impl<F: Folder> Host<F> {
-    // Settles all that was stepped.
+    // Makes all durable that was stepped.
     fn make_durable(&mut self) -> Result<(), Halt>
         requires served { AreServed self.old.office.keeper.world (session_of self.old.office.steward) self.old.room.guests }
         ensures served { AreServed self.new.office.keeper.world (session_of self.new.office.steward) self.new.room.guests }
@@ -190,7 +190,7 @@ impl<F: Folder> Host<F> {
         Ok(())
     }
 
-    /// Settles, and sends to each connection that was touched. Those that are over then are closed.
+    /// Makes all durable, and sends to each connection that was touched. Those that are over then are closed.
     pub fn send<P: Ports>(&mut self, ports: &mut P) -> Result<(), Halt>
         requires served { AreServed self.old.office.keeper.world (session_of self.old.office.steward) self.old.room.guests }
         ensures served { OnOk result (AreServed self.new.office.keeper.world (session_of self.new.office.steward) self.new.room.guests) }

@@ -10,7 +10,7 @@ ghost use Rattle.sv_office.specs.declared.steward.Steward.{Steward};
 ghost use Rattle.sv_ports.specs.Traffic.{nothing_told};
 ghost use Rattle.sv_host.specs.Inputs.{WasToldToStop};
 ghost use Rattle.sv_host.specs.Joining.{JoinByKeys, LetsNobodyIn};
-ghost use Rattle.sv_host.specs.Rooms.{AnyEntry, AreServed, WereToldIn, AreWritten, Continues, IsAnEnd, KeepsWritten, LeftInput, WereWritten};
+ghost use Rattle.sv_host.specs.Rooms.{AnyEntry, AreServed, AllWereTold, AreWritten, Continues, IsAnEnd, KeepsWritten, LeftInput, WereWritten};
 
 use crate::host::Host;
 use crate::input::InputLines;
@@ -77,7 +77,7 @@ impl<F: Folder> Host<F> {
         requires served { AreServed self.old.office.keeper.world (session_of self.old.office.steward) self.old.room.guests }
         ensures ended { OnOk result (open_sessions self.new.office.keeper.world.history ≡ []) }
         ensures durable { OnOk result (AreDurable F.disk F.is_honest self.new.office.keeper) }
-        ensures told { OnOk result (WereToldIn self.new.office.keeper.world self.new.room.guests) }
+        ensures told { OnOk result (AllWereTold self.new.office.keeper.world self.new.room.guests) }
         ensures written { OnOk result (AreWritten self.old.office.keeper.world (P.told outside.old.ports.now) self.old.room.guests → AreWritten self.new.office.keeper.world (P.told outside.new.ports.now) self.new.room.guests) }
         ensures goes { Continues self.old.office.keeper.world self.new.office.keeper.world }
         ensures joins { JoinByKeys (L.contents outside.old.files.now) self.old.office.keys self.old.office.keeper.world self.new.office.keeper.world }
@@ -146,7 +146,7 @@ impl<F: Folder> Host<F> {
         requires served { AreServed self.old.office.keeper.world (session_of self.old.office.steward) self.old.room.guests }
         ensures ended { OnOk result (open_sessions self.new.office.keeper.world.history ≡ []) }
         ensures durable { OnOk result (AreDurable F.disk F.is_honest self.new.office.keeper) }
-        ensures told { OnOk result (WereToldIn self.new.office.keeper.world self.new.room.guests) }
+        ensures told { OnOk result (AllWereTold self.new.office.keeper.world self.new.room.guests) }
         ensures written { OnOk result (AreWritten self.old.office.keeper.world (P.told ports.old) self.old.room.guests → AreWritten self.new.office.keeper.world (P.told ports.new) self.new.room.guests) }
         ensures goes { Continues self.old.office.keeper.world self.new.office.keeper.world }
         ensures nobody { LetsNobodyIn self.old.office.keys self.new.office.keys self.old.office.keeper.world self.new.office.keeper.world }

@@ -21,7 +21,7 @@ impl<F: Folder> Host<F> {
             Some(guest) => {
                 let guest = guest.get();
                 guest.held.is_none()
-                    && self.office.time.saturating_sub(guest.heard) >= self.office.manners.idle
+                    && self.office.time.saturating_sub(guest.heard) >= self.office.policy.idle
             }
             None => false,
         }

@@ -18,10 +18,10 @@ use Rattle.sv_log.proofs.Moments.{then_only, weaker_only}
 use Rattle.sv_log.proofs.Logged.{log_calm}
 use Rattle.sv_keeper.specs.Histories.{history_text, first_entries, HoldsFirst}
 use Rattle.sv_keeper.specs.Views.{KeeperView}
-use Rattle.sv_keeper.specs.Keeping.{text_of, IsKept, AreDurable}
+use Rattle.sv_keeper.specs.Keeping.{text_of, IsKeptWorld, AreDurable}
 use Rattle.sv_keeper.proofs.Fronts.{first_all, keeps_first}
 
-module _ {F : Type 0} (disk : F → Disk) (is_honest : F → Type 0) (old : KeeperView F) (is : IsKept disk is_honest old) where
+module _ {F : Type 0} (disk : F → Disk) (is_honest : F → Type 0) (old : KeeperView F) (is : IsKeptWorld disk is_honest old) where
   abbrev v : WorldView
   v = old.world
 
@@ -64,7 +64,7 @@ module _ {F : Type 0} (disk : F → Disk) (is_honest : F → Type 0) (old : Keep
     durable_text : is_honest log.segment.folder → log_synced disk log ≡ text_of v
     durable_text honest = on_disk honest ∙ text honest ∙ is.text (before honest)
 
-    pub durable : (b : Bool) → IsKept disk is_honest (new b)
+    pub durable : (b : Bool) → IsKeptWorld disk is_honest (new b)
     durable b = record {
       sizes = sizes;
       lines = refl;

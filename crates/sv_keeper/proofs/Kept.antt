@@ -22,7 +22,7 @@ use Rattle.sv_entries.specs.Lines.{living_line}
 use Rattle.sv_entries.specs.Laws.{EntriesHaveOneLine}
 use Rattle.sv_keeper.specs.Histories.{history_text, first_entries}
 use Rattle.sv_keeper.specs.Views.{KeeperView}
-use Rattle.sv_keeper.specs.Keeping.{text_of, IsKept, Stepped, AreDurable, next_line}
+use Rattle.sv_keeper.specs.Keeping.{text_of, IsKeptWorld, Stepped, AreDurable, next_line}
 use Rattle.sv_keeper.specs.Invariant.{view_of, IsKeeper}
 use Rattle.sv_keeper.specs.declared.keeper.Keeper.TheInside.{Inside}
 use Rattle.sv_keeper.proofs.Entered.{told, printed, entered_as}
@@ -89,7 +89,7 @@ module _ {F : Type 0} (disk : F → Disk) (is_honest : F → Type 0) (k : Inside
       shape = is.shape;
       next = is.next;
       kept = λ _.
-          subst (λ (g : List ℕ). IsKept disk is_honest (new g k.is_broken)) (sym none)
+          subst (λ (g : List ℕ). IsKeptWorld disk is_honest (new g k.is_broken)) (sym none)
           (durable disk is_honest (view_of k) (is.kept sound) log synced sizes all before opened text on_disk k.is_broken);
     }
 
@@ -103,7 +103,7 @@ module _ {F : Type 0} (disk : F → Disk) (is_honest : F → Type 0) (k : Inside
 module _ {F : Type 0} (disk : F → Disk) (is_honest : F → Type 0) (k : Inside F) (shape : k.shape ≡ k.core.rules.world.shape) (next : k.next ≡ length k.core.history + 1) (none : k.group ≡ [])
     (all : k.synced ≡ length k.core.history) (sizes : HasSizes k.log.segment) (opened : is_honest k.log.segment.folder → IsOpenLog disk k.log)
     (text : is_honest k.log.segment.folder → log_text disk k.log ≡ text_of k.core) (on_disk : is_honest k.log.segment.folder → log_synced disk k.log ≡ text_of k.core) where
-  kept_all : IsKept disk is_honest (view_of k)
+  kept_all : IsKeptWorld disk is_honest (view_of k)
   kept_all = record {
     sizes = sizes;
     lines = subst (λ (l : List ℕ). IsText l) (sym none) refl;

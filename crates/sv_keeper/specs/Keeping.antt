@@ -56,7 +56,7 @@ module _ {F : Type 0} where
 module _ {F : Type 0} (disk : F → Disk) (is_honest : F → Type 0) where
   -- What is so of a keeper that is not broken: its log has the lines of all entries but those of the group, and these are the group's. Those of
   -- the first `synced` entries are on the disk.
-  pub record IsKept (keeper : KeeperView F) : Type 0 where
+  pub record IsKeptWorld (keeper : KeeperView F) : Type 0 where
     pub sizes : HasSizes keeper.log.segment
     pub lines : IsText keeper.group
     pub part : keeper.synced ≤ length keeper.world.history

@@ -71,6 +71,6 @@ pub record IsWrong (v : WorldView) (text : List ℕ) (number : ℕ) : Type 0 whe
   pub more : rest ≢ []
   pub number_is : number ≡ length reached.history + 1
 
-abbrev pub WhyStopped : WorldView → List ℕ → ℕ → WalkStop → Type 0
-WhyStopped v text number (stops.Wrong cause) = IsWrong v text number
-WhyStopped v text number stops.Memory = Unit {0}
+abbrev pub WhyWalkStops : WorldView → List ℕ → ℕ → WalkStop → Type 0
+WhyWalkStops v text number (stops.Wrong cause) = IsWrong v text number
+WhyWalkStops v text number stops.Memory = Unit {0}

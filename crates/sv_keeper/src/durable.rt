@@ -1,9 +1,9 @@
-//! The leave to send.
+//! What shows that all lines are on the disk.
 ghost use Rattle.std.specs.Prelude.{◌≡◌};
 
 use std::marker::Model;
 
-/// All lines of a kept world stand in its log, and by `Syncing::Batch` are synced. Only a [`Keeper`](crate::Keeper) makes one, and while it lives
+/// All lines of a kept world stand in its log, and are synced where its keeper syncs. Only a [`Keeper`](crate::Keeper) makes one, and while it lives
 /// nothing can be stepped. Contracts see how many lines there are.
 #[derive(Drop)]
 pub struct Durable<'a> {

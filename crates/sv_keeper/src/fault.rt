@@ -10,7 +10,7 @@ pub enum KeepFault {
     NoRoom,
     /// There was no memory. Nothing changed.
     Memory,
-    /// The log is not what the core says it is: a line is wanting, or a write or a sync failed. Nothing more is stepped, durable or sent.
+    /// The log is not what the core says it is: a line is wanting, or a write or a sync failed. Nothing more is stepped, written or sent.
     Broken,
 }
 

@@ -11,7 +11,7 @@ ghost use Rattle.sv_log.specs.Crashes.{LeavesOnly};
 ghost use Rattle.sv_log.specs.Names.{world_name};
 ghost use Rattle.sv_log.specs.OpenLogs.{shown, newest};
 ghost use Rattle.sv_keeper.specs.Histories.{HoldsFirst};
-ghost use Rattle.sv_keeper.specs.Keeping.{IsKept, Stepped, WasNotStepped, AreDurable};
+ghost use Rattle.sv_keeper.specs.Keeping.{IsKeptWorld, Stepped, WasNotStepped, AreDurable};
 ghost use Rattle.sv_keeper.specs.declared.fault.KeepFault.TheVariants as faults;
 
 use crate::durable::Durable;
@@ -123,7 +123,7 @@ impl<F: Folder> Keeper<F> {
         }
     }
 
-    // Settles. A keeper that is broken is left as it is.
+    // Makes the group durable. A keeper that is broken stays as it is.
     pub(crate) fn make_group_durable(&mut self) -> Result<(), FileFault>
         ensures ok { OnOk result (AreDurable F.disk F.is_honest self.new) }
         ensures err { OnErr result (self.new.is_broken ≡ true) }
@@ -163,7 +163,7 @@ impl<F: Folder> Keeper<F> {
     /// A law: a keeper that is not broken is kept. Its history is legal by the answer table, its sessions began in the order of their numbers,
     /// and what a crash leaves of its log is a log with the lines of some first entries, at least of those that are synced.
     pub fn is_lawful(&self)
-        ensures kept { self.now.is_broken ≡ false → IsKept F.disk F.is_honest self.now }
+        ensures kept { self.now.is_broken ≡ false → IsKeptWorld F.disk F.is_honest self.now }
         ensures legal { LegalFor (living self.now.world.stewardship) self.now.world.rules self.now.world.history }
         ensures order { AreInOrder self.now.world.history }
         ensures any_moment { F.is_honest self.now.log.segment.folder → self.now.is_broken ≡ false → (world : List ℕ)
@@ -183,7 +183,7 @@ impl<F: Folder> Keeper<F> {
         segment.folder
     }
 
-    /// The leave to send, where all lines are durable. Nothing can be stepped while it lives.
+    /// What shows that all lines are durable, where they are. Nothing can be stepped while it lives.
     pub fn durable(&self) -> Option<Durable<'_>>
         ensures some { IfSome result (λ s. AreDurable F.disk F.is_honest self.now × (s ≡ length self.now.world.history)) }
         ensures none { self.now.is_broken ≡ false → self.now.group ≡ [] → IsSome result }

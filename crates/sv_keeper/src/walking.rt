@@ -1,7 +1,7 @@
 //! Taking the lines of a log again.
 ghost use Rattle.std.specs.Prelude.{◌≡◌, [], IfOk, IfErr, OnOk, OnErr};
 ghost use Rattle.sv_world.specs.Worlds.{IsGoodShape};
-ghost use Rattle.sv_keeper.specs.Walks.{TakesLine, TakesLines, IsAskedBy, IsWalk, WhyNotThis, WhyNone, WhyStopped};
+ghost use Rattle.sv_keeper.specs.Walks.{TakesLine, TakesLines, IsAskedBy, IsWalk, WhyNotThis, WhyNone, WhyWalkStops};
 
 use crate::fault::LineCause;
 use std::alloc::{AllocError, Global};
@@ -121,7 +121,7 @@ impl LineWalk {
         requires walk { IsWalk self.old }
         ensures walk { OnOk result (IsWalk self.new) }
         ensures taken { OnOk result (TakesLines self.old.core self.new.core text.now []) }
-        ensures why { IfErr result (WhyStopped self.old.core text.now self.new.next) }
+        ensures why { IfErr result (WhyWalkStops self.old.core text.now self.new.next) }
     {
         let mut rest = text;
         while !rest.is_empty() {

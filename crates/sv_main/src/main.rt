@@ -133,7 +133,7 @@ fn host_with<R: Wait, D: Doors, S: Folders, C: Times, F: Files, E: Sink>(
 ) -> u8
     ensures words { Knows TopCall.Host (map string_bytes call.now.words.now) result }
 {
-    let mut place = HostParts {
+    let mut parts = HostParts {
         rt,
         alloc: call.alloc,
         random,
@@ -143,7 +143,7 @@ fn host_with<R: Wait, D: Doors, S: Folders, C: Times, F: Files, E: Sink>(
         files,
         err,
     };
-    run_host(&mut place, call.words)
+    run_host(&mut parts, call.words)
 }
 
 /// The status of `host`, to whoever connects.

@@ -1,6 +1,6 @@
 //! Connections over TCP.
 ghost use Rattle.std.specs.Prelude.{◌≡◌, length, IfOk};
-ghost use Rattle.sv_ports.specs.Traffic.{nothing_told, Accepts, ReadsSome, WritesSome};
+ghost use Rattle.sv_ports.specs.Traffic.{nothing_told, Accepts, PortReadsSome, WritesSome};
 ghost use Rattle.sv_mio.specs.Answers.{ReadAnswer, WroteAnswer};
 ghost use Rattle.sv_mio.specs.Ports.{told_of};
 
@@ -240,7 +240,7 @@ fn wrote_of(answer: io::Result<usize>) -> PortWrote
 }
 
 fn read_from<R: Read>(reader: &mut R, into: &mut [u8]) -> PortRead
-    ensures { ReadsSome (length into.new) result }
+    ensures { PortReadsSome (length into.new) result }
 {
     if into.is_empty() {
         return PortRead::NotYet;

@@ -14,7 +14,7 @@ use Rattle.sv_living.specs.World.{WorldView, after, reply_in}
 use Rattle.sv_client.specs.Kinds.{asks_for_done}
 use Rattle.sv_client.specs.Taking.{items_of}
 use Rattle.sv_office.specs.Admitting.{number_in, steward_number}
-use Rattle.sv_office.specs.Entering.{GoesOn, GrowsBy, IsEntryOf, AsksIn, KeepsOwn, IsReport, IsReported, IsStewards, WasEntered, is_report}
+use Rattle.sv_office.specs.Entering.{GoesOn, GrowsBy, IsEntryOf, AsksIn, KeepsOwn, IsReport, IsReported, IsStewards, WasEntered, is_steward_ask}
 use Rattle.sv_office.specs.Offices.{HasBegun}
 use Rattle.sv_office.specs.Stewarding.{Reports, is_refused, reported_at}
 use Rattle.sv_office.specs.Trusting.{StaysSerial}
@@ -57,14 +57,14 @@ pub stewards_then : (v w x : WorldView) (mine mid : Option ℕ) → KeepsOwn v.h
     → GoesOn (IsStewards w.history mid) w x → GoesOn (IsStewards v.history mine) v x
 stewards_then v w x mine mid keeps none first next = goes_then first (goes_as (λ e is. (asks_before first.added keeps none e.session is.0, is.1)) next)
 
-pub report_entered : (v w : WorldView) (mine : Option ℕ) (s : ℕ) (request : Request) → mine ≡ Some s → is_report request ≡ true
+pub report_entered : (v w : WorldView) (mine : Option ℕ) (s : ℕ) (request : Request) → mine ≡ Some s → is_steward_ask request ≡ true
     → GoesOn (IsEntryOf s request) v w → GoesOn (IsReport mine) v w
 report_entered v w mine s request has report on =
-    goes_as (λ e is. (has ∙ ap (λ (t : ℕ). Some t) (sym is.0), ap is_report is.1 ∙ report)) on
+    goes_as (λ e is. (has ∙ ap (λ (t : ℕ). Some t) (sym is.0), ap is_steward_ask is.1 ∙ report)) on
 
 pub poll_entered : (v w : WorldView) (mine : Option ℕ) (s : ℕ) (request : Request) → mine ≡ Some s → request ≡ requests.Poll
     → GoesOn (IsEntryOf s request) v w → GoesOn (IsReport mine) v w
-poll_entered v w mine s request has poll = report_entered v w mine s request has (ap is_report poll)
+poll_entered v w mine s request has poll = report_entered v w mine s request has (ap is_steward_ask poll)
 
 -- A Poll reports nothing.
 pub poll_on : (v w : WorldView) (s : ℕ) (request : Request) → request ≡ requests.Poll → GrowsBy (IsEntryOf s request) v w

@@ -34,18 +34,18 @@ is_gone standing.Gone = true
 is_gone _ = false
 
 -- A connection was told what its session was, or, where it broke, the first of these replies.
-pub record IsTold (v : WorldView) (s : ℕ) (guest : Guest) : Type 0 where
+pub record WasTold (v : WorldView) (s : ℕ) (guest : Guest) : Type 0 where
   pub rest : List Reply
   pub replies : WereToldIn v s (guest.peer.told ++ rest)
   pub whole : is_gone guest.standing ≡ false → rest ≡ []
 
 -- A connection has a session, which is open; or it was told nothing; or its session is over.
 abbrev pub IsServedIn : WorldView → Guest → Option ℕ → Type 0
-IsServedIn v guest (Some s) = (is_open v.history s ≡ true) × IsTold v s guest
-IsServedIn v guest None = (guest.peer.told ≡ []) ⊎ ((guest.standing ≢ standing.Open) × ((s : ℕ) × (is_ended v.history s ≡ true) × IsTold v s guest))
+IsServedIn v guest (Some s) = (is_open v.history s ≡ true) × WasTold v s guest
+IsServedIn v guest None = (guest.peer.told ≡ []) ⊎ ((guest.standing ≢ standing.Open) × ((s : ℕ) × (is_ended v.history s ≡ true) × WasTold v s guest))
 
-abbrev pub IsServed : WorldView → Guest → Type 0
-IsServed v guest = IsServedIn v guest guest.session
+abbrev pub IsServedGuest : WorldView → Guest → Type 0
+IsServedGuest v guest = IsServedIn v guest guest.session
 
 -- A connection is still to be told a reply: with it, it was told what its session was.
 pub record IsOwed (v : WorldView) (guest : Guest) (reply : Reply) : Type 0 where

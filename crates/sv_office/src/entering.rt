@@ -8,7 +8,7 @@ ghost use Rattle.sv_living.specs.World.{after};
 ghost use Rattle.sv_office.specs.Admitting.{is_stewards_number, number_in};
 ghost use Rattle.sv_office.specs.Entering.{AsksIn, GoesOn, GrowsBy, IsEntryOf, WasEntered};
 ghost use Rattle.sv_office.specs.Knowing.{IsAloneIn, IsTrusted};
-ghost use Rattle.sv_office.specs.Trusting.{IsLawful, ReportsSerially, StaysSerial};
+ghost use Rattle.sv_office.specs.Trusting.{IsLegalWorld, ReportsSerially, StaysSerial};
 ghost use Rattle.sv_office.specs.declared.steward.Steward.{Steward};
 ghost use Rattle.sv_wire.specs.declared.message.Request.TheVariants as requests;
 
@@ -40,7 +40,7 @@ fn step_lawfully<F: Folder>(
     ensures ok { IfOk result (Stepped keeper.old keeper.new session request.now) }
     ensures err { IfErr result (WasNotStepped keeper.old keeper.new session request.now) }
     ensures broken { keeper.old.is_broken ≡ true → (keeper.new ≡ keeper.old) × (result ≡ Err faults.Broken) }
-    ensures legal { IsLawful keeper.new.world }
+    ensures legal { IsLegalWorld keeper.new.world }
     ensures order { AreInOrder keeper.new.world.history }
 {
     let stepped = keeper.step(session, request);

@@ -21,7 +21,7 @@ pub use guest::{Guest, Held, Standing};
 pub use halt::Halt;
 pub use hearing::{FULL, Half};
 pub use laws::{all_stay_served, new_worlds_are_serial, others_stay_served};
-pub use office::{Manners, Office};
+pub use office::{Office, Policy};
 pub use outside::Outside;
 pub use stepping::STEWARD_NUMBER;
 pub use steward::Steward;

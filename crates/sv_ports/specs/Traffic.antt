@@ -31,11 +31,11 @@ Accepts old accepts.NotYet new = new ≡ old
 Accepts old accepts.Failed new = new ≡ old
 
 -- The next bytes of a connection stand at the front of the buffer; or nothing came.
-abbrev pub Reads : Traffic → ℕ → List ℕ → PortRead → Traffic → Type 0
-Reads old number into (reads.Got n) new = (0 < n) × (n ≤ length into) × (new ≡ record old { heard = old.heard ++ (number, take n into) ∷ [] })
-Reads old number into reads.NotYet new = new ≡ old
-Reads old number into reads.Ended new = new ≡ old
-Reads old number into reads.Failed new = new ≡ old
+abbrev pub PortReads : Traffic → ℕ → List ℕ → PortRead → Traffic → Type 0
+PortReads old number into (reads.Got n) new = (0 < n) × (n ≤ length into) × (new ≡ record old { heard = old.heard ++ (number, take n into) ∷ [] })
+PortReads old number into reads.NotYet new = new ≡ old
+PortReads old number into reads.Ended new = new ≡ old
+PortReads old number into reads.Failed new = new ≡ old
 
 -- A connection took the front of the piece, and no more; or it took nothing.
 abbrev pub Writes : Traffic → ℕ → List ℕ → PortWrote → Traffic → Type 0
@@ -51,9 +51,9 @@ ReadsInput old into reads.Ended new = new ≡ record old { input_ended = true }
 ReadsInput old into reads.Failed new = new ≡ old
 
 -- Some bytes came, and no more than there was room for; or none did.
-abbrev pub ReadsSome : ℕ → PortRead → Type 0
-ReadsSome room (reads.Got n) = (0 < n) × (n ≤ room)
-ReadsSome room _ = Unit {0}
+abbrev pub PortReadsSome : ℕ → PortRead → Type 0
+PortReadsSome room (reads.Got n) = (0 < n) × (n ≤ room)
+PortReadsSome room _ = Unit {0}
 
 -- Some bytes were taken, and no more than there are; or none were.
 abbrev pub WritesSome : ℕ → PortWrote → Type 0

@@ -1,6 +1,6 @@
 //! Connections in memory, which a script moves.
 ghost use Rattle.std.specs.Prelude.{◌≡◌, false, length};
-ghost use Rattle.sv_ports.specs.Traffic.{nothing_told, bytes_of, ReadsSome, WritesSome};
+ghost use Rattle.sv_ports.specs.Traffic.{nothing_told, bytes_of, PortReadsSome, WritesSome};
 ghost use Rattle.sv_ports.specs.Memory.{traffic_of};
 
 use crate::pieces::Pieces;

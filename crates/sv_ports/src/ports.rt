@@ -1,6 +1,6 @@
 //! Connections that come and go.
 ghost use Rattle.std.specs.Prelude.{◌≡◌};
-ghost use Rattle.sv_ports.specs.Traffic.{Traffic, Accepts, Reads, Writes, ReadsInput};
+ghost use Rattle.sv_ports.specs.Traffic.{Traffic, Accepts, PortReads, Writes, ReadsInput};
 
 use sv_keeper::Durable;
 
@@ -92,7 +92,7 @@ pub trait Ports {
 
     /// Reads what has come, as much as fits. Where there is no room, it is `NotYet`.
     fn read(&mut self, number: u64, into: &mut [u8]) -> PortRead
-        ensures { Reads (told self.old) number into.new result (told self.new) };
+        ensures { PortReads (told self.old) number into.new result (told self.new) };
 
     /// Writes the front of a piece, as much as is taken at once. Nothing is written before all lines are durable.
     fn write(&mut self, number: u64, piece: &[u8], durable: &Durable<'_>) -> PortWrote

@@ -2,7 +2,7 @@
 ghost use Rattle.std.specs.Prelude.{◌≡◌, ◌+◌, ◌≤◌, ◌++◌, ◌||◌, length, None};
 ghost use Rattle.std.specs.List.{AllByRecursion, list_any};
 ghost use Rattle.sv_threads.specs.RunRemains.{is_memory, IsOfLock, JoinedPasses};
-ghost use Rattle.sv_threads.specs.declared.tasks.Serviced.{Serviced as RunRemains};
+ghost use Rattle.sv_threads.specs.declared.tasks.Serviced.{Serviced as Left};
 ghost use Rattle.sv_serve.specs.Giving.{kept_served, IsServedOf};
 
 use sv_door::Door;
@@ -37,7 +37,7 @@ pub(crate) fn take_in<D: Door>(
     ensures made { D.made door.new ≡ D.made door.old }
     ensures owed { D.owed door.old ≡ D.owed door.new + length served.items }
     ensures faults { D.faults door.new ≡ D.faults door.old }
-    ensures lacked { result ≡ list_any (λ (y : RunRemains D.E). is_memory y.out) served.items }
+    ensures lacked { result ≡ list_any (λ (y : Left D.E). is_memory y.out) served.items }
 {
     let mut lacked = false;
     for session in served {
