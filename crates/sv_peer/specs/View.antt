@@ -108,12 +108,12 @@ abbrev pub Hears : PeerView → List ℕ → PeerView → Type 0
 Hears old piece new = HearsBy old.manner old piece new
 
 -- what the first frame is heard as: it is taken off, or there was no memory. A length over the limit is a request that is Bad, and stays
-abbrev pub HearsFirst : Option (List ℕ × List ℕ) → List ℕ → Heard → List ℕ → Type 0
-HearsFirst (Some first) old answer new = ((answer ≡ heard_in first.0) × (new ≡ first.1)) ⊎ ((answer ≡ heard.Memory) × (new ≡ old))
-HearsFirst None old answer new = (answer ≡ (if is_some (too_long old) then heard.Request Bad else heard.NotYet)) × (new ≡ old)
+abbrev pub TakesFirstFrame : Option (List ℕ × List ℕ) → List ℕ → Heard → List ℕ → Type 0
+TakesFirstFrame (Some first) old answer new = ((answer ≡ heard_in first.0) × (new ≡ first.1)) ⊎ ((answer ≡ heard.Memory) × (new ≡ old))
+TakesFirstFrame None old answer new = (answer ≡ (if is_some (too_long old) then heard.Request Bad else heard.NotYet)) × (new ≡ old)
 
 abbrev pub TakesFrame : List ℕ → Heard → List ℕ → Type 0
-TakesFrame old answer new = HearsFirst (first_frame old) old answer new
+TakesFrame old answer new = TakesFirstFrame (first_frame old) old answer new
 
 abbrev pub NextBy : Manner → PeerView → Heard → PeerView → Type 0
 NextBy manner.Unknown old answer new = (answer ≡ heard.NotYet) × (new ≡ old)
