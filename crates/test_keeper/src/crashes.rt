@@ -38,14 +38,14 @@ fn is_disk(fault: &OpenFault) -> bool {
     }
 }
 
-/// Whether a keeper is broken: nothing more is answered, settled or sent.
+/// Whether a keeper is broken: nothing more is answered, written or sent.
 fn is_broken(alloc: Global, keeper: &mut Keeper<MemFolder>) -> Result<bool, Fail> {
     let is_answered = ask(alloc, keeper, "6 s1 poll -> idle\n")?;
-    let is_settled = keeper.settle() != Err(KeepFault::Broken);
-    Ok(!is_answered && !is_settled && leave(keeper).is_none())
+    let is_durable = keeper.make_durable() != Err(KeepFault::Broken);
+    Ok(!is_answered && !is_durable && leave(keeper).is_none())
 }
 
-/// Goes on behind the opening until a call fails. What it was to settle then.
+/// Goes on behind the opening until a call fails. What it was to make durable then.
 fn go_on(alloc: Global, keeper: &mut Keeper<MemFolder>, run: &Run) -> Result<Option<Span>, Fail> {
     let span = play(alloc, keeper, run)?;
     if span.is_some() && !is_broken(alloc, keeper)? {
@@ -54,7 +54,7 @@ fn go_on(alloc: Global, keeper: &mut Keeper<MemFolder>, run: &Run) -> Result<Opt
     Ok(span)
 }
 
-/// The folder of a process whose call of this number fails, and what it was to settle then. No span where it has fewer calls.
+/// The folder of a process whose call of this number fails, and what it was to make durable then. No span where it has fewer calls.
 fn failed(alloc: Global, run: &Run, call: u64) -> Result<(MemFolder, Option<Span>), Fail> {
     let mut folder = folder_of(alloc, run.parts, &NOTHING)?;
     folder.fail_at(call)?;
@@ -74,7 +74,7 @@ fn failed(alloc: Global, run: &Run, call: u64) -> Result<(MemFolder, Option<Span
 }
 
 /// Each call fails in turn, those that read too. A crash in a call leaves what it leaves where this call fails: whatever it loses, all that was
-/// settled is found, and no more than was stepped.
+/// durable is found, and no more than was stepped.
 fn fails(alloc: Global, run: &Run) -> Result<(), Fail> {
     let (_, all) = run.spans.last().copied().unwrap_or((0, 0));
     for call in 1..u64::MAX {

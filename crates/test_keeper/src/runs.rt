@@ -39,7 +39,7 @@ pub(crate) type Span = (usize, usize);
 #[derive(Clone, Copy)]
 pub(crate) struct Run {
     pub(crate) parts: &'static [Part],
-    /// How many lines there are before and behind the opening, and before and behind each group that is settled.
+    /// How many lines there are before and behind the opening, and before and behind each group that is durable.
     pub(crate) spans: &'static [Span],
     pub(crate) spare: usize,
 }
@@ -143,24 +143,24 @@ pub(crate) fn ask(alloc: Global, keeper: &mut Keeper<MemFolder>, line: &str) -> 
 
 /// How many lines may be sent.
 pub(crate) fn leave(keeper: &Keeper<MemFolder>) -> Option<u64> {
-    match keeper.settled() {
-        Some(settled) => Some(settled.entries()),
+    match keeper.durable() {
+        Some(durable) => Some(durable.entries()),
         None => None,
     }
 }
 
-/// Steps the lines of a span, and settles them. Whether all went well, and nothing might be sent before.
+/// Steps the lines of a span, and makes them durable. Whether all went well, and nothing might be sent before.
 fn put_lines(alloc: Global, keeper: &mut Keeper<MemFolder>, span: Span) -> Result<bool, Fail> {
     for line in LINES.iter().take(span.1).skip(span.0) {
         if !ask(alloc, keeper, line)? || leave(keeper).is_some() {
             return Ok(false);
         }
     }
-    let is_settled = keeper.settle().is_ok();
-    Ok(is_settled && leave(keeper) == Some(span.1 as u64))
+    let is_durable = keeper.make_durable().is_ok();
+    Ok(is_durable && leave(keeper) == Some(span.1 as u64))
 }
 
-/// Settles the groups of a run. Answers the first one with which something is wrong.
+/// Makes the groups of a run durable. Answers the first one with which something is wrong.
 pub(crate) fn play(
     alloc: Global,
     keeper: &mut Keeper<MemFolder>,

@@ -3,7 +3,7 @@ use crate::entries::check::SHAPE;
 use std::alloc::Global;
 use std::test::Fail;
 use sv_entries::line_at;
-use sv_lines::Unread;
+use sv_lines::LineFault;
 
 const WRONG: [&str; 26] = [
     "",
@@ -40,8 +40,8 @@ fn is_wrong(alloc: Global, line: &str) -> bool {
             drop(asked);
             false
         }
-        Err(Unread::Wrong) => true,
-        Err(Unread::Memory) => false,
+        Err(LineFault::Wrong) => true,
+        Err(LineFault::Memory) => false,
     }
 }
 
