@@ -23,3 +23,4 @@ pub mod Alone
 pub mod Knowing
 pub mod Admitting
 pub mod Getting
+pub mod Coming

@@ -12,3 +12,4 @@ pub mod Knowing
 pub mod Laws
 pub mod Renewing
 pub mod Turns
+pub mod Coming

@@ -1,7 +1,12 @@
 //! A connection's turn: requests are taken of it, at most so many, and read on.
-ghost use Rattle.std.specs.Prelude.{◌≡◌, ◌≢◌, ◌⊎◌, ◌≤◌, ℕ, List, false, Some, IfOk, OnOk, IsTrue, length};
+ghost use Rattle.std.specs.Prelude.{◌≡◌, ◌≢◌, ◌⊎◌, ◌+◌, ◌≤◌, ◌++◌, ℕ, List, false, Some, IfOk, OnOk, IsTrue, length, take};
+ghost use Rattle.sv_frame.specs.Frames.{greatest_frame};
 ghost use Rattle.sv_journal.specs.Sessions.{is_end};
 ghost use Rattle.sv_living.specs.World.{WorldView};
+ghost use Rattle.sv_ports.specs.Told.{bytes_of};
+ghost use Rattle.sv_peer.specs.View.{Hears};
+ghost use Rattle.sv_peer.specs.declared.manner.Manner.TheVariants as manners;
+ghost use Rattle.sv_office.specs.Coming.{HasCome, IsShowing};
 ghost use Rattle.sv_office.specs.Entering.{GoesOn, KeepsOwn, AsksInOne, MayEnter, MayHold};
 ghost use Rattle.sv_office.specs.Guests.{HasYetToAsk, IsHeardOf, OnlyHeard};
 ghost use Rattle.sv_office.specs.Offices.{AreApart, session_of};
@@ -27,6 +32,9 @@ pub const MOST_REQUESTS: u32 = 16;
 
 /// How many reads of one connection are made before another's turn.
 const MOST_READS: u32 = 64;
+
+/// How many bytes are read at once at most: as many as the longest frame has, so that all that comes first is taken in.
+const MOST_BYTES: usize = 65_540;
 
 /// While so many bytes wait to be sent to a connection, nothing is taken of it.
 pub const FULL: usize = 65_536;
@@ -61,11 +69,15 @@ pub enum Half {
 /// Reads what comes, and closes a connection of which no more will come. The answer is how many bytes came.
 fn read_piece<P: Ports>(ports: &mut P, number: u64, guest: &mut Guest, piece: &mut [u8]) -> usize
     ensures count { result ≤ length piece.new }
+    ensures most { result ≤ greatest_frame }
+    ensures room { guest.old.peer.manner ≡ manners.Frames → result + length guest.old.peer.heard ≤ greatest_frame }
+    ensures piece { bytes_of number (P.told ports.new).heard ≡ bytes_of number (P.told ports.old).heard ++ take result piece.new }
+    ensures same { guest.new.standing ≡ standing.Open → guest.new ≡ guest.old }
     ensures told { OnlyHeard number (P.told ports.old) (P.told ports.new) }
     ensures served { (v : WorldView) → IsServed v guest.old → IsServed v guest.new }
     ensures guest { IsHeardOf guest.old guest.new }
 {
-    let room = guest.peer.spare().min(piece.len());
+    let room = guest.peer.spare().min(piece.len()).min(MOST_BYTES);
     if room == 0 {
         return 0;
     }
@@ -86,6 +98,7 @@ fn read_piece<P: Ports>(ports: &mut P, number: u64, guest: &mut Guest, piece: &m
 /// Reads what comes of a connection that is closing, and throws it away.
 #[inline(never)]
 fn drain<P: Ports>(ports: &mut P, number: u64, guest: &mut Guest, piece: &mut [u8])
+    ensures shut { guest.new.standing ≡ standing.Open → guest.old.standing ≡ standing.Open }
     ensures told { OnlyHeard number (P.told ports.old) (P.told ports.new) }
     ensures served { (v : WorldView) → IsServed v guest.old → IsServed v guest.new }
     ensures guest { IsHeardOf guest.old guest.new }
@@ -135,6 +148,7 @@ impl<F: Folder> Office<F> {
         ensures steward { session_of self.new.steward ≡ session_of self.old.steward }
         ensures manners { self.new.manners ≡ self.old.manners }
         ensures told { OnlyHeard number (P.told outside.old.ports.now) (P.told outside.new.ports.now) }
+        ensures come { HasCome self.old.keys (bytes_of number (P.told outside.old.ports.now).heard) guest.old → HasCome self.new.keys (bytes_of number (P.told outside.new.ports.now).heard) guest.new }
         ensures lent { AreLent outside.old outside.new }
         ensures sent { guest.new.peer.sent ≡ guest.old.peer.sent }
         ensures kept { KeepsKeys (L.contents outside.old.files.now) (L.contents outside.new.files.now) self.old.keys self.new.keys }
@@ -167,6 +181,7 @@ impl<F: Folder> Office<F> {
         ensures turn { TakesTurn self.old self.new guest.old guest.new }
         ensures shut { guest.old.standing ≢ standing.Open → self.new.keeper.world ≡ self.old.keeper.world }
         ensures told { OnlyHeard number (P.told outside.old.ports.now) (P.told outside.new.ports.now) }
+        ensures come { HasCome self.old.keys (bytes_of number (P.told outside.old.ports.now).heard) guest.old → HasCome self.new.keys (bytes_of number (P.told outside.new.ports.now).heard) guest.new }
         ensures lent { AreLent outside.old outside.new }
         ensures sent { guest.new.peer.sent ≡ guest.old.peer.sent }
         ensures kept { KeepsKeys (L.contents outside.old.files.now) (L.contents outside.new.files.now) self.old.keys self.new.keys }
@@ -181,6 +196,7 @@ impl<F: Folder> Office<F> {
     // Answers the HTTP requests that wait. Whether more may be taken of the connection.
     fn take_waiting<L: Files>(&self, files: &mut L, guest: &mut Guest) -> bool
         ensures open { IsTrue result → guest.new.standing ≡ standing.Open }
+        ensures come { (bytes : List ℕ) → HasCome self.now.keys bytes guest.old → HasCome self.now.keys bytes guest.new }
         ensures served { (v : WorldView) → IsServed v guest.old → IsServed v guest.new }
         ensures guest { IsHeardOf guest.old guest.new }
         ensures files { (name : List ℕ) → L.contents files.new name ≡ L.contents files.old name }
@@ -209,6 +225,7 @@ impl<F: Folder> Office<F> {
         ensures turn { TakesTurn self.old self.new guest.old guest.new }
         ensures idle { OnOk result (HasYetToAsk guest.old guest.new self.old.keeper.world self.new.keeper.world) }
         ensures told { OnlyHeard number (P.told outside.old.ports.now) (P.told outside.new.ports.now) }
+        ensures come { HasCome self.old.keys (bytes_of number (P.told outside.old.ports.now).heard) guest.old → HasCome self.new.keys (bytes_of number (P.told outside.new.ports.now).heard) guest.new }
         ensures lent { AreLent outside.old outside.new }
         ensures sent { guest.new.peer.sent ≡ guest.old.peer.sent }
         ensures kept { KeepsKeys (L.contents outside.old.files.now) (L.contents outside.new.files.now) self.old.keys self.new.keys }
@@ -241,6 +258,7 @@ impl<F: Folder> Office<F> {
         ensures turn { TakesTurn self.old self.new guest.old guest.new }
         ensures idle { OnOk result (HasYetToAsk guest.old guest.new self.old.keeper.world self.new.keeper.world) }
         ensures told { OnlyHeard number (P.told outside.old.ports.now) (P.told outside.new.ports.now) }
+        ensures come { HasCome self.old.keys (bytes_of number (P.told outside.old.ports.now).heard) guest.old → HasCome self.new.keys (bytes_of number (P.told outside.new.ports.now).heard) guest.new }
         ensures lent { AreLent outside.old outside.new }
         ensures sent { guest.new.peer.sent ≡ guest.old.peer.sent }
         ensures kept { KeepsKeys (L.contents outside.old.files.now) (L.contents outside.new.files.now) self.old.keys self.new.keys }
@@ -268,6 +286,7 @@ impl<F: Folder> Office<F> {
         ensures turn { TakesTurn self.old self.new guest.old guest.new }
         ensures idle { OnOk result (HasYetToAsk guest.old guest.new self.old.keeper.world self.new.keeper.world) }
         ensures told { OnlyHeard number (P.told ports.old) (P.told ports.new) }
+        ensures come { HasCome self.old.keys (bytes_of number (P.told ports.old).heard) guest.old → HasCome self.new.keys (bytes_of number (P.told ports.new).heard) guest.new }
         ensures sent { guest.new.peer.sent ≡ guest.old.peer.sent }
         ensures kept { KeepsKeys (L.contents files.old) (L.contents files.new) self.old.keys self.new.keys }
     {
@@ -296,6 +315,7 @@ impl<F: Folder> Office<F> {
         ensures served { (v : WorldView) → IsServed v guest.old → IsServed v guest.new }
         ensures guest { IsHeardOf guest.old guest.new }
         ensures told { OnlyHeard number (P.told ports.old) (P.told ports.new) }
+        ensures come { HasCome self.now.keys (bytes_of number (P.told ports.old).heard) guest.old → HasCome self.now.keys (bytes_of number (P.told ports.new).heard) guest.new }
         ensures files { (name : List ℕ) → L.contents files.new name ≡ L.contents files.old name }
     {
         let count = read_piece(ports, number, guest, room);
@@ -308,6 +328,8 @@ impl<F: Folder> Office<F> {
 
     // Takes bytes in that came. HTTP requests are answered at once.
     fn take_piece<L: Files>(&self, files: &mut L, guest: &mut Guest, piece: &[u8])
+        ensures shut { guest.new.standing ≡ standing.Open → guest.old.standing ≡ standing.Open }
+        ensures hears { guest.new.standing ≡ standing.Open → Hears guest.old.peer piece.now guest.new.peer }
         ensures served { (v : WorldView) → IsServed v guest.old → IsServed v guest.new }
         ensures guest { IsHeardOf guest.old guest.new }
         ensures files { (name : List ℕ) → L.contents files.new name ≡ L.contents files.old name }
@@ -344,6 +366,7 @@ impl<F: Folder> Office<F> {
         ensures served { OnOk result (IsServed self.new.keeper.world guest.new) }
         ensures turn { TakesTurn self.old self.new guest.old guest.new }
         ensures idle { OnOk result (HasYetToAsk guest.old guest.new self.old.keeper.world self.new.keeper.world) }
+        ensures come { (bytes : List ℕ) → HasCome self.old.keys bytes guest.old → HasCome self.new.keys bytes guest.new }
         ensures sent { guest.new.peer.sent ≡ guest.old.peer.sent }
         ensures kept { KeepsKeys (L.contents files.old) (L.contents files.new) self.old.keys self.new.keys }
     {
@@ -378,6 +401,7 @@ impl<F: Folder> Office<F> {
         ensures served { OnOk result (IsServed self.new.keeper.world guest.new) }
         ensures turn { TakesTurn self.old self.new guest.old guest.new }
         ensures idle { OnOk result (HasYetToAsk guest.old guest.new self.old.keeper.world self.new.keeper.world) }
+        ensures come { (bytes : List ℕ) → HasCome self.old.keys bytes guest.old → HasCome self.new.keys bytes guest.new }
         ensures sent { guest.new.peer.sent ≡ guest.old.peer.sent }
         ensures key { HasHeardKey guest.old.peer guest.old.key guest.new.key }
         ensures kept { KeepsKeys (L.contents files.old) (L.contents files.new) self.old.keys self.new.keys }
@@ -410,6 +434,7 @@ impl<F: Folder> Office<F> {
         ensures served { OnOk result (IsServed self.new.keeper.world guest.new) }
         ensures turn { TakesTurn self.old self.new guest.old guest.new }
         ensures idle { OnOk result (HasYetToAsk guest.old guest.new self.old.keeper.world self.new.keeper.world) }
+        ensures come { (bytes : List ℕ) → HasCome self.old.keys bytes guest.old → HasCome self.new.keys bytes guest.new }
         ensures sent { guest.new.peer.sent ≡ guest.old.peer.sent }
         ensures key { HasHeardKey guest.old.peer guest.old.key guest.new.key }
         ensures kept { KeepsKeys (L.contents files.old) (L.contents files.new) self.old.keys self.new.keys }
@@ -450,6 +475,7 @@ impl<F: Folder> Office<F> {
         ensures served { OnOk result (IsServed self.new.keeper.world guest.new) }
         ensures turn { TakesTurn self.old self.new guest.old guest.new }
         ensures idle { OnOk result (HasYetToAsk guest.old guest.new self.old.keeper.world self.new.keeper.world) }
+        ensures come { (bytes : List ℕ) → IsShowing self.old.keys bytes digest guest.old → HasCome self.new.keys bytes guest.new }
         ensures sent { guest.new.peer.sent ≡ guest.old.peer.sent }
         ensures key { (guest.new.key ≡ guest.old.key) ⊎ (guest.new.key ≡ Some digest) }
         ensures kept { KeepsKeys (L.contents files.old) (L.contents files.new) self.old.keys self.new.keys }
