@@ -1,5 +1,6 @@
 -- The turn of a connection, one call after the other.
-use Rattle.std.proofs.Common.{◌≡◌, ◌≢◌, ◌⊎◌, inl, inr, ℕ, Bool, true, false, cond, List, [], ◌∷◌, ◌++◌, Option, None, Some, refl, sym, ap, ◌∙◌, take, subst, append_assoc, append-nil, ne_eqb}
+use Rattle.std.proofs.Common.{◌≡◌, ◌≢◌, ◌⊎◌, inl, inr, ℕ, ◌≤◌, Bool, true, false, cond, List, [], ◌∷◌, ◌++◌, length, Option, None, Some, refl, sym, ap, ◌∙◌, take, subst, append_assoc, append-nil, ne_eqb}
+use Rattle.std.proofs.lemmas.List.{take-append-le}
 use Rattle.sv_wire.specs.declared.message.Request.{Request}
 use Rattle.sv_living.specs.World.{WorldView}
 use Rattle.sv_log.specs.declared.folder.Folder.{Ghosts}
@@ -171,6 +172,12 @@ heard_piece number old new piece is = subst (λ (told : Told). OnlyHeard number 
       ∙ ap (λ (b : Bool). cond b (bytes_of other old.heard ++ piece) (bytes_of other old.heard)) (ne_eqb other number apart);
   rest = refl;
 })
+
+-- What came stands at the front of the buffer.
+pub piece_heard : (number n : ℕ) (old new : Told) (into rest : List ℕ) → n ≤ length into → new ≡ record old { heard = old.heard ++ (number, take n into) ∷ [] }
+    → bytes_of number new.heard ≡ bytes_of number old.heard ++ take n (into ++ rest)
+piece_heard number n old new into rest fits is = ap (λ (told : Told). bytes_of number told.heard) is ∙ own_more number old.heard (take n into)
+    ∙ ap (λ (bytes : List ℕ). bytes_of number old.heard ++ bytes) (sym (take-append-le n into rest fits))
 
 pub heard_nothing : (number : ℕ) (old new : Told) → new ≡ old → OnlyHeard number old new
 heard_nothing number old new same = subst (λ (told : Told). OnlyHeard number old told) (sym same) (nothing_more number old)

@@ -1,11 +1,12 @@
 -- It was asked what is misshapen, or nothing; or the keys were looked at.
-use Rattle.std.proofs.Common.{Some, inl, inr, refl, sym, ap, ◌∙◌}
+use Rattle.std.proofs.Common.{true, Some, inl, inr, refl, sym, ap, ◌∙◌}
 use Rattle.sv_wire.specs.declared.message.Request.TheVariants as requests
 use Rattle.sv_office.specs.declared.guest.Guest.{Guest}
 use Rattle.sv_office.proofs.Asking.{may_hold_with}
 use Rattle.sv_office.proofs.Hearing2.{turn_asked, turn_looked, turn_nowhere}
 use Rattle.sv_office.proofs.Stepping1.{gone_shut, may_hold_none, yet_same, yet_shut}
 use Rattle.sv_office.proofs.Renewed.{kept_same}
+use Rattle.sv_office.proofs.Coming.{showed_before, shows_nothing, shows_now}
 use Rattle.sv_office.proofs.office.Office.greet.Goals as goal
 
 pub returns-then-guest-clause-turn : goal.returns-then-guest-clause-turn
@@ -53,3 +54,20 @@ returns-then-look-clause-key g c = inr refl
 
 pub returns-clause-key : goal.returns-clause-key
 returns-clause-key g c = inl (ap (λ (guest : Guest). guest.key) c.leave.ensures)
+
+pub returns-then-guest-clause-come : goal.returns-then-guest-clause-come
+returns-then-guest-clause-come g c = λ bytes is.
+    showed_before c.args.self.now.keys c.take_request.new.self.keys bytes c.args.digest c.args.guest.now c.take_request.new.guest c.take_request.ensures.key
+    c.take_request.ensures.spoken is
+
+pub returns-in_default-clause-come : goal.returns-in_default-clause-come
+returns-in_default-clause-come g c = λ bytes is. shows_nothing c.args.self.now.keys _ bytes c.args.digest c.args.guest.now c.args.guest.now refl refl is
+
+pub returns-then-look-clause-come : goal.returns-then-look-clause-come
+returns-then-look-clause-come g c = λ bytes is.
+    shows_now c.args.self.now.keys _ bytes c.args.digest c.args.guest.now (record c.args.guest.now { has_spoken = true; key = Some c.args.digest }) refl c.if-guest.false refl refl is
+
+pub returns-clause-come : goal.returns-clause-come
+returns-clause-come g c = λ bytes is.
+    showed_before c.args.self.now.keys _ bytes c.args.digest c.args.guest.now c.leave.new.self (ap (λ (guest : Guest). guest.key) c.leave.ensures)
+    (ap (λ (guest : Guest). guest.has_spoken) c.leave.ensures) is

@@ -6,6 +6,9 @@ use Rattle.sv_office.proofs.Hearing2.{holds_still, shows_same, turn_heard}
 use Rattle.sv_office.proofs.Leaving.{served_still}
 use Rattle.sv_office.proofs.Turning.{keeps_one, one_nowhere}
 use Rattle.sv_office.proofs.Renewed.{kept_same, kept_then}
+use Rattle.sv_ports.specs.Told.{bytes_of}
+use Rattle.sv_office.proofs.Coming.{come_shut}
+use Rattle.sv_office.proofs.Stepping1.{not_open}
 use Rattle.sv_office.proofs.office.Office.hear.Goals as goal
 
 pub returns-then-not-is_open-clause-served : goal.returns-then-not-is_open-clause-served
@@ -116,3 +119,15 @@ returns-then-not-take_waiting-clause-kept g c = kept_same c.take_waiting.ensures
 
 pub returns-clause-kept : goal.returns-clause-kept
 returns-clause-kept g c = kept_then (kept_same c.take_waiting.ensures.files refl) c.take_all.ensures.kept
+
+pub returns-then-not-is_open-clause-come : goal.returns-then-not-is_open-clause-come
+returns-then-not-is_open-clause-come g c =
+    come_shut c.args.self.now.keys c.args.self.now.keys _ c.drain.ensures.told.more _ c.args.guest.now c.drain.new.guest c.drain.ensures.told.own c.drain.ensures.guest.key
+    (λ lives. not_open c.if-not-is_open.true c.is_open.ensures.1 (c.drain.ensures.shut lives))
+
+pub returns-then-not-take_waiting-clause-come : goal.returns-then-not-take_waiting-clause-come
+returns-then-not-take_waiting-clause-come g c = c.take_waiting.ensures.come (bytes_of c.args.number (g.P.Ports.told c.args.outside.now.ports.now).heard)
+
+pub returns-clause-come : goal.returns-clause-come
+returns-clause-come g c = λ before.
+    c.take_all.ensures.come (c.take_waiting.ensures.come (bytes_of c.args.number (g.P.Ports.told c.args.outside.now.ports.now).heard) before)

@@ -10,3 +10,6 @@ returns-then-guest-clause-turn g c =
 
 pub returns-then-guest-clause-kept : goal.returns-then-guest-clause-kept
 returns-then-guest-clause-kept g c = kept_same (λ name. refl) refl
+
+pub returns-then-guest-clause-come : goal.returns-then-guest-clause-come
+returns-then-guest-clause-come g c = λ before. before

@@ -4,6 +4,7 @@ use Rattle.sv_office.proofs.Hearing2.{turn_ended_as, turn_nowhere}
 use Rattle.sv_office.proofs.Leaving.{served_still}
 use Rattle.sv_office.proofs.Stepping1.{end_shut, not_open, yet_same, yet_shut}
 use Rattle.sv_office.proofs.Renewed.{kept_same}
+use Rattle.sv_office.proofs.Coming.{come_over}
 use Rattle.sv_office.proofs.office.Office.read_guest.Goals as goal
 
 pub end-requires : goal.end-requires
@@ -57,3 +58,19 @@ returns-then-count-eq0-clause-kept g c = kept_same c.read_and_take-count.ensures
 
 pub returns-clause-kept : goal.returns-clause-kept
 returns-clause-kept g c = kept_same c.read_and_take-count.ensures.files refl
+
+pub returns-in_err-end-clause-come : goal.returns-in_err-end-clause-come
+returns-in_err-end-clause-come g c = λ before.
+    come_over c.args.self.now.keys c.end.new.self.keys _ c.read_and_take-count.new.guest c.end.new.guest c.end.ensures.guest.key
+    (end_shut (not_open c.if-not-is_open.true c.is_open.ensures.1) c.end.ensures.open) (c.read_and_take-count.ensures.come before)
+
+pub returns-then-not-is_open-clause-come : goal.returns-then-not-is_open-clause-come
+returns-then-not-is_open-clause-come g c = λ before.
+    come_over c.args.self.now.keys c.end.new.self.keys _ c.read_and_take-count.new.guest c.end.new.guest c.end.ensures.guest.key
+    (end_shut (not_open c.if-not-is_open.true c.is_open.ensures.1) c.end.ensures.open) (c.read_and_take-count.ensures.come before)
+
+pub returns-then-count-eq0-clause-come : goal.returns-then-count-eq0-clause-come
+returns-then-count-eq0-clause-come g c = λ before. c.read_and_take-count.ensures.come before
+
+pub returns-clause-come : goal.returns-clause-come
+returns-clause-come g c = λ before. c.read_and_take-count.ensures.come before

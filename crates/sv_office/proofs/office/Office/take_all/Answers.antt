@@ -13,6 +13,7 @@ loop-init g c = record {
   kept = kept_same (λ name. refl) refl;
   idle = yet_same refl refl;
   told = heard_nothing _ _ _ refl;
+  come = λ before. before;
   sent = refl;
   lent = record { ports = refl; files = refl; err = refl };
 }
@@ -45,6 +46,7 @@ loop-preserved g c = record {
   kept = kept_then c.loop.invariant.kept c.take_and_read.ensures.kept;
   idle = yet_then c.loop.invariant.idle c.loop.invariant.open_still c.in_ok-take_and_read.ensures.idle;
   told = heard_then _ _ _ _ c.loop.invariant.told c.take_and_read.ensures.told;
+  come = λ before. c.take_and_read.ensures.come (c.loop.invariant.come before);
   sent = c.take_and_read.ensures.sent ∙ c.loop.invariant.sent;
   lent = lent_then _ _ _ c.loop.invariant.lent c.take_and_read.ensures.lent;
 }
@@ -54,3 +56,12 @@ returns-in_err-take_and_read-clause-kept g c = kept_then c.loop.invariant.kept c
 
 pub returns-in-Over-clause-kept : goal.returns-in-Over-clause-kept
 returns-in-Over-clause-kept g c = kept_then c.loop.invariant.kept c.take_and_read.ensures.kept
+
+pub returns-in_err-take_and_read-clause-come : goal.returns-in_err-take_and_read-clause-come
+returns-in_err-take_and_read-clause-come g c = λ before. c.take_and_read.ensures.come (c.loop.invariant.come before)
+
+pub returns-in-Over-clause-come : goal.returns-in-Over-clause-come
+returns-in-Over-clause-come g c = λ before. c.take_and_read.ensures.come (c.loop.invariant.come before)
+
+pub returns-clause-come : goal.returns-clause-come
+returns-clause-come g c = λ before. c.loop.invariant.come before

@@ -1,5 +1,7 @@
 -- The connection is open and served, and its turn went on.
 use Rattle.std.proofs.Common.{◌≡◌}
+use Rattle.sv_ports.specs.Told.{bytes_of}
+use Rattle.sv_office.specs.Coming.{HasCome}
 use Rattle.sv_office.specs.Guests.{HasYetToAsk, OnlyHeard}
 use Rattle.sv_office.specs.Renewing.{KeepsKeys}
 use Rattle.sv_office.specs.Telling.{IsServed}
@@ -15,6 +17,8 @@ invariant-loop g l = record {
   kept : KeepsKeys (g.L.Files.contents l.fn.outside.files.now) (g.L.Files.contents l.outside.files.now) l.fn.self.keys l.self.keys;
   idle : HasYetToAsk l.fn.guest l.guest l.fn.self.keeper.world l.self.keeper.world;
   told : OnlyHeard l.fn.number (g.P.Ports.told l.fn.outside.ports.now) (g.P.Ports.told l.outside.ports.now);
+  come : HasCome l.fn.self.keys (bytes_of l.fn.number (g.P.Ports.told l.fn.outside.ports.now).heard) l.fn.guest
+      → HasCome l.self.keys (bytes_of l.fn.number (g.P.Ports.told l.outside.ports.now).heard) l.guest;
   sent : l.guest.peer.sent ≡ l.fn.guest.peer.sent;
   lent : AreLent l.fn.outside l.outside;
 }

@@ -20,3 +20,12 @@ returns-in-On-clause-idle g c =
 
 pub returns-in-On-clause-kept : goal.returns-in-On-clause-kept
 returns-in-On-clause-kept g c = kept_then c.take_requests.ensures.kept c.read_guest.ensures.kept
+
+pub returns-in-On-clause-come : goal.returns-in-On-clause-come
+returns-in-On-clause-come g c = λ before. c.read_guest.ensures.come (c.take_requests.ensures.come _ before)
+
+pub returns-in_err-take_requests-clause-come : goal.returns-in_err-take_requests-clause-come
+returns-in_err-take_requests-clause-come g c = c.take_requests.ensures.come _
+
+pub returns-in-Over-clause-come : goal.returns-in-Over-clause-come
+returns-in-Over-clause-come g c = c.take_requests.ensures.come _

@@ -4,6 +4,7 @@ use Rattle.sv_office.proofs.Stepping1.{end_shut, not_open, yet_shut}
 use Rattle.std.proofs.Common.{refl}
 use Rattle.sv_office.proofs.Showing.{heard_still}
 use Rattle.sv_office.proofs.Renewed.{kept_same, kept_then}
+use Rattle.sv_office.proofs.Coming.{come_over}
 use Rattle.sv_office.proofs.office.Office.take_next.Goals as goal
 
 pub returns-in_err-end-clause-turn : goal.returns-in_err-end-clause-turn
@@ -30,3 +31,13 @@ returns-in_err-end-clause-key g c = heard_still _ c.end.ensures.guest.key c.take
 
 pub returns-then-not-is_open-clause-key : goal.returns-then-not-is_open-clause-key
 returns-then-not-is_open-clause-key g c = heard_still _ c.end.ensures.guest.key c.take_one.ensures.key
+
+pub returns-in_err-end-clause-come : goal.returns-in_err-end-clause-come
+returns-in_err-end-clause-come g c = λ bytes before.
+    come_over c.take_one.new.self.keys c.end.new.self.keys bytes c.take_one.new.guest c.end.new.guest c.end.ensures.guest.key
+    (end_shut (not_open c.if-not-is_open.true c.is_open.ensures.1) c.end.ensures.open) (c.take_one.ensures.come bytes before)
+
+pub returns-then-not-is_open-clause-come : goal.returns-then-not-is_open-clause-come
+returns-then-not-is_open-clause-come g c = λ bytes before.
+    come_over c.take_one.new.self.keys c.end.new.self.keys bytes c.take_one.new.guest c.end.new.guest c.end.ensures.guest.key
+    (end_shut (not_open c.if-not-is_open.true c.is_open.ensures.1) c.end.ensures.open) (c.take_one.ensures.come bytes before)

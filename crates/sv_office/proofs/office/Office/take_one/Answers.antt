@@ -1,10 +1,12 @@
 -- It was asked something, or nothing.
-use Rattle.std.proofs.Common.{inl, inr, refl, ap}
+use Rattle.std.proofs.Common.{inl, inr, refl, sym, ap, ◌∙◌}
 use Rattle.sv_office.specs.declared.guest.Guest.{Guest}
 use Rattle.sv_office.proofs.Hearing2.{turn_asked, turn_nowhere}
 use Rattle.sv_office.proofs.Showing.{heard_key}
-use Rattle.sv_office.proofs.Stepping1.{yet_same}
+use Rattle.sv_office.proofs.Stepping1.{gone_shut, yet_same}
 use Rattle.sv_office.proofs.Renewed.{kept_same}
+use Rattle.sv_office.proofs.Coming.{come_over, come_quiet, come_showing, come_spoken}
+use Rattle.sv_office.proofs.Served.{closed_shut}
 use Rattle.sv_office.proofs.office.Office.take_one.Goals as goal
 
 pub returns-in_err-take_request-in-Request-clause-turn : goal.returns-in_err-take_request-in-Request-clause-turn
@@ -75,3 +77,32 @@ returns-in_err-greet-in-Hello-clause-key g c = heard_key _ _ c.in-Hello.digest c
 
 pub returns-in_ok-greet-in-Hello-clause-key : goal.returns-in_ok-greet-in-Hello-clause-key
 returns-in_ok-greet-in-Hello-clause-key g c = heard_key _ _ c.in-Hello.digest c.in-Hello.ensures.next c.greet.ensures.key
+
+pub returns-in_err-take_request-in-Request-clause-come : goal.returns-in_err-take_request-in-Request-clause-come
+returns-in_err-take_request-in-Request-clause-come g c = λ bytes.
+    come_spoken c.args.self.now.keys c.take_request.new.self.keys bytes c.args.guest.now c.take_request.new.guest c.take_request.ensures.key c.take_request.ensures.spoken
+
+pub returns-in_ok-take_request-in-Request-clause-come : goal.returns-in_ok-take_request-in-Request-clause-come
+returns-in_ok-take_request-in-Request-clause-come g c = λ bytes.
+    come_spoken c.args.self.now.keys c.take_request.new.self.keys bytes c.args.guest.now c.take_request.new.guest c.take_request.ensures.key c.take_request.ensures.spoken
+
+pub returns-in_err-greet-in-Hello-clause-come : goal.returns-in_err-greet-in-Hello-clause-come
+returns-in_err-greet-in-Hello-clause-come g c = λ bytes come.
+    c.greet.ensures.come bytes (come_showing c.args.self.now.keys bytes c.in-Hello.digest c.args.guest.now _ c.requires.open c.in-Hello.ensures.next come)
+
+pub returns-in_ok-greet-in-Hello-clause-come : goal.returns-in_ok-greet-in-Hello-clause-come
+returns-in_ok-greet-in-Hello-clause-come g c = λ bytes come.
+    c.greet.ensures.come bytes (come_showing c.args.self.now.keys bytes c.in-Hello.digest c.args.guest.now _ c.requires.open c.in-Hello.ensures.next come)
+
+pub returns-in-NotYet-clause-come : goal.returns-in-NotYet-clause-come
+returns-in-NotYet-clause-come g c = λ bytes. come_quiet c.args.self.now.keys bytes c.args.guest.now _ c.in-NotYet.ensures.next
+
+pub returns-in-Memory-clause-come : goal.returns-in-Memory-clause-come
+returns-in-Memory-clause-come g c = λ bytes.
+    come_over c.args.self.now.keys c.args.self.now.keys bytes c.args.guest.now c.leave.new.self (ap (λ (guest : Guest). guest.key) c.leave.ensures)
+    (gone_shut (ap (λ (guest : Guest). guest.standing) c.leave.ensures))
+
+pub returns-in-Closed-clause-come : goal.returns-in-Closed-clause-come
+returns-in-Closed-clause-come g c = λ bytes.
+    come_over c.args.self.now.keys c.args.self.now.keys bytes c.args.guest.now c.close.new.self c.close.ensures.key
+    (λ lives. closed_shut _ (sym c.close.ensures.standing ∙ lives))

@@ -12,6 +12,7 @@ loop-init g c = record {
   turn = turn_nowhere _ _ _ _ refl refl refl refl refl refl refl (inl refl);
   kept = kept_same (λ name. refl) refl;
   idle = yet_same refl refl;
+  come = λ bytes before. before;
   sent = refl;
 }
 
@@ -42,6 +43,7 @@ loop-preserved g c = record {
   turn = turn_then c.args.self.now c.loop.self _ c.args.guest.now c.loop.guest _ c.loop.invariant.turn c.loop.invariant.idle c.loop.invariant.open_still c.take_next.ensures.turn;
   kept = kept_then c.loop.invariant.kept c.take_next.ensures.kept;
   idle = yet_then c.loop.invariant.idle c.loop.invariant.open_still c.in_ok-course.ensures.idle;
+  come = λ bytes before. c.take_next.ensures.come bytes (c.loop.invariant.come bytes before);
   sent = c.take_next.ensures.sent ∙ c.loop.invariant.sent;
 }
 
@@ -50,3 +52,12 @@ returns-in_err-course-clause-kept g c = kept_then c.loop.invariant.kept c.take_n
 
 pub returns-in-Some-clause-kept : goal.returns-in-Some-clause-kept
 returns-in-Some-clause-kept g c = kept_then c.loop.invariant.kept c.take_next.ensures.kept
+
+pub returns-in_err-course-clause-come : goal.returns-in_err-course-clause-come
+returns-in_err-course-clause-come g c = λ bytes before. c.take_next.ensures.come bytes (c.loop.invariant.come bytes before)
+
+pub returns-in-Some-clause-come : goal.returns-in-Some-clause-come
+returns-in-Some-clause-come g c = λ bytes before. c.take_next.ensures.come bytes (c.loop.invariant.come bytes before)
+
+pub returns-clause-come : goal.returns-clause-come
+returns-clause-come g c = λ bytes before. c.loop.invariant.come bytes before

@@ -1,5 +1,6 @@
 -- The connection is open and served, and its turn went on.
-use Rattle.std.proofs.Common.{◌≡◌}
+use Rattle.std.proofs.Common.{◌≡◌, ℕ, List}
+use Rattle.sv_office.specs.Coming.{HasCome}
 use Rattle.sv_office.specs.Guests.{HasYetToAsk}
 use Rattle.sv_office.specs.Renewing.{KeepsKeys}
 use Rattle.sv_office.specs.Telling.{IsServed}
@@ -14,5 +15,6 @@ invariant-loop g l = record {
   turn : TakesTurn l.fn.self l.self l.fn.guest l.guest;
   kept : KeepsKeys (g.L.Files.contents l.fn.files) (g.L.Files.contents l.files) l.fn.self.keys l.self.keys;
   idle : HasYetToAsk l.fn.guest l.guest l.fn.self.keeper.world l.self.keeper.world;
+  come : (bytes : List ℕ) → HasCome l.fn.self.keys bytes l.fn.guest → HasCome l.self.keys bytes l.guest;
   sent : l.guest.peer.sent ≡ l.fn.guest.peer.sent;
 }
