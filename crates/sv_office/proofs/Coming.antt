@@ -9,7 +9,7 @@ use Rattle.sv_wire.specs.Messages.{request_at}
 use Rattle.sv_exchange.specs.Incoming.{read_or_bad}
 use Rattle.sv_keys.specs.Keeping.{KeysView}
 use Rattle.sv_peer.specs.Hellos.{heard_in, hello_kind, hello_or_bad, key_behind, request_or_bad}
-use Rattle.sv_peer.specs.View.{PeerView, Answers, HearsBy, HearsFirst, Hears, IsAfterHttp, NextBy, NextIs, Nexts, TakesFirst, TakesIn, begun, is_letter}
+use Rattle.sv_peer.specs.View.{PeerView, Answers, HearsBy, HearsFirst, Hears, IsAfterHttp, NextBy, NextIs, Nexts, TakesFirst, TakesIn, begun, is_letter, new_peer}
 use Rattle.sv_peer.specs.declared.heard.Heard.{Heard}
 use Rattle.sv_peer.specs.declared.heard.Heard.TheVariants as heard
 use Rattle.sv_peer.specs.declared.manner.Manner.{Manner}
@@ -163,6 +163,13 @@ pub come_quiet : (keys : Option KeysView) (bytes : List ℕ) (guest : Guest) (af
 come_quiet keys bytes guest after next come = record {
   shown = come.shown;
   untaken = λ wanted lives silent. quiet_by bytes guest.peer after guest.peer.manner refl (come.untaken wanted lives silent) next;
+}
+
+-- A new one, of which nothing was heard.
+pub new_come : (keys : Option KeysView) (guest : Guest) → guest.peer ≡ new_peer → guest.key ≡ None → HasCome keys [] guest
+new_come keys guest new none = record {
+  shown = subst (λ (o : Option (List ℕ)). IfSome o (HasShown [])) (sym none) tt;
+  untaken = λ wanted lives silent. subst (λ (peer : PeerView). IsUntaken peer.manner [] peer) (sym new) (record { none = refl; waits = refl; shown = refl });
 }
 
 -- ---- It has spoken, or is served no more

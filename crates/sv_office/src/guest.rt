@@ -52,11 +52,14 @@ pub struct Guest {
 }
 
 impl Guest {
-    ghost use Rattle.std.specs.Prelude.{◌↔◌, false, None, IsTrue};
+    ghost use Rattle.std.specs.Prelude.{◌↔◌, false, [], Option, None, IsTrue};
+    ghost use Rattle.sv_keys.specs.Keeping.{KeysView};
     ghost use Rattle.sv_peer.specs.View.{new_peer};
     ghost use Rattle.sv_office.specs.declared.guest.Standing.TheVariants as standing;
+    ghost use Rattle.sv_office.specs.Coming.{HasCome};
     ghost use Rattle.sv_office.specs.Guests.{Closes};
 
+    #[tactic(auto, using(crate::proofs::Coming::new_come))]
     pub fn new(alloc: Global, now: u64) -> Guest
         ensures peer { result.peer ≡ new_peer }
         ensures session { result.session ≡ None }
@@ -65,6 +68,7 @@ impl Guest {
         ensures spoken { result.has_spoken ≡ false }
         ensures held { result.held ≡ None }
         ensures client { result.client ≡ None }
+        ensures come { (keys : Option KeysView) → HasCome keys [] result }
     {
         Guest {
             peer: Peer::new(alloc),
