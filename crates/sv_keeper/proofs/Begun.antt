@@ -7,7 +7,7 @@ use Rattle.sv_living.specs.World.{WorldView}
 use Rattle.sv_log.specs.Pictures.{Picture, Disk, seen}
 use Rattle.sv_log.specs.Crashes.{LeavesOnly}
 use Rattle.sv_log.specs.Rests.{IsAtRest}
-use Rattle.sv_log.specs.Chains.{StateFile, no_state, state_at, Holds, IsLog}
+use Rattle.sv_log.specs.Chains.{StateFile, no_state, state_at, HasLog, IsLog}
 use Rattle.sv_log.specs.Readings.{read_state, Reads, ReadsLast}
 use Rattle.sv_log.specs.declared.reading.Reading.{Reading}
 use Rattle.sv_log.proofs.Alone.{state_is, holds_alone}
@@ -37,11 +37,11 @@ module _ (world : List ℕ) (left : Disk) (r : Reading) (reads : Reads world (se
   pub no_state_read : read_state r ≡ no_state
   no_state_read = state_is (read_state r) no_state stateless (none_by r.last reads)
 
-  pub stateless_holds : Holds world no_state r.text.items p
-  stateless_holds = subst (λ (s : StateFile). Holds world s r.text.items p) no_state_read (reads_holds world p r reads)
+  pub stateless_holds : HasLog world no_state r.text.items p
+  stateless_holds = subst (λ (s : StateFile). HasLog world s r.text.items p) no_state_read (reads_holds world p r reads)
 
   -- A log of this world without a state has the text that was read.
-  pub text_is : (text : List ℕ) → Holds world no_state text p → text ≡ r.text.items
+  pub text_is : (text : List ℕ) → HasLog world no_state text p → text ≡ r.text.items
   text_is text holds = (holds_alone world p no_state no_state text r.text.items holds stateless_holds).1
 
   -- The line that is wrong stands where it is said to.
@@ -78,15 +78,15 @@ has_state world left r reads file line is = record {
 -- ---- What a crash leaves while it is opened
 
 module _ (world : List ℕ) (left middle now : Disk) (r : Reading) (state : StateFile) (same : read_state r ≡ no_state) (newest : state ≡ read_state r)
-    (first : LeavesOnly left middle (Holds world (read_state r) r.text.items)) where
-  stateless_first : LeavesOnly left middle (Holds world no_state r.text.items)
-  stateless_first = subst (λ (s : StateFile). LeavesOnly left middle (Holds world s r.text.items)) same first
+    (first : LeavesOnly left middle (HasLog world (read_state r) r.text.items)) where
+  stateless_first : LeavesOnly left middle (HasLog world no_state r.text.items)
+  stateless_first = subst (λ (s : StateFile). LeavesOnly left middle (HasLog world s r.text.items)) same first
 
   -- The log was opened, and then sessions ended, or in part.
   pub opened_all : (text : List ℕ) → text ≡ r.text.items → LeavesOnly middle now (HasAll world state text) → LeavesOnly left now (HasAll world no_state r.text.items)
   opened_all text is then =
       then_only left middle now (HasAll world no_state r.text.items)
-      (weaker_only left middle (Holds world no_state r.text.items) (HasAll world no_state r.text.items) (λ p holds. just_all world no_state p r.text.items holds) stateless_first)
+      (weaker_only left middle (HasLog world no_state r.text.items) (HasAll world no_state r.text.items) (λ p holds. just_all world no_state p r.text.items holds) stateless_first)
       (subst (λ (s : StateFile). LeavesOnly middle now (HasAll world s r.text.items)) (newest ∙ same)
       (subst (λ (t : List ℕ). LeavesOnly middle now (HasAll world state t)) is then))
 
@@ -97,25 +97,25 @@ module _ (world : List ℕ) (left middle now : Disk) (r : Reading) (state : Stat
       → LeavesOnly left now (HoldsFirst later.rules.world.shape world no_state later.history (length reached.history))
   opened_first reached later text_is rules on synced is then =
       then_only left middle now (HoldsFirst later.rules.world.shape world no_state later.history (length reached.history))
-      (weaker_only left middle (Holds world no_state r.text.items) (HoldsFirst later.rules.world.shape world no_state later.history (length reached.history))
+      (weaker_only left middle (HasLog world no_state r.text.items) (HoldsFirst later.rules.world.shape world no_state later.history (length reached.history))
       (λ p holds. holds_first later.rules.world.shape world no_state p reached.history later.history on r.text.items
       (sym text_is ∙ ap (λ (x : Rules). history_text x.world.shape reached.history) (sym rules)) holds) stateless_first)
       (subst (λ (s : StateFile). LeavesOnly middle now (HoldsFirst later.rules.world.shape world s later.history (length reached.history))) (newest ∙ same)
       (subst (λ (n : ℕ). LeavesOnly middle now (HoldsFirst later.rules.world.shape world state later.history n)) is then))
 
 -- It was not opened.
-pub opened_not : (world : List ℕ) (left now : Disk) (r : Reading) → Reads world (seen left) r → r.state ≡ 0 → LeavesOnly left now (Holds world (read_state r) r.text.items) → LeavesOnly left now (HasAll world no_state r.text.items)
+pub opened_not : (world : List ℕ) (left now : Disk) (r : Reading) → Reads world (seen left) r → r.state ≡ 0 → LeavesOnly left now (HasLog world (read_state r) r.text.items) → LeavesOnly left now (HasAll world no_state r.text.items)
 opened_not world left now r reads stateless only =
-    weaker_only left now (Holds world no_state r.text.items) (HasAll world no_state r.text.items) (λ p holds. just_all world no_state p r.text.items holds)
-    (subst (λ (s : StateFile). LeavesOnly left now (Holds world s r.text.items)) (no_state_read world left r reads stateless) only)
+    weaker_only left now (HasLog world no_state r.text.items) (HasAll world no_state r.text.items) (λ p holds. just_all world no_state p r.text.items holds)
+    (subst (λ (s : StateFile). LeavesOnly left now (HasLog world s r.text.items)) (no_state_read world left r reads stateless) only)
 
 -- A folder that was only read has what it had.
-pub only_read : (left now : Disk) (world : List ℕ) → now ≡ left → IsAtRest left → (text : List ℕ) → Holds world no_state text (seen left) → LeavesOnly left now (HasAll world no_state text)
+pub only_read : (left now : Disk) (world : List ℕ) → now ≡ left → IsAtRest left → (text : List ℕ) → HasLog world no_state text (seen left) → LeavesOnly left now (HasAll world no_state text)
 only_read left now world same rest text holds =
     subst (λ (d : Disk). LeavesOnly left d (HasAll world no_state text)) (sym same)
-    (weaker_only left left (Holds world no_state text) (HasAll world no_state text) (λ p held. just_all world no_state p text held) (rest_only left world no_state text rest holds))
+    (weaker_only left left (HasLog world no_state text) (HasAll world no_state text) (λ p held. just_all world no_state p text held) (rest_only left world no_state text rest holds))
 
--- ---- Sessions end, and all is settled
+-- ---- Sessions end, and all is durable
 
 module _ (old mid : WorldView) (synced : ℕ) (world : List ℕ) (state : StateFile) (few : synced ≤ length old.history) (text : List ℕ)
     (is : text ≡ history_text old.rules.world.shape (first_entries synced old.history)) (rules : mid.rules ≡ old.rules) (on : GoesOn old.history mid.history) where

@@ -16,7 +16,7 @@ use Rattle.sv_entries.specs.Lines.{living_line}
 use Rattle.sv_entries.specs.Laws.{EntriesHaveOneLine}
 use Rattle.sv_keeper.specs.Histories.{history_text}
 use Rattle.sv_keeper.specs.Views.{KeeperView}
-use Rattle.sv_keeper.specs.Keeping.{IsKept, next_line}
+use Rattle.sv_keeper.specs.Keeping.{IsKeptWorld, next_line}
 use Rattle.sv_keeper.proofs.Fronts.{line_text, line_long, first_less}
 
 module _ (v : WorldView) (s : ℕ) (request : Request) where
@@ -36,7 +36,7 @@ module _ (v : WorldView) (s : ℕ) (request : Request) where
       ∙ ap (λ (n : ℕ). entry_line shape (accepted (entry ∷ v.history)) n entry) number
       ∙ ap (λ (x : Shape). entry_line x (accepted (entry ∷ v.history)) (suc (length v.history)) entry) shape_is
 
-module _ {F : Type 0} (disk : F → Disk) (is_honest : F → Type 0) (old : KeeperView F) (is : IsKept disk is_honest old) (s : ℕ) (request : Request) where
+module _ {F : Type 0} (disk : F → Disk) (is_honest : F → Type 0) (old : KeeperView F) (is : IsKeptWorld disk is_honest old) (s : ℕ) (request : Request) where
   abbrev v : WorldView
   v = old.world
 
@@ -57,12 +57,12 @@ module _ {F : Type 0} (disk : F → Disk) (is_honest : F → Type 0) (old : Keep
       omega (arith, both, long, zero_long)
 
   -- The world has one entry more, whose line was put into the group.
-  pub entered : (b : Bool) → IsKept disk is_honest (new b)
+  pub entered : (b : Bool) → IsKeptWorld disk is_honest (new b)
   entered b = record {
     sizes = is.sizes;
     lines = text-append old.group line is.lines (line_text v.rules.world.shape entry_after v.history);
     part = omega (arith, is.part);
-    settled = λ none. absurd (some none);
+    durable = λ none. absurd (some none);
     opened = is.opened;
     text = λ honest. sym (append_assoc (log_text disk old.log) old.group line) ∙ ap (λ (l : List ℕ). l ++ line) (is.text honest);
     on_disk = λ honest.
@@ -71,7 +71,7 @@ module _ {F : Type 0} (disk : F → Disk) (is_honest : F → Type 0) (old : Keep
 
   -- The same by what the fields are.
   pub entered_as : (b : Bool) (w : WorldView) (group : List ℕ) → w ≡ after v s request → group ≡ old.group ++ line
-      → IsKept disk is_honest (record { world = w; log = old.log; group = group; synced = old.synced; is_broken = b })
+      → IsKeptWorld disk is_honest (record { world = w; log = old.log; group = group; synced = old.synced; is_broken = b })
   entered_as b w group own put =
-      subst (λ (g : List ℕ). IsKept disk is_honest (record { world = w; log = old.log; group = g; synced = old.synced; is_broken = b })) (sym put)
-      (subst (λ (x : WorldView). IsKept disk is_honest (record { world = x; log = old.log; group = old.group ++ line; synced = old.synced; is_broken = b })) (sym own) (entered b))
+      subst (λ (g : List ℕ). IsKeptWorld disk is_honest (record { world = w; log = old.log; group = g; synced = old.synced; is_broken = b })) (sym put)
+      (subst (λ (x : WorldView). IsKeptWorld disk is_honest (record { world = x; log = old.log; group = old.group ++ line; synced = old.synced; is_broken = b })) (sym own) (entered b))

@@ -7,33 +7,33 @@ use Rattle.sv_journal.specs.History.{entry_of}
 use Rattle.sv_living.specs.World.{WorldView, after, reply_in}
 use Rattle.sv_keeper.specs.Histories.{history_text}
 use Rattle.sv_keeper.specs.Keeping.{text_of, next_line}
-use Rattle.sv_keeper.specs.Walks.{IsTaken, AreTaken, AreTaken.none, AreTaken.some, IsNoLine, IsWrong}
+use Rattle.sv_keeper.specs.Walks.{TakesLine, TakesLines, TakesLines.none, TakesLines.some, IsNoLine, IsWrong}
 use Rattle.sv_keeper.proofs.Fronts.{line_long}
 
 -- One more is taken behind others.
-pub then_taken : {v w x : WorldView} {text middle rest : List ℕ} → AreTaken v w text middle → IsTaken w x middle rest → AreTaken v x text rest
-then_taken AreTaken.none one = AreTaken.some one AreTaken.none
-then_taken (AreTaken.some first others) one = AreTaken.some first (then_taken others one)
+pub then_taken : {v w x : WorldView} {text middle rest : List ℕ} → TakesLines v w text middle → TakesLine w x middle rest → TakesLines v x text rest
+then_taken TakesLines.none one = TakesLines.some one TakesLines.none
+then_taken (TakesLines.some first others) one = TakesLines.some first (then_taken others one)
 
 -- What is left is shorter.
-pub taken_shorter : {v w : WorldView} {text rest : List ℕ} → IsTaken v w text rest → length rest < length text
+pub taken_shorter : {v w : WorldView} {text rest : List ℕ} → TakesLine v w text rest → length rest < length text
 taken_shorter {v} {w} {text} {rest} one =
     let long = line_long v.rules.world.shape (entry_of one.session one.request (reply_in v one.session one.request)) v.history in
     let both = ap length one.line ∙ length-append (next_line v one.session one.request) rest in
     omega (arith, long, both)
 
 -- Of nothing none is taken.
-pub taken_nothing : {v w : WorldView} {text rest : List ℕ} → AreTaken v w text rest → text ≡ [] → rest ≡ []
-taken_nothing AreTaken.none empty = empty
-taken_nothing (AreTaken.some one others) empty =
+pub taken_nothing : {v w : WorldView} {text rest : List ℕ} → TakesLines v w text rest → text ≡ [] → rest ≡ []
+taken_nothing TakesLines.none empty = empty
+taken_nothing (TakesLines.some one others) empty =
     let less = taken_shorter one in
     let zero_long = ap length empty in
     absurd (omega (arith, less, zero_long))
 
 -- The lines that are taken are those of the history, and the rules stay.
-pub taken_text : {v w : WorldView} {text rest : List ℕ} → AreTaken v w text rest → (w.rules ≡ v.rules) × (text_of v ++ text ≡ text_of w ++ rest)
-taken_text AreTaken.none = (refl, refl)
-taken_text {v} {w} {text} {rest} (AreTaken.some {w = x} {middle = middle} one others) =
+pub taken_text : {v w : WorldView} {text rest : List ℕ} → TakesLines v w text rest → (w.rules ≡ v.rules) × (text_of v ++ text ≡ text_of w ++ rest)
+taken_text TakesLines.none = (refl, refl)
+taken_text {v} {w} {text} {rest} (TakesLines.some {w = x} {middle = middle} one others) =
     let later = taken_text others in
     let line = next_line v one.session one.request in
     let rules : x.rules ≡ v.rules = ap (λ (u : WorldView). u.rules) one.world in (
@@ -42,10 +42,10 @@ taken_text {v} {w} {text} {rest} (AreTaken.some {w = x} {middle = middle} one ot
     )
 
 -- All lines of a text are taken from its beginning: the text is that of the history.
-pub taken_all : {v w : WorldView} {text : List ℕ} → v.history ≡ [] → AreTaken v w text [] → text_of w ≡ text
+pub taken_all : {v w : WorldView} {text : List ℕ} → v.history ≡ [] → TakesLines v w text [] → text_of w ≡ text
 taken_all {v} {w} {text} empty all =
     sym (ap (λ (h : List Entry). history_text v.rules.world.shape h ++ text) (sym empty) ∙ (taken_text all).1 ∙ append-nil (text_of w))
 
 -- Some lines are taken, and the next one is not right.
-pub stopped : {v w : WorldView} {text rest : List ℕ} (number : ℕ) → AreTaken v w text rest → IsNoLine w rest → rest ≢ [] → number ≡ length w.history + 1 → IsWrong v text number
+pub stopped : {v w : WorldView} {text rest : List ℕ} (number : ℕ) → TakesLines v w text rest → IsNoLine w rest → rest ≢ [] → number ≡ length w.history + 1 → IsWrong v text number
 stopped {v} {w} {text} {rest} number right wrong more is = record { reached = w; rest = rest; right = right; wrong = wrong; more = more; number_is = is }

@@ -5,7 +5,7 @@ use Rattle.sv_journal.specs.declared.entry.Entry.{Entry}
 use Rattle.sv_journal.specs.History.{accepted}
 use Rattle.sv_journal.specs.Text.{entry_line}
 use Rattle.sv_log.specs.Pictures.{Picture}
-use Rattle.sv_log.specs.Chains.{StateFile, Holds}
+use Rattle.sv_log.specs.Chains.{StateFile, HasLog}
 
 -- The line of the latest entry.
 abbrev pub last_line : Shape → Entry → List Entry → List ℕ
@@ -22,4 +22,4 @@ first_entries n (e ∷ h) = if nat_lt (length h) n then e ∷ h else first_entri
 
 -- A log of this world, behind whose newest state stand the lines of the first m entries, for some m from the least on.
 abbrev pub HoldsFirst : Shape → List ℕ → StateFile → List Entry → ℕ → Picture → Type 0
-HoldsFirst shape world state h least p = (m : ℕ) × (least ≤ m) × (m ≤ length h) × Holds world state (history_text shape (first_entries m h)) p
+HoldsFirst shape world state h least p = (m : ℕ) × (least ≤ m) × (m ≤ length h) × HasLog world state (history_text shape (first_entries m h)) p

@@ -2,7 +2,7 @@
 use Rattle.std.specs.Prelude.{◌≡◌, ℕ, ◌+◌, false, length}
 use Rattle.sv_log.specs.Pictures.{Disk}
 use Rattle.sv_keeper.specs.Views.{KeeperView}
-use Rattle.sv_keeper.specs.Keeping.{IsKept}
+use Rattle.sv_keeper.specs.Keeping.{IsKeptWorld}
 use Rattle.sv_keeper.specs.declared.keeper.Keeper.TheInside.{Inside}
 
 module _ {F : Type 0} where
@@ -13,4 +13,4 @@ module _ {F : Type 0} where
   pub record IsKeeper (disk : F → Disk) (is_honest : F → Type 0) (k : Inside F) : Type 0 where
     pub shape : k.shape ≡ k.core.rules.world.shape
     pub next : k.is_broken ≡ false → k.next ≡ length k.core.history + 1
-    pub kept : k.is_broken ≡ false → IsKept disk is_honest (view_of k)
+    pub kept : k.is_broken ≡ false → IsKeptWorld disk is_honest (view_of k)

@@ -1,4 +1,4 @@
--- A kept world: its entries stand in its log, and nothing is sent before it is settled.
+-- A kept world: its entries stand in its log, and nothing is sent before it is durable.
 use Rattle.std.specs.Prelude.{◌≡◌, ◌⊎◌, ℕ, ◌≤◌, true, false, List, [], ◌++◌, length}
 use Rattle.sv_wire.specs.declared.message.Request.{Request}
 use Rattle.sv_wire.specs.declared.message.Reply.{Reply}
@@ -56,18 +56,18 @@ module _ {F : Type 0} where
 module _ {F : Type 0} (disk : F → Disk) (is_honest : F → Type 0) where
   -- What is so of a keeper that is not broken: its log has the lines of all entries but those of the group, and these are the group's. Those of
   -- the first `synced` entries are on the disk.
-  pub record IsKept (keeper : KeeperView F) : Type 0 where
+  pub record IsKeptWorld (keeper : KeeperView F) : Type 0 where
     pub sizes : HasSizes keeper.log.segment
     pub lines : IsText keeper.group
     pub part : keeper.synced ≤ length keeper.world.history
-    pub settled : keeper.group ≡ [] → keeper.synced ≡ length keeper.world.history
+    pub durable : keeper.group ≡ [] → keeper.synced ≡ length keeper.world.history
     pub opened : is_honest keeper.log.segment.folder → IsOpenLog disk keeper.log
     pub text : is_honest keeper.log.segment.folder → log_text disk keeper.log ++ keeper.group ≡ text_of keeper.world
     pub on_disk : is_honest keeper.log.segment.folder
         → log_synced disk keeper.log ≡ history_text keeper.world.rules.world.shape (first_entries keeper.synced keeper.world.history)
 
   -- All lines are on the disk.
-  pub record AreSettled (keeper : KeeperView F) : Type 0 where
+  pub record AreDurable (keeper : KeeperView F) : Type 0 where
     pub sound : keeper.is_broken ≡ false
     pub none : keeper.group ≡ []
     pub all : keeper.synced ≡ length keeper.world.history

@@ -2,15 +2,15 @@
 //! anything of its replies be sent.
 #![tactic(auto)]
 
+mod durable;
 mod fault;
 mod keeper;
 mod opening;
 mod place;
 mod putting;
-mod settled;
 mod walking;
 
+pub use durable::Durable;
 pub use fault::{KeepFault, LineCause, OpenFault};
 pub use keeper::Keeper;
 pub use opening::Opening;
-pub use settled::Settled;

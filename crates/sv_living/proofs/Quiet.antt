@@ -19,7 +19,7 @@ use Rattle.sv_journal.specs.Living.{Stewardship, heeded, due_to, living}
 use Rattle.sv_journal.proofs.Sizes.{SizeWithin, sized, served_bounded}
 use Rattle.sv_journal.proofs.Stewards.{living-keeping}
 use Rattle.sv_core.specs.Seeing.{shows_nothing, RelaysFit, IsQuietAnswer}
-use Rattle.sv_living.specs.Quiet.{is_quiet, IsQuiet}
+use Rattle.sv_living.specs.Quiet.{is_quiet, IsQuietReply}
 use Rattle.sv_living.specs.Sessions.{is_open}
 use Rattle.sv_living.proofs.Deciding.{reply-open}
 use Rattle.sv_living.proofs.Heeding.{accepted_heeded}
@@ -85,7 +85,7 @@ module _ (w : Stewardship) (r : Rules) (h : List Entry) (s : ℕ) (q : Request) 
       ∙ rows-shown (reply_to_request r (heeded w h) s q) shown
 
   -- An open session is answered as its core would.
-  pub quiet-open : SizeWithin → LegalFor (living w) r h → is_open h s ≡ true → is_end q ≡ false → (o : Option Reply) → IsQuietAnswer r (heeded w h) s q o → IsQuiet r w h s q o
+  pub quiet-open : SizeWithin → LegalFor (living w) r h → is_open h s ≡ true → is_end q ≡ false → (o : Option Reply) → IsQuietAnswer r (heeded w h) s q o → IsQuietReply r w h s q o
   quiet-open size legal here more None is = λ bound.
       and_right (is_open h s) (shows_nothing (reply_for (living w) r h s q)) (for-shown more (is (relays-fit size w r h bound legal)))
   quiet-open size legal here more (Some reply) is =
@@ -96,9 +96,9 @@ module _ (w : Stewardship) (r : Rules) (h : List Entry) (s : ℕ) (q : Request) 
       )
 
   -- Nothing is told of a session that is not open, or of its End.
-  pub quiet-none : is_open h s ≡ false → IsQuiet r w h s q None
+  pub quiet-none : is_open h s ≡ false → IsQuietReply r w h s q None
   quiet-none closed bound = and_left (is_open h s) (shows_nothing (reply_for (living w) r h s q)) closed
 
-  pub quiet-end : q ≡ requests.End → IsQuiet r w h s q None
+  pub quiet-end : q ≡ requests.End → IsQuietReply r w h s q None
   quiet-end end bound =
       and_right (is_open h s) (shows_nothing (reply_for (living w) r h s q)) (ap (λ (x : Request). shows_nothing (reply_for (living w) r h s x)) end)

@@ -11,18 +11,18 @@ use Rattle.sv_living.specs.declared.live.Live.{Live}
 use Rattle.sv_living.specs.declared.living.LivingCore.TheInside.{Inside}
 use Rattle.sv_living.specs.Invariant.{world_of}
 use Rattle.sv_living.specs.Keeping.{rules_at, stewardship_at, Moved}
-use Rattle.sv_living.specs.World.{WorldView, Answered}
+use Rattle.sv_living.specs.World.{WorldView, WorldAnswered}
 
 -- A request was answered, and its entry is in the past.
 pub answered : (a : Inside) (v : WorldView) → world_of a ≡ v → (live : Live) (past : List Entry) (s : ℕ) (q : Request) (answer : Answer) → Moved a.live live v.history s q answer
-    → past ≡ entry_of s q answer.logged ∷ a.past → Answered v (world_of (record { live = live; past = past })) s q answer
+    → past ≡ entry_of s q answer.logged ∷ a.past → WorldAnswered v (world_of (record { live = live; past = past })) s q answer
 answered a v same live past s q answer moved entered =
-    subst (λ (u : WorldView). Moved a.live live u.history s q answer → Answered u (world_of (record { live = live; past = past })) s q answer) same here moved
+    subst (λ (u : WorldView). Moved a.live live u.history s q answer → WorldAnswered u (world_of (record { live = live; past = past })) s q answer) same here moved
   where
     seen : Rules → Stewardship → List Entry → WorldView
     seen r w h = record { rules = r; stewardship = w; history = h }
 
-    here : Moved a.live live a.past s q answer → Answered (world_of a) (world_of (record { live = live; past = past })) s q answer
+    here : Moved a.live live a.past s q answer → WorldAnswered (world_of a) (world_of (record { live = live; past = past })) s q answer
     here m = record {
       world = ap (λ (r : Rules). seen r (stewardship_at live) past) m.rules
           ∙ ap (λ (w : Stewardship). seen (rules_at a.live) w past) m.stewards

@@ -4,7 +4,7 @@ ghost use Rattle.sv_world.specs.Limits.{most_open, most_positions};
 ghost use Rattle.sv_world.specs.Worlds.{IsGoodWorld};
 ghost use Rattle.sv_journal.specs.declared.entry.Entry.{Entry};
 ghost use Rattle.sv_living.specs.Keeping.{Course, rules_at, stewardship_of, stewardship_at, KeepsLiving};
-ghost use Rattle.sv_living.specs.Quiet.{IsFirstOpen, IsQuiet};
+ghost use Rattle.sv_living.specs.Quiet.{IsFirstOpen, IsQuietReply};
 ghost use Rattle.sv_living.specs.Sessions.{is_open, next_session, open_sessions, most_session, may_begin};
 
 use crate::stewards::Stewards;
@@ -65,12 +65,12 @@ impl Live {
         self.table.first()
     }
 
-    /// What an Observe of an open session would be answered, where that shows nothing. `g` is the history of all entries.
+    /// What an Observe of an open session would be answered, where that shows nothing. `g` has the history of all entries, and whose reports count.
     pub fn quiet_answer(&self, session: u64, request: &Request) -> Option<Reply>
         ghost g: { Course }
         requires keeps { KeepsLiving self.now g.h }
         requires stewards { g.w ≡ stewardship_at self.now }
-        ensures { IsQuiet (rules_at self.now) g.w g.h session request.now result }
+        ensures { IsQuietReply (rules_at self.now) g.w g.h session request.now result }
     {
         missing_influences_only_shrink();
         let seat = self.table.seat_of(session)?;

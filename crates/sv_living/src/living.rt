@@ -10,13 +10,13 @@ ghost use Rattle.sv_journal.specs.Serving.{LegalFor};
 ghost use Rattle.sv_journal.specs.Living.{living};
 ghost use Rattle.sv_wire.specs.Grammar.{IsWireReply};
 ghost use Rattle.sv_living.specs.Keeping.{stewardship_of};
-ghost use Rattle.sv_living.specs.Quiet.{IsFirstOpen, IsQuiet};
+ghost use Rattle.sv_living.specs.Quiet.{IsFirstOpen, IsQuietReply};
 ghost use Rattle.sv_living.specs.Sessions.{is_open, next_session, open_sessions, may_begin, may_ask, AreInOrder};
-ghost use Rattle.sv_living.specs.World.{heeded_in, Answered, IsStepFault};
+ghost use Rattle.sv_living.specs.World.{heeded_in, WorldAnswered, IsStepFault};
 
 use crate::fault::StepFault;
 use crate::live::Live;
-use crate::past::Past;
+use crate::past::WorldPast;
 use crate::stewards::Stewards;
 use std::alloc::{AllocError, Global};
 use std::marker::Model;
@@ -32,7 +32,7 @@ use sv_world::{ClientId, ObjectId, Value};
 #[derive(Drop)]
 pub struct LivingCore {
     pub(crate) live: Live,
-    pub(crate) past: Past,
+    pub(crate) past: WorldPast,
 }
 
 impl Model for LivingCore {
@@ -61,7 +61,7 @@ impl LivingCore {
     {
         Ok(LivingCore {
             live: Live::new(alloc, opened, stewards)?,
-            past: Past::new(),
+            past: WorldPast::new(),
         })
     }
 
@@ -69,7 +69,7 @@ impl LivingCore {
     ///
     /// Where it is not answered everything is as it was, but for room. The End of an open session takes no memory.
     pub fn step(&mut self, session: u64, request: &Request) -> Result<Answer, StepFault>
-        ensures ok { IfOk result (Answered self.old self.new session request.now) }
+        ensures ok { IfOk result (WorldAnswered self.old self.new session request.now) }
         ensures err { IfErr result (λ _. self.new ≡ self.old) }
         ensures cause { MatchResult result (λ _. may_ask self.old.history session ≡ true) (IsStepFault self.old.history session) }
         ensures end { is_end request.now ≡ true → is_open self.old.history session ≡ true → IsOk result }
@@ -81,7 +81,7 @@ impl LivingCore {
     fn answer(&mut self, session: u64, request: &Request) -> Result<Answer, StepFault>
         ghost h: { List Entry }
         requires { h ≡ self.old.history }
-        ensures ok { IfOk result (Answered self.old self.new session request.now) }
+        ensures ok { IfOk result (WorldAnswered self.old self.new session request.now) }
         ensures err { IfErr result (λ _. self.new ≡ self.old) }
         ensures cause { MatchResult result (λ _. may_ask h session ≡ true) (IsStepFault h session) }
         ensures end { is_end request.now ≡ true → is_open h session ≡ true → IsOk result }
@@ -133,7 +133,7 @@ impl LivingCore {
     /// What an Observe of an open session would be answered, where that shows nothing: no head value and no item. Nothing is entered or changed:
     /// it is what the answer table gives after the entries so far.
     pub fn quiet_answer(&self, session: u64, request: &Request) -> Option<Reply>
-        ensures { IsQuiet self.now.rules self.now.stewardship self.now.history session request.now result }
+        ensures { IsQuietReply self.now.rules self.now.stewardship self.now.history session request.now result }
     {
         self.answer_quietly(session, request)
     }
@@ -142,7 +142,7 @@ impl LivingCore {
     fn answer_quietly(&self, session: u64, request: &Request) -> Option<Reply>
         ghost h: { List Entry }
         requires { h ≡ self.now.history }
-        ensures { IsQuiet self.now.rules self.now.stewardship h session request.now result }
+        ensures { IsQuietReply self.now.rules self.now.stewardship h session request.now result }
     {
         self.live.quiet_answer(session, request)
     }

@@ -9,17 +9,17 @@ use sv_wire::Request;
 
 /// All that was asked and replied. It takes no memory: contracts see it as the entries, the latest first.
 #[derive(Drop)]
-pub struct Past {
+pub struct WorldPast {
     asked: Log<u64, Request>,
     replied: Log<u64, Logged>,
 }
 
-impl Model for Past {
+impl Model for WorldPast {
     ghost use Rattle.std.specs.Prelude.{◌≡◌, List, [], length};
     ghost use Rattle.std.specs.Coded.{codes};
     ghost use Rattle.sv_journal.specs.contracts.entry.Entry as entry;
     ghost use Rattle.sv_journal.specs.declared.entry.Entry.{Entry};
-    ghost use Rattle.sv_living.specs.Past.{entries_of};
+    ghost use Rattle.sv_living.specs.WorldPast.{entries_of};
 
     ghost Value = { List Entry };
 
@@ -30,12 +30,12 @@ impl Model for Past {
     ghost invariant = { λ p. length p.asked.items ≡ length p.replied.items };
 }
 
-impl Past {
+impl WorldPast {
     /// Nobody has asked anything.
-    pub fn new() -> Past
+    pub fn new() -> WorldPast
         ensures { result ≡ [] }
     {
-        Past {
+        WorldPast {
             asked: Log::new(),
             replied: Log::new(),
         }

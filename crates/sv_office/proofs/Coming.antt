@@ -9,7 +9,7 @@ use Rattle.sv_wire.specs.Messages.{request_at}
 use Rattle.sv_exchange.specs.Incoming.{read_or_bad}
 use Rattle.sv_keys.specs.Keeping.{KeysView}
 use Rattle.sv_peer.specs.Hellos.{heard_in, hello_kind, hello_or_bad, key_behind, request_or_bad}
-use Rattle.sv_peer.specs.View.{PeerView, Answers, HearsBy, HearsFirst, Hears, IsAfterHttp, NextBy, NextIs, Nexts, TakesFirst, TakesIn, begun, is_letter, new_peer}
+use Rattle.sv_peer.specs.View.{PeerView, Answers, HearsBy, HearsFirst, Hears, IsAfterHttp, NextBy, NextIs, Nexts, TakesFirstFrame, TakesIn, begun, is_letter, new_peer}
 use Rattle.sv_peer.specs.declared.heard.Heard.{Heard}
 use Rattle.sv_peer.specs.declared.heard.Heard.TheVariants as heard
 use Rattle.sv_peer.specs.declared.manner.Manner.{Manner}
@@ -76,7 +76,7 @@ yet_closed e = cc
 
 -- The first frame of all is the message of a key.
 first_shows : (bytes digest : List ℕ) (peer after : PeerView) → AllWaits bytes peer → (first : Option (List ℕ × List ℕ)) → first_frame peer.heard ≡ first
-    → TakesFirst first peer.heard (heard.Hello digest) after.heard → HasShown bytes digest
+    → TakesFirstFrame first peer.heard (heard.Hello digest) after.heard → HasShown bytes digest
 first_shows bytes digest peer after all (Some first) e (inl is) = inl (record {
   payload = first.0;
   behind = first.1;
@@ -137,7 +137,7 @@ quiet_by bytes peer after manner.Frames by is next =
     framed : NextBy manner.Frames peer heard.NotYet after
     framed = next_plain peer after heard.NotYet manner.Frames by is.shown next
 
-    left : (first : Option (List ℕ × List ℕ)) → TakesFirst first peer.heard heard.NotYet after.heard → after.heard ≡ peer.heard
+    left : (first : Option (List ℕ × List ℕ)) → TakesFirstFrame first peer.heard heard.NotYet after.heard → after.heard ≡ peer.heard
     left None it = it.1
     left (Some first) (inr it) = it.1
     left (Some first) (inl it) = absurd (never_yet first.0 (sym it.0))

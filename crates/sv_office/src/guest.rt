@@ -57,7 +57,7 @@ impl Guest {
     ghost use Rattle.sv_peer.specs.View.{new_peer};
     ghost use Rattle.sv_office.specs.declared.guest.Standing.TheVariants as standing;
     ghost use Rattle.sv_office.specs.Coming.{HasCome};
-    ghost use Rattle.sv_office.specs.Guests.{Closes};
+    ghost use Rattle.sv_office.specs.Guests.{ClosesGuest};
 
     #[tactic(auto, using(crate::proofs::Coming::new_come))]
     pub fn new(alloc: Global, now: u64) -> Guest
@@ -87,7 +87,7 @@ impl Guest {
 
     /// Nothing more is taken of it.
     pub fn close(&mut self)
-        ensures { Closes self.old self.new }
+        ensures { ClosesGuest self.old self.new }
     {
         if self.standing == Standing::Open {
             self.standing = Standing::Closing;

@@ -9,7 +9,7 @@ use Rattle.sv_journal.specs.Living.{Stewardship, heeded, living}
 use Rattle.sv_core.specs.Cores.{Keeps}
 use Rattle.sv_core.specs.Seeing.{IsQuietAnswer}
 use Rattle.sv_living.specs.Keeping.{rules_at, stewardship_at}
-use Rattle.sv_living.specs.Quiet.{IsQuiet}
+use Rattle.sv_living.specs.Quiet.{IsQuietReply}
 use Rattle.sv_living.specs.Sessions.{is_open}
 use Rattle.sv_living.proofs.Quiet.{quiet-open, quiet-none, quiet-end}
 use Rattle.sv_living.proofs.Standing.{seat-sits, seat-lacks}
@@ -29,7 +29,7 @@ no-end requests.End more = absurd (more refl)
 pub returns-in_err-seat : goal.returns-in_err-seat
 returns-in_err-seat g c =
     let l = c.args.self.now in
-    subst (λ (o : Option Reply). IsQuiet (rules_at l) g.g.w g.g.h c.args.session c.args.request.now o) (sym c.from_residual.ensures)
+    subst (λ (o : Option Reply). IsQuietReply (rules_at l) g.g.w g.g.h c.args.session c.args.request.now o) (sym c.from_residual.ensures)
     (quiet-none g.g.w (rules_at l) g.g.h c.args.session c.args.request.now
     (seat-lacks l g.g.h c.requires.0 c.args.session (sym c.seat_of.ensures ∙ c.in_err-seat.was)))
 

@@ -2,7 +2,7 @@
 use Rattle.std.proofs.Common.{List, refl, sym, ◌∙◌, ap, subst}
 use Rattle.sv_journal.specs.declared.entry.Entry.{Entry}
 use Rattle.sv_living.specs.Keeping.{KeepsLiving}
-use Rattle.sv_living.specs.Quiet.{IsQuiet}
+use Rattle.sv_living.specs.Quiet.{IsQuietReply}
 use Rattle.sv_living.specs.World.{WorldView}
 use Rattle.sv_living.proofs.living.LivingCore.answer_quietly.Goals as goal
 
@@ -12,4 +12,4 @@ quiet_answer-requires g c =
 
 pub returns : goal.returns
 returns g c =
-    subst (λ (v : WorldView). IsQuiet v.rules v.stewardship g.h c.args.session c.args.request.now c.quiet_answer.result) c.self.view_is c.quiet_answer.ensures
+    subst (λ (v : WorldView). IsQuietReply v.rules v.stewardship g.h c.args.session c.args.request.now c.quiet_answer.result) c.self.view_is c.quiet_answer.ensures

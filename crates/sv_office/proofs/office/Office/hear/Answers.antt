@@ -6,7 +6,7 @@ use Rattle.sv_office.proofs.Hearing2.{holds_still, shows_same, turn_heard}
 use Rattle.sv_office.proofs.Leaving.{served_still}
 use Rattle.sv_office.proofs.Turning.{keeps_one, one_nowhere}
 use Rattle.sv_office.proofs.Renewed.{kept_same, kept_then}
-use Rattle.sv_ports.specs.Told.{bytes_of}
+use Rattle.sv_ports.specs.Traffic.{bytes_of}
 use Rattle.sv_office.proofs.Coming.{come_shut}
 use Rattle.sv_office.proofs.Stepping1.{not_open}
 use Rattle.sv_office.proofs.office.Office.hear.Goals as goal

@@ -7,7 +7,8 @@ use Rattle.sv_journal.specs.declared.entry.Entry.{Entry}
 use Rattle.sv_journal.specs.History.{client_of}
 use Rattle.sv_journal.specs.Answer.{MayBeSession, is_bad_done}
 use Rattle.sv_journal.specs.Serving.{noted_after}
-use Rattle.sv_core.specs.Cores.{core_rules, session_at, queue_of}
+use Rattle.sv_core.specs.declared.seats.Seat.{Seat}
+use Rattle.sv_core.specs.Cores.{core_rules, session_at, queue_of, SitsAt}
 use Rattle.sv_core.specs.Decisions.{results_in}
 use Rattle.sv_sequencer.specs.Entering.{NothingEntered}
 use Rattle.sv_sequencer.specs.Step.{SequencerView, history}
@@ -26,7 +27,9 @@ use Rattle.sv_witness.proofs.Steps.{reported-low}
 use Rattle.sv_witness.proofs.witness.Witness.note_results.Goals as goal
 
 pub client-requires : goal.client-requires
-client-requires g c = c.self.invariant.seats.seats c.args.session (subst (λ (v : SequencerView). MayBeSession v.rules.sessions c.args.session) (sym c.self.view_is) c.requires.1.0)
+client-requires g c =
+    subst (SitsAt c.self.inside.core) (sym c.own-seat.ensures)
+    (c.self.invariant.seats.seats c.args.session (subst (λ (v : SequencerView). MayBeSession v.rules.sessions c.args.session) (sym c.self.view_is) c.requires.1.0))
 
 -- a session without a client would have been refused
 pub unreachable-requires : goal.unreachable-requires
@@ -35,7 +38,7 @@ unreachable-requires g c =
     let s = c.args.session in
     let is = stands-for c.self.inside c.args.self.now h c.self.invariant c.self.view_is c.requires.0 in
     let has = done-joined c.args.self.now.rules h s c.args.request c.requires.1.1.0 c.requires.1.1.1.1 in
-    c.in_default.not-Some has.client (c.client.ensures (agreed_history h) is.keeps ∙ client-agreed h s ∙ has.joined)
+    c.in_default.not-Some has.client (c.client.ensures (agreed_history h) is.keeps ∙ ap (λ (x : Seat). client_of (agreed_history h) x.session) c.own-seat.ensures ∙ client-agreed h s ∙ has.joined)
 
 pub note_ahead-requires : goal.note_ahead-requires
 note_ahead-requires g c =
@@ -43,7 +46,7 @@ note_ahead-requires g c =
     let h = g.h in
     let s = c.args.session in
     let is = stands-for a c.args.self.now h c.self.invariant c.self.view_is c.requires.0 in
-    let joined = sym (client-agreed h s) ∙ sym (c.client.ensures (agreed_history h) is.keeps) ∙ c.in-Some.is in
+    let joined = sym (client-agreed h s) ∙ sym (c.client.ensures (agreed_history h) is.keeps ∙ ap (λ (x : Seat). client_of (agreed_history h) x.session) c.own-seat.ensures) ∙ c.in-Some.is in
     let good = subst (λ (v : SequencerView). is_bad_done v.rules (agreed_history h) s (results_in c.args.request) ≡ false) (sym c.self.view_is) c.requires.1.1.1.0 in
     subst (λ (v : QueueView). All (λ (d : Done1). d.pos ≤ last_position v) c.reported_by.result.now) (sym c.queue.ensures)
     (subst (All (λ (d : Done1). d.pos ≤ last_position (queue_of a.core))) (sym c.reported_by.ensures)
@@ -63,7 +66,7 @@ install-requires g c =
     let said = c.in-Ok.ensures in
     let same = c.note_ahead.ensures.reports in
     let is = stands-for a c.args.self.now h c.self.invariant c.self.view_is c.requires.0 in
-    let joined = sym (client-agreed h s) ∙ sym (c.client.ensures (agreed_history h) is.keeps) ∙ c.in-Some.is in
+    let joined = sym (client-agreed h s) ∙ sym (c.client.ensures (agreed_history h) is.keeps ∙ ap (λ (x : Seat). client_of (agreed_history h) x.session) c.own-seat.ensures) ∙ c.in-Some.is in
     let good = subst (λ (w : SequencerView). is_bad_done w.rules (agreed_history h) s (results_in q) ≡ false) (sym c.self.view_is) c.requires.1.1.1.0 in
     let reply = subst (λ (w : SequencerView). witnessed_reply w.rules h s q ≡ noted_after agreed h s q) (sym c.self.view_is) c.requires.1.1.1.1 in
     let sits = c.self.invariant.seats.seats s (subst (λ (w : SequencerView). MayBeSession w.rules.sessions s) (sym c.self.view_is) c.requires.1.0) in
