@@ -1,21 +1,19 @@
 -- What came over a connection, and the key that it showed by it.
 use Rattle.std.proofs.Common.{◌≡◌, ◌≢◌, ◌⊎◌, inl, inr, ℕ, ◌+◌, ◌-◌, ◌≤◌, Bool, true, false, List, [], ◌∷◌, ◌++◌, length, take, Option, None, Some, refl, sym, ap, ◌∙◌, subst, arith, append-nil}
-use Rattle.std.specs.Prelude.{IfSome, Result, Ok, Err, if◌then◌else◌, ◌==◌, is_some}
+use Rattle.std.specs.Prelude.{IfSome, if◌then◌else◌, ◌==◌, is_some}
 use Rattle.std.proofs.lemmas.List.{take_all}
-use Rattle.sv_frame.specs.Frames.{greatest_frame, first_frame, too_long}
+use Rattle.sv_frame.specs.Frames.{greatest_frame, first_frame}
 use Rattle.sv_frame.proofs.Fronts.{first_frame-append}
 use Rattle.sv_wire.specs.declared.message.Request.TheVariants as requests
-use Rattle.sv_wire.specs.Messages.{request_at}
-use Rattle.sv_exchange.specs.Incoming.{read_or_bad}
 use Rattle.sv_keys.specs.Keeping.{KeysView}
 use Rattle.sv_peer.specs.Hellos.{heard_in, hello_kind, hello_or_bad, key_behind, request_or_bad}
-use Rattle.sv_peer.specs.View.{PeerView, Answers, HearsBy, HearsFirst, Hears, IsAfterHttp, NextBy, NextIs, Nexts, TakesFirstFrame, TakesIn, begun, is_letter, new_peer}
+use Rattle.sv_peer.specs.View.{PeerView, HearsBy, HearsFirst, Hears, IsAfterHttp, NextBy, NextIs, Nexts, TakesFirstFrame, TakesIn, is_letter, new_peer}
 use Rattle.sv_peer.specs.declared.heard.Heard.{Heard}
 use Rattle.sv_peer.specs.declared.heard.Heard.TheVariants as heard
 use Rattle.sv_peer.specs.declared.manner.Manner.{Manner}
 use Rattle.sv_peer.specs.declared.manner.Manner.TheVariants as manner
 use Rattle.sv_peer.proofs.Hellos.{hello_is_key}
-use Rattle.sv_office.specs.Coming.{AllWaits, BeginsHttp, BeginsWithKey, HasCome, HasShown, IsShowing, IsSilent, IsUntaken}
+use Rattle.sv_office.specs.Coming.{AllWaits, BeginsHttp, HasCome, HasShown, IsShowing, IsSilent, IsUntaken}
 use Rattle.sv_office.specs.declared.guest.Guest.{Guest}
 use Rattle.sv_office.specs.declared.guest.Standing.TheVariants as standing
 use Rattle.sv_office.proofs.Stepping1.{clash}
@@ -64,15 +62,6 @@ not_yet e = cc
 
 not_memory : {digest : List ℕ} {A : Type 0} → heard.Hello digest ≡ heard.Memory → A
 not_memory e = cc
-
-yet_hello : {digest : List ℕ} {A : Type 0} → heard.NotYet ≡ heard.Hello digest → A
-yet_hello e = cc
-
-yet_memory : {A : Type 0} → heard.NotYet ≡ heard.Memory → A
-yet_memory e = cc
-
-yet_closed : {A : Type 0} → heard.NotYet ≡ heard.Closed → A
-yet_closed e = cc
 
 -- The first frame of all is the message of a key.
 first_shows : (bytes digest : List ℕ) (peer after : PeerView) → AllWaits bytes peer → (first : Option (List ℕ × List ℕ)) → first_frame peer.heard ≡ first
