@@ -1,5 +1,5 @@
 -- The key that a connection showed, by the bytes that were heard of it.
-use Rattle.std.specs.Prelude.{◌≡◌, ◌⊎◌, ℕ, true, false, List, [], ◌∷◌, Option, Some, None, IfSome, is_some}
+use Rattle.std.specs.Prelude.{◌≡◌, ◌⊎◌, ℕ, Bool, true, false, List, [], ◌∷◌, Option, Some, None, IfSome, is_some}
 use Rattle.sv_frame.specs.Frames.{first_frame}
 use Rattle.sv_keys.specs.Keeping.{KeysView}
 use Rattle.sv_peer.specs.Hellos.{ShowsKey}
