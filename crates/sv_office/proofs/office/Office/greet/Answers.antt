@@ -1,6 +1,8 @@
 -- It was asked what is misshapen, or nothing; or the keys were looked at.
-use Rattle.std.proofs.Common.{true, Some, inl, inr, refl, sym, ap, ◌∙◌}
+use Rattle.std.proofs.Common.{true, Option, Some, inl, inr, refl, sym, ap, ◌∙◌}
+use Rattle.std.specs.Prelude.{is_some}
 use Rattle.sv_wire.specs.declared.message.Request.TheVariants as requests
+use Rattle.sv_keys.specs.Keeping.{KeysView}
 use Rattle.sv_office.specs.declared.guest.Guest.{Guest}
 use Rattle.sv_office.proofs.Asking.{may_hold_with}
 use Rattle.sv_office.proofs.Hearing2.{turn_asked, turn_looked, turn_nowhere}
@@ -61,11 +63,14 @@ returns-then-guest-clause-come g c = λ bytes is.
     c.take_request.ensures.spoken is
 
 pub returns-in_default-clause-come : goal.returns-in_default-clause-come
-returns-in_default-clause-come g c = λ bytes is. shows_nothing c.args.self.now.keys _ bytes c.args.digest c.args.guest.now c.args.guest.now refl refl is
+returns-in_default-clause-come g c = λ bytes is.
+    shows_nothing c.args.self.now.keys c.args.self.now.keys bytes c.args.digest c.args.guest.now c.args.guest.now
+    (ap (λ (keys : Option KeysView). is_some keys) c.in_default.is) refl is
 
 pub returns-then-look-clause-come : goal.returns-then-look-clause-come
 returns-then-look-clause-come g c = λ bytes is.
-    shows_now c.args.self.now.keys _ bytes c.args.digest c.args.guest.now (record c.args.guest.now { has_spoken = true; key = Some c.args.digest }) refl c.if-guest.false refl refl is
+    shows_now c.args.self.now.keys _ bytes c.args.digest c.args.guest.now (record c.args.guest.now { has_spoken = true; key = Some c.args.digest })
+    (ap (λ (keys : Option KeysView). is_some keys) c.in-Some.is) c.if-guest.false refl refl is
 
 pub returns-clause-come : goal.returns-clause-come
 returns-clause-come g c = λ bytes is.
