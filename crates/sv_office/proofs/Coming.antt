@@ -210,7 +210,6 @@ after_http bytes after m (inr (inr closed)) is = as_closed bytes after m closed 
 fits_in : (waits piece : List ℕ) → length piece + length waits ≤ greatest_frame → take (greatest_frame - length waits) piece ≡ piece
 fits_in waits piece fits = take_all (greatest_frame - length waits) piece (omega (arith, fits))
 
-
 first_heard : (bytes : List ℕ) (peer after : PeerView) (first : ℕ) (more : List ℕ) → IsSilent bytes peer → length (first ∷ more) ≤ greatest_frame
     → (b : Bool) → is_letter first ≡ b → TakesIn (if b then manner.Http else manner.Frames) (record peer { manner = if b then manner.Http else manner.Frames }) (first ∷ more) after
     → IsUntaken after.manner (bytes ++ first ∷ more) after
