@@ -8,4 +8,4 @@ pub use laws::{
     accepted_are_few, replies_are_messages, requests_are_messages, served_accepted_are_few,
     served_replies_fit, served_requests_fit,
 };
-pub use numbers::read_scenario_numbers;
+pub use numbers::scenario_numbers_fit;

@@ -4,42 +4,42 @@ ghost use Rattle.std.specs.Prelude.{All};
 ghost use Rattle.law_asked.specs.Numbers.{StepFits, PlanFits, ScenarioFits};
 
 use sv_scenario::{Plan, Scenario, Step};
-use sv_wire::{read_action, read_values};
+use sv_wire::{action_numbers_fit, values_fit};
 
-fn read_step(step: &Step)
+fn step_fits(step: &Step)
     ensures { StepFits step.now }
 {
     if let Step::Act(action) = step {
-        read_action(action);
+        action_numbers_fit(action);
     }
 }
 
-fn read_steps(steps: &[Step])
+fn steps_fit(steps: &[Step])
     ensures { All StepFits steps.now }
 {
     for step in steps {
-        read_step(step);
+        step_fits(step);
     }
 }
 
-fn read_plan(plan: &Plan)
+fn plan_fits(plan: &Plan)
     ensures { PlanFits plan.now }
 {
-    read_steps(plan.steps.as_slice());
+    steps_fit(plan.steps.as_slice());
 }
 
-fn read_plans(plans: &[Plan])
+fn plans_fit(plans: &[Plan])
     ensures { All PlanFits plans.now }
 {
     for plan in plans {
-        read_plan(plan);
+        plan_fits(plan);
     }
 }
 
 /// The numbers of a scenario's values and actions are those of their types.
-pub fn read_scenario_numbers(scenario: &Scenario)
+pub fn scenario_numbers_fit(scenario: &Scenario)
     ensures { ScenarioFits scenario.now }
 {
-    read_values(scenario.world.values.as_slice());
-    read_plans(scenario.clients.as_slice());
+    values_fit(scenario.world.values.as_slice());
+    plans_fit(scenario.clients.as_slice());
 }

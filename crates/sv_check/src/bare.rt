@@ -10,7 +10,7 @@ ghost use Rattle.sv_check.specs.Stopping.{IsTextStop, IfWrong};
 
 use crate::journal::Served;
 use crate::runs::laws_of_runs;
-use law_asked::read_scenario_numbers;
+use law_asked::scenario_numbers_fit;
 use law_system::Played;
 use std::alloc::{AllocError, Global};
 use sv_lines::{LineStop, take_line};
@@ -62,7 +62,7 @@ fn take_commit(
     ensures wrong { IfWrong result (IsTextStop scenario.now text.now) }
 {
     laws_of_runs();
-    read_scenario_numbers(scenario);
+    scenario_numbers_fit(scenario);
     let _ = text;
     let line = commit_line(alloc, played.commit)?;
     let rest = take_line(last, line.as_bytes())?;

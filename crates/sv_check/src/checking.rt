@@ -18,7 +18,7 @@ use crate::bare::{begins_commit, read_bare};
 use crate::clients::take_clients;
 use crate::journal::{Served, take_journal};
 use crate::runs::laws_of_runs;
-use law_asked::read_scenario_numbers;
+use law_asked::scenario_numbers_fit;
 use law_system::Played;
 use std::alloc::{AllocError, Global};
 use sv_client::Trace;
@@ -100,7 +100,7 @@ fn take_world(
     ensures wrong { IfWrong result (IsStop scenario.now text.now) }
 {
     laws_of_runs();
-    read_scenario_numbers(scenario);
+    scenario_numbers_fit(scenario);
     let lines = world_lines(alloc, played)?;
     let rest = take_lines(last, lines.as_bytes())?;
     if rest.is_empty() {
@@ -140,7 +140,7 @@ fn read_text(alloc: Global, scenario: &Scenario, text: &[u8]) -> Result<Played, 
     ensures wrong { IfWrong result (IsTextStop scenario.now text.now) }
 {
     laws_of_runs();
-    read_scenario_numbers(scenario);
+    scenario_numbers_fit(scenario);
     let (served, behind) = take_journal(alloc, scenario, text)?;
     if begins_commit(behind) {
         read_bare(alloc, scenario, served, text, behind)

@@ -17,7 +17,7 @@ ghost use Rattle.sv_check.specs.Acting.{IsActing, WentOn, identity, journal_even
 use crate::actor::Actor;
 use crate::journal::Served;
 use crate::runs::laws_of_runs;
-use law_asked::read_scenario_numbers;
+use law_asked::scenario_numbers_fit;
 use std::alloc::{AllocError, Global};
 use sv_client::{Client, Trace};
 use sv_lines::{LineStop, take_line};
@@ -163,7 +163,7 @@ pub(crate) fn take_clients<'a>(
     ensures wrong { IfWrong result (IsStop scenario.now (journal_text scenario.now.world.shape (entries_of served.now) ++ text.now)) }
 {
     laws_of_runs();
-    read_scenario_numbers(scenario);
+    scenario_numbers_fit(scenario);
     let mut traces = List::new(alloc);
     let mut rest = text;
     let mut number = 0;

@@ -30,7 +30,7 @@ pub fn journals_are_told()
 
 /// The text of a report tells its journal and its traces: two consistent pairs with the same text are equal.
 ///
-/// The scenario's numbers are those of their types, as `read_scenario_numbers` shows of each, and the text is not longer than a memory.
+/// The scenario's numbers are those of their types, as `scenario_numbers_fit` shows of each, and the text is not longer than a memory.
 pub fn reports_are_told()
     ensures { (scenario : Scenario) (text : List ℕ) (h g : List Entry) (Ls Ms : List Trace) → IsGoodScenario scenario → ScenarioFits scenario → length text < 2 ^ 64 →
         IsReportOfPair scenario text h Ls → IsReportOfPair scenario text g Ms → (h ≡ g) × (Ls ≡ Ms) }

@@ -10,7 +10,7 @@ ghost use Rattle.sv_join.specs.Joining.{passed, passages_of, answer_of, ConnectC
 
 use crate::outcome::{JoinFault, Joined};
 use crate::steady::Steady;
-use law_asked::{read_scenario_numbers, replies_are_messages};
+use law_asked::{scenario_numbers_fit, replies_are_messages};
 use law_system::honest_clients_are_never_refused;
 use std::alloc::{AllocError, Global};
 use sv_client::{Client, Trace};
@@ -110,7 +110,7 @@ fn play_over<D: Door>(
 {
     let scenario = seat.scenario;
     let number = seat.number;
-    read_scenario_numbers(scenario);
+    scenario_numbers_fit(scenario);
     honest_clients_are_never_refused();
     replies_are_messages();
     let plan = &scenario.clients.as_slice()[number as usize];

@@ -11,7 +11,7 @@ use crate::numbers::{behind, expect, number_at, small_at};
 use crate::stop::LineFault;
 use std::alloc::Global;
 use sv_text::{ParseFault, parse_action};
-use sv_wire::{Request, read_request};
+use sv_wire::{Request, request_numbers_fit};
 use sv_world::{Action, ClientId, Shape, check_action};
 
 #[tactic(auto, unfolding(crate::specs::Asking::join_read))]
@@ -173,6 +173,6 @@ pub fn asked_at(alloc: Global, shape: Shape, line: &[u8]) -> Result<Asked, LineF
         line.now ≡ asking_text shape n session request ++ reply → Gives {Y = ℕ × Request} (λ asked. (asked.session, asked.request)) result (Some (session, request)) }
 {
     let asked = read_asked(alloc, shape, line)?;
-    read_request(&asked.request);
+    request_numbers_fit(&asked.request);
     Ok(asked)
 }

@@ -28,7 +28,7 @@ use sv_keeper::{KeepFault, Keeper};
 use sv_keys::Keys;
 use sv_log::Folder;
 use sv_site::Counts;
-use sv_wire::{Reply, Request, read_reply};
+use sv_wire::{Reply, Request, reply_numbers_fit};
 use sv_world::ClientId;
 
 /// The client number of the steward.
@@ -110,7 +110,7 @@ fn tell(guest: &mut Guest, reply: &Reply)
     ensures session { guest.new.session ≡ guest.old.session }
     ensures guest { Stays guest.old guest.new }
 {
-    read_reply(reply);
+    reply_numbers_fit(reply);
     if guest.peer.say(reply).is_err() {
         guest.leave();
     }

@@ -12,7 +12,7 @@ use std::marker::Model;
 use sv_exchange::Outbox;
 use sv_frame::{FrameReader, NextFrame};
 use sv_link::{End, EndRead, Sent};
-use sv_wire::{Reply, Request, WireFault, decode_reply, read_request};
+use sv_wire::{Reply, Request, WireFault, decode_reply, request_numbers_fit};
 
 /// A connection. Contracts see what its end tells, which is open, how often the end failed, the bytes that came and were not taken as replies, and
 /// those that wait to be sent.
@@ -94,7 +94,7 @@ impl<E: End> Connection<E> {
         ensures sent { Sends (asking self.old (request.now ∷ [])) self.new result }
         ensures answer { IsSent self.old self.new result }
     {
-        read_request(request);
+        request_numbers_fit(request);
         whole(self.outbox.put(request, &mut self.end))
     }
 

@@ -10,7 +10,7 @@ ghost use Rattle.sv_player.specs.Waiting.{PutBehind};
 use std::alloc::{AllocError, Global};
 use sv_exchange::{Inbox, Outbox};
 use sv_link::{End, Sent};
-use sv_wire::{Request, read_request};
+use sv_wire::{Request, request_numbers_fit};
 
 /// What came and was not taken yet, and what is to be sent.
 #[derive(Drop)]
@@ -42,7 +42,7 @@ impl Buffers {
         ensures cause { SentCause (E.faults end.old) (E.faults end.new) result }
         ensures calm { E.calm end.old → (result ≢ Sent.Failed) × E.calm end.new }
     {
-        read_request(request);
+        request_numbers_fit(request);
         self.outbox.put(request, end)
     }
 

@@ -17,7 +17,7 @@ use crate::opening::{open_machine, open_sequencer};
 use crate::played::played_of;
 use crate::playing::Playing;
 use crate::server::Server;
-use law_asked::read_scenario_numbers;
+use law_asked::scenario_numbers_fit;
 use law_schedule::scheduled_runs_are_replays;
 use law_system::Played;
 use std::alloc::{AllocError, Global};
@@ -41,7 +41,7 @@ pub fn run_schedule(alloc: Global, scenario: &Scenario) -> Result<Played, AllocE
     scheduled_runs_are_replays();
     scenarios_are_playable();
     // A number is known to be of its type once it is read, and only such numbers can be sent.
-    read_scenario_numbers(scenario);
+    scenario_numbers_fit(scenario);
     let sequencer = open_sequencer(alloc, scenario)?;
     let ServedRun { server, traces } = run_over(alloc, scenario, sequencer)?;
     played_of(alloc, scenario.world.shape, server, traces)

@@ -11,7 +11,7 @@ ghost use Rattle.sv_serve.specs.Hosting.{IsHosted};
 
 use crate::accepting::{ServeShared, give_back_all};
 use crate::taking::take_in;
-use law_asked::read_scenario_numbers;
+use law_asked::scenario_numbers_fit;
 use std::alloc::Global;
 use std::sync::Wait;
 use std::thread::Threads;
@@ -45,7 +45,7 @@ fn serve_sessions<D: Door, C: Crew, G: Gate + Sync, R: Threads + Wait + Sync>(
 {
     full_replies_stay();
     legal_relays_name_accepted();
-    read_scenario_numbers(host.scenario);
+    scenario_numbers_fit(host.scenario);
     let services = host.accept_all(door, keeper)?;
     let served = match crew.run_all(rt, services) {
         Ran::Done(served) => served,

@@ -11,7 +11,7 @@ ghost use Rattle.sv_session.specs.Answers.{IsReplyPosted, RoundCause};
 use crate::outcome::SessionOut;
 use sv_exchange::Outbox;
 use sv_link::{End, Sent};
-use sv_wire::{Refusal, Reply, read_reply};
+use sv_wire::{Refusal, Reply, reply_numbers_fit};
 
 /// Why a session stops after a refusal of this code, if it does.
 fn stop_for_refusal(code: u8) -> Option<SessionOut>
@@ -51,7 +51,7 @@ pub(crate) fn post<E: End>(reply: &Reply, outbox: &mut Outbox, end: &mut E) -> O
     ensures calm { E.calm end.old → (result ≢ Some SessionOut.LinkFault) × E.calm end.new }
 {
     let stop = stop_for(reply);
-    read_reply(reply);
+    reply_numbers_fit(reply);
     match outbox.put(reply, end) {
         Sent::Whole => {}
         Sent::Failed => return Some(SessionOut::LinkFault),

@@ -14,7 +14,7 @@ use itoa::Buffer;
 use std::alloc::{AllocError, Global};
 use sv_world::{
     Action, Body, Comparison, CondHead, Connective, ExprHead, NodeCursor, ObjectId, Operator,
-    Point, StmtHead, read_objects,
+    Point, StmtHead, objects_fit,
 };
 
 /// The object in a slot, and 0 where the slot is none.
@@ -443,8 +443,8 @@ pub fn print_action(alloc: Global, action: &Action) -> Result<String, AllocError
     // The text of an action that the check refuses at most for what its world lacks is read as that action.
     ensures again { IfOk result (λ text. IsWithinGrammar action.now → reading (tokens_of (string_bytes text)) ≡ Ok action.now) }
 {
-    read_objects(action.reads.as_slice());
-    action.body.read_numbers();
+    objects_fit(action.reads.as_slice());
+    action.body.numbers_fit();
     canonical_text(alloc, action)
 }
 

@@ -13,7 +13,7 @@ use crate::opening::RunShared;
 use crate::outcome::{PlayFault, PlayedAll};
 use crate::settling::{settle_after, settle_all};
 use crate::tasks::{Silence, Teller};
-use law_asked::read_scenario_numbers;
+use law_asked::scenario_numbers_fit;
 use law_traffic::threaded_runs_leave_records;
 use std::alloc::{AllocError, Global};
 use std::sync::Wait;
@@ -103,7 +103,7 @@ impl<'a, G: Gate + Sync, W: Teller + Sync> RunShared<'a, G, W> {
         ensures ran { RunsOnce (session_count self.now.scenario.now + length self.now.scenario.now.clients) (C.ran crew.old) (C.ran crew.new) result }
         ensures certain { N.calm net.old → result ≡ Err PlayFault.Link → SomeDiffered (pairing (N.settled net.old) (N.unmatched net.old) (N.made net.old) (N.owed net.old)) (pairing (N.settled net.new) (N.unmatched net.new) (N.made net.new) (N.owed net.new)) }
     {
-        read_scenario_numbers(self.scenario);
+        scenario_numbers_fit(self.scenario);
         threaded_runs_leave_records();
         let mut left = RunRemains::new(
             self.alloc,

@@ -11,7 +11,7 @@ ghost use Rattle.sv_wire.specs.Grammar.{IsWireValue, IsWireAction, IsWireObserve
 ghost use Rattle.sv_wire.specs.Messages.{request_at, reply_at};
 
 use crate::message::{Item, ObjectValue, Reply, Request};
-use crate::numbers::{read_reply, read_request};
+use crate::numbers::{reply_numbers_fit, request_numbers_fit};
 use crate::put::{put_head, put_objects, put_point, put_results, put_u16, put_u32};
 use crate::put_body::put_body;
 use std::alloc::{AllocError, Global};
@@ -233,7 +233,7 @@ fn write_request(out: &mut Vec<u8>, request: &Request) -> Result<(), AllocError>
     ensures read_back { OnOk result (request_at out.new.items ≡ Ok request.now) }
 {
     put_request(out, request)?;
-    read_request(request);
+    request_numbers_fit(request);
     Ok(())
 }
 
@@ -261,7 +261,7 @@ fn write_reply(out: &mut Vec<u8>, reply: &Reply) -> Result<(), AllocError>
     ensures read_back { OnOk result (reply_at out.new.items ≡ Ok reply.now) }
 {
     put_reply(out, reply)?;
-    read_reply(reply);
+    reply_numbers_fit(reply);
     Ok(())
 }
 

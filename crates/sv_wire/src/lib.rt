@@ -27,5 +27,5 @@ pub use encoding::{encode_reply, encode_reply_into, encode_request, encode_reque
 pub use fault::{Malformed, WireCause, WireFault};
 pub use laws::{encoded_is_read_back, no_payload_begins_another, one_payload};
 pub use message::{Done1, Item, ObjectValue, Reply, Request};
-pub use numbers::{read_action, read_reply, read_request, read_values};
+pub use numbers::{action_numbers_fit, reply_numbers_fit, request_numbers_fit, values_fit};
 pub use refusal::Refusal;

@@ -5,34 +5,34 @@ ghost use Rattle.std.specs.Int.{w32, w64};
 ghost use Rattle.sv_wire.specs.Ranges.{ValueFits, HeldFits, ResultFits, ActionFits, ItemFits, RequestFits, ReplyFits};
 
 use crate::message::{Done1, Item, ObjectValue, Reply, Request};
-use sv_world::{Action, Point, Value, read_object, read_objects};
+use sv_world::{Action, Point, Value, object_fits, objects_fit};
 
-fn read_u8(number: u8)
+fn u8_fits(number: u8)
     ensures { number < 2 ^ 8 }
 {
     let _number = number;
 }
 
-fn read_u16(number: u16)
+fn u16_fits(number: u16)
     ensures { number < 2 ^ 16 }
 {
     let _number = number;
 }
 
-fn read_u32(number: u32)
+fn u32_fits(number: u32)
     ensures { number < 2 ^ 32 }
 {
     let _number = number;
 }
 
-fn read_point(point: Point)
+fn point_fits(point: Point)
     ensures x { FitsSigned w32 point.x }
     ensures y { FitsSigned w32 point.y }
 {
     let _point = point;
 }
 
-fn read_numbers(numbers: &[i64])
+fn numbers_fit(numbers: &[i64])
     ensures { All (FitsSigned w64) numbers.now }
 {
     for number in numbers {
@@ -40,92 +40,92 @@ fn read_numbers(numbers: &[i64])
     }
 }
 
-fn read_value(value: &Value)
+fn value_fits(value: &Value)
     ensures { ValueFits value.now }
 {
-    read_numbers(value.as_slice());
+    numbers_fit(value.as_slice());
 }
 
 /// The numbers of values are those of their type.
-pub fn read_values(values: &[Value])
+pub fn values_fit(values: &[Value])
     ensures { All ValueFits values.now }
 {
     for value in values {
-        read_value(value);
+        value_fits(value);
     }
 }
 
-fn read_held(held: &ObjectValue)
+fn object_value_fits(held: &ObjectValue)
     ensures { HeldFits held.now }
 {
-    read_object(held.object);
-    read_value(&held.value);
+    object_fits(held.object);
+    value_fits(&held.value);
 }
 
-fn read_head(head: &[ObjectValue])
+fn head_fits(head: &[ObjectValue])
     ensures { All HeldFits head.now }
 {
     for held in head {
-        read_held(held);
+        object_value_fits(held);
     }
 }
 
-fn read_result(result_read: &Done1)
+fn result_fits(result_read: &Done1)
     ensures { ResultFits result_read.now }
 {
-    read_u32(result_read.pos);
-    read_values(result_read.values.as_slice());
+    u32_fits(result_read.pos);
+    values_fit(result_read.values.as_slice());
 }
 
-fn read_results(results: &[Done1])
+fn results_fit(results: &[Done1])
     ensures { All ResultFits results.now }
 {
     for done in results {
-        read_result(done);
+        result_fits(done);
     }
 }
 
 /// The numbers of an action are those of their types.
-pub fn read_action(action: &Action)
+pub fn action_numbers_fit(action: &Action)
     ensures { ActionFits action.now }
 {
-    read_objects(action.reads.as_slice());
-    read_u16(action.mask);
-    read_point(action.origin);
-    action.body.read_numbers();
+    objects_fit(action.reads.as_slice());
+    u16_fits(action.mask);
+    point_fits(action.origin);
+    action.body.numbers_fit();
 }
 
-fn read_item(item: &Item)
+fn item_fits(item: &Item)
     ensures { ItemFits item.now }
 {
-    read_u32(item.pos);
-    read_u16(item.client.0);
-    read_u32(item.seq);
-    read_action(&item.action);
+    u32_fits(item.pos);
+    u16_fits(item.client.0);
+    u32_fits(item.seq);
+    action_numbers_fit(&item.action);
 }
 
-fn read_items(items: &[Item])
+fn items_fit(items: &[Item])
     ensures { All ItemFits items.now }
 {
     for item in items {
-        read_item(item);
+        item_fits(item);
     }
 }
 
-fn read_work(first: u32, commit: u32, head: &[ObjectValue], items: &[Item])
+fn work_fits(first: u32, commit: u32, head: &[ObjectValue], items: &[Item])
     ensures first { first < 2 ^ 32 }
     ensures commit { commit < 2 ^ 32 }
     ensures head { All HeldFits head.now }
     ensures items { All ItemFits items.now }
 {
-    read_u32(first);
-    read_u32(commit);
-    read_head(head);
-    read_items(items);
+    u32_fits(first);
+    u32_fits(commit);
+    head_fits(head);
+    items_fit(items);
 }
 
 /// The numbers of a request are those of their types.
-pub fn read_request(request: &Request)
+pub fn request_numbers_fit(request: &Request)
     ensures { RequestFits request.now }
 {
     match request {
@@ -134,61 +134,61 @@ pub fn read_request(request: &Request)
             life,
             interest,
         } => {
-            read_u16(client.0);
-            read_u32(*life);
-            read_objects(interest.as_slice());
+            u16_fits(client.0);
+            u32_fits(*life);
+            objects_fit(interest.as_slice());
         }
         Request::Submit { seq, action } => {
-            read_u32(*seq);
-            read_action(action);
+            u32_fits(*seq);
+            action_numbers_fit(action);
         }
-        Request::Done { results } => read_results(results.as_slice()),
+        Request::Done { results } => results_fit(results.as_slice()),
         Request::Observe { objects, wait } => {
-            read_objects(objects.as_slice());
-            read_u16(*wait);
+            objects_fit(objects.as_slice());
+            u16_fits(*wait);
         }
         Request::Poll | Request::Leave | Request::Bad | Request::End => {}
     }
 }
 
 /// The numbers of a reply are those of their types.
-pub fn read_reply(reply: &Reply)
+pub fn reply_numbers_fit(reply: &Reply)
     ensures { ReplyFits reply.now }
 {
     match reply {
         Reply::Welcome { commit, head } => {
-            read_u32(*commit);
-            read_head(head.as_slice());
+            u32_fits(*commit);
+            head_fits(head.as_slice());
         }
         Reply::Relay {
             seq,
             commit,
             head,
             items,
-        } => read_work(*seq, *commit, head.as_slice(), items.as_slice()),
+        } => work_fits(*seq, *commit, head.as_slice(), items.as_slice()),
         Reply::Dropped { seq, chain, far } => {
-            read_u32(*seq);
-            read_u32(*chain);
-            read_u32(*far);
+            u32_fits(*seq);
+            u32_fits(*chain);
+            u32_fits(*far);
         }
         Reply::Denied { seq, object } => {
-            read_u32(*seq);
-            read_object(*object);
+            u32_fits(*seq);
+            object_fits(*object);
         }
         Reply::Seen {
             last,
             commit,
             head,
             items,
-        } => read_work(*last, *commit, head.as_slice(), items.as_slice()),
+        } => work_fits(*last, *commit, head.as_slice(), items.as_slice()),
         Reply::Settled { seq, pos } => {
-            read_u32(*seq);
-            read_u32(*pos);
+            u32_fits(*seq);
+            u32_fits(*pos);
         }
-        Reply::Noted { commit } => read_u32(*commit),
+        Reply::Noted { commit } => u32_fits(*commit),
         Reply::Refused { code, detail } => {
-            read_u8(*code);
-            read_u32(*detail);
+            u8_fits(*code);
+            u32_fits(*detail);
         }
         Reply::Idle | Reply::Bye => {}
     }

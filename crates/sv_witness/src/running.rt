@@ -10,7 +10,7 @@ ghost use Rattle.sv_witness.specs.Statuses.{IsRunText};
 use crate::liar::Lying;
 use crate::lines::run_lines;
 use crate::witness::Witness;
-use law_asked::{read_scenario_numbers, served_replies_fit, served_requests_fit};
+use law_asked::{scenario_numbers_fit, served_replies_fit, served_requests_fit};
 use law_schedule::served_runs_end;
 use std::alloc::{AllocError, Global};
 use sv_journal::served_relays_name_accepted;
@@ -72,7 +72,7 @@ pub(crate) fn run_text(
 {
     witnesses_are_playable();
     // A number is known to be of its type once it is read, and only such numbers can be sent.
-    read_scenario_numbers(scenario);
+    scenario_numbers_fit(scenario);
     let witness = open_witness(alloc, scenario)?;
     let lying = Lying {
         alloc,

@@ -53,7 +53,7 @@ pub use limits::{
 };
 pub use names::is_in_mask;
 pub use node::{Comparison, Connective, Node, Operator};
-pub use numbers::{read_object, read_objects};
+pub use numbers::{object_fits, objects_fit};
 pub use rights::{NumberRange, Right, first_forbidden, may_write};
 pub use short::Short;
 pub use spelling::bodies_are_spelled;

@@ -7,45 +7,45 @@ ghost use Rattle.sv_world.specs.Ranges.{is_i64, is_byte, ObjectFits, node_fits, 
 use crate::{Body, Node, ObjectId};
 
 /// The number of an object is one of its type.
-pub fn read_object(object: ObjectId)
+pub fn object_fits(object: ObjectId)
     ensures { ObjectFits object }
 {
     let _object = object;
 }
 
 /// So is that of each of these.
-pub fn read_objects(objects: &[ObjectId])
+pub fn objects_fit(objects: &[ObjectId])
     ensures { All ObjectFits objects.now }
 {
     for object in objects {
-        read_object(*object);
+        object_fits(*object);
     }
 }
 
-fn read_number(number: i64)
+fn number_fits(number: i64)
     ensures { is_i64 number ≡ true }
 {
     let _number = number;
 }
 
-fn read_byte(byte: u8)
+fn byte_fits(byte: u8)
     ensures { is_byte byte ≡ true }
 {
     let _byte = byte;
 }
 
-fn read_node(node: Node)
+fn node_numbers_fit(node: Node)
     ensures { node_fits node ≡ true }
 {
     match node {
-        Node::Lit(number) => read_number(number),
+        Node::Lit(number) => number_fits(number),
         Node::Attr { slot, attr } => {
-            read_byte(slot);
-            read_byte(attr);
+            byte_fits(slot);
+            byte_fits(attr);
         }
         Node::Set { slot, attr } => {
-            read_byte(slot);
-            read_byte(attr);
+            byte_fits(slot);
+            byte_fits(attr);
         }
         Node::Binary(_) => {}
         Node::Compare(_) => {}
@@ -56,20 +56,20 @@ fn read_node(node: Node)
     }
 }
 
-fn read_nodes(nodes: &[Node])
+fn nodes_fit(nodes: &[Node])
     ensures { all_true (map node_fits nodes.now) ≡ true }
 {
     for node in nodes {
-        read_node(*node);
+        node_numbers_fit(*node);
     }
 }
 
 impl Body {
     /// The numbers of a body are those of their types.
     #[tactic(auto, using(crate::proofs::Ranged::body_ranged))]
-    pub fn read_numbers(&self)
+    pub fn numbers_fit(&self)
         ensures { body_fits self.now ≡ true }
     {
-        read_nodes(self.nodes());
+        nodes_fit(self.nodes());
     }
 }

@@ -35,6 +35,6 @@ returns-else-begins_commit-clause-wrong c =
     wrong_as c.read_report.result (IsStop scenario text) (IsTextStop scenario text)
     (λ left s. text_stop scenario text left
     (not_bare c.laws_of_runs.ensures.stay c.laws_of_runs.ensures.named c.laws_of_runs.ensures.steps c.laws_of_runs.ensures.few c.laws_of_runs.ensures.messages
-    scenario c.requires.good c.read_scenario_numbers.ensures (entries_of c.in_ok-served.served) c.in_ok-served.ensures.whole text c.in_ok-served.behind.now c.in_ok-served.ensures.text c.requires.short
+    scenario c.requires.good c.scenario_numbers_fit.ensures (entries_of c.in_ok-served.served) c.in_ok-served.ensures.whole text c.in_ok-served.behind.now c.in_ok-served.ensures.text c.requires.short
     (sym c.begins_commit.ensures ∙ c.if-begins_commit.false)) s)
     c.read_report.ensures.wrong

@@ -51,7 +51,7 @@ returns-in_err-trace-clause-wrong c =
     let is = c.plan-item.is ∙ ap (λ (ps : List Plan). get_or ps i plan) c.as_slice-plan-items.ensures in
     let l = c.loop-plan in
     let reports : ReportsAreParts c.args.scenario.now = λ z r.
-    (report_full c.laws_of_runs.ensures.steps c.laws_of_runs.ensures.few c.laws_of_runs.ensures.messages c.args.scenario.now c.requires.good c.read_scenario_numbers.ensures z r).part in
+    (report_full c.laws_of_runs.ensures.steps c.laws_of_runs.ensures.few c.laws_of_runs.ensures.messages c.args.scenario.now c.requires.good c.scenario_numbers_fit.ensures z r).part in
     wrong_from (Trace × Bor (List ℕ)) _ (IsClientStop c.args.scenario.now.world.shape entries l.number l.first plan l.rest.now)
     (IsStop c.args.scenario.now (journal_text c.args.scenario.now.world.shape entries ++ c.args.text.now)) c.in_err-trace.field-0.0 c.from_residual.result c.from_residual.ensures.1
     (λ left s. clients_stop c.laws_of_runs.ensures.stay c.laws_of_runs.ensures.named c.args.scenario.now c.requires.good.sessions reports entries c.requires.journal c.args.text.now l.rest.now

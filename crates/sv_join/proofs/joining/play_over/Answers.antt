@@ -56,7 +56,7 @@ returns-clause-left g c =
     (λ r. IsLeftOfPlay E.told E.faults E.calm scenario c.args.seat.now.number (passed (g.D.Door.made c.args.door.now) (g.D.Door.given c.args.door.now) (g.D.Door.given c.give_all_back-2.new.door)) (g.D.Door.faults c.args.door.now)
     (g.D.Door.faults c.give_all_back-2.new.door) r)
     (sym c.answer.ensures) (left_of E.told E.faults E.calm scenario c.args.seat.now.number _ _ _ out.trace out.cause out.lines play c.play_client-cause.ensures.lines
-    (never_lawful E.told E.faults E.calm c.honest_clients_are_never_refused.ensures.scenarios c.replies_are_messages.ensures scenario c.requires.good c.read_scenario_numbers.ensures.values c.args.seat.now.number _ out.trace))
+    (never_lawful E.told E.faults E.calm c.honest_clients_are_never_refused.ensures.scenarios c.replies_are_messages.ensures scenario c.requires.good c.scenario_numbers_fit.ensures.values c.args.seat.now.number _ out.trace))
 
 pub returns-clause-sure : goal.returns-clause-sure
 returns-clause-sure g c =

@@ -12,7 +12,7 @@ returns-in_err-asked-clause-read c =
     (λ n session request reply f g h e w. sym (asked_is_read c.args.shape n session request reply f g h) ∙ ap (asked_read c.args.shape) (sym e) ∙ c.in_err-asked.ensures w)
 
 pub returns-clause-told : goal.returns-clause-told
-returns-clause-told c = asked_is_told c.args.shape c.args.line.now c.in_ok-asked.asked.session c.in_ok-asked.asked.request c.in_ok-asked.ensures c.read_request.ensures
+returns-clause-told c = asked_is_told c.args.shape c.args.line.now c.in_ok-asked.asked.session c.in_ok-asked.asked.request c.in_ok-asked.ensures c.request_numbers_fit.ensures
 
 pub returns-clause-read : goal.returns-clause-read
 returns-clause-read c =

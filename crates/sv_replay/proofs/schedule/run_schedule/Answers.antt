@@ -10,7 +10,7 @@ use Rattle.sv_replay.proofs.schedule.run_schedule.Goals as goal
 pub run_over-requires-clause-playable : goal.run_over-requires-clause-playable
 run_over-requires-clause-playable c =
     subst (λ (r : Rules). IsPlayable c.args.scenario.now (plain_server r)) (sym c.in_ok-sequencer.ensures.rules)
-    (c.scenarios_are_playable.ensures c.args.scenario.now c.requires c.read_scenario_numbers.ensures)
+    (c.scenarios_are_playable.ensures c.args.scenario.now c.requires c.scenario_numbers_fit.ensures)
 
 pub run_over-requires-clause-rules : goal.run_over-requires-clause-rules
 run_over-requires-clause-rules c = c.in_ok-sequencer.ensures.rules

@@ -51,7 +51,7 @@ returns-clause-hosted g c =
     let ys = c.in-Done.served.items in
     let k = c.take_in.new.keeper in
     let joined = subst (λ b. JoinedPasses ys b k) t.keeper left.joined in
-    let good : IsGoodRun c.args.host.now.scenario.now = record { good = c.requires.good; opening = c.read_scenario_numbers.ensures.values } in
+    let good : IsGoodRun c.args.host.now.scenario.now = record { good = c.requires.good; opening = c.scenario_numbers_fit.ensures.values } in
     hosted g.D.E.End.told g.D.E.End.faults g.D.E.End.calm run c.in_ok-services.services.items ys t.count t.services c.in-Done.ensures.kept k joined good
     c.full_replies_stay.ensures c.legal_relays_name_accepted.ensures (none_lacked ys c.take_in.result left.lacked (search rules))
     (moved (g.D.Door.given c.args.door.now) (g.D.Door.given c.take_in.new.door) (g.C.Crew.ran c.args.crew.now) (g.C.Crew.ran c.run_all.new.self))
@@ -65,7 +65,7 @@ returns-clause-keeper g c =
     let ys = c.in-Done.served.items in
     let k = c.take_in.new.keeper in
     let joined = subst (λ b. JoinedPasses ys b k) t.keeper c.take_in.ensures.joined in
-    let good : IsGoodRun c.args.host.now.scenario.now = record { good = c.requires.good; opening = c.read_scenario_numbers.ensures.values } in
+    let good : IsGoodRun c.args.host.now.scenario.now = record { good = c.requires.good; opening = c.scenario_numbers_fit.ensures.values } in
     subst (λ b. TookAllIn c.args.host.now.scenario.now b k) (sym c.requires.keeper)
     (took_all g.D.E.End.told g.D.E.End.faults g.D.E.End.calm run c.in_ok-services.services.items ys t.count t.services c.in-Done.ensures.kept k joined good)
 

@@ -6,4 +6,4 @@ use Rattle.sv_wire.proofs.AgainMessages.{reply_is_read}
 use Rattle.sv_wire.proofs.encoding.write_reply.Goals as goal
 
 pub returns-clause-read_back : goal.returns-clause-read_back
-returns-clause-read_back c = ap reply_at (c.in_ok-put_reply.ensures ∙ ap (λ (bs : List ℕ). bs ++ reply_bytes c.args.reply.now) c.requires.empty) ∙ reply_is_read c.args.reply.now c.requires.message c.read_reply.ensures
+returns-clause-read_back c = ap reply_at (c.in_ok-put_reply.ensures ∙ ap (λ (bs : List ℕ). bs ++ reply_bytes c.args.reply.now) c.requires.empty) ∙ reply_is_read c.args.reply.now c.requires.message c.reply_numbers_fit.ensures

@@ -10,7 +10,7 @@ use Rattle.sv_witness.proofs.running.run_text.Goals as goal
 pub run_over-requires-clause-playable : goal.run_over-requires-clause-playable
 run_over-requires-clause-playable c =
     subst (λ (r : Rules). IsPlayable c.args.scenario.now (witness_of r c.args.liar)) (sym c.in_ok-witness.ensures.rules)
-    (c.witnesses_are_playable.ensures.playable c.args.scenario.now c.args.liar c.requires c.read_scenario_numbers.ensures)
+    (c.witnesses_are_playable.ensures.playable c.args.scenario.now c.args.liar c.requires c.scenario_numbers_fit.ensures)
 
 pub run_over-requires-clause-rules : goal.run_over-requires-clause-rules
 run_over-requires-clause-rules c = c.in_ok-witness.ensures.rules

@@ -7,7 +7,7 @@ use Rattle.sv_pilot.proofs.Moved.{posted, sent_by}
 use Rattle.sv_pilot.proofs.connection.Connection.send.Goals as goal
 
 pub put-requires-clause-message : goal.put-requires-clause-message
-put-requires-clause-message g c = record { within = c.requires; fits = c.read_request.ensures }
+put-requires-clause-message g c = record { within = c.requires; fits = c.request_numbers_fit.ensures }
 
 pub invariant_of-self : goal.invariant_of-self
 invariant_of-self g c = ap (λ (t : Told). t.closed) c.put.ensures.posts.told ∙ c.self.invariant

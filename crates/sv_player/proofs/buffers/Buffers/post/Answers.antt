@@ -3,7 +3,7 @@ use Rattle.sv_player.proofs.Posting.{posted_by, kept_one}
 use Rattle.sv_player.proofs.buffers.Buffers.post.Goals as goal
 
 pub put-requires-clause-message : goal.put-requires-clause-message
-put-requires-clause-message g c = record { within = c.requires.message; fits = c.read_request.ensures }
+put-requires-clause-message g c = record { within = c.requires.message; fits = c.request_numbers_fit.ensures }
 
 pub returns-clause-posts : goal.returns-clause-posts
 returns-clause-posts g c =

@@ -229,7 +229,7 @@ returns-clause-run g c =
     let left = c.gather.new.left in
     let k = c.gather.new.keeper in
     let joined = subst (λ b. JoinedPasses (serviced_of os) b k) t.keeper c.gather.ensures.joined in
-    let good : IsGoodRun c.args.self.now.scenario.now = record { good = c.requires.good; opening = c.read_scenario_numbers.ensures.values } in
+    let good : IsGoodRun c.args.self.now.scenario.now = record { good = c.requires.good; opening = c.scenario_numbers_fit.ensures.values } in
     let settled = c.settle_all.ensures.settled (search rules) in
     subst (λ traces. IsThreadedRun c.args.self.now.scenario.now (reverse k.seen) traces (g.N.Net.settled c.args.net.now) (g.N.Net.settled c.settle_all.new.net) (g.C.Crew.ran c.args.crew.now) (g.C.Crew.ran c.run_all.new.self)) (sym c.from_vec.ensures)
     (threaded told faults calm _ run ts os t.count t.services t.parts kept left k c.gather.ensures.gathered joined good c.if-lacked.false (c.settle_all.ensures.agree (search rules)) c.threaded_runs_leave_records.ensures.full c.threaded_runs_leave_records.ensures.traffic
@@ -249,7 +249,7 @@ returns-clause-lines g c =
     let left = c.gather.new.left in
     let k = c.gather.new.keeper in
     let joined = subst (λ b. JoinedPasses (serviced_of os) b k) t.keeper c.gather.ensures.joined in
-    let good : IsGoodRun c.args.self.now.scenario.now = record { good = c.requires.good; opening = c.read_scenario_numbers.ensures.values } in
+    let good : IsGoodRun c.args.self.now.scenario.now = record { good = c.requires.good; opening = c.scenario_numbers_fit.ensures.values } in
     c.in_ok-all_lines.ensures
     ∙ (told_all told faults calm _ run ts os t.count t.services t.parts kept left k c.gather.ensures.gathered joined good c.if-lacked.false (c.settle_all.ensures.agree (search rules)) ∙ ap (flat_map (lines_told run.watched)) (sym c.from_vec.ensures))
 
@@ -266,7 +266,7 @@ returns-clause-keeper g c =
     let left = c.gather.new.left in
     let k = c.gather.new.keeper in
     let joined = subst (λ b. JoinedPasses (serviced_of os) b k) t.keeper c.gather.ensures.joined in
-    let good : IsGoodRun c.args.self.now.scenario.now = record { good = c.requires.good; opening = c.read_scenario_numbers.ensures.values } in
+    let good : IsGoodRun c.args.self.now.scenario.now = record { good = c.requires.good; opening = c.scenario_numbers_fit.ensures.values } in
     subst (λ b. TookAllIn c.args.self.now.scenario.now b k) (sym c.requires.keeper)
     (took_all told faults calm _ run ts os t.count t.services t.parts kept left k c.gather.ensures.gathered joined good)
 

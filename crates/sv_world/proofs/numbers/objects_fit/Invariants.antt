@@ -2,7 +2,7 @@
 use Rattle.std.proofs.Common.{ℕ, ◌<◌, get_or}
 use Rattle.sv_world.specs.declared.world.ObjectId.{ObjectId}
 use Rattle.sv_world.specs.Ranges.{ObjectFits}
-use Rattle.sv_world.proofs.numbers.read_objects.Given as goal
+use Rattle.sv_world.proofs.numbers.objects_fit.Given as goal
 
 abbrev pub invariant-loop-object : goal.invariant-loop-object
 invariant-loop-object l = (k : ℕ) (d : ObjectId) → k < l.object-index → ObjectFits (get_or l.objects k d)
