@@ -18,8 +18,8 @@ use Rattle.sv_wire.specs.declared.message.Request.{Request}
 use Rattle.sv_wire.specs.declared.message.Request.TheVariants as requests
 use Rattle.sv_wire.specs.Ranges.{ValueFits, HeldFits, RequestFits}
 use Rattle.sv_journal.specs.declared.entry.Entry.{Entry}
-use Rattle.sv_journal.specs.declared.entry.Logged.{Logged}
-use Rattle.sv_journal.specs.declared.entry.Logged.TheVariants as logged
+use Rattle.sv_journal.specs.declared.entry.BriefReply.{BriefReply}
+use Rattle.sv_journal.specs.declared.entry.BriefReply.TheVariants as brief
 use Rattle.sv_journal.specs.History.{client_of, is_client, is_submit_of, Outcome, Accepted, Dropped, Denied, outcome_in, outcomes_of, accepted, actions_of, commit_of, committed_of}
 use Rattle.sv_journal.specs.Sessions.{kept_outcome, outcome_at, sent_to, already_given}
 use Rattle.sv_journal.specs.Answer.{Rules, relay_of, committed_held}
@@ -33,20 +33,20 @@ use Rattle.law_asked.proofs.Evaluated.{AreNumbers}
 use Rattle.law_asked.proofs.Facts.{RequestsFit, requests-kept, life-fits, committed-fits, chain-short, IsInPlane, plane-of, far-near}
 
 -- The numbers of a reply are those of their types; its positions are left out.
-abbrev pub LoggedFits : Logged → Type 0
-LoggedFits (logged.Welcome commit head) = (commit < 2 ^ 32) × AllByRecursion HeldFits head
-LoggedFits (logged.Relay seq commit head positions) = (seq < 2 ^ 32) × (commit < 2 ^ 32) × AllByRecursion HeldFits head
-LoggedFits (logged.Dropped seq chain far) = (seq < 2 ^ 32) × (chain < 2 ^ 32) × (far < 2 ^ 32)
-LoggedFits (logged.Denied seq object) = (seq < 2 ^ 32) × (object.0 < 2 ^ 16)
-LoggedFits (logged.Seen last commit head positions) = (last < 2 ^ 32) × (commit < 2 ^ 32) × AllByRecursion HeldFits head
-LoggedFits (logged.Settled seq place) = (seq < 2 ^ 32) × (place < 2 ^ 32)
-LoggedFits (logged.Noted commit) = commit < 2 ^ 32
-LoggedFits logged.Idle = Unit {0}
-LoggedFits (logged.Refused code detail) = (code < 2 ^ 8) × (detail < 2 ^ 32)
-LoggedFits logged.Bye = Unit {0}
+abbrev pub BriefReplyFits : BriefReply → Type 0
+BriefReplyFits (brief.Welcome commit head) = (commit < 2 ^ 32) × AllByRecursion HeldFits head
+BriefReplyFits (brief.Relay seq commit head positions) = (seq < 2 ^ 32) × (commit < 2 ^ 32) × AllByRecursion HeldFits head
+BriefReplyFits (brief.Dropped seq chain far) = (seq < 2 ^ 32) × (chain < 2 ^ 32) × (far < 2 ^ 32)
+BriefReplyFits (brief.Denied seq object) = (seq < 2 ^ 32) × (object.0 < 2 ^ 16)
+BriefReplyFits (brief.Seen last commit head positions) = (last < 2 ^ 32) × (commit < 2 ^ 32) × AllByRecursion HeldFits head
+BriefReplyFits (brief.Settled seq place) = (seq < 2 ^ 32) × (place < 2 ^ 32)
+BriefReplyFits (brief.Noted commit) = commit < 2 ^ 32
+BriefReplyFits brief.Idle = Unit {0}
+BriefReplyFits (brief.Refused code detail) = (code < 2 ^ 8) × (detail < 2 ^ 32)
+BriefReplyFits brief.Bye = Unit {0}
 
 abbrev pub RepliesFit : List Entry → Type 0
-RepliesFit h = AllByRecursion (λ (e : Entry). LoggedFits e.reply) h
+RepliesFit h = AllByRecursion (λ (e : Entry). BriefReplyFits e.reply) h
 
 -- ---- Kept outcomes
 
@@ -55,17 +55,17 @@ OutcomeFits (Accepted p) = Unit {0}
 OutcomeFits (Dropped chain far) = (chain < 2 ^ 32) × (far < 2 ^ 32)
 OutcomeFits (Denied object) = object < 2 ^ 16
 
-outcome-fits : (p : ℕ) (w : Logged) → LoggedFits w → AllByRecursion OutcomeFits (outcome_in p w)
-outcome-fits p (logged.Relay seq commit head positions) f = (tt, tt)
-outcome-fits p (logged.Dropped seq chain far) f = ((f.1, f.2), tt)
-outcome-fits p (logged.Denied seq object) f = (f.1, tt)
-outcome-fits p (logged.Seen last commit head positions) f = tt
-outcome-fits p (logged.Welcome commit head) f = tt
-outcome-fits p (logged.Settled seq place) f = tt
-outcome-fits p (logged.Noted commit) f = tt
-outcome-fits p logged.Idle f = tt
-outcome-fits p (logged.Refused code detail) f = tt
-outcome-fits p logged.Bye f = tt
+outcome-fits : (p : ℕ) (w : BriefReply) → BriefReplyFits w → AllByRecursion OutcomeFits (outcome_in p w)
+outcome-fits p (brief.Relay seq commit head positions) f = (tt, tt)
+outcome-fits p (brief.Dropped seq chain far) f = ((f.1, f.2), tt)
+outcome-fits p (brief.Denied seq object) f = (f.1, tt)
+outcome-fits p (brief.Seen last commit head positions) f = tt
+outcome-fits p (brief.Welcome commit head) f = tt
+outcome-fits p (brief.Settled seq place) f = tt
+outcome-fits p (brief.Noted commit) f = tt
+outcome-fits p brief.Idle f = tt
+outcome-fits p (brief.Refused code detail) f = tt
+outcome-fits p brief.Bye f = tt
 
 outcomes-fit : (h : List Entry) (k : ℕ) → RepliesFit h → AllByRecursion OutcomeFits (outcomes_of h k)
 outcomes-fit [] k f = tt
@@ -116,10 +116,10 @@ module _ (k : Keeping) (law : IsKeeping k) (r : Rules) (objects : r.world.shape.
       let test = λ (x : ℕ). reads_committed A (commit_of g) x (needed_for A (commit_of g) sent i) && not (is_in x given) in
       head-fits (head_for r.world.shape.objects A (commit_of g) sent given i) (each-kept (λ x. x < 2 ^ 16) test (below r.world.shape.objects) all)
 
-  relay-fits : (A : List Action) (seq i : ℕ) → seq < 2 ^ 32 → LoggedFits (relay_of r (k.kept h) A s seq i)
+  relay-fits : (A : List Action) (seq i : ℕ) → seq < 2 ^ 32 → BriefReplyFits (relay_of r (k.kept h) A s seq i)
   relay-fits A seq i small = (small, commit-fits, base-fits A (sent_to (k.kept h) s) (already_given r.world.shape.objects (k.kept h) s) i)
 
-  seen-fits : (xs : List ℕ) → LoggedFits (seen_now r (k.kept h) (actions_of h) s xs)
+  seen-fits : (xs : List ℕ) → BriefReplyFits (seen_now r (k.kept h) (actions_of h) s xs)
   seen-fits xs =
       let g = k.kept h in
       let last = cut_for g (actions_of h) s xs in
@@ -134,12 +134,12 @@ module _ (k : Keeping) (law : IsKeeping k) (r : Rules) (objects : r.world.shape.
   seq-fits q seq a is fits = (subst RequestFits is fits).0
 
   welcome-fits : (q : Request) (client : ClientId) (life : ℕ) (interest : List ObjectId) → q ≡ requests.Join client life interest → RequestFits q →
-      LoggedFits (logged.Welcome (commit_of (k.kept h)) (committed_held r (k.kept h) (map (λ (o : ObjectId). o.0) interest)))
+      BriefReplyFits (brief.Welcome (commit_of (k.kept h)) (committed_held r (k.kept h) (map (λ (o : ObjectId). o.0) interest)))
   welcome-fits q client life interest is fits =
       (commit-fits, head-fits (map (λ (o : ObjectId). o.0) interest) (each-map (λ (o : ObjectId). o.0) (λ x. x < 2 ^ 16) interest (subst RequestFits is fits).2))
 
   dropped-fits : (seq : ℕ) (a : Action) → seq < 2 ^ 32 → first_fault_of_action r.world.shape a ≡ None →
-      LoggedFits (logged.Dropped seq (chain_length (actions_of h) (commit_of (k.kept h)) a) (influence_distance (actions_of h) (commit_of (k.kept h)) a))
+      BriefReplyFits (brief.Dropped seq (chain_length (actions_of h) (commit_of (k.kept h)) a) (influence_distance (actions_of h) (commit_of (k.kept h)) a))
   dropped-fits seq a small good =
       let near = far-near (actions_of h) (commit_of (k.kept h)) a plane (plane-of a (good_of_none r.world.shape a good).origin) in
       (small, omega (arith, chain-short (actions_of h) (commit_of (k.kept h)) a, actions-count h, few), omega (arith, near))
@@ -152,8 +152,8 @@ module _ (k : Keeping) (law : IsKeeping k) (r : Rules) (objects : r.world.shape.
       object (written_is_read a object written) in
       omega (arith, low, objects)
 
-  pub reply-fits : (q : Request) → RequestFits q → LoggedFits (reply_for k r h s q)
-  reply-fits q fits = each_row k law r h s LoggedFits q (record {
+  pub reply-fits : (q : Request) → RequestFits q → BriefReplyFits (reply_for k r h s q)
+  reply-fits q fits = each_row k law r h s BriefReplyFits q (record {
     refusal = λ code detail some low told. (omega (arith, low), detail-fits detail told);
     bye = tt;
     welcome = λ client life interest is open_still live later good. welcome-fits q client life interest is fits;
@@ -165,7 +165,7 @@ module _ (k : Keeping) (law : IsKeeping k) (r : Rules) (objects : r.world.shape.
     fresh = λ j seq a client is next good chain room rightful. relay-fits (actions_of h ++ a ∷ []) seq (suc (length (actions_of h))) (seq-fits q seq a is fits);
     again = λ j seq p a client is kept above. relay-fits (actions_of h) seq p (seq-fits q seq a is fits);
     noted = λ results is good.
-        let later : Entry = record { session = s; request = q; reply = logged.Noted 0 } in
+        let later : Entry = record { session = s; request = q; reply = brief.Noted 0 } in
         omega (arith, commit_within-kept k law (later ∷ h), length-append (accepted h) [], few);
     idle = tt;
     poll = λ j p ps client is open_still first. relay-fits (actions_of h) 0 p (omega arith);

@@ -14,8 +14,8 @@ use Rattle.sv_wire.specs.declared.message.Done1.{Done1}
 use Rattle.sv_wire.specs.declared.message.Request.TheVariants as requests
 use Rattle.sv_wire.specs.declared.message.Reply.{Reply}
 use Rattle.sv_journal.specs.declared.entry.Entry.{Entry}
-use Rattle.sv_journal.specs.declared.entry.Logged.{Logged}
-use Rattle.sv_journal.specs.declared.entry.Logged.TheVariants as logged
+use Rattle.sv_journal.specs.declared.entry.BriefReply.{BriefReply}
+use Rattle.sv_journal.specs.declared.entry.BriefReply.TheVariants as brief
 use Rattle.sv_journal.specs.History.{Authored, accepted, authored_at, item_at}
 use Rattle.sv_journal.specs.Sessions.{positions_in}
 use Rattle.sv_journal.specs.Text.{NamesAccepted}
@@ -34,7 +34,7 @@ use Rattle.law_system.proofs.Entered.{entered}
 use Rattle.law_system.proofs.Asked.{IsPart, part-rest, proper-part, got-part, got-when, got-answers, may-answer, current-joined, any-part, any-reverse}
 use Rattle.law_system.proofs.Every.{each-get, each-map, each-more}
 use Rattle.law_system.proofs.BoundedRelays.{sent-of}
-use Rattle.law_system.proofs.Allowed.{some-items, items-logged}
+use Rattle.law_system.proofs.Allowed.{some-items, items-brief}
 use Rattle.law_asked.proofs.Owned.{entry-at}
 use Rattle.law_asked.proofs.Reported.{IsFineItem}
 
@@ -75,23 +75,23 @@ module _ (r : Rules) (H : List Entry) (L : Trace) (fits : FitsButValues r.world.
       let a = authored-plain objects (accepted H) p plain in
       record { pos = omega (arith, within, positions); few = a.0; within = a.1 }
 
-  reply-items : (w : Logged) → NamesAccepted (length (accepted H)) w → AllByRecursion (IsFineItem objects) (map (item_at (accepted H)) (positions_in w))
-  reply-items (logged.Relay seq commit head ps) among =
+  reply-items : (w : BriefReply) → NamesAccepted (length (accepted H)) w → AllByRecursion (IsFineItem objects) (map (item_at (accepted H)) (positions_in w))
+  reply-items (brief.Relay seq commit head ps) among =
       each-map (item_at (accepted H)) (IsFineItem objects) ps
       (each-more (λ p. (1 ≤ p) × (p ≤ length (accepted H))) (λ p. IsFineItem objects (item_at (accepted H) p)) (λ p m. item-fine p m.1) ps
       (recursion_from_All (λ p. (1 ≤ p) × (p ≤ length (accepted H))) ps among))
-  reply-items (logged.Welcome commit head) among = tt
-  reply-items (logged.Dropped seq chain far) among = tt
-  reply-items (logged.Denied seq object) among = tt
-  reply-items (logged.Seen last commit head ps) among =
+  reply-items (brief.Welcome commit head) among = tt
+  reply-items (brief.Dropped seq chain far) among = tt
+  reply-items (brief.Denied seq object) among = tt
+  reply-items (brief.Seen last commit head ps) among =
       each-map (item_at (accepted H)) (IsFineItem objects) ps
       (each-more (λ p. (1 ≤ p) × (p ≤ length (accepted H))) (λ p. IsFineItem objects (item_at (accepted H) p)) (λ p m. item-fine p m.1) ps
       (recursion_from_All (λ p. (1 ≤ p) × (p ≤ length (accepted H))) ps among))
-  reply-items (logged.Settled seq pos) among = tt
-  reply-items (logged.Noted commit) among = tt
-  reply-items logged.Idle among = tt
-  reply-items (logged.Refused code detail) among = tt
-  reply-items logged.Bye among = tt
+  reply-items (brief.Settled seq pos) among = tt
+  reply-items (brief.Noted commit) among = tt
+  reply-items brief.Idle among = tt
+  reply-items (brief.Refused code detail) among = tt
+  reply-items brief.Bye among = tt
 
   -- A reply was got in a session that the trace has.
   got-has : (s n : ℕ) (reply : Reply) → slice_get (got (reverse L.events) s) n ≡ Some reply → has_session L s ≡ true
@@ -114,7 +114,7 @@ module _ (r : Rules) (H : List Entry) (L : Trace) (fits : FitsButValues r.world.
       ap (λ (l : List Reply). slice_get l n) (cond-true (s == s) (got before s ++ reply ∷ []) (got before s) (eq-eqb s s refl)) ∙ get-last (got before s) reply in
       let there : slice_get (got whole s) n ≡ Some reply = got-part who t whole part s n reply last in
       let x = entered (accepted H) H s n reply ((fits.sessions s (got-has s n reply there)).got n reply there) in
-      let is : items ≡ map (item_at (accepted H)) (positions_in x.entry.reply) = ap items_of x.replied ∙ items-logged (accepted H) x.entry.reply in
+      let is : items ≡ map (item_at (accepted H)) (positions_in x.entry.reply) = ap items_of x.replied ∙ items-brief (accepted H) x.entry.reply in
       let a = may-answer who before s reply (proper-part who t whole part fits.trace.events).0 in
       let count : length items ≡ length (positions_in x.entry.reply) = ap length is ∙ length-map (positions_in x.entry.reply) (item_at (accepted H)) in
       let among = entry-at (λ (e : Entry). NamesAccepted (length (accepted H)) e.reply) x.entry x.before H x.earlier (recursion_from_All (λ (e : Entry). NamesAccepted (length (accepted H)) e.reply) H named) in

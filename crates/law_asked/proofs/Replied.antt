@@ -11,8 +11,8 @@ use Rattle.sv_wire.specs.Ranges.{ValueFits, ItemFits, RequestFits, ReplyFits}
 use Rattle.sv_wire.specs.Grammar.{IsWireReply}
 use Rattle.sv_wire.specs.Laws.{IsReply}
 use Rattle.sv_journal.specs.declared.entry.Entry.{Entry}
-use Rattle.sv_journal.specs.declared.entry.Logged.{Logged}
-use Rattle.sv_journal.specs.declared.entry.Logged.TheVariants as logged
+use Rattle.sv_journal.specs.declared.entry.BriefReply.{BriefReply}
+use Rattle.sv_journal.specs.declared.entry.BriefReply.TheVariants as brief
 use Rattle.sv_journal.specs.History.{Authored, accepted, authored_at, item_at, full_reply}
 use Rattle.sv_journal.specs.Sessions.{positions_in}
 use Rattle.sv_journal.specs.Answer.{Rules}
@@ -24,7 +24,7 @@ use Rattle.law_asked.specs.Asked.{RepliesAreMessages, ServedRepliesFit}
 use Rattle.law_system.proofs.Every.{each-get, each-map, each-more}
 use Rattle.law_asked.proofs.Evaluated.{AreNumbers}
 use Rattle.law_asked.proofs.Facts.{RequestsFit, IsAuthoredFit, blank-fits, accepted-fits, IsInPlane, plane-of}
-use Rattle.law_asked.proofs.Answered.{LoggedFits, RepliesFit, reply-fits}
+use Rattle.law_asked.proofs.Answered.{BriefReplyFits, RepliesFit, reply-fits}
 
 plane-all : (shape : Shape) (A : List Authored) → AllByRecursion (λ (a : Authored). first_fault_of_action shape a.action ≡ None) A → AllByRecursion IsInPlane (map (λ (a : Authored). a.action) A)
 plane-all shape A goods =
@@ -40,7 +40,7 @@ replies-fit goods ends k law r objects opening (e ∷ h) most asked legal =
     let counts = ends k r h law legal.1 in
     let good = recursion_from_All (λ (a : Authored). first_fault_of_action r.world.shape a.action ≡ None) (accepted h) (goods k r h law legal.1) in
     let plane = plane-all r.world.shape (accepted h) good in
-    (subst LoggedFits (sym legal.0) (reply-fits k law r objects opening h e.session (omega (arith, most, counts.positions)) counts.numbers asked.1 before plane e.request asked.0), before)
+    (subst BriefReplyFits (sym legal.0) (reply-fits k law r objects opening h e.session (omega (arith, most, counts.positions)) counts.numbers asked.1 before plane e.request asked.0), before)
 
 authored-fits : (A : List Authored) (p : ℕ) → AllByRecursion IsAuthoredFit A → IsAuthoredFit (authored_at A p)
 authored-fits A zero all = record { client = omega arith; seq = omega arith; action = blank-fits }
@@ -50,34 +50,34 @@ authored-fits A (suc n) all =
 item-fits : (A : List Authored) (p : ℕ) → AllByRecursion IsAuthoredFit A → p < 2 ^ 32 → ItemFits (item_at A p)
 item-fits A p all low = let a = authored-fits A p all in record { pos = low; client = a.client; seq = a.seq; action = a.action }
 
-full-fits : (A : List Authored) (w : Logged) → AllByRecursion IsAuthoredFit A → LoggedFits w → AllByRecursion (λ p. p < 2 ^ 32) (positions_in w) → ReplyFits (full_reply A w)
-full-fits A (logged.Relay seq commit head positions) all f low =
+full-fits : (A : List Authored) (w : BriefReply) → AllByRecursion IsAuthoredFit A → BriefReplyFits w → AllByRecursion (λ p. p < 2 ^ 32) (positions_in w) → ReplyFits (full_reply A w)
+full-fits A (brief.Relay seq commit head positions) all f low =
     (f.0, f.1, f.2, each-map (item_at A) ItemFits positions (each-more (λ p. p < 2 ^ 32) (λ p. ItemFits (item_at A p)) (λ p l. item-fits A p all l) positions low))
-full-fits A (logged.Welcome commit head) all f low = f
-full-fits A (logged.Dropped seq chain far) all f low = f
-full-fits A (logged.Denied seq object) all f low = f
-full-fits A (logged.Seen last commit head positions) all f low =
+full-fits A (brief.Welcome commit head) all f low = f
+full-fits A (brief.Dropped seq chain far) all f low = f
+full-fits A (brief.Denied seq object) all f low = f
+full-fits A (brief.Seen last commit head positions) all f low =
     (f.0, f.1, f.2, each-map (item_at A) ItemFits positions (each-more (λ p. p < 2 ^ 32) (λ p. ItemFits (item_at A p)) (λ p l. item-fits A p all l) positions low))
-full-fits A (logged.Settled seq place) all f low = f
-full-fits A (logged.Noted commit) all f low = f
-full-fits A logged.Idle all f low = tt
-full-fits A (logged.Refused code detail) all f low = f
-full-fits A logged.Bye all f low = tt
+full-fits A (brief.Settled seq place) all f low = f
+full-fits A (brief.Noted commit) all f low = f
+full-fits A brief.Idle all f low = tt
+full-fits A (brief.Refused code detail) all f low = f
+full-fits A brief.Bye all f low = tt
 
 -- The positions that a reply names are numbers of their type, where it names accepted actions.
-positions-fit : (count : ℕ) (w : Logged) → count < 2 ^ 32 → NamesAccepted count w → AllByRecursion (λ p. p < 2 ^ 32) (positions_in w)
-positions-fit count (logged.Relay seq commit head positions) few named =
+positions-fit : (count : ℕ) (w : BriefReply) → count < 2 ^ 32 → NamesAccepted count w → AllByRecursion (λ p. p < 2 ^ 32) (positions_in w)
+positions-fit count (brief.Relay seq commit head positions) few named =
     each-more (λ p. (1 ≤ p) × (p ≤ count)) (λ p. p < 2 ^ 32) (λ p n. omega (arith, n.1, few)) positions (recursion_from_All (λ p. (1 ≤ p) × (p ≤ count)) positions named)
-positions-fit count (logged.Welcome commit head) few named = tt
-positions-fit count (logged.Dropped seq chain far) few named = tt
-positions-fit count (logged.Denied seq object) few named = tt
-positions-fit count (logged.Seen last commit head positions) few named =
+positions-fit count (brief.Welcome commit head) few named = tt
+positions-fit count (brief.Dropped seq chain far) few named = tt
+positions-fit count (brief.Denied seq object) few named = tt
+positions-fit count (brief.Seen last commit head positions) few named =
     each-more (λ p. (1 ≤ p) × (p ≤ count)) (λ p. p < 2 ^ 32) (λ p n. omega (arith, n.1, few)) positions (recursion_from_All (λ p. (1 ≤ p) × (p ≤ count)) positions named)
-positions-fit count (logged.Settled seq place) few named = tt
-positions-fit count (logged.Noted commit) few named = tt
-positions-fit count logged.Idle few named = tt
-positions-fit count (logged.Refused code detail) few named = tt
-positions-fit count logged.Bye few named = tt
+positions-fit count (brief.Settled seq place) few named = tt
+positions-fit count (brief.Noted commit) few named = tt
+positions-fit count brief.Idle few named = tt
+positions-fit count (brief.Refused code detail) few named = tt
+positions-fit count brief.Bye few named = tt
 
 -- All of a list's replies are messages, among these accepted actions.
 replies-are : (A : List Authored) → length A < 2 ^ 32 → AllByRecursion IsAuthoredFit A → (h : List Entry) → AllByRecursion (λ (e : Entry). IsWireReply (full_reply A e.reply)) h →

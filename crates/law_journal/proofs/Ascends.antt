@@ -6,8 +6,8 @@ use Rattle.law_system.proofs.Judged.{next-grows_here}
 use Rattle.sv_wire.specs.declared.message.Request.{Request}
 use Rattle.sv_wire.specs.declared.message.Request.TheVariants as requests
 use Rattle.sv_journal.specs.declared.entry.Entry.{Entry}
-use Rattle.sv_journal.specs.declared.entry.Logged.{Logged}
-use Rattle.sv_journal.specs.declared.entry.Logged.TheVariants as logged
+use Rattle.sv_journal.specs.declared.entry.BriefReply.{BriefReply}
+use Rattle.sv_journal.specs.declared.entry.BriefReply.TheVariants as brief
 use Rattle.sv_journal.specs.History.{is_relay, client_of, is_client, is_submit_of, Outcome, outcome_in, outcomes_of, Authored, new_action, accepted, next_seq, authored_at}
 use Rattle.sv_journal.proofs.Stays.{authored_last}
 use Rattle.law_journal.specs.Brought.{IsMadeBy}
@@ -58,17 +58,17 @@ added-is e h =
 abbrev told : Entry → List Entry → ℕ → List Outcome
 told e h k = if is_client (client_of h e.session) k && is_submit_of e.request (suc (length (outcomes_of h k))) then outcome_in (suc (length (accepted h))) e.reply else []
 
-relay-one : (n : ℕ) (w : Logged) → is_relay w ≡ true → length (outcome_in n w) ≡ 1
-relay-one n (logged.Relay seq commit head positions) y = refl
-relay-one n (logged.Welcome commit head) y = absurd (true≢false (sym y))
-relay-one n (logged.Dropped seq chain far) y = absurd (true≢false (sym y))
-relay-one n (logged.Denied seq object) y = absurd (true≢false (sym y))
-relay-one n (logged.Seen last commit head positions) y = absurd (true≢false (sym y))
-relay-one n (logged.Settled seq pos) y = absurd (true≢false (sym y))
-relay-one n (logged.Noted commit) y = absurd (true≢false (sym y))
-relay-one n logged.Idle y = absurd (true≢false (sym y))
-relay-one n (logged.Refused code detail) y = absurd (true≢false (sym y))
-relay-one n logged.Bye y = absurd (true≢false (sym y))
+relay-one : (n : ℕ) (w : BriefReply) → is_relay w ≡ true → length (outcome_in n w) ≡ 1
+relay-one n (brief.Relay seq commit head positions) y = refl
+relay-one n (brief.Welcome commit head) y = absurd (true≢false (sym y))
+relay-one n (brief.Dropped seq chain far) y = absurd (true≢false (sym y))
+relay-one n (brief.Denied seq object) y = absurd (true≢false (sym y))
+relay-one n (brief.Seen last commit head positions) y = absurd (true≢false (sym y))
+relay-one n (brief.Settled seq pos) y = absurd (true≢false (sym y))
+relay-one n (brief.Noted commit) y = absurd (true≢false (sym y))
+relay-one n brief.Idle y = absurd (true≢false (sym y))
+relay-one n (brief.Refused code detail) y = absurd (true≢false (sym y))
+relay-one n brief.Bye y = absurd (true≢false (sym y))
 
 next-added : (e : Entry) (h : List Entry) (x : Authored) → IsAdded e h x → next_seq (e ∷ h) x.client ≡ suc (next_seq h x.client)
 next-added e h x new =

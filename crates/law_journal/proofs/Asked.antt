@@ -12,8 +12,8 @@ use Rattle.sv_world.proofs.Seeing.{see-bounds, see-direct}
 use Rattle.sv_wire.specs.declared.message.Request.{Request}
 use Rattle.sv_wire.specs.declared.message.Request.TheVariants as requests
 use Rattle.sv_journal.specs.declared.entry.Entry.{Entry}
-use Rattle.sv_journal.specs.declared.entry.Logged.{Logged}
-use Rattle.sv_journal.specs.declared.entry.Logged.TheVariants as logged
+use Rattle.sv_journal.specs.declared.entry.BriefReply.{BriefReply}
+use Rattle.sv_journal.specs.declared.entry.BriefReply.TheVariants as brief
 use Rattle.sv_journal.specs.History.{is_relay, client_of, Authored, accepted, actions_of, commit_of, next_seq, authored_at}
 use Rattle.sv_journal.specs.Sessions.{sent_to}
 use Rattle.sv_journal.specs.Answer.{Rules, relay_of}
@@ -38,17 +38,17 @@ NeededUpTo = (A : List Action) (commit : ℕ) (sent : List ℕ) (i j : ℕ) → 
 abbrev pub NoneOfSent : Type 0
 NoneOfSent = (A : List Action) (commit : ℕ) (sent : List ℕ) (i : ℕ) → is_in i sent ≡ true → needed_for A commit sent i ≡ []
 
-not-sent : (k : Keeping) (h : List Entry) (A : List Authored) (s : ℕ) (q : Request) (w : Logged) → is_relay w ≡ false → is_seen w ≡ false → BringsBy k h A s q w
-not-sent k h A s q (logged.Relay seq commit head positions) e f = absurd (true≢false e)
-not-sent k h A s q (logged.Welcome commit head) e f = tt
-not-sent k h A s q (logged.Dropped seq chain far) e f = tt
-not-sent k h A s q (logged.Denied seq object) e f = tt
-not-sent k h A s q (logged.Seen last commit head positions) e f = absurd (true≢false f)
-not-sent k h A s q (logged.Settled seq pos) e f = tt
-not-sent k h A s q (logged.Noted commit) e f = tt
-not-sent k h A s q logged.Idle e f = tt
-not-sent k h A s q (logged.Refused code detail) e f = tt
-not-sent k h A s q logged.Bye e f = tt
+not-sent : (k : Keeping) (h : List Entry) (A : List Authored) (s : ℕ) (q : Request) (w : BriefReply) → is_relay w ≡ false → is_seen w ≡ false → BringsBy k h A s q w
+not-sent k h A s q (brief.Relay seq commit head positions) e f = absurd (true≢false e)
+not-sent k h A s q (brief.Welcome commit head) e f = tt
+not-sent k h A s q (brief.Dropped seq chain far) e f = tt
+not-sent k h A s q (brief.Denied seq object) e f = tt
+not-sent k h A s q (brief.Seen last commit head positions) e f = absurd (true≢false f)
+not-sent k h A s q (brief.Settled seq pos) e f = tt
+not-sent k h A s q (brief.Noted commit) e f = tt
+not-sent k h A s q brief.Idle e f = tt
+not-sent k h A s q (brief.Refused code detail) e f = tt
+not-sent k h A s q brief.Bye e f = tt
 
 module _ (ends : NeededEnds) (up_to : NeededUpTo) (none : NoneOfSent) (k : Keeping) (law : IsKeeping k) (r : Rules) (h : List Entry) (s : ℕ) where
   -- The positions of a relay of position p among the actions A.
@@ -73,7 +73,7 @@ module _ (ends : NeededEnds) (up_to : NeededUpTo) (none : NoneOfSent) (k : Keepi
   }
 
   -- The relay of position p to a Submit.
-  submitted : (q : Request) (w : Logged) (j seq : ℕ) (a : Action) (A : List Action) (p : ℕ) → client_of h s ≡ Some j → q ≡ requests.Submit seq a →
+  submitted : (q : Request) (w : BriefReply) (j seq : ℕ) (a : Action) (A : List Action) (p : ℕ) → client_of h s ≡ Some j → q ≡ requests.Submit seq a →
       IsMadeBy (accepted (entry_of s q w ∷ h)) j seq p → (seq ≡ next_seq h j → (authored_at (accepted (entry_of s q w ∷ h)) p).action ≡ a) →
       commit_of (k.kept h) < p → BringsFor k h (accepted (entry_of s q w ∷ h)) s q (relayed A p)
   submitted q w j seq a A p client asked made itself above =
@@ -81,7 +81,7 @@ module _ (ends : NeededEnds) (up_to : NeededUpTo) (none : NoneOfSent) (k : Keepi
       (record { client = j; joined = client; position = p; made = made; itself = itself; brings = unless-sent A p above })
 
   -- The relay of the first position that is due to a Poll.
-  polled : (q : Request) (w : Logged) (p : ℕ) (later : List ℕ) → q ≡ requests.Poll → k.due h s ≡ p ∷ later → commit_of (k.kept h) < p → is_in p (sent_to h s) ≡ false →
+  polled : (q : Request) (w : BriefReply) (p : ℕ) (later : List ℕ) → q ≡ requests.Poll → k.due h s ≡ p ∷ later → commit_of (k.kept h) < p → is_in p (sent_to h s) ≡ false →
       BringsFor k h (accepted (entry_of s q w ∷ h)) s q (relayed (actions_of h) p)
   polled q w p later asked first above free =
       subst (λ (x : Request). BringsFor k h (accepted (entry_of s q w ∷ h)) s x (relayed (actions_of h) p)) (sym asked)
@@ -115,7 +115,7 @@ module _ (ends : NeededEnds) (up_to : NeededUpTo) (none : NoneOfSent) (k : Keepi
       })
 
   pub brings-here : (q : Request) → BringsWhatIsAsked k h (entry_of s q (reply_for k r h s q))
-  brings-here q = each_reply k law r h s (λ (w : Logged). BringsBy k h (accepted (entry_of s q w ∷ h)) s q w) q (record {
+  brings-here q = each_reply k law r h s (λ (w : BriefReply). BringsBy k h (accepted (entry_of s q w ∷ h)) s q w) q (record {
     other = λ w e f. not-sent k h (accepted (entry_of s q w ∷ h)) s q w e f;
     fresh = λ j seq a client asked next good chain room rightful.
         let p = suc (length (actions_of h)) in

@@ -15,7 +15,7 @@ use Rattle.sv_wire.specs.declared.message.Done1.{Done1}
 use Rattle.sv_wire.specs.declared.message.Request.{Request}
 use Rattle.sv_wire.specs.declared.message.Request.TheVariants as requests
 use Rattle.sv_journal.specs.declared.entry.Entry.{Entry}
-use Rattle.sv_journal.specs.declared.entry.Logged.{Logged}
+use Rattle.sv_journal.specs.declared.entry.BriefReply.{BriefReply}
 use Rattle.sv_journal.specs.History.{Authored, either, is_welcome, is_noted, joining, client_of, is_client, accepted, actions_of, reported, reports, result_at}
 use Rattle.sv_journal.specs.Answer.{Rules, is_bad_result, is_bad_done}
 use Rattle.sv_journal.specs.Serving.{Keeping, with_results, IsKeeping, reply_for, LegalFor}
@@ -51,7 +51,7 @@ module _ (opening : List (List ℤ)) (A more : List Action) where
 -- ---- Each result is of a position that was accepted before it was reported
 
 -- A reply that notes results is to a Done, and none of them is bad.
-abbrev IsNotedWell : Keeping → Rules → List Entry → ℕ → Request → Logged → Type 0
+abbrev IsNotedWell : Keeping → Rules → List Entry → ℕ → Request → BriefReply → Type 0
 IsNotedWell k r h s q w = is_noted w ≡ true → (ds : List Done1) × ((q ≡ requests.Done ds) × (is_bad_done r (k.kept h) s ds ≡ false))
 
 noted-well : (k : Keeping) → IsKeeping k → (r : Rules) (h : List Entry) (s : ℕ) (q : Request) → IsNotedWell k r h s q (reply_for k r h s q)

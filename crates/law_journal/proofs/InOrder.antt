@@ -10,8 +10,8 @@ use Rattle.sv_world.proofs.Members.{is_in-append_cases}
 use Rattle.sv_wire.specs.declared.message.Request.{Request}
 use Rattle.sv_wire.specs.declared.message.Request.TheVariants as requests
 use Rattle.sv_journal.specs.declared.entry.Entry.{Entry}
-use Rattle.sv_journal.specs.declared.entry.Logged.{Logged}
-use Rattle.sv_journal.specs.declared.entry.Logged.TheVariants as logged
+use Rattle.sv_journal.specs.declared.entry.BriefReply.{BriefReply}
+use Rattle.sv_journal.specs.declared.entry.BriefReply.TheVariants as brief
 use Rattle.sv_journal.specs.History.{either, is_welcome, joining, client_of, Authored, accepted, next_seq}
 use Rattle.sv_journal.specs.Sessions.{positions_in, sent_to}
 use Rattle.sv_journal.specs.Serving.{Keeping, reply_for, LegalFor}
@@ -79,9 +79,9 @@ record IsOfLower (g : List Entry) (A : List Authored) (s n p : ℕ) : Type 0 whe
   made : IsMadeBy A client number target
   above : p ≤ target
 
-of-lower : (k : Keeping) (g : List Entry) (A : List Authored) (s : ℕ) (q : Request) (v : Logged) (n p : ℕ) → BringsBy k g A s q v → is_in p (positions_in v) ≡ true →
+of-lower : (k : Keeping) (g : List Entry) (A : List Authored) (s : ℕ) (q : Request) (v : BriefReply) (n p : ℕ) → BringsBy k g A s q v → is_in p (positions_in v) ≡ true →
     MayStandBefore n q → IsOfLower g A s n p
-of-lower k g A s (requests.Submit m a) (logged.Relay seq commit head positions) n p b named low = record {
+of-lower k g A s (requests.Submit m a) (brief.Relay seq commit head positions) n p b named low = record {
   client = b.client;
   joined = b.joined;
   number = m;
@@ -90,29 +90,29 @@ of-lower k g A s (requests.Submit m a) (logged.Relay seq commit head positions) 
   made = b.made;
   above = b.brings.up_to p named;
 }
-of-lower k g A s requests.Poll (logged.Relay seq commit head positions) n p b named low = absurd low
-of-lower k g A s (requests.Observe objects wait) (logged.Relay seq commit head positions) n p b named low = absurd low
-of-lower k g A s (requests.Join client life interest) (logged.Relay seq commit head positions) n p b named low = absurd b
-of-lower k g A s (requests.Done results) (logged.Relay seq commit head positions) n p b named low = absurd b
-of-lower k g A s requests.Leave (logged.Relay seq commit head positions) n p b named low = absurd b
-of-lower k g A s requests.Bad (logged.Relay seq commit head positions) n p b named low = absurd b
-of-lower k g A s requests.End (logged.Relay seq commit head positions) n p b named low = absurd b
-of-lower k g A s q (logged.Welcome commit head) n p b named low = absurd (true≢false (sym named))
-of-lower k g A s q (logged.Dropped seq chain far) n p b named low = absurd (true≢false (sym named))
-of-lower k g A s q (logged.Denied seq object) n p b named low = absurd (true≢false (sym named))
-of-lower k g A s (requests.Submit m a) (logged.Seen last commit head positions) n p b named low = absurd b
-of-lower k g A s requests.Poll (logged.Seen last commit head positions) n p b named low = absurd b
-of-lower k g A s (requests.Observe objects wait) (logged.Seen last commit head positions) n p b named low = absurd low
-of-lower k g A s (requests.Join client life interest) (logged.Seen last commit head positions) n p b named low = absurd b
-of-lower k g A s (requests.Done results) (logged.Seen last commit head positions) n p b named low = absurd b
-of-lower k g A s requests.Leave (logged.Seen last commit head positions) n p b named low = absurd b
-of-lower k g A s requests.Bad (logged.Seen last commit head positions) n p b named low = absurd b
-of-lower k g A s requests.End (logged.Seen last commit head positions) n p b named low = absurd b
-of-lower k g A s q (logged.Settled seq pos) n p b named low = absurd (true≢false (sym named))
-of-lower k g A s q (logged.Noted commit) n p b named low = absurd (true≢false (sym named))
-of-lower k g A s q logged.Idle n p b named low = absurd (true≢false (sym named))
-of-lower k g A s q (logged.Refused code detail) n p b named low = absurd (true≢false (sym named))
-of-lower k g A s q logged.Bye n p b named low = absurd (true≢false (sym named))
+of-lower k g A s requests.Poll (brief.Relay seq commit head positions) n p b named low = absurd low
+of-lower k g A s (requests.Observe objects wait) (brief.Relay seq commit head positions) n p b named low = absurd low
+of-lower k g A s (requests.Join client life interest) (brief.Relay seq commit head positions) n p b named low = absurd b
+of-lower k g A s (requests.Done results) (brief.Relay seq commit head positions) n p b named low = absurd b
+of-lower k g A s requests.Leave (brief.Relay seq commit head positions) n p b named low = absurd b
+of-lower k g A s requests.Bad (brief.Relay seq commit head positions) n p b named low = absurd b
+of-lower k g A s requests.End (brief.Relay seq commit head positions) n p b named low = absurd b
+of-lower k g A s q (brief.Welcome commit head) n p b named low = absurd (true≢false (sym named))
+of-lower k g A s q (brief.Dropped seq chain far) n p b named low = absurd (true≢false (sym named))
+of-lower k g A s q (brief.Denied seq object) n p b named low = absurd (true≢false (sym named))
+of-lower k g A s (requests.Submit m a) (brief.Seen last commit head positions) n p b named low = absurd b
+of-lower k g A s requests.Poll (brief.Seen last commit head positions) n p b named low = absurd b
+of-lower k g A s (requests.Observe objects wait) (brief.Seen last commit head positions) n p b named low = absurd low
+of-lower k g A s (requests.Join client life interest) (brief.Seen last commit head positions) n p b named low = absurd b
+of-lower k g A s (requests.Done results) (brief.Seen last commit head positions) n p b named low = absurd b
+of-lower k g A s requests.Leave (brief.Seen last commit head positions) n p b named low = absurd b
+of-lower k g A s requests.Bad (brief.Seen last commit head positions) n p b named low = absurd b
+of-lower k g A s requests.End (brief.Seen last commit head positions) n p b named low = absurd b
+of-lower k g A s q (brief.Settled seq pos) n p b named low = absurd (true≢false (sym named))
+of-lower k g A s q (brief.Noted commit) n p b named low = absurd (true≢false (sym named))
+of-lower k g A s q brief.Idle n p b named low = absurd (true≢false (sym named))
+of-lower k g A s q (brief.Refused code detail) n p b named low = absurd (true≢false (sym named))
+of-lower k g A s q brief.Bye n p b named low = absurd (true≢false (sym named))
 
 module _ (k : Keeping) (h : List Entry) (all : EachEntry (BringsWhatIsAsked k) h) (s client seq p : ℕ) (joined : client_of h s ≡ Some client) (made : IsMadeBy (accepted h) client seq p) where
   not-below : AllByRecursion (λ (d : Entry). d.session ≡ s → MayStandBefore seq d.request) h → is_in p (sent_to h s) ≡ true → ⊥
@@ -143,7 +143,7 @@ module _ (k : Keeping) (h : List Entry) (all : EachEntry (BringsWhatIsAsked k) h
       absurd (omega arith)
   not-sent (inr lower) m = not-below (recursion_from_All (λ (d : Entry). d.session ≡ s → MayStandBefore seq d.request) h lower) m
 
-asks-for_nothing : (k : Keeping) (h : List Entry) → EachEntry (BringsWhatIsAsked k) h → (s : ℕ) (q : Request) (v : Logged) → SubmitsInOrder h s q → AsksForNothingSent h (entry_of s q v)
+asks-for_nothing : (k : Keeping) (h : List Entry) → EachEntry (BringsWhatIsAsked k) h → (s : ℕ) (q : Request) (v : BriefReply) → SubmitsInOrder h s q → AsksForNothingSent h (entry_of s q v)
 asks-for_nothing k h all s q v order client seq p action joined asked made =
     false_from_ne_true (is_in p (sent_to h s)) (not-sent k h all s client seq p joined made (subst (SubmitsInOrder h s) asked order))
 

@@ -11,8 +11,8 @@ use Rattle.sv_world.proofs.Members.{is_in-cons_cases, is_in-append_cases}
 use Rattle.sv_wire.specs.declared.message.Request.{Request}
 use Rattle.sv_wire.specs.declared.message.Request.TheVariants as requests
 use Rattle.sv_journal.specs.declared.entry.Entry.{Entry}
-use Rattle.sv_journal.specs.declared.entry.Logged.{Logged}
-use Rattle.sv_journal.specs.declared.entry.Logged.TheVariants as logged
+use Rattle.sv_journal.specs.declared.entry.BriefReply.{BriefReply}
+use Rattle.sv_journal.specs.declared.entry.BriefReply.TheVariants as brief
 use Rattle.sv_journal.specs.History.{client_of, Authored, accepted, item_at, full_reply}
 use Rattle.sv_journal.specs.Sessions.{positions_in, sent_to}
 use Rattle.sv_journal.specs.Answer.{Rules}
@@ -35,7 +35,7 @@ ends-some p positions ends =
 
 module _ (k : Keeping) (h : List Entry) (s : ℕ) (within : (p : ℕ) → is_in p (sent_to h s) ≡ true → p ≤ length (accepted h)) where
   -- The position of a Submit's action was not sent to the session before.
-  not-sent : (seq : ℕ) (a : Action) (w : Logged) (client p : ℕ) → AsksForNothingSent h (entry_of s (requests.Submit seq a) w) → client_of h s ≡ Some client →
+  not-sent : (seq : ℕ) (a : Action) (w : BriefReply) (client p : ℕ) → AsksForNothingSent h (entry_of s (requests.Submit seq a) w) → client_of h s ≡ Some client →
       IsMadeBy (accepted (entry_of s (requests.Submit seq a) w ∷ h)) client seq p → is_in p (sent_to h s) ≡ false
   not-sent seq a w client p asks joined made =
       elim (cases_lt (length (accepted h)) p) [
@@ -43,7 +43,7 @@ module _ (k : Keeping) (h : List Entry) (s : ℕ) (within : (p : ℕ) → is_in 
         | inr old ↦ asks client seq p a joined refl (made-less (accepted h) (added (entry_of s (requests.Submit seq a) w) h) client seq p old made)
       ]
 
-  some-positions : (q : Request) (w : Logged) (positions : List ℕ) → AsksForNothingSent h (entry_of s q w) → BringsFor k h (accepted (entry_of s q w ∷ h)) s q positions →
+  some-positions : (q : Request) (w : BriefReply) (positions : List ℕ) → AsksForNothingSent h (entry_of s q w) → BringsFor k h (accepted (entry_of s q w ∷ h)) s q positions →
       1 ≤ length positions
   some-positions (requests.Submit seq a) w positions asks b =
       ends-some b.position positions (b.brings.unsent (not-sent seq a w b.client b.position asks b.joined b.made))
@@ -56,20 +56,20 @@ module _ (k : Keeping) (h : List Entry) (s : ℕ) (within : (p : ℕ) → is_in 
   some-positions requests.End w positions asks b = absurd b
 
   -- So a reply has items.
-  some-items : (q : Request) (w v : Logged) (A : List Authored) → AsksForNothingSent h (entry_of s q w) → BringsBy k h (accepted (entry_of s q w ∷ h)) s q v → HasItems (full_reply A v)
-  some-items q w (logged.Relay seq commit head positions) A asks b =
+  some-items : (q : Request) (w v : BriefReply) (A : List Authored) → AsksForNothingSent h (entry_of s q w) → BringsBy k h (accepted (entry_of s q w ∷ h)) s q v → HasItems (full_reply A v)
+  some-items q w (brief.Relay seq commit head positions) A asks b =
       let some : 1 ≤ length positions = some-positions q w positions asks b in
       let count : length (map (item_at A) positions) ≡ length positions = length-map positions (item_at A) in
       omega arith
-  some-items q w (logged.Welcome commit head) A asks b = tt
-  some-items q w (logged.Dropped seq chain far) A asks b = tt
-  some-items q w (logged.Denied seq object) A asks b = tt
-  some-items q w (logged.Seen last commit head positions) A asks b = tt
-  some-items q w (logged.Settled seq pos) A asks b = tt
-  some-items q w (logged.Noted commit) A asks b = tt
-  some-items q w logged.Idle A asks b = tt
-  some-items q w (logged.Refused code detail) A asks b = tt
-  some-items q w logged.Bye A asks b = tt
+  some-items q w (brief.Welcome commit head) A asks b = tt
+  some-items q w (brief.Dropped seq chain far) A asks b = tt
+  some-items q w (brief.Denied seq object) A asks b = tt
+  some-items q w (brief.Seen last commit head positions) A asks b = tt
+  some-items q w (brief.Settled seq pos) A asks b = tt
+  some-items q w (brief.Noted commit) A asks b = tt
+  some-items q w brief.Idle A asks b = tt
+  some-items q w (brief.Refused code detail) A asks b = tt
+  some-items q w brief.Bye A asks b = tt
 
 -- Of the next reply to a session.
 pub items-here : NeededEnds → NeededUpTo → NoneOfSent → ServedRelaysNameAccepted → (k : Keeping) → IsKeeping k → (r : Rules) (h : List Entry) (s : ℕ) (q : Request) → LegalFor k r h →

@@ -6,8 +6,8 @@ use Rattle.std.proofs.lemmas.Option.{none-some, same_Some}
 use Rattle.sv_world.specs.declared.action.Action.{Action}
 use Rattle.sv_wire.specs.declared.message.Request.TheVariants as requests
 use Rattle.sv_journal.specs.declared.entry.Entry.{Entry}
-use Rattle.sv_journal.specs.declared.entry.Logged.{Logged}
-use Rattle.sv_journal.specs.declared.entry.Logged.TheVariants as logged
+use Rattle.sv_journal.specs.declared.entry.BriefReply.{BriefReply}
+use Rattle.sv_journal.specs.declared.entry.BriefReply.TheVariants as brief
 use Rattle.sv_journal.specs.History.{is_relay, client_of, is_client, is_submit_of, Outcome, Accepted, Dropped, Denied, outcome_in, outcomes_of, Authored, accepted, next_seq, authored_at}
 use Rattle.sv_journal.specs.Sessions.{outcome_at, kept_outcome}
 use Rattle.sv_journal.proofs.Stays.{authored_stays, authored_last}
@@ -82,27 +82,27 @@ tells-more A more k n (Dropped chain far) own = tt
 tells-more A more k n (Denied object) own = tt
 
 tells-new : (e : Entry) (h : List Entry) (k : ℕ) (a : Action) → client_of h e.session ≡ Some k → e.request ≡ requests.Submit (next_seq h k) a →
-    (w : Logged) → e.reply ≡ w → (j : ℕ) (o : Outcome) → slice_get (outcome_in (suc (length (accepted h))) w) j ≡ Some o →
+    (w : BriefReply) → e.reply ≡ w → (j : ℕ) (o : Outcome) → slice_get (outcome_in (suc (length (accepted h))) w) j ≡ Some o →
     (j ≡ 0) × TellsOwn (accepted (e ∷ h)) k (next_seq h k) o
-tells-new e h k a client asked (logged.Relay seq commit head positions) is zero o at = (
+tells-new e h k a client asked (brief.Relay seq commit head positions) is zero o at = (
   refl,
   subst (TellsOwn (accepted (e ∷ h)) k (next_seq h k)) (same_Some (Accepted (suc (length (accepted h)))) o at)
       (made-new e h k (next_seq h k) a client asked refl (ap is_relay is)),
 )
-tells-new e h k a client asked (logged.Relay seq commit head positions) is (suc j) o at = absurd (none-some o at)
-tells-new e h k a client asked (logged.Dropped seq chain far) is zero o at =
+tells-new e h k a client asked (brief.Relay seq commit head positions) is (suc j) o at = absurd (none-some o at)
+tells-new e h k a client asked (brief.Dropped seq chain far) is zero o at =
     (refl, subst (TellsOwn (accepted (e ∷ h)) k (next_seq h k)) (same_Some (Dropped chain far) o at) tt)
-tells-new e h k a client asked (logged.Denied seq object) is zero o at =
+tells-new e h k a client asked (brief.Denied seq object) is zero o at =
     (refl, subst (TellsOwn (accepted (e ∷ h)) k (next_seq h k)) (same_Some (Denied object.0) o at) tt)
-tells-new e h k a client asked (logged.Dropped seq chain far) is (suc j) o at = absurd (none-some o at)
-tells-new e h k a client asked (logged.Denied seq object) is (suc j) o at = absurd (none-some o at)
-tells-new e h k a client asked (logged.Seen last commit head positions) is j o at = absurd (none-some o at)
-tells-new e h k a client asked (logged.Welcome commit head) is j o at = absurd (none-some o at)
-tells-new e h k a client asked (logged.Settled seq pos) is j o at = absurd (none-some o at)
-tells-new e h k a client asked (logged.Noted commit) is j o at = absurd (none-some o at)
-tells-new e h k a client asked logged.Idle is j o at = absurd (none-some o at)
-tells-new e h k a client asked (logged.Refused code detail) is j o at = absurd (none-some o at)
-tells-new e h k a client asked logged.Bye is j o at = absurd (none-some o at)
+tells-new e h k a client asked (brief.Dropped seq chain far) is (suc j) o at = absurd (none-some o at)
+tells-new e h k a client asked (brief.Denied seq object) is (suc j) o at = absurd (none-some o at)
+tells-new e h k a client asked (brief.Seen last commit head positions) is j o at = absurd (none-some o at)
+tells-new e h k a client asked (brief.Welcome commit head) is j o at = absurd (none-some o at)
+tells-new e h k a client asked (brief.Settled seq pos) is j o at = absurd (none-some o at)
+tells-new e h k a client asked (brief.Noted commit) is j o at = absurd (none-some o at)
+tells-new e h k a client asked brief.Idle is j o at = absurd (none-some o at)
+tells-new e h k a client asked (brief.Refused code detail) is j o at = absurd (none-some o at)
+tells-new e h k a client asked brief.Bye is j o at = absurd (none-some o at)
 
 tells-own : (h : List Entry) (k n : ℕ) (o : Outcome) → slice_get (outcomes_of h k) n ≡ Some o → TellsOwn (accepted h) k (suc n) o
 tells-own [] k n o e = absurd (none-some o e)

@@ -12,8 +12,8 @@ use Rattle.sv_world.proofs.Greatest.{cut-low, cut-later, cut-news}
 use Rattle.sv_world.proofs.Members.{is_in-append_left}
 use Rattle.sv_wire.specs.declared.message.Request.{Request}
 use Rattle.sv_journal.specs.declared.entry.Entry.{Entry}
-use Rattle.sv_journal.specs.declared.entry.Logged.{Logged}
-use Rattle.sv_journal.specs.declared.entry.Logged.TheVariants as logged
+use Rattle.sv_journal.specs.declared.entry.BriefReply.{BriefReply}
+use Rattle.sv_journal.specs.declared.entry.BriefReply.TheVariants as brief
 use Rattle.sv_journal.specs.History.{Authored, accepted, actions_of, commit_of}
 use Rattle.sv_journal.specs.Sessions.{positions_in, sent_to}
 use Rattle.sv_journal.specs.Answer.{Rules}
@@ -28,17 +28,17 @@ use Rattle.law_journal.specs.Entries.{EachEntry}
 use Rattle.law_journal.specs.Cuts.{observed_in, seen_in, IsNoLater, NeverGoesBack, ServedCutsNeverGoBack, SendsWhereMore, SendsWhereMoreAreAccepted, LegalOlderCutsHaveItems, ServedOlderCutsHaveItems}
 use Rattle.law_journal.proofs.EveryEntry.{each-entry}
 
-none-seen : (w : Logged) → is_seen w ≡ false → seen_in w ≡ None
-none-seen (logged.Seen last commit head positions) e = absurd (true≢false e)
-none-seen (logged.Welcome commit head) e = refl
-none-seen (logged.Relay seq commit head positions) e = refl
-none-seen (logged.Dropped seq chain far) e = refl
-none-seen (logged.Denied seq object) e = refl
-none-seen (logged.Settled seq pos) e = refl
-none-seen (logged.Noted commit) e = refl
-none-seen logged.Idle e = refl
-none-seen (logged.Refused code detail) e = refl
-none-seen logged.Bye e = refl
+none-seen : (w : BriefReply) → is_seen w ≡ false → seen_in w ≡ None
+none-seen (brief.Seen last commit head positions) e = absurd (true≢false e)
+none-seen (brief.Welcome commit head) e = refl
+none-seen (brief.Relay seq commit head positions) e = refl
+none-seen (brief.Dropped seq chain far) e = refl
+none-seen (brief.Denied seq object) e = refl
+none-seen (brief.Settled seq pos) e = refl
+none-seen (brief.Noted commit) e = refl
+none-seen brief.Idle e = refl
+none-seen (brief.Refused code detail) e = refl
+none-seen brief.Bye e = refl
 
 -- ---- The greatest cut never goes back
 
@@ -51,7 +51,7 @@ IsAtCut k h s q (Some last) = last ≡ cut_of k h s (observed_in q)
 IsAtCut k h s q None = Unit {0}
 
 cut-here : (k : Keeping) → IsKeeping k → (r : Rules) (h : List Entry) (s : ℕ) (q : Request) → IsAtCut k h s q (seen_in (reply_for k r h s q))
-cut-here k law r h s q = each_reply k law r h s (λ (w : Logged). IsAtCut k h s q (seen_in w)) q (record {
+cut-here k law r h s q = each_reply k law r h s (λ (w : BriefReply). IsAtCut k h s q (seen_in w)) q (record {
   other = λ w e f. subst (IsAtCut k h s q) (sym (none-seen w f)) tt;
   fresh = λ j seq a client asked next good chain room rightful. tt;
   again = λ j seq p a client asked kept above. tt;
@@ -139,17 +139,17 @@ some-of : (ps : List ℕ) → ps ≢ [] → 1 ≤ length ps
 some-of [] ne = absurd (ne refl)
 some-of (p ∷ ps) ne = omega arith
 
-sends-not_seen : (n : ℕ) (w : Logged) → is_seen w ≡ false → SendsWhereMore n w
-sends-not_seen n (logged.Seen last commit head positions) e = absurd (true≢false e)
-sends-not_seen n (logged.Welcome commit head) e = tt
-sends-not_seen n (logged.Relay seq commit head positions) e = tt
-sends-not_seen n (logged.Dropped seq chain far) e = tt
-sends-not_seen n (logged.Denied seq object) e = tt
-sends-not_seen n (logged.Settled seq pos) e = tt
-sends-not_seen n (logged.Noted commit) e = tt
-sends-not_seen n logged.Idle e = tt
-sends-not_seen n (logged.Refused code detail) e = tt
-sends-not_seen n logged.Bye e = tt
+sends-not_seen : (n : ℕ) (w : BriefReply) → is_seen w ≡ false → SendsWhereMore n w
+sends-not_seen n (brief.Seen last commit head positions) e = absurd (true≢false e)
+sends-not_seen n (brief.Welcome commit head) e = tt
+sends-not_seen n (brief.Relay seq commit head positions) e = tt
+sends-not_seen n (brief.Dropped seq chain far) e = tt
+sends-not_seen n (brief.Denied seq object) e = tt
+sends-not_seen n (brief.Settled seq pos) e = tt
+sends-not_seen n (brief.Noted commit) e = tt
+sends-not_seen n brief.Idle e = tt
+sends-not_seen n (brief.Refused code detail) e = tt
+sends-not_seen n brief.Bye e = tt
 
 sends-here : SizeWithin → (k : Keeping) → IsKeeping k → (r : Rules) → r.bound ≤ 32 → (h : List Entry) → LegalFor k r h → (s : ℕ) (q : Request) →
     SendsWhereMore (length (accepted h)) (reply_for k r h s q)

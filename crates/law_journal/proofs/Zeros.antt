@@ -6,8 +6,8 @@ use Rattle.sv_wire.specs.declared.message.Request.TheVariants as requests
 use Rattle.sv_wire.specs.declared.message.Reply.{Reply}
 use Rattle.sv_wire.specs.declared.message.Reply.TheVariants as replies
 use Rattle.sv_journal.specs.declared.entry.Entry.{Entry}
-use Rattle.sv_journal.specs.declared.entry.Logged.{Logged}
-use Rattle.sv_journal.specs.declared.entry.Logged.TheVariants as logged
+use Rattle.sv_journal.specs.declared.entry.BriefReply.{BriefReply}
+use Rattle.sv_journal.specs.declared.entry.BriefReply.TheVariants as brief
 use Rattle.sv_journal.specs.History.{is_relay, Outcome, Accepted, Authored, outcomes_of, accepted, full_reply}
 use Rattle.sv_journal.specs.Sessions.{kept_outcome}
 use Rattle.sv_journal.specs.Answer.{Rules}
@@ -26,20 +26,20 @@ kept-some h k (suc n) o e = omega arith
 
 -- ---- Each reply
 
-not-sent : (A : List Authored) (q : Request) (w : Logged) → is_relay w ≡ false → is_seen w ≡ false → TellsNumber q (full_reply A w)
-not-sent A q (logged.Relay seq commit head positions) e f = absurd (true≢false e)
-not-sent A q (logged.Welcome commit head) e f = tt
-not-sent A q (logged.Dropped seq chain far) e f = tt
-not-sent A q (logged.Denied seq object) e f = tt
-not-sent A q (logged.Seen last commit head positions) e f = tt
-not-sent A q (logged.Settled seq pos) e f = tt
-not-sent A q (logged.Noted commit) e f = tt
-not-sent A q logged.Idle e f = tt
-not-sent A q (logged.Refused code detail) e f = tt
-not-sent A q logged.Bye e f = tt
+not-sent : (A : List Authored) (q : Request) (w : BriefReply) → is_relay w ≡ false → is_seen w ≡ false → TellsNumber q (full_reply A w)
+not-sent A q (brief.Relay seq commit head positions) e f = absurd (true≢false e)
+not-sent A q (brief.Welcome commit head) e f = tt
+not-sent A q (brief.Dropped seq chain far) e f = tt
+not-sent A q (brief.Denied seq object) e f = tt
+not-sent A q (brief.Seen last commit head positions) e f = tt
+not-sent A q (brief.Settled seq pos) e f = tt
+not-sent A q (brief.Noted commit) e f = tt
+not-sent A q brief.Idle e f = tt
+not-sent A q (brief.Refused code detail) e f = tt
+not-sent A q brief.Bye e f = tt
 
 told : (k : Keeping) → IsKeeping k → (r : Rules) (h : List Entry) (s : ℕ) (q : Request) → OfEntry TellsNumber h (entry_of s q (reply_for k r h s q))
-told k law r h s q = each_reply k law r h s (λ (w : Logged). TellsNumber q (full_reply (accepted (entry_of s q w ∷ h)) w)) q (record {
+told k law r h s q = each_reply k law r h s (λ (w : BriefReply). TellsNumber q (full_reply (accepted (entry_of s q w ∷ h)) w)) q (record {
   other = λ w e f. not-sent (accepted (entry_of s q w ∷ h)) q w e f;
   fresh = λ j seq a client asked next good chain room rightful.
       let number : seq ≡ suc (length (outcomes_of h j)) = next in

@@ -10,8 +10,8 @@ use Rattle.sv_wire.specs.declared.message.Request.TheVariants as requests
 use Rattle.sv_wire.specs.declared.message.Reply.{Reply}
 use Rattle.sv_wire.specs.declared.message.Reply.TheVariants as replies
 use Rattle.sv_journal.specs.declared.entry.Entry.{Entry}
-use Rattle.sv_journal.specs.declared.entry.Logged.{Logged}
-use Rattle.sv_journal.specs.declared.entry.Logged.TheVariants as logged
+use Rattle.sv_journal.specs.declared.entry.BriefReply.{BriefReply}
+use Rattle.sv_journal.specs.declared.entry.BriefReply.TheVariants as brief
 use Rattle.sv_journal.specs.History.{Authored, client_of, next_seq, accepted, authored_at, actions_of, commit_of, full_reply}
 use Rattle.sv_journal.specs.Sessions.{sent_to}
 use Rattle.sv_journal.specs.Serving.{Keeping, plain}
@@ -81,9 +81,9 @@ abbrev pub BringsSeen : Keeping → List Entry → ℕ → Request → ℕ → L
 BringsSeen k h s (requests.Observe objects wait) last positions = BringsObserved k h s (numbers_of objects) last positions
 BringsSeen k h s _ last positions = ⊥
 
-abbrev pub BringsBy : Keeping → List Entry → List Authored → ℕ → Request → Logged → Type 0
-BringsBy k h A s request (logged.Relay seq commit head positions) = BringsFor k h A s request positions
-BringsBy k h A s request (logged.Seen last commit head positions) = BringsSeen k h s request last positions
+abbrev pub BringsBy : Keeping → List Entry → List Authored → ℕ → Request → BriefReply → Type 0
+BringsBy k h A s request (brief.Relay seq commit head positions) = BringsFor k h A s request positions
+BringsBy k h A s request (brief.Seen last commit head positions) = BringsSeen k h s request last positions
 BringsBy k h A s request _ = Unit {0}
 
 -- An entry's reply brings what its request asks.

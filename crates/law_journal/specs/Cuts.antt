@@ -5,8 +5,8 @@ use Rattle.sv_world.specs.Sets.{numbers_of}
 use Rattle.sv_wire.specs.declared.message.Request.{Request}
 use Rattle.sv_wire.specs.declared.message.Request.TheVariants as requests
 use Rattle.sv_journal.specs.declared.entry.Entry.{Entry}
-use Rattle.sv_journal.specs.declared.entry.Logged.{Logged}
-use Rattle.sv_journal.specs.declared.entry.Logged.TheVariants as logged
+use Rattle.sv_journal.specs.declared.entry.BriefReply.{BriefReply}
+use Rattle.sv_journal.specs.declared.entry.BriefReply.TheVariants as brief
 use Rattle.sv_journal.specs.History.{accepted}
 use Rattle.sv_journal.specs.Answer.{Rules, Legal}
 use Rattle.sv_journal.specs.Serving.{Keeping, LegalFor, IsKeeping}
@@ -19,8 +19,8 @@ observed_in (requests.Observe objects wait) = numbers_of objects
 observed_in _ = []
 
 -- The position at which a reply shows them.
-abbrev pub seen_in : Logged → Option ℕ
-seen_in (logged.Seen last commit head positions) = Some last
+abbrev pub seen_in : BriefReply → Option ℕ
+seen_in (brief.Seen last commit head positions) = Some last
 seen_in _ = None
 
 -- ---- Later cuts
@@ -43,8 +43,8 @@ ServedCutsNeverGoBack = HoldsInServed (λ k. NeverGoesBack)
 -- ---- Older cuts
 
 -- Where more actions were accepted than those up to the position that is seen, some are sent.
-abbrev pub SendsWhereMore : ℕ → Logged → Type 0
-SendsWhereMore count (logged.Seen last commit head positions) = last < count → 1 ≤ length positions
+abbrev pub SendsWhereMore : ℕ → BriefReply → Type 0
+SendsWhereMore count (brief.Seen last commit head positions) = last < count → 1 ≤ length positions
 SendsWhereMore count _ = Unit {0}
 
 abbrev pub SendsWhereMoreAreAccepted : List Entry → Entry → Type 0

@@ -11,7 +11,7 @@ use Rattle.sv_wire.specs.declared.message.Request.{Request}
 use Rattle.sv_wire.specs.declared.message.Request.TheVariants as requests
 use Rattle.sv_wire.specs.declared.message.Reply.{Reply}
 use Rattle.sv_journal.specs.declared.entry.Entry.{Entry}
-use Rattle.sv_journal.specs.declared.entry.Logged.{Logged}
+use Rattle.sv_journal.specs.declared.entry.BriefReply.{BriefReply}
 use Rattle.sv_journal.specs.History.{accepted, full_reply}
 use Rattle.sv_session.specs.Requests.{stop_of}
 use Rattle.sv_client.specs.declared.trace.Event.{Event}
@@ -23,7 +23,7 @@ use Rattle.sv_client.proofs.Outstanding.{outstanding_in}
 use Rattle.sv_scenario.specs.declared.scenario.Scenario.{Scenario}
 use Rattle.sv_scenario.specs.Limits.{IsGoodScenario}
 use Rattle.sv_scenario.specs.Sessions.{session_count}
-use Rattle.sv_journal.proofs.Stays.{logged-back}
+use Rattle.sv_journal.proofs.Stays.{brief-back}
 use Rattle.sv_session.proofs.Stops.{stops-kinds}
 use Rattle.sv_script.specs.Following.{must_join, is_welcomed}
 use Rattle.law_system.specs.Fronts.{IsFront}
@@ -96,7 +96,7 @@ spent-answered who first t h s proper front all w =
     let own = proper-events who first t proper in
     let g = got-when who t s n reply took in
     let a = got-answers who t own s n reply g in
-    let leave : a.request ≡ requests.Leave = leave-stopped a.request reply (stops-kinds reply (ap (λ (l : Logged). is_some (stop_of l)) (logged-back A w.entry.reply) ∙ w.stop)) a.kind in
+    let leave : a.request ≡ requests.Leave = leave-stopped a.request reply (stops-kinds reply (ap (λ (l : BriefReply). is_some (stop_of l)) (brief-back A w.entry.reply) ∙ w.stop)) a.kind in
     let at : slice_get (asked who.client who.interest t s) n ≡ Some requests.Leave =
     asked-part who g.before t (part-rest g.before (events.Got s reply) t g.part) s n requests.Leave
     (ap (slice_get (asked who.client who.interest g.before s)) g.place ∙ a.asked_there ∙ ap Some leave) in

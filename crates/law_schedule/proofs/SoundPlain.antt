@@ -7,7 +7,7 @@ use Rattle.std.proofs.lemmas.Option.{none-some}
 use Rattle.sv_world.specs.declared.world.Shape.{Shape}
 use Rattle.sv_wire.specs.declared.message.Request.{Request}
 use Rattle.sv_journal.specs.declared.entry.Entry.{Entry}
-use Rattle.sv_journal.specs.declared.entry.Logged.{Logged}
+use Rattle.sv_journal.specs.declared.entry.BriefReply.{BriefReply}
 use Rattle.sv_journal.specs.Sessions.{is_end}
 use Rattle.sv_journal.specs.Answer.{Rules, Legal, reply_to}
 use Rattle.sv_client.specs.declared.trace.Trace.{Trace}
@@ -38,7 +38,7 @@ use Rattle.law_schedule.proofs.SoundLaws.{traces-have, opening-sound, turns-soun
 legal-served : (r : Rules) (h : List Entry) → Legal r h → IsServersOwn (plain_server r) h
 legal-served r [] l = tt
 legal-served r (e ∷ h) l =
-    ((e.request, ap (λ (reply : Logged). record { session = e.session; request = e.request; reply = reply }) l.0), legal-served r h l.1)
+    ((e.request, ap (λ (reply : BriefReply). record { session = e.session; request = e.request; reply = reply }) l.0), legal-served r h l.1)
 
 served-legal : (r : Rules) (h : List Entry) → IsServersOwn (plain_server r) h → Legal r h
 served-legal r [] a = tt

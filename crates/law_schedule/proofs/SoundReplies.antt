@@ -11,8 +11,8 @@ use Rattle.sv_world.proofs.Needs.{needed-bounds}
 use Rattle.sv_world.proofs.Seeing.{see-bounds}
 use Rattle.sv_wire.specs.declared.message.Reply.{Reply}
 use Rattle.sv_journal.specs.declared.entry.Entry.{Entry}
-use Rattle.sv_journal.specs.declared.entry.Logged.{Logged}
-use Rattle.sv_journal.specs.declared.entry.Logged.TheVariants as logged
+use Rattle.sv_journal.specs.declared.entry.BriefReply.{BriefReply}
+use Rattle.sv_journal.specs.declared.entry.BriefReply.TheVariants as brief
 use Rattle.sv_journal.specs.History.{Authored, client_of, outcomes_of, new_action, accepted, actions_of, commit_of, is_relay}
 use Rattle.sv_journal.specs.Sessions.{sent_to}
 use Rattle.sv_journal.specs.Answer.{Rules, Legal}
@@ -41,29 +41,29 @@ accepted-with e h relay =
 names-here : (r : Rules) (e : Entry) (h : List Entry) → Legal r (e ∷ h) → NamesAccepted (length (accepted (e ∷ h))) e.reply
 names-here r e h l = go e.reply refl (legal-tells r e h l)
   where
-    go : (reply : Logged) → e.reply ≡ reply → Tells r h e.session e.request reply → NamesAccepted (length (accepted (e ∷ h))) reply
-    go (logged.Relay seq commit head positions) is t =
+    go : (reply : BriefReply) → e.reply ≡ reply → Tells r h e.session e.request reply → NamesAccepted (length (accepted (e ∷ h))) reply
+    go (brief.Relay seq commit head positions) is t =
         let count = length (accepted (e ∷ h)) in
         All-from_recursion (λ p. (1 ≤ p) × (p ≤ count)) positions
         (each-member (λ p. (1 ≤ p) × (p ≤ count)) positions (λ j m.
         let b = needed-bounds (actions_of h ++ new_of h e.session e.request) (commit_of h) (sent_to h e.session) t.target t.above j
         (subst (λ (ps : List ℕ). is_in j ps ≡ true) t.positions_are m) in
         (omega (arith, b.0), omega (arith, b.1, t.accepted_to, accepted-with e h (ap is_relay is)))))
-    go (logged.Seen last commit head positions) is t =
+    go (brief.Seen last commit head positions) is t =
         let count = length (accepted (e ∷ h)) in
         All-from_recursion (λ p. (1 ≤ p) × (p ≤ count)) positions
         (each-member (λ p. (1 ≤ p) × (p ≤ count)) positions (λ j m.
         let b = see-bounds (actions_of h) (commit_of h) (sent_to h e.session) (numbers_of t.objects) last j
         (subst (λ (ps : List ℕ). is_in j ps ≡ true) t.positions_are m) in
         (omega (arith, b.0), omega (arith, b.1, t.within, actions-count h, accepted-grows h (e ∷ h) (after e same)))))
-    go (logged.Welcome commit head) is t = tt
-    go (logged.Dropped seq chain far) is t = tt
-    go (logged.Denied seq object) is t = tt
-    go (logged.Settled seq pos) is t = tt
-    go (logged.Noted commit) is t = tt
-    go logged.Idle is t = tt
-    go (logged.Refused code detail) is t = tt
-    go logged.Bye is t = tt
+    go (brief.Welcome commit head) is t = tt
+    go (brief.Dropped seq chain far) is t = tt
+    go (brief.Denied seq object) is t = tt
+    go (brief.Settled seq pos) is t = tt
+    go (brief.Noted commit) is t = tt
+    go brief.Idle is t = tt
+    go (brief.Refused code detail) is t = tt
+    go brief.Bye is t = tt
 
 pub all-names : (r : Rules) (h : List Entry) → Legal r h → RepliesNameAccepted h
 all-names r [] l = tt

@@ -6,7 +6,7 @@ use Rattle.sv_world.specs.declared.world.Shape.{Shape}
 use Rattle.sv_wire.specs.declared.message.Request.{Request}
 use Rattle.sv_wire.specs.declared.message.Request.TheVariants as requests
 use Rattle.sv_journal.specs.declared.entry.Entry.{Entry}
-use Rattle.sv_journal.specs.declared.entry.Logged.TheVariants as logged
+use Rattle.sv_journal.specs.declared.entry.BriefReply.TheVariants as brief
 use Rattle.sv_journal.specs.History.{accepted, joining}
 use Rattle.sv_journal.specs.Sessions.{is_end}
 use Rattle.sv_journal.specs.Text.{NamesAccepted}
@@ -47,7 +47,7 @@ RepliesNameAccepted h = AllByRecursion (λ (e : Entry). NamesAccepted (length (a
 -- accepted actions alone.
 pub record KeepsSound (server : Server) : Type 0 where
   pub ends : (h : List Entry) (s : ℕ) (request : Request) → is_end (server.hears h s request) ≡ is_end request
-  pub bye : (h : List Entry) (s : ℕ) → server.answers h s requests.End ≡ logged.Bye
+  pub bye : (h : List Entry) (s : ℕ) → server.answers h s requests.End ≡ brief.Bye
   pub named : (h : List Entry) → IsServersOwn server h → RepliesNameAccepted h
 
 -- It hears who joins.

@@ -6,7 +6,7 @@ use Rattle.sv_world.specs.Control.{below}
 use Rattle.sv_wire.specs.declared.message.Request.{Request}
 use Rattle.sv_wire.specs.declared.message.Request.TheVariants as requests
 use Rattle.sv_journal.specs.declared.entry.Entry.{Entry}
-use Rattle.sv_journal.specs.declared.entry.Logged.{Logged}
+use Rattle.sv_journal.specs.declared.entry.BriefReply.{BriefReply}
 use Rattle.sv_journal.specs.Sessions.{is_ended}
 use Rattle.sv_session.specs.Requests.{stop_of}
 use Rattle.sv_client.specs.declared.trace.Trace.{Trace}
@@ -24,7 +24,7 @@ pub record Run : Type 0 where
 -- What a server hears where a session asks something, and what it answers, by the entries so far. Mostly it hears just what is asked.
 pub record Server : Type 0 where
   pub hears : List Entry → ℕ → Request → Request
-  pub answers : List Entry → ℕ → Request → Logged
+  pub answers : List Entry → ℕ → Request → BriefReply
 
 -- The entry that a request of a session makes.
 abbrev pub entry_by : Server → List Entry → ℕ → Request → Entry

@@ -26,8 +26,8 @@ use Rattle.sv_wire.specs.declared.message.Request.TheVariants as requests
 use Rattle.sv_wire.specs.declared.message.Reply.{Reply}
 use Rattle.sv_wire.specs.declared.message.Reply.TheVariants as replies
 use Rattle.sv_journal.specs.declared.entry.Entry.{Entry}
-use Rattle.sv_journal.specs.declared.entry.Logged.{Logged}
-use Rattle.sv_journal.specs.declared.entry.Logged.TheVariants as logged
+use Rattle.sv_journal.specs.declared.entry.BriefReply.{BriefReply}
+use Rattle.sv_journal.specs.declared.entry.BriefReply.TheVariants as brief
 use Rattle.sv_journal.specs.History.{Authored, Outcome, Accepted, Dropped, Denied, accepted, actions_of, client_of, next_seq, item_at, full_reply, commit_of}
 use Rattle.sv_journal.specs.Sessions.{is_end, kept_outcome, positions_in, sent_to}
 use Rattle.sv_journal.specs.Answer.{Rules, refused, is_above, is_full, reply_by_rights, reply_to_checked, reply_to_submit, is_bad_done, commit_with, orphans, reply_to_poll, reply_to_client, reply_to_member, reply_to_open}
@@ -201,39 +201,39 @@ pub polled : (K : Keeping) (r : Rules) (h : List Entry) (s : ℕ) (ps : List ℕ
 polled K r h s [] = refl
 polled K r h s (p ∷ ps) = refl
 
-pub items-logged : (A : List Authored) (reply : Logged) → items_of (full_reply A reply) ≡ map (item_at A) (positions_in reply)
-items-logged A (logged.Relay seq commit head positions) = refl
-items-logged A (logged.Welcome commit head) = refl
-items-logged A (logged.Dropped seq chain far) = refl
-items-logged A (logged.Denied seq object) = refl
-items-logged A (logged.Seen last commit head positions) = refl
-items-logged A (logged.Settled seq pos) = refl
-items-logged A (logged.Noted commit) = refl
-items-logged A logged.Idle = refl
-items-logged A (logged.Refused code detail) = refl
-items-logged A logged.Bye = refl
+pub items-brief : (A : List Authored) (reply : BriefReply) → items_of (full_reply A reply) ≡ map (item_at A) (positions_in reply)
+items-brief A (brief.Relay seq commit head positions) = refl
+items-brief A (brief.Welcome commit head) = refl
+items-brief A (brief.Dropped seq chain far) = refl
+items-brief A (brief.Denied seq object) = refl
+items-brief A (brief.Seen last commit head positions) = refl
+items-brief A (brief.Settled seq pos) = refl
+items-brief A (brief.Noted commit) = refl
+items-brief A brief.Idle = refl
+items-brief A (brief.Refused code detail) = refl
+items-brief A brief.Bye = refl
 
-pub positions-low : (K : Keeping) (keeps : IsKeeping K) (r : Rules) (d : Entry) (h : List Entry) → LegalFor K r (d ∷ h) → (reply : Logged) → d.reply ≡ reply → (is_ascending (positions_in reply) ≡ true) × ((k : ℕ) → is_in k (positions_in reply) ≡ true → 0 < k)
-positions-low K keeps r d h l (logged.Relay seq commit head positions) is =
+pub positions-low : (K : Keeping) (keeps : IsKeeping K) (r : Rules) (d : Entry) (h : List Entry) → LegalFor K r (d ∷ h) → (reply : BriefReply) → d.reply ≡ reply → (is_ascending (positions_in reply) ≡ true) × ((k : ℕ) → is_in k (positions_in reply) ≡ true → 0 < k)
+positions-low K keeps r d h l (brief.Relay seq commit head positions) is =
     let t = legal-relay K keeps r d h seq commit head positions l is in (
       subst (λ (ks : List ℕ). is_ascending ks ≡ true) (sym t.positions_are) (needed-ascending (actions_of (d ∷ h)) (commit_of (K.kept h)) (sent_to h d.session) t.target),
       λ k m. (let low : commit_of (K.kept h) < k = (needed-bounds (actions_of (d ∷ h)) (commit_of (K.kept h)) (sent_to h d.session) t.target t.above k (subst (λ (ks : List ℕ). is_in k ks ≡ true) t.positions_are m)).0 in omega arith),
     )
-positions-low K keeps r d h l (logged.Welcome commit head) is = (refl, λ k m. absurd (true≢false (sym m)))
-positions-low K keeps r d h l (logged.Dropped seq chain far) is = (refl, λ k m. absurd (true≢false (sym m)))
-positions-low K keeps r d h l (logged.Denied seq object) is = (refl, λ k m. absurd (true≢false (sym m)))
-positions-low K keeps r d h l (logged.Seen last commit head positions) is =
+positions-low K keeps r d h l (brief.Welcome commit head) is = (refl, λ k m. absurd (true≢false (sym m)))
+positions-low K keeps r d h l (brief.Dropped seq chain far) is = (refl, λ k m. absurd (true≢false (sym m)))
+positions-low K keeps r d h l (brief.Denied seq object) is = (refl, λ k m. absurd (true≢false (sym m)))
+positions-low K keeps r d h l (brief.Seen last commit head positions) is =
     let t = legal-seen K keeps r d h last commit head positions l is in
     let acts = actions_of (d ∷ h) in
     let xs = numbers_of t.objects in (
       subst (λ (ks : List ℕ). is_ascending ks ≡ true) (sym t.positions_are) (see-ascending acts (commit_of (K.kept h)) (sent_to h d.session) xs last),
       λ k m. (let low : commit_of (K.kept h) < k = (see-bounds acts (commit_of (K.kept h)) (sent_to h d.session) xs last k (subst (λ (ks : List ℕ). is_in k ks ≡ true) t.positions_are m)).0 in omega arith),
     )
-positions-low K keeps r d h l (logged.Settled seq pos) is = (refl, λ k m. absurd (true≢false (sym m)))
-positions-low K keeps r d h l (logged.Noted commit) is = (refl, λ k m. absurd (true≢false (sym m)))
-positions-low K keeps r d h l logged.Idle is = (refl, λ k m. absurd (true≢false (sym m)))
-positions-low K keeps r d h l (logged.Refused code detail) is = (refl, λ k m. absurd (true≢false (sym m)))
-positions-low K keeps r d h l logged.Bye is = (refl, λ k m. absurd (true≢false (sym m)))
+positions-low K keeps r d h l (brief.Settled seq pos) is = (refl, λ k m. absurd (true≢false (sym m)))
+positions-low K keeps r d h l (brief.Noted commit) is = (refl, λ k m. absurd (true≢false (sym m)))
+positions-low K keeps r d h l brief.Idle is = (refl, λ k m. absurd (true≢false (sym m)))
+positions-low K keeps r d h l (brief.Refused code detail) is = (refl, λ k m. absurd (true≢false (sym m)))
+positions-low K keeps r d h l brief.Bye is = (refl, λ k m. absurd (true≢false (sym m)))
 
 good-reads : (objects : ℕ) (shape_of : Action → Type 0) (xs : List Authored) → ((a : Action) → shape_of a → All (λ x. x < objects) (read_set a)) → AllByRecursion (λ (a : Authored). shape_of a.action) xs →
     AllByRecursion (λ (a : Action). All (λ x. x < objects) (read_set a)) (map (λ (a : Authored). a.action) xs)
@@ -288,7 +288,7 @@ module _ (truthful : Truthful) where
       ∙ ap (with_last_rows K r g s q)
       (same_reply ∙ ap (λ (o : Option ℕ). reply_to_member r (K.kept g) s o q) (client-kept K keeps g s ∙ joined (ap is_join_request is ∙ f)))
 
-  abbrev IsAllowed : Request → Logged → Type 0
+  abbrev IsAllowed : Request → BriefReply → Type 0
   IsAllowed q reply = allows q (full_reply A (with_last_rows K r g s q reply)) ≡ true
 
   -- A position is left for a Submit, and a number for the action.
@@ -304,7 +304,7 @@ module _ (truthful : Truthful) where
   submit-allowed : (n : ℕ) (a : Action) → e.request ≡ requests.Submit n a → IsAllowed (requests.Submit n a) (reply_to_submit r (K.kept g) s k n a (kept_outcome (K.kept g) k n))
   submit-allowed n a is =
       let w = numbered-well awaited n a is in
-      let P : Logged → Type 0 = IsAllowed (requests.Submit n a) in
+      let P : BriefReply → Type 0 = IsAllowed (requests.Submit n a) in
       let same_kept : kept_outcome (K.kept g) k n ≡ kept_outcome g k n = kept_outcome-kept K keeps g k n in
       elim w.outcome [
         | inl o ↦ subst (λ (x : Option Outcome). P (reply_to_submit r (K.kept g) s k n a x)) (sym (same_kept ∙ o.1)) (kept-allowed o.0)
@@ -354,7 +354,7 @@ module _ (truthful : Truthful) where
       let bx : IsEarlier (x.entry ∷ x.before) H = earlier-then (x.entry ∷ x.before) g H x.earlier earlier in
       let lx : LegalFor K r (x.entry ∷ x.before) = earlier-served K r (x.entry ∷ x.before) H bx legal in
       let ks = positions_in x.entry.reply in
-      let items : items_of reply ≡ map (item_at A) ks = ap items_of x.replied ∙ items-logged A x.entry.reply in
+      let items : items_of reply ≡ map (item_at A) ks = ap items_of x.replied ∙ items-brief A x.entry.reply in
       let low = positions-low K keeps r x.entry x.before lx x.entry.reply refl in
       let some : (length (items_of reply) == 0) ≡ false = some-items who (pending_of t) a.request (held_of t) reply results d.asks a.good in
       let many : length (items_of reply) ≡ length ks = ap length items ∙ length-map ks (item_at A) in
@@ -392,19 +392,19 @@ module _ (truthful : Truthful) where
   -- The reply is one that the request may have.
   pub allowed : (q : Request) → e.request ≡ q → allows q (full_reply A e.reply) ≡ true
   allowed (requests.Join client life interest) is =
-      subst (λ (y : Logged). allows (requests.Join client life interest) (full_reply A y) ≡ true) (sym (join-welcomed awaited client life interest is).0) refl
+      subst (λ (y : BriefReply). allows (requests.Join client life interest) (full_reply A y) ≡ true) (sym (join-welcomed awaited client life interest is).0) refl
   allowed (requests.Submit n a) is =
-      subst (λ (y : Logged). allows (requests.Submit n a) (full_reply A y) ≡ true) (sym (member-reply (requests.Submit n a) is refl refl)) (submit-allowed n a is)
+      subst (λ (y : BriefReply). allows (requests.Submit n a) (full_reply A y) ≡ true) (sym (member-reply (requests.Submit n a) is refl refl)) (submit-allowed n a is)
   allowed (requests.Done results) is =
-      subst (λ (y : Logged). allows (requests.Done results) (full_reply A y) ≡ true) (sym (member-reply (requests.Done results) is refl refl
-      ∙ ap (with_last_rows K r g s (requests.Done results)) (cond-false (is_bad_done r (K.kept g) s results) (refused 7 0) (logged.Noted (commit_with (K.kept g) s results)) (done-good results is)))) refl
+      subst (λ (y : BriefReply). allows (requests.Done results) (full_reply A y) ≡ true) (sym (member-reply (requests.Done results) is refl refl
+      ∙ ap (with_last_rows K r g s (requests.Done results)) (cond-false (is_bad_done r (K.kept g) s results) (refused 7 0) (brief.Noted (commit_with (K.kept g) s results)) (done-good results is)))) refl
   allowed requests.Poll is =
-      subst (λ (y : Logged). allows requests.Poll (full_reply A y) ≡ true) (sym (member-reply requests.Poll is refl refl ∙ polled K r g s (orphans (K.kept g)))) (due-allowed (K.due g s))
+      subst (λ (y : BriefReply). allows requests.Poll (full_reply A y) ≡ true) (sym (member-reply requests.Poll is refl refl ∙ polled K r g s (orphans (K.kept g)))) (due-allowed (K.due g s))
   allowed (requests.Observe objects wait) is =
       let good : may_be_observed r.world.shape.objects (numbers_of objects) ≡ true =
       asked-good who whole this_one.trace.events s (length (got whole s)) objects wait (asking (requests.Observe objects wait) is refl) in
-      subst (λ (y : Logged). allows (requests.Observe objects wait) (full_reply A y) ≡ true) (sym (member-reply (requests.Observe objects wait) is refl refl
+      subst (λ (y : BriefReply). allows (requests.Observe objects wait) (full_reply A y) ≡ true) (sym (member-reply (requests.Observe objects wait) is refl refl
       ∙ ap (with_last_rows K r g s (requests.Observe objects wait)) (cond-true (may_be_observed r.world.shape.objects (numbers_of objects)) _ (refused 8 0) good))) refl
-  allowed requests.Leave is = subst (λ (y : Logged). allows requests.Leave (full_reply A y) ≡ true) (sym (member-reply requests.Leave is refl refl)) refl
+  allowed requests.Leave is = subst (λ (y : BriefReply). allows requests.Leave (full_reply A y) ≡ true) (sym (member-reply requests.Leave is refl refl)) refl
   allowed requests.Bad is = absurd (never-bad who whole this_one.trace.events s (length (got whole s)) (asking requests.Bad is refl))
   allowed requests.End is = absurd (true≢false (sym (ap is_end is) ∙ (of-parts e s mine).1))

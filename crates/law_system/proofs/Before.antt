@@ -7,8 +7,8 @@ use Rattle.sv_wire.specs.declared.message.Request.{Request}
 use Rattle.sv_wire.specs.declared.message.Request.TheVariants as requests
 use Rattle.sv_wire.specs.declared.message.Reply.{Reply}
 use Rattle.sv_journal.specs.declared.entry.Entry.{Entry}
-use Rattle.sv_journal.specs.declared.entry.Logged.{Logged}
-use Rattle.sv_journal.specs.declared.entry.Logged.TheVariants as logged
+use Rattle.sv_journal.specs.declared.entry.BriefReply.{BriefReply}
+use Rattle.sv_journal.specs.declared.entry.BriefReply.TheVariants as brief
 use Rattle.sv_journal.specs.History.{Authored, accepted, full_reply, commit_of}
 use Rattle.sv_journal.specs.Answer.{Rules, committed_held}
 use Rattle.sv_journal.specs.Serving.{Keeping, LegalFor, IsKeeping}
@@ -33,43 +33,43 @@ use Rattle.law_system.proofs.Joined.{session_at, current-at, at-one}
 use Rattle.law_system.proofs.Places.{at_place}
 
 -- The commit that a Noted tells is that after its entry.
-pub noted-commit : (K : Keeping) → IsKeeping K → (d : Entry) (h : List Entry) (commit : ℕ) → d.reply ≡ logged.Noted commit → commit_after K h d.session d.request ≡ commit_of (K.kept (d ∷ h))
+pub noted-commit : (K : Keeping) → IsKeeping K → (d : Entry) (h : List Entry) (commit : ℕ) → d.reply ≡ brief.Noted commit → commit_after K h d.session d.request ≡ commit_of (K.kept (d ∷ h))
 noted-commit K keeps d h commit y =
     sym (keeps.noted h d.session commit d.request)
-    ∙ sym (ap (λ (p : Logged). commit_of (K.kept (record { session = d.session; request = d.request; reply = p } ∷ h))) y)
+    ∙ sym (ap (λ (p : BriefReply). commit_of (K.kept (record { session = d.session; request = d.request; reply = p } ∷ h))) y)
 
 -- The commit that a reply tells is at most that of any later history.
-pub told-most : (K : Keeping) (keeps : IsKeeping K) (r : Rules) (A : List Authored) (d : Entry) (h g : List Entry) → LegalFor K r (d ∷ h) → IsEarlier (d ∷ h) g → (reply : Logged) → d.reply ≡ reply → (c : ℕ) → commit_in (full_reply A reply) ≡ Some c → c ≤ commit_of (K.kept g)
-told-most K keeps r A d h g l b (logged.Welcome commit head) is c e =
-    let t : IsWelcomeReply K r h d.session d.request commit head = subst (λ (y : Logged). TellsFor K r h d.session d.request y) is (served-tells K keeps r d h l) in
+pub told-most : (K : Keeping) (keeps : IsKeeping K) (r : Rules) (A : List Authored) (d : Entry) (h g : List Entry) → LegalFor K r (d ∷ h) → IsEarlier (d ∷ h) g → (reply : BriefReply) → d.reply ≡ reply → (c : ℕ) → commit_in (full_reply A reply) ≡ Some c → c ≤ commit_of (K.kept g)
+told-most K keeps r A d h g l b (brief.Welcome commit head) is c e =
+    let t : IsWelcomeReply K r h d.session d.request commit head = subst (λ (y : BriefReply). TellsFor K r h d.session d.request y) is (served-tells K keeps r d h l) in
     let a : commit_of (K.kept h) ≤ commit_of (K.kept g) = commit-grows (K.kept h) (K.kept g) (earlier-kept K keeps h g (earlier-rest h d g b)) in
     let f : commit ≡ c = same_Some commit c e in
     let w : commit ≡ commit_of (K.kept h) = t.commit_is in
     omega arith
-told-most K keeps r A d h g l b (logged.Relay seq commit head positions) is c e =
-    let t : IsRelayReply K r h d.session d.request commit head positions = subst (λ (y : Logged). TellsFor K r h d.session d.request y) is (served-tells K keeps r d h l) in
+told-most K keeps r A d h g l b (brief.Relay seq commit head positions) is c e =
+    let t : IsRelayReply K r h d.session d.request commit head positions = subst (λ (y : BriefReply). TellsFor K r h d.session d.request y) is (served-tells K keeps r d h l) in
     let a : commit_of (K.kept h) ≤ commit_of (K.kept g) = commit-grows (K.kept h) (K.kept g) (earlier-kept K keeps h g (earlier-rest h d g b)) in
     let f : commit ≡ c = same_Some commit c e in
     let w : commit ≡ commit_of (K.kept h) = t.commit_is in
     omega arith
-told-most K keeps r A d h g l b (logged.Noted commit) is c e =
-    let t : TellsFor K r h d.session d.request (logged.Noted commit) = subst (λ (y : Logged). TellsFor K r h d.session d.request y) is (served-tells K keeps r d h l) in
+told-most K keeps r A d h g l b (brief.Noted commit) is c e =
+    let t : TellsFor K r h d.session d.request (brief.Noted commit) = subst (λ (y : BriefReply). TellsFor K r h d.session d.request y) is (served-tells K keeps r d h l) in
     let a : commit_of (K.kept (d ∷ h)) ≤ commit_of (K.kept g) = commit-grows (K.kept (d ∷ h)) (K.kept g) (earlier-kept K keeps (d ∷ h) g b) in
     let f : commit ≡ c = same_Some commit c e in
     let w : commit ≡ commit_of (K.kept (d ∷ h)) = t.1.1 ∙ noted-commit K keeps d h commit is in
     omega arith
-told-most K keeps r A d h g l b (logged.Dropped seq chain far) is c e = absurd (none-some c e)
-told-most K keeps r A d h g l b (logged.Denied seq object) is c e = absurd (none-some c e)
-told-most K keeps r A d h g l b (logged.Seen last commit head positions) is c e =
-    let t : IsSeenReply K r h d.session d.request last commit head positions = subst (λ (y : Logged). TellsFor K r h d.session d.request y) is (served-tells K keeps r d h l) in
+told-most K keeps r A d h g l b (brief.Dropped seq chain far) is c e = absurd (none-some c e)
+told-most K keeps r A d h g l b (brief.Denied seq object) is c e = absurd (none-some c e)
+told-most K keeps r A d h g l b (brief.Seen last commit head positions) is c e =
+    let t : IsSeenReply K r h d.session d.request last commit head positions = subst (λ (y : BriefReply). TellsFor K r h d.session d.request y) is (served-tells K keeps r d h l) in
     let a : commit_of (K.kept h) ≤ commit_of (K.kept g) = commit-grows (K.kept h) (K.kept g) (earlier-kept K keeps h g (earlier-rest h d g b)) in
     let f : commit ≡ c = same_Some commit c e in
     let w : commit ≡ commit_of (K.kept h) = t.commit_is in
     omega arith
-told-most K keeps r A d h g l b (logged.Settled seq pos) is c e = absurd (none-some c e)
-told-most K keeps r A d h g l b logged.Idle is c e = absurd (none-some c e)
-told-most K keeps r A d h g l b (logged.Refused code detail) is c e = absurd (none-some c e)
-told-most K keeps r A d h g l b logged.Bye is c e = absurd (none-some c e)
+told-most K keeps r A d h g l b (brief.Settled seq pos) is c e = absurd (none-some c e)
+told-most K keeps r A d h g l b brief.Idle is c e = absurd (none-some c e)
+told-most K keeps r A d h g l b (brief.Refused code detail) is c e = absurd (none-some c e)
+told-most K keeps r A d h g l b brief.Bye is c e = absurd (none-some c e)
 
 with-most : (o : Option ℕ) (n m : ℕ) → ((c : ℕ) → o ≡ Some c → c ≤ m) → n ≤ m → told_with o n ≤ m
 with-most None n m f l = l

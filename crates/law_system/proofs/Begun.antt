@@ -11,7 +11,7 @@ use Rattle.sv_world.specs.Faults.{is_ascending}
 use Rattle.sv_wire.specs.declared.message.Request.{Request}
 use Rattle.sv_wire.specs.declared.message.Request.TheVariants as requests
 use Rattle.sv_journal.specs.declared.entry.Entry.{Entry}
-use Rattle.sv_journal.specs.declared.entry.Logged.TheVariants as logged
+use Rattle.sv_journal.specs.declared.entry.BriefReply.TheVariants as brief
 use Rattle.sv_journal.specs.History.{Authored, accepted, client_of, is_client, is_welcome, joining, full_reply, commit_of}
 use Rattle.sv_journal.specs.Sessions.{is_end, welcomes, is_joined, is_over, is_live, asked_in, life_in, life_of}
 use Rattle.sv_journal.specs.Answer.{Rules, committed_held, is_above, is_good_interest, is_no_next_life, reply_to_join, reply_to_open, is_spent, reply_to_request, reply_to, refused}
@@ -174,7 +174,7 @@ module _ (awaited : Awaited) where
 
   join-reply : (life : ℕ) → client_of g s ≡ None → life_of g k < life → is_above r.leap (life - life_of g k) ≡ false →
       reply_to_join r (K.kept g) s k life (map (λ (o : ObjectId). o.0) L.interest)
-      ≡ logged.Welcome (commit_of (K.kept g)) (committed_held r (K.kept g) (map (λ (o : ObjectId). o.0) L.interest))
+      ≡ brief.Welcome (commit_of (K.kept g)) (committed_held r (K.kept g) (map (λ (o : ObjectId). o.0) L.interest))
   join-reply life fresh later near =
       let lower : life_of (K.kept g) k < life = subst (λ (n : ℕ). n < life) (sym (life-kept K keeps g k)) later in
       cond-false (is_live (K.kept g) s) (refused 3 0) _ (live-kept K keeps g s ∙ and_left (is_joined g s) (not (is_over g s)) (ap is_some fresh))
@@ -186,7 +186,7 @@ module _ (awaited : Awaited) where
 
   -- A Join that is the next request is answered Welcome, with the interest's committed values.
   pub join-welcomed : (client : ClientId) (life : ℕ) (interest : List ObjectId) → e.request ≡ requests.Join client life interest →
-      (e.reply ≡ logged.Welcome (commit_of (K.kept g)) (committed_held r (K.kept g) (map (λ (o : ObjectId). o.0) L.interest)))
+      (e.reply ≡ brief.Welcome (commit_of (K.kept g)) (committed_held r (K.kept g) (map (λ (o : ObjectId). o.0) L.interest)))
       × IsJoinAsked (identity_of r.world.shape L) whole s (length (got whole s)) client life interest
   join-welcomed client life interest is =
       let join = requests.Join client life interest in

@@ -9,8 +9,8 @@ use Rattle.sv_world.specs.Control.{chain_length, needed_for}
 use Rattle.sv_world.proofs.Influences.{needed-chain}
 use Rattle.sv_wire.specs.declared.message.ObjectValue.{ObjectValue as Sent}
 use Rattle.sv_journal.specs.declared.entry.Entry.{Entry}
-use Rattle.sv_journal.specs.declared.entry.Logged.{Logged}
-use Rattle.sv_journal.specs.declared.entry.Logged.TheVariants as logged
+use Rattle.sv_journal.specs.declared.entry.BriefReply.{BriefReply}
+use Rattle.sv_journal.specs.declared.entry.BriefReply.TheVariants as brief
 use Rattle.sv_journal.specs.History.{Authored, client_of, is_relay, new_action, outcomes_of, accepted, actions_of, commit_of}
 use Rattle.sv_journal.specs.Sessions.{positions_in, sent_to}
 use Rattle.sv_journal.specs.Answer.{Rules}
@@ -42,15 +42,15 @@ accepted-later K keeps r e g i a = record {
   chain = a.chain;
 }
 
-not-relay : (e : Entry) (h : List Entry) (reply : Logged) → is_relay reply ≡ false →
+not-relay : (e : Entry) (h : List Entry) (reply : BriefReply) → is_relay reply ≡ false →
     length (accepted h ++ (if is_relay reply then new_action (client_of h e.session) (λ k. suc (length (outcomes_of h k))) e.request else [])) ≡ length (accepted h)
 not-relay e h reply f =
     let new = new_action (client_of h e.session) (λ k. suc (length (outcomes_of h k))) e.request in
     ap (λ (l : List Authored). length (accepted h ++ l)) (cond-false (is_relay reply) new [] f) ∙ ap length (append-nil (accepted h))
 
-accepted-here : (K : Keeping) (keeps : IsKeeping K) (r : Rules) (e : Entry) (h : List Entry) (i : ℕ) → LegalFor K r (e ∷ h) → length (accepted h) < i → i ≤ length (accepted (e ∷ h)) → (reply : Logged) → e.reply ≡ reply → IsAcceptedAt K r (e ∷ h) i
-accepted-here K keeps r e h i l low high (logged.Relay seq commit head positions) is =
-    let t : IsRelayReply K r h e.session e.request commit head positions = subst (λ (reply : Logged). TellsFor K r h e.session e.request reply) is (served-tells K keeps r e h l) in
+accepted-here : (K : Keeping) (keeps : IsKeeping K) (r : Rules) (e : Entry) (h : List Entry) (i : ℕ) → LegalFor K r (e ∷ h) → length (accepted h) < i → i ≤ length (accepted (e ∷ h)) → (reply : BriefReply) → e.reply ≡ reply → IsAcceptedAt K r (e ∷ h) i
+accepted-here K keeps r e h i l low high (brief.Relay seq commit head positions) is =
+    let t : IsRelayReply K r h e.session e.request commit head positions = subst (λ (reply : BriefReply). TellsFor K r h e.session e.request reply) is (served-tells K keeps r e h l) in
     let acts : actions_of (e ∷ h) ≡ actions_of h ++ new_of h e.session e.request = relayed-actions e h seq commit head positions is in
     let before : length (actions_of h) ≡ length (accepted h) = actions-count h in
     let now : length (actions_of (e ∷ h)) ≡ length (accepted (e ∷ h)) = actions-count (e ∷ h) in
@@ -75,15 +75,15 @@ accepted-here K keeps r e h i l low high (logged.Relay seq commit head positions
             })
       ]
     ]
-accepted-here K keeps r e h i l low high (logged.Welcome commit head) is = (let n : length (accepted (e ∷ h)) ≡ length (accepted h) = not-relay e h e.reply (ap is_relay is) in absurd (omega arith))
-accepted-here K keeps r e h i l low high (logged.Dropped seq chain far) is = (let n : length (accepted (e ∷ h)) ≡ length (accepted h) = not-relay e h e.reply (ap is_relay is) in absurd (omega arith))
-accepted-here K keeps r e h i l low high (logged.Denied seq object) is = (let n : length (accepted (e ∷ h)) ≡ length (accepted h) = not-relay e h e.reply (ap is_relay is) in absurd (omega arith))
-accepted-here K keeps r e h i l low high (logged.Seen last commit head positions) is = (let n : length (accepted (e ∷ h)) ≡ length (accepted h) = not-relay e h e.reply (ap is_relay is) in absurd (omega arith))
-accepted-here K keeps r e h i l low high (logged.Settled seq pos) is = (let n : length (accepted (e ∷ h)) ≡ length (accepted h) = not-relay e h e.reply (ap is_relay is) in absurd (omega arith))
-accepted-here K keeps r e h i l low high (logged.Noted commit) is = (let n : length (accepted (e ∷ h)) ≡ length (accepted h) = not-relay e h e.reply (ap is_relay is) in absurd (omega arith))
-accepted-here K keeps r e h i l low high logged.Idle is = (let n : length (accepted (e ∷ h)) ≡ length (accepted h) = not-relay e h e.reply (ap is_relay is) in absurd (omega arith))
-accepted-here K keeps r e h i l low high (logged.Refused code detail) is = (let n : length (accepted (e ∷ h)) ≡ length (accepted h) = not-relay e h e.reply (ap is_relay is) in absurd (omega arith))
-accepted-here K keeps r e h i l low high logged.Bye is = (let n : length (accepted (e ∷ h)) ≡ length (accepted h) = not-relay e h e.reply (ap is_relay is) in absurd (omega arith))
+accepted-here K keeps r e h i l low high (brief.Welcome commit head) is = (let n : length (accepted (e ∷ h)) ≡ length (accepted h) = not-relay e h e.reply (ap is_relay is) in absurd (omega arith))
+accepted-here K keeps r e h i l low high (brief.Dropped seq chain far) is = (let n : length (accepted (e ∷ h)) ≡ length (accepted h) = not-relay e h e.reply (ap is_relay is) in absurd (omega arith))
+accepted-here K keeps r e h i l low high (brief.Denied seq object) is = (let n : length (accepted (e ∷ h)) ≡ length (accepted h) = not-relay e h e.reply (ap is_relay is) in absurd (omega arith))
+accepted-here K keeps r e h i l low high (brief.Seen last commit head positions) is = (let n : length (accepted (e ∷ h)) ≡ length (accepted h) = not-relay e h e.reply (ap is_relay is) in absurd (omega arith))
+accepted-here K keeps r e h i l low high (brief.Settled seq pos) is = (let n : length (accepted (e ∷ h)) ≡ length (accepted h) = not-relay e h e.reply (ap is_relay is) in absurd (omega arith))
+accepted-here K keeps r e h i l low high (brief.Noted commit) is = (let n : length (accepted (e ∷ h)) ≡ length (accepted h) = not-relay e h e.reply (ap is_relay is) in absurd (omega arith))
+accepted-here K keeps r e h i l low high brief.Idle is = (let n : length (accepted (e ∷ h)) ≡ length (accepted h) = not-relay e h e.reply (ap is_relay is) in absurd (omega arith))
+accepted-here K keeps r e h i l low high (brief.Refused code detail) is = (let n : length (accepted (e ∷ h)) ≡ length (accepted h) = not-relay e h e.reply (ap is_relay is) in absurd (omega arith))
+accepted-here K keeps r e h i l low high brief.Bye is = (let n : length (accepted (e ∷ h)) ≡ length (accepted h) = not-relay e h e.reply (ap is_relay is) in absurd (omega arith))
 
 pub accepted-at : (K : Keeping) (keeps : IsKeeping K) (r : Rules) (h : List Entry) → LegalFor K r h → (i : ℕ) → 0 < i → i ≤ length (accepted h) → IsAcceptedAt K r h i
 accepted-at K keeps r [] l i low high = absurd (omega arith)
@@ -114,34 +114,34 @@ relay-small K keeps r e h commit head positions l t =
     let len : length positions ≡ length (needed_for (A ++ a.action ∷ p.0) (commit_of (K.kept h)) (sent_to h e.session) (suc (length A))) = ap length same_positions in
     omega arith
 
-one-small : (K : Keeping) (keeps : IsKeeping K) (r : Rules) (e : Entry) (h : List Entry) → LegalFor K r (e ∷ h) → (reply : Logged) → e.reply ≡ reply → length (positions_in reply) ≤ most_sent r reply
-one-small K keeps r e h l (logged.Relay seq commit head positions) is = relay-small K keeps r e h commit head positions l (legal-relay K keeps r e h seq commit head positions l is)
-one-small K keeps r e h l (logged.Welcome commit head) is = omega arith
-one-small K keeps r e h l (logged.Dropped seq chain far) is = omega arith
-one-small K keeps r e h l (logged.Denied seq object) is = omega arith
-one-small K keeps r e h l (logged.Seen last commit head positions) is = (legal-seen K keeps r e h last commit head positions l is).few
-one-small K keeps r e h l (logged.Settled seq pos) is = omega arith
-one-small K keeps r e h l (logged.Noted commit) is = omega arith
-one-small K keeps r e h l logged.Idle is = omega arith
-one-small K keeps r e h l (logged.Refused code detail) is = omega arith
-one-small K keeps r e h l logged.Bye is = omega arith
+one-small : (K : Keeping) (keeps : IsKeeping K) (r : Rules) (e : Entry) (h : List Entry) → LegalFor K r (e ∷ h) → (reply : BriefReply) → e.reply ≡ reply → length (positions_in reply) ≤ most_sent r reply
+one-small K keeps r e h l (brief.Relay seq commit head positions) is = relay-small K keeps r e h commit head positions l (legal-relay K keeps r e h seq commit head positions l is)
+one-small K keeps r e h l (brief.Welcome commit head) is = omega arith
+one-small K keeps r e h l (brief.Dropped seq chain far) is = omega arith
+one-small K keeps r e h l (brief.Denied seq object) is = omega arith
+one-small K keeps r e h l (brief.Seen last commit head positions) is = (legal-seen K keeps r e h last commit head positions l is).few
+one-small K keeps r e h l (brief.Settled seq pos) is = omega arith
+one-small K keeps r e h l (brief.Noted commit) is = omega arith
+one-small K keeps r e h l brief.Idle is = omega arith
+one-small K keeps r e h l (brief.Refused code detail) is = omega arith
+one-small K keeps r e h l brief.Bye is = omega arith
 
 pub all-small : (K : Keeping) (keeps : IsKeeping K) (r : Rules) (h : List Entry) → LegalFor K r h → AllByRecursion (λ (e : Entry). length (positions_in e.reply) ≤ most_sent r e.reply) h
 all-small K keeps r [] l = tt
 all-small K keeps r (e ∷ h) l = (one-small K keeps r e h l e.reply refl, all-small K keeps r h l.1)
 
 -- So many are at most those of a report.
-pub sent-of : (r : Rules) (reply : Logged) → r.bound ≤ 32 → most_sent r reply ≤ 33
-sent-of r (logged.Seen last commit head positions) l = omega arith
-sent-of r (logged.Relay seq commit head positions) l = omega arith
-sent-of r (logged.Welcome commit head) l = omega arith
-sent-of r (logged.Dropped seq chain far) l = omega arith
-sent-of r (logged.Denied seq object) l = omega arith
-sent-of r (logged.Settled seq pos) l = omega arith
-sent-of r (logged.Noted commit) l = omega arith
-sent-of r logged.Idle l = omega arith
-sent-of r (logged.Refused code detail) l = omega arith
-sent-of r logged.Bye l = omega arith
+pub sent-of : (r : Rules) (reply : BriefReply) → r.bound ≤ 32 → most_sent r reply ≤ 33
+sent-of r (brief.Seen last commit head positions) l = omega arith
+sent-of r (brief.Relay seq commit head positions) l = omega arith
+sent-of r (brief.Welcome commit head) l = omega arith
+sent-of r (brief.Dropped seq chain far) l = omega arith
+sent-of r (brief.Denied seq object) l = omega arith
+sent-of r (brief.Settled seq pos) l = omega arith
+sent-of r (brief.Noted commit) l = omega arith
+sent-of r brief.Idle l = omega arith
+sent-of r (brief.Refused code detail) l = omega arith
+sent-of r brief.Bye l = omega arith
 
 -- Where the bound is at most 32, no reply has more items than a report may have results.
 pub few-sent : (K : Keeping) (keeps : IsKeeping K) (r : Rules) (e : Entry) (h : List Entry) → LegalFor K r (e ∷ h) → r.bound ≤ 32 → length (positions_in e.reply) ≤ 33

@@ -5,8 +5,8 @@ use Rattle.std.proofs.lemmas.Bool.{cond_both, cond-true, cond-false, cases_Bool,
 use Rattle.std.proofs.lemmas.List.{length-append}
 use Rattle.std.proofs.lemmas.Option.{none-some, same_Some}
 use Rattle.sv_journal.specs.declared.entry.Entry.{Entry}
-use Rattle.sv_journal.specs.declared.entry.Logged.{Logged}
-use Rattle.sv_journal.specs.declared.entry.Logged.TheVariants as logged
+use Rattle.sv_journal.specs.declared.entry.BriefReply.{BriefReply}
+use Rattle.sv_journal.specs.declared.entry.BriefReply.TheVariants as brief
 use Rattle.sv_journal.specs.History.{Outcome, Accepted, Dropped, Denied, client_of, is_client, is_noted, is_submit_of, outcome_in, outcomes_of, accepted, next_seq, result_at, reports, run_length, commit_of, either}
 use Rattle.sv_journal.specs.Sessions.{outcome_at}
 use Rattle.sv_journal.proofs.Commits.{committed_has, run_within, commit_within}
@@ -83,20 +83,20 @@ outcome-later e g k seq o i = record {
   told = i.told;
 }
 
-one-outcome : (p : ℕ) (reply : Logged) (j : ℕ) (o : Outcome) → slice_get (outcome_in p reply) j ≡ Some o → (j ≡ 0) × (o ∷ [] ≡ outcome_in p reply)
-one-outcome p (logged.Relay seq commit head positions) zero o e = (refl, ap (λ (x : Outcome). x ∷ []) (sym (same_Some (Accepted p) o e)))
-one-outcome p (logged.Relay seq commit head positions) (suc j) o e = absurd (none-some o e)
-one-outcome p (logged.Dropped seq chain far) zero o e = (refl, ap (λ (x : Outcome). x ∷ []) (sym (same_Some (Dropped chain far) o e)))
-one-outcome p (logged.Dropped seq chain far) (suc j) o e = absurd (none-some o e)
-one-outcome p (logged.Denied seq object) zero o e = (refl, ap (λ (x : Outcome). x ∷ []) (sym (same_Some (Denied object.0) o e)))
-one-outcome p (logged.Denied seq object) (suc j) o e = absurd (none-some o e)
-one-outcome p (logged.Seen last commit head positions) j o e = absurd (none-some o e)
-one-outcome p (logged.Welcome commit head) j o e = absurd (none-some o e)
-one-outcome p (logged.Settled seq pos) j o e = absurd (none-some o e)
-one-outcome p (logged.Noted commit) j o e = absurd (none-some o e)
-one-outcome p logged.Idle j o e = absurd (none-some o e)
-one-outcome p (logged.Refused code detail) j o e = absurd (none-some o e)
-one-outcome p logged.Bye j o e = absurd (none-some o e)
+one-outcome : (p : ℕ) (reply : BriefReply) (j : ℕ) (o : Outcome) → slice_get (outcome_in p reply) j ≡ Some o → (j ≡ 0) × (o ∷ [] ≡ outcome_in p reply)
+one-outcome p (brief.Relay seq commit head positions) zero o e = (refl, ap (λ (x : Outcome). x ∷ []) (sym (same_Some (Accepted p) o e)))
+one-outcome p (brief.Relay seq commit head positions) (suc j) o e = absurd (none-some o e)
+one-outcome p (brief.Dropped seq chain far) zero o e = (refl, ap (λ (x : Outcome). x ∷ []) (sym (same_Some (Dropped chain far) o e)))
+one-outcome p (brief.Dropped seq chain far) (suc j) o e = absurd (none-some o e)
+one-outcome p (brief.Denied seq object) zero o e = (refl, ap (λ (x : Outcome). x ∷ []) (sym (same_Some (Denied object.0) o e)))
+one-outcome p (brief.Denied seq object) (suc j) o e = absurd (none-some o e)
+one-outcome p (brief.Seen last commit head positions) j o e = absurd (none-some o e)
+one-outcome p (brief.Welcome commit head) j o e = absurd (none-some o e)
+one-outcome p (brief.Settled seq pos) j o e = absurd (none-some o e)
+one-outcome p (brief.Noted commit) j o e = absurd (none-some o e)
+one-outcome p brief.Idle j o e = absurd (none-some o e)
+one-outcome p (brief.Refused code detail) j o e = absurd (none-some o e)
+one-outcome p brief.Bye j o e = absurd (none-some o e)
 
 pub outcome-when : (g : List Entry) (k n : ℕ) (o : Outcome) → slice_get (outcomes_of g k) n ≡ Some o → IsOutcome g k (suc n) o
 outcome-when [] k n o e = absurd (none-some o e)

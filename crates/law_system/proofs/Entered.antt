@@ -11,7 +11,7 @@ use Rattle.sv_wire.specs.declared.message.Request.{Request}
 use Rattle.sv_wire.specs.declared.message.Request.TheVariants as requests
 use Rattle.sv_wire.specs.declared.message.Reply.{Reply}
 use Rattle.sv_journal.specs.declared.entry.Entry.{Entry}
-use Rattle.sv_journal.specs.declared.entry.Logged.TheVariants as logged
+use Rattle.sv_journal.specs.declared.entry.BriefReply.TheVariants as brief
 use Rattle.sv_journal.specs.History.{Authored, is_welcome, joining, is_client, client_of, full_reply, either}
 use Rattle.sv_journal.specs.Sessions.{is_end, is_last, welcomes, is_over, life_in, life_of}
 use Rattle.law_system.specs.Fronts.{IsFront}
@@ -134,7 +134,7 @@ pub record IsWelcome (e : Entry) (client : ClientId) (life : ℕ) : Type 0 where
   pub commit : ℕ
   pub head : List Sent
   pub request : e.request ≡ requests.Join client life interest
-  pub reply : e.reply ≡ logged.Welcome commit head
+  pub reply : e.reply ≡ brief.Welcome commit head
 
 welcome-tests : (e : Entry) (client : ClientId) (life : ℕ) → IsWelcome e client life → welcomes e (Some client.0) ≡ true
 welcome-tests e client life w =

@@ -18,8 +18,8 @@ use Rattle.sv_wire.specs.declared.message.Item.{Item}
 use Rattle.sv_wire.specs.declared.message.Request.{Request}
 use Rattle.sv_wire.specs.declared.message.Request.TheVariants as requests
 use Rattle.sv_journal.specs.declared.entry.Entry.{Entry}
-use Rattle.sv_journal.specs.declared.entry.Logged.{Logged}
-use Rattle.sv_journal.specs.declared.entry.Logged.TheVariants as logged
+use Rattle.sv_journal.specs.declared.entry.BriefReply.{BriefReply}
+use Rattle.sv_journal.specs.declared.entry.BriefReply.TheVariants as brief
 use Rattle.sv_journal.specs.History.{Authored, Outcome, Accepted, Dropped, Denied, accepted, actions_of, next_seq, item_at, full_reply, commit_of}
 use Rattle.sv_journal.specs.Sessions.{kept_outcome, sent_to, already_given}
 use Rattle.sv_journal.specs.Answer.{Rules, committed_held, is_above, is_full, reply_by_rights, reply_to_checked, reply_to_submit, orphans, reply_to_poll}
@@ -32,7 +32,7 @@ use Rattle.law_system.proofs.Awaited.{Truthful}
 use Rattle.law_system.proofs.Tests.{three-false}
 use Rattle.law_system.proofs.Every.{each-is_in}
 use Rattle.law_system.proofs.Histories.{IsEarlier, earlier-rest, earlier-served, accepted-grows}
-use Rattle.law_system.proofs.Replies.{AnswersSubmit, AnswersKept, TellsFor, IsRelayReply, IsWelcomeReply, served-tells, logged_head}
+use Rattle.law_system.proofs.Replies.{AnswersSubmit, AnswersKept, TellsFor, IsRelayReply, IsWelcomeReply, served-tells, brief_head}
 use Rattle.law_system.proofs.Lawful.{IsLegalRelay, legal-relay, IsLegalSeen, legal-seen, positions-within}
 use Rattle.law_system.proofs.Induction.{accepted-good}
 use Rattle.law_system.proofs.Opened.{asks-other}
@@ -45,13 +45,13 @@ use Rattle.law_system.proofs.Heads.{good-head}
 use Rattle.law_system.proofs.Own.{front-for, submit-ends}
 
 -- The reply names the number, where it names one.
-abbrev IsFor : ℕ → Logged → Type 0
-IsFor n (logged.Relay seq commit head positions) = seq ≡ n
+abbrev IsFor : ℕ → BriefReply → Type 0
+IsFor n (brief.Relay seq commit head positions) = seq ≡ n
 IsFor n _ = Unit {0}
 
 module _ (K : Keeping) (r : Rules) (g : List Entry) (s : ℕ) where
   -- A reply to a Submit names its number, one to a Poll names 0.
-  abbrev IsForSubmit : ℕ → Action → Logged → Type 0
+  abbrev IsForSubmit : ℕ → Action → BriefReply → Type 0
   IsForSubmit n a reply = IsFor n (with_last_rows K r g s (requests.Submit n a) reply)
 
   submit-for : (h : List Entry) (k n : ℕ) (a : Action) (o : Option Outcome) → IsForSubmit n a (reply_to_submit r h s k n a o)
@@ -117,8 +117,8 @@ module _ (truthful : Truthful) where
   legal_here : LegalFor K r (e ∷ g)
   legal_here = earlier-served K r (e ∷ g) H b legal
 
-  tells : (reply : Logged) → e.reply ≡ reply → TellsFor K r g e.session e.request reply
-  tells reply is = subst (λ (y : Logged). TellsFor K r g e.session e.request y) is (served-tells K keeps r e g legal_here)
+  tells : (reply : BriefReply) → e.reply ≡ reply → TellsFor K r g e.session e.request reply
+  tells reply is = subst (λ (y : BriefReply). TellsFor K r g e.session e.request y) is (served-tells K keeps r e g legal_here)
 
   abbrev IsFrontOf : ℕ → Action → Type 0
   IsFrontOf n a = (ks : List Numbered) × (keys (pending_of whole) ≡ (n, a) ∷ ks)
@@ -139,11 +139,11 @@ module _ (truthful : Truthful) where
       ap (is_bad_head r.world.shape) t.head_is
       ∙ good-heads xs (λ x m. ((head_for-iff r.world.shape.objects acts (commit_of (K.kept g)) (sent_to g e.session) given t.target x).0 m).0)
 
-  welcome-head : (commit : ℕ) (head : List Sent) → IsWelcomeReply K r g e.session e.request commit head → e.reply ≡ logged.Welcome commit head → is_bad_head r.world.shape head ≡ false
+  welcome-head : (commit : ℕ) (head : List Sent) → IsWelcomeReply K r g e.session e.request commit head → e.reply ≡ brief.Welcome commit head → is_bad_head r.world.shape head ≡ false
   welcome-head commit head t is =
       let w = join-welcomed awaited t.client t.life t.interest t.request in
       let xs = map (λ (o : ObjectId). o.0) L.interest in
-      ap (is_bad_head r.world.shape) (ap logged_head (sym is ∙ w.0))
+      ap (is_bad_head r.world.shape) (ap brief_head (sym is ∙ w.0))
       ∙ good-heads xs (λ x m. each-is_in (λ (y : ℕ). y < r.world.shape.objects) xs
       (objects-below r.world.shape.objects L.interest (recursion_from_All (λ (o : ObjectId). o.0 < r.world.shape.objects) L.interest this_one.trace.interest.objects)) x m)
 
@@ -156,20 +156,20 @@ module _ (truthful : Truthful) where
       ap (is_bad_head r.world.shape) t.head_is
       ∙ good-heads xs (λ x m. ((head_for-iff r.world.shape.objects acts (commit_of (K.kept g)) sent given (suc last) x).0 m).0)
 
-  seen-good : (last commit : ℕ) (head : List Sent) (positions : List ℕ) → e.reply ≡ logged.Seen last commit head positions →
-      has_bad_item who (pending_of whole) e.request (full_reply A (logged.Seen last commit head positions)) ≡ false
+  seen-good : (last commit : ℕ) (head : List Sent) (positions : List ℕ) → e.reply ≡ brief.Seen last commit head positions →
+      has_bad_item who (pending_of whole) e.request (full_reply A (brief.Seen last commit head positions)) ≡ false
   seen-good last commit head positions is =
-      let reply = logged.Seen last commit head positions in
+      let reply = brief.Seen last commit head positions in
       let low = positions-low K keeps r e g legal_here reply is in
       let grows : length (accepted (e ∷ g)) ≤ length A = accepted-grows (e ∷ g) H b in
       or_from (is_bad_head who.shape head) (list_any (λ (i : Item). not (is_none (first_fault_of_action who.shape i.action))) (map (item_at A) positions))
       (seen-head last commit head positions (legal-seen K keeps r e g last commit head positions legal_here is))
       (good-items K keeps r H legal positions (λ j m. (low.1 j m, (let within : j ≤ length (accepted (e ∷ g)) = positions-within K keeps r e g legal_here reply is j m in omega arith))))
 
-  relay-fits : (seq commit : ℕ) (head : List Sent) (positions : List ℕ) → e.reply ≡ logged.Relay seq commit head positions →
+  relay-fits : (seq commit : ℕ) (head : List Sent) (positions : List ℕ) → e.reply ≡ brief.Relay seq commit head positions →
       is_good_relay who (pending_of whole) e.request seq (map (item_at A) positions) ≡ true
   relay-fits seq commit head positions is =
-      let t : IsRelayReply K r g e.session e.request commit head positions = tells (logged.Relay seq commit head positions) is in
+      let t : IsRelayReply K r g e.session e.request commit head positions = tells (brief.Relay seq commit head positions) is in
       let items = map (item_at A) positions in
       elim t.kind [
         | inr z ↦
@@ -190,17 +190,17 @@ module _ (truthful : Truthful) where
             (submit-ends awaited seq commit head positions is t n a z.1.1.0 (pending_of whole) front.0 front.1)))
       ]
 
-  relay-good : (seq commit : ℕ) (head : List Sent) (positions : List ℕ) → e.reply ≡ logged.Relay seq commit head positions →
-      has_bad_item who (pending_of whole) e.request (full_reply A (logged.Relay seq commit head positions)) ≡ false
+  relay-good : (seq commit : ℕ) (head : List Sent) (positions : List ℕ) → e.reply ≡ brief.Relay seq commit head positions →
+      has_bad_item who (pending_of whole) e.request (full_reply A (brief.Relay seq commit head positions)) ≡ false
   relay-good seq commit head positions is =
       let items = map (item_at A) positions in
-      let low = positions-low K keeps r e g legal_here (logged.Relay seq commit head positions) is in
+      let low = positions-low K keeps r e g legal_here (brief.Relay seq commit head positions) is in
       let grows : length (accepted (e ∷ g)) ≤ length A = accepted-grows (e ∷ g) H b in
       or_from (is_bad_head who.shape head) (is_bad_relay who (pending_of whole) e.request seq items)
       (relay-head commit head positions (legal-relay K keeps r e g seq commit head positions legal_here is))
       (three-false (length items == 0) (list_any (λ (i : Item). not (is_none (first_fault_of_action who.shape i.action))) items) (not (is_good_relay who (pending_of whole) e.request seq items))
       (ne_eqb (length items) 0 (λ z. positions-some awaited seq commit head positions is (none-left positions z)))
-      (good-items K keeps r H legal positions (λ j m. (low.1 j m, (let within : j ≤ length (accepted (e ∷ g)) = positions-within K keeps r e g legal_here (logged.Relay seq commit head positions) is j m in omega arith))))
+      (good-items K keeps r H legal positions (λ j m. (low.1 j m, (let within : j ≤ length (accepted (e ∷ g)) = positions-within K keeps r e g legal_here (brief.Relay seq commit head positions) is j m in omega arith))))
       (not_from_true (is_good_relay who (pending_of whole) e.request seq items) (relay-fits seq commit head positions is)))
     where
       none-left : (ks : List ℕ) → length (map (item_at A) ks) ≡ 0 → ks ≡ []
@@ -213,17 +213,17 @@ module _ (truthful : Truthful) where
       not_from_true (is_for_front seq (pending_of whole)) (front-for (pending_of whole) seq a front.0 front.1)
 
   -- No item of the next reply is bad.
-  pub no-bad_item : (reply : Logged) → e.reply ≡ reply → has_bad_item who (pending_of whole) e.request (full_reply A reply) ≡ false
-  no-bad_item (logged.Relay seq commit head positions) is = relay-good seq commit head positions is
-  no-bad_item (logged.Welcome commit head) is = welcome-head commit head (tells (logged.Welcome commit head) is) is
-  no-bad_item (logged.Dropped seq chain far) is =
-      let t : AnswersSubmit g e.session e.request seq = tells (logged.Dropped seq chain far) is in settled-good seq t.1.1.0 t.1.1.1.0
-  no-bad_item (logged.Denied seq object) is =
-      let t : AnswersSubmit g e.session e.request seq = tells (logged.Denied seq object) is in settled-good seq t.1.1.0 t.1.1.1.0
-  no-bad_item (logged.Seen last commit head positions) is = seen-good last commit head positions is
-  no-bad_item (logged.Settled seq pos) is =
-      let t : AnswersKept g e.session e.request seq = tells (logged.Settled seq pos) is in settled-good seq t.1.1.0 t.1.1.1.0
-  no-bad_item (logged.Noted commit) is = refl
-  no-bad_item logged.Idle is = refl
-  no-bad_item (logged.Refused code detail) is = refl
-  no-bad_item logged.Bye is = refl
+  pub no-bad_item : (reply : BriefReply) → e.reply ≡ reply → has_bad_item who (pending_of whole) e.request (full_reply A reply) ≡ false
+  no-bad_item (brief.Relay seq commit head positions) is = relay-good seq commit head positions is
+  no-bad_item (brief.Welcome commit head) is = welcome-head commit head (tells (brief.Welcome commit head) is) is
+  no-bad_item (brief.Dropped seq chain far) is =
+      let t : AnswersSubmit g e.session e.request seq = tells (brief.Dropped seq chain far) is in settled-good seq t.1.1.0 t.1.1.1.0
+  no-bad_item (brief.Denied seq object) is =
+      let t : AnswersSubmit g e.session e.request seq = tells (brief.Denied seq object) is in settled-good seq t.1.1.0 t.1.1.1.0
+  no-bad_item (brief.Seen last commit head positions) is = seen-good last commit head positions is
+  no-bad_item (brief.Settled seq pos) is =
+      let t : AnswersKept g e.session e.request seq = tells (brief.Settled seq pos) is in settled-good seq t.1.1.0 t.1.1.1.0
+  no-bad_item (brief.Noted commit) is = refl
+  no-bad_item brief.Idle is = refl
+  no-bad_item (brief.Refused code detail) is = refl
+  no-bad_item brief.Bye is = refl

@@ -13,8 +13,8 @@ use Rattle.sv_wire.specs.declared.message.Request.{Request}
 use Rattle.sv_wire.specs.declared.message.Request.TheVariants as requests
 use Rattle.sv_wire.specs.declared.message.Reply.{Reply}
 use Rattle.sv_journal.specs.declared.entry.Entry.{Entry}
-use Rattle.sv_journal.specs.declared.entry.Logged.{Logged}
-use Rattle.sv_journal.specs.declared.entry.Logged.TheVariants as logged
+use Rattle.sv_journal.specs.declared.entry.BriefReply.{BriefReply}
+use Rattle.sv_journal.specs.declared.entry.BriefReply.TheVariants as brief
 use Rattle.sv_journal.specs.History.{Authored, is_relay, new_action, client_of, outcomes_of, accepted, actions_of, full_reply}
 use Rattle.sv_journal.specs.Answer.{Rules}
 use Rattle.sv_journal.specs.Serving.{Keeping, LegalFor, IsKeeping}
@@ -39,18 +39,18 @@ use Rattle.law_system.proofs.Taken.{plain-at, IsReported, reported-done, IsWell,
 
 -- ---- What a session was told are the tellings of its deliveries
 
-delivered : (A : List Authored) (reply : Logged) (n count s : ℕ) (ds : List Delivery) →
+delivered : (A : List Authored) (reply : BriefReply) (n count s : ℕ) (ds : List Delivery) →
     tellings_to A (delivery_by n count reply ++ ds) s ≡ (if n == s then tellings_to A ds s ++ telling_in (full_reply A reply) else tellings_to A ds s)
-delivered A (logged.Welcome commit head) n count s ds = refl
-delivered A (logged.Relay seq commit head positions) n count s ds = refl
-delivered A (logged.Dropped seq chain far) n count s ds = sym (no_more (n == s) (tellings_to A ds s))
-delivered A (logged.Denied seq object) n count s ds = sym (no_more (n == s) (tellings_to A ds s))
-delivered A (logged.Seen last commit head positions) n count s ds = refl
-delivered A (logged.Settled seq pos) n count s ds = sym (no_more (n == s) (tellings_to A ds s))
-delivered A (logged.Noted commit) n count s ds = sym (no_more (n == s) (tellings_to A ds s))
-delivered A logged.Idle n count s ds = sym (no_more (n == s) (tellings_to A ds s))
-delivered A (logged.Refused code detail) n count s ds = sym (no_more (n == s) (tellings_to A ds s))
-delivered A logged.Bye n count s ds = sym (no_more (n == s) (tellings_to A ds s))
+delivered A (brief.Welcome commit head) n count s ds = refl
+delivered A (brief.Relay seq commit head positions) n count s ds = refl
+delivered A (brief.Dropped seq chain far) n count s ds = sym (no_more (n == s) (tellings_to A ds s))
+delivered A (brief.Denied seq object) n count s ds = sym (no_more (n == s) (tellings_to A ds s))
+delivered A (brief.Seen last commit head positions) n count s ds = refl
+delivered A (brief.Settled seq pos) n count s ds = sym (no_more (n == s) (tellings_to A ds s))
+delivered A (brief.Noted commit) n count s ds = sym (no_more (n == s) (tellings_to A ds s))
+delivered A brief.Idle n count s ds = sym (no_more (n == s) (tellings_to A ds s))
+delivered A (brief.Refused code detail) n count s ds = sym (no_more (n == s) (tellings_to A ds s))
+delivered A brief.Bye n count s ds = sym (no_more (n == s) (tellings_to A ds s))
 
 -- What an entry adds to the accepted actions.
 abbrev newly : Entry → List Entry → List Authored

@@ -11,8 +11,8 @@ use Rattle.sv_world.proofs.Writers.{action_at-append}
 use Rattle.sv_wire.specs.declared.message.Request.{Request}
 use Rattle.sv_wire.specs.declared.message.Request.TheVariants as requests
 use Rattle.sv_journal.specs.declared.entry.Entry.{Entry}
-use Rattle.sv_journal.specs.declared.entry.Logged.{Logged}
-use Rattle.sv_journal.specs.declared.entry.Logged.TheVariants as logged
+use Rattle.sv_journal.specs.declared.entry.BriefReply.{BriefReply}
+use Rattle.sv_journal.specs.declared.entry.BriefReply.TheVariants as brief
 use Rattle.sv_journal.specs.History.{Authored, Outcome, Accepted, Dropped, Denied, client_of, is_client, is_relay, is_submit_of, outcome_in, new_action, outcomes_of, accepted, actions_of, next_seq}
 use Rattle.sv_journal.specs.Sessions.{outcome_at, kept_count, kept_outcome}
 use Rattle.sv_journal.specs.Answer.{Rules, Legal}
@@ -111,22 +111,22 @@ new-counts (Some j) next k requests.End c s = absurd (true≢false (sym s))
 abbrev newly : Entry → List Entry → List Authored
 newly e h = if is_relay e.reply then new_action (client_of h e.session) (λ k. suc (length (outcomes_of h k))) e.request else []
 
-outcome-within : (h : List Entry) (e : Entry) (k : ℕ) (reply : Logged) → is_client (client_of h e.session) k ≡ true → is_submit_of e.request (suc (length (outcomes_of h k))) ≡ true →
+outcome-within : (h : List Entry) (e : Entry) (k : ℕ) (reply : BriefReply) → is_client (client_of h e.session) k ≡ true → is_submit_of e.request (suc (length (outcomes_of h k))) ≡ true →
     AllByRecursion (IsOutcomeWithin (length (accepted h ++ (if is_relay reply then new_action (client_of h e.session) (λ k. suc (length (outcomes_of h k))) e.request else [])))) (outcome_in (suc (length (accepted h))) reply)
-outcome-within h e k (logged.Relay seq commit head positions) c s =
+outcome-within h e k (brief.Relay seq commit head positions) c s =
     let new = new_action (client_of h e.session) (λ k. suc (length (outcomes_of h k))) e.request in
     let one : length new ≡ 1 = new-counts (client_of h e.session) (λ k. suc (length (outcomes_of h k))) k e.request c s in
     let all : length (accepted h ++ new) ≡ length (accepted h) + length new = length-append (accepted h) new in
     ((omega arith, omega arith), tt)
-outcome-within h e k (logged.Dropped seq chain far) c s = (tt, tt)
-outcome-within h e k (logged.Denied seq object) c s = (tt, tt)
-outcome-within h e k (logged.Seen last commit head positions) c s = tt
-outcome-within h e k (logged.Welcome commit head) c s = tt
-outcome-within h e k (logged.Settled seq pos) c s = tt
-outcome-within h e k (logged.Noted commit) c s = tt
-outcome-within h e k logged.Idle c s = tt
-outcome-within h e k (logged.Refused code detail) c s = tt
-outcome-within h e k logged.Bye c s = tt
+outcome-within h e k (brief.Dropped seq chain far) c s = (tt, tt)
+outcome-within h e k (brief.Denied seq object) c s = (tt, tt)
+outcome-within h e k (brief.Seen last commit head positions) c s = tt
+outcome-within h e k (brief.Welcome commit head) c s = tt
+outcome-within h e k (brief.Settled seq pos) c s = tt
+outcome-within h e k (brief.Noted commit) c s = tt
+outcome-within h e k brief.Idle c s = tt
+outcome-within h e k (brief.Refused code detail) c s = tt
+outcome-within h e k brief.Bye c s = tt
 
 -- Each outcome's position was accepted.
 pub outcomes-within : (h : List Entry) (k : ℕ) → AllByRecursion (IsOutcomeWithin (length (accepted h))) (outcomes_of h k)

@@ -17,8 +17,8 @@ use Rattle.sv_wire.specs.declared.message.Done1.{Done1}
 use Rattle.sv_wire.specs.declared.message.Request.TheVariants as requests
 use Rattle.sv_wire.specs.declared.message.Reply.{Reply}
 use Rattle.sv_journal.specs.declared.entry.Entry.{Entry}
-use Rattle.sv_journal.specs.declared.entry.Logged.{Logged}
-use Rattle.sv_journal.specs.declared.entry.Logged.TheVariants as logged
+use Rattle.sv_journal.specs.declared.entry.BriefReply.{BriefReply}
+use Rattle.sv_journal.specs.declared.entry.BriefReply.TheVariants as brief
 use Rattle.sv_journal.specs.History.{Authored, accepted, actions_of, is_relay, new_action, client_of, outcomes_of, commit_of, committed_of}
 use Rattle.sv_journal.specs.Sessions.{is_end}
 use Rattle.sv_journal.specs.Answer.{Rules}
@@ -58,20 +58,20 @@ each-good : (shape : Shape) (xs : List Authored) → AllByRecursion (λ (a : Aut
 each-good shape [] h = tt
 each-good shape (a ∷ xs) h = (good_of_none shape a.action h.0, each-good shape xs h.1)
 
-one-good : (K : Keeping) (keeps : IsKeeping K) (r : Rules) (e : Entry) (h : List Entry) (reply : Logged) → TellsFor K r h e.session e.request reply →
+one-good : (K : Keeping) (keeps : IsKeeping K) (r : Rules) (e : Entry) (h : List Entry) (reply : BriefReply) → TellsFor K r h e.session e.request reply →
     AllByRecursion (λ (a : Authored). IsGoodAction r.world.shape a.action) (if is_relay reply then new_action (client_of h e.session) (λ k. suc (length (outcomes_of h k))) e.request else [])
-one-good K keeps r e h (logged.Relay seq commit head positions) t =
+one-good K keeps r e h (brief.Relay seq commit head positions) t =
     let new = new_action (client_of h e.session) (λ k. suc (length (outcomes_of h k))) e.request in
     each-good r.world.shape new (each-unmap (λ a. first_fault_of_action r.world.shape a ≡ None) (λ (a : Authored). a.action) new t.checked)
-one-good K keeps r e h (logged.Welcome commit head) t = tt
-one-good K keeps r e h (logged.Dropped seq chain far) t = tt
-one-good K keeps r e h (logged.Denied seq object) t = tt
-one-good K keeps r e h (logged.Seen last commit head positions) t = tt
-one-good K keeps r e h (logged.Settled seq pos) t = tt
-one-good K keeps r e h (logged.Noted commit) t = tt
-one-good K keeps r e h logged.Idle t = tt
-one-good K keeps r e h (logged.Refused code detail) t = tt
-one-good K keeps r e h logged.Bye t = tt
+one-good K keeps r e h (brief.Welcome commit head) t = tt
+one-good K keeps r e h (brief.Dropped seq chain far) t = tt
+one-good K keeps r e h (brief.Denied seq object) t = tt
+one-good K keeps r e h (brief.Seen last commit head positions) t = tt
+one-good K keeps r e h (brief.Settled seq pos) t = tt
+one-good K keeps r e h (brief.Noted commit) t = tt
+one-good K keeps r e h brief.Idle t = tt
+one-good K keeps r e h (brief.Refused code detail) t = tt
+one-good K keeps r e h brief.Bye t = tt
 
 pub accepted-good : (K : Keeping) (keeps : IsKeeping K) (r : Rules) (h : List Entry) → LegalFor K r h → AllByRecursion (λ (a : Authored). IsGoodAction r.world.shape a.action) (accepted h)
 accepted-good K keeps r [] l = tt
@@ -140,18 +140,18 @@ module _ (K : Keeping) (keeps : IsKeeping K) (r : Rules) (H : List Entry) (count
       let served : IsServed K r H L = record { keeps = keeps; legal = legal; fits = fits } in
       well-after H same serial (reverse L.events) (got-replied K r H L served)
 
-  pub reply-all-held : (s n : ℕ) (reply : Logged) (ds : List Delivery) → AreLawful r.world.shape.objects r.world.values acts (delivery_by s n reply ++ ds) →
+  pub reply-all-held : (s n : ℕ) (reply : BriefReply) (ds : List Delivery) → AreLawful r.world.shape.objects r.world.values acts (delivery_by s n reply ++ ds) →
       AreSerial r.world.values acts (reply_held reply) × AreLawful r.world.shape.objects r.world.values acts ds
-  reply-all-held s n (logged.Welcome commit head) ds l = (l.0.serial, l.1)
-  reply-all-held s n (logged.Relay seq commit head positions) ds l = (l.0.serial, l.1)
-  reply-all-held s n (logged.Dropped seq chain far) ds l = (tt, l)
-  reply-all-held s n (logged.Denied seq object) ds l = (tt, l)
-  reply-all-held s n (logged.Seen last commit head positions) ds l = (l.0.serial, l.1)
-  reply-all-held s n (logged.Settled seq pos) ds l = (tt, l)
-  reply-all-held s n (logged.Noted commit) ds l = (tt, l)
-  reply-all-held s n logged.Idle ds l = (tt, l)
-  reply-all-held s n (logged.Refused code detail) ds l = (tt, l)
-  reply-all-held s n logged.Bye ds l = (tt, l)
+  reply-all-held s n (brief.Welcome commit head) ds l = (l.0.serial, l.1)
+  reply-all-held s n (brief.Relay seq commit head positions) ds l = (l.0.serial, l.1)
+  reply-all-held s n (brief.Dropped seq chain far) ds l = (tt, l)
+  reply-all-held s n (brief.Denied seq object) ds l = (tt, l)
+  reply-all-held s n (brief.Seen last commit head positions) ds l = (l.0.serial, l.1)
+  reply-all-held s n (brief.Settled seq pos) ds l = (tt, l)
+  reply-all-held s n (brief.Noted commit) ds l = (tt, l)
+  reply-all-held s n brief.Idle ds l = (tt, l)
+  reply-all-held s n (brief.Refused code detail) ds l = (tt, l)
+  reply-all-held s n brief.Bye ds l = (tt, l)
 
   heads-held : (h : List Entry) → AreLawful r.world.shape.objects r.world.values acts (deliveries_of h) → AllByRecursion (λ (e : Entry). AreSerial r.world.values acts (reply_held e.reply)) h
   heads-held [] lawful = tt

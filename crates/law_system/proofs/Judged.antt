@@ -11,8 +11,8 @@ use Rattle.sv_world.specs.Rights.{first_forbidden}
 use Rattle.sv_wire.specs.declared.message.Request.{Request}
 use Rattle.sv_wire.specs.declared.message.Request.TheVariants as requests
 use Rattle.sv_journal.specs.declared.entry.Entry.{Entry}
-use Rattle.sv_journal.specs.declared.entry.Logged.{Logged}
-use Rattle.sv_journal.specs.declared.entry.Logged.TheVariants as logged
+use Rattle.sv_journal.specs.declared.entry.BriefReply.{BriefReply}
+use Rattle.sv_journal.specs.declared.entry.BriefReply.TheVariants as brief
 use Rattle.sv_journal.specs.History.{Authored, Outcome, Accepted, Dropped, Denied, is_client, is_relay, is_submit_of, new_action, outcome_in, outcomes_of, client_of, accepted, actions_of, next_seq, commit_of}
 use Rattle.sv_journal.specs.Sessions.{is_over, asked_in, kept_outcome}
 use Rattle.sv_journal.specs.Answer.{Rules, is_above, reply_to_allowed, reply_by_rights, is_full, reply_to_checked, reply_to_submit, reply_to_member, is_spent, reply_to, Legal}
@@ -77,11 +77,11 @@ are-judged r (e ∷ h) l = (judged, are-judged r h l.1)
 
 -- ---- Any keeping
 
-abbrev is_idle : Logged → Bool
-is_idle logged.Idle = true
+abbrev is_idle : BriefReply → Bool
+is_idle brief.Idle = true
 is_idle _ = false
 
-abbrev IsBusy : Logged → Type 0
+abbrev IsBusy : BriefReply → Type 0
 IsBusy w = is_idle w ≡ false
 
 -- A Submit is never answered Idle.
@@ -108,17 +108,17 @@ module _ (r : Rules) (h : List Entry) (s k seq : ℕ) (a : Action) where
       subst (λ (o : Option ℕ). IsBusy (reply_to_member r h s o (requests.Submit seq a))) (sym c) (submit-busy (kept_outcome h k seq))))
 
 -- So the last rows, where servers differ, are no Submit's.
-rows-judged : (K : Keeping) (r : Rules) (h g : List Entry) (s k seq : ℕ) (a : Action) (w : Logged) → IsBusy w → IsOutcome r g k a w → IsOutcome r g k a (with_last_rows K r h s (requests.Submit seq a) w)
-rows-judged K r h g s k seq a (logged.Relay n commit head positions) b o = o
-rows-judged K r h g s k seq a (logged.Dropped n chain far) b o = o
-rows-judged K r h g s k seq a (logged.Denied n object) b o = o
-rows-judged K r h g s k seq a (logged.Welcome commit head) b o = o
-rows-judged K r h g s k seq a (logged.Seen last commit head positions) b o = o
-rows-judged K r h g s k seq a (logged.Settled n pos) b o = o
-rows-judged K r h g s k seq a (logged.Noted commit) b o = tt
-rows-judged K r h g s k seq a logged.Idle b o = absurd (true≢false b)
-rows-judged K r h g s k seq a (logged.Refused code detail) b o = o
-rows-judged K r h g s k seq a logged.Bye b o = o
+rows-judged : (K : Keeping) (r : Rules) (h g : List Entry) (s k seq : ℕ) (a : Action) (w : BriefReply) → IsBusy w → IsOutcome r g k a w → IsOutcome r g k a (with_last_rows K r h s (requests.Submit seq a) w)
+rows-judged K r h g s k seq a (brief.Relay n commit head positions) b o = o
+rows-judged K r h g s k seq a (brief.Dropped n chain far) b o = o
+rows-judged K r h g s k seq a (brief.Denied n object) b o = o
+rows-judged K r h g s k seq a (brief.Welcome commit head) b o = o
+rows-judged K r h g s k seq a (brief.Seen last commit head positions) b o = o
+rows-judged K r h g s k seq a (brief.Settled n pos) b o = o
+rows-judged K r h g s k seq a (brief.Noted commit) b o = tt
+rows-judged K r h g s k seq a brief.Idle b o = absurd (true≢false b)
+rows-judged K r h g s k seq a (brief.Refused code detail) b o = o
+rows-judged K r h g s k seq a brief.Bye b o = o
 
 pub are-judged_for : (K : Keeping) → IsKeeping K → (r : Rules) (h : List Entry) → LegalFor K r h → HaveRightOutcomesFor K r h
 are-judged_for K keeps r [] l = tt
@@ -161,17 +161,17 @@ module _ (e : Entry) (h : List Entry) where
       ap (λ (l : List Outcome). length (outcomes_of h k ++ l)) (cond-true test more [] holds) ∙ length-append (outcomes_of h k) more in
       omega arith
     where
-      relay-one : (reply : Logged) → is_relay reply ≡ true → length (outcome_in (suc (length (accepted h))) reply) ≡ 1
-      relay-one (logged.Relay seq commit head positions) y = refl
-      relay-one (logged.Welcome commit head) y = absurd (true≢false (sym y))
-      relay-one (logged.Dropped seq chain far) y = absurd (true≢false (sym y))
-      relay-one (logged.Denied seq object) y = absurd (true≢false (sym y))
-      relay-one (logged.Seen last commit head positions) y = absurd (true≢false (sym y))
-      relay-one (logged.Settled seq pos) y = absurd (true≢false (sym y))
-      relay-one (logged.Noted commit) y = absurd (true≢false (sym y))
-      relay-one logged.Idle y = absurd (true≢false (sym y))
-      relay-one (logged.Refused code detail) y = absurd (true≢false (sym y))
-      relay-one logged.Bye y = absurd (true≢false (sym y))
+      relay-one : (reply : BriefReply) → is_relay reply ≡ true → length (outcome_in (suc (length (accepted h))) reply) ≡ 1
+      relay-one (brief.Relay seq commit head positions) y = refl
+      relay-one (brief.Welcome commit head) y = absurd (true≢false (sym y))
+      relay-one (brief.Dropped seq chain far) y = absurd (true≢false (sym y))
+      relay-one (brief.Denied seq object) y = absurd (true≢false (sym y))
+      relay-one (brief.Seen last commit head positions) y = absurd (true≢false (sym y))
+      relay-one (brief.Settled seq pos) y = absurd (true≢false (sym y))
+      relay-one (brief.Noted commit) y = absurd (true≢false (sym y))
+      relay-one brief.Idle y = absurd (true≢false (sym y))
+      relay-one (brief.Refused code detail) y = absurd (true≢false (sym y))
+      relay-one brief.Bye y = absurd (true≢false (sym y))
 
   next : ℕ → ℕ
   next k = suc (length (outcomes_of h k))

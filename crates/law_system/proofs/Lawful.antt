@@ -19,8 +19,8 @@ use Rattle.sv_eval.specs.Serial.{put_all, serial_world}
 use Rattle.sv_wire.specs.declared.message.ObjectValue.{ObjectValue as Sent}
 use Rattle.sv_wire.specs.declared.message.Request.TheVariants as requests
 use Rattle.sv_journal.specs.declared.entry.Entry.{Entry}
-use Rattle.sv_journal.specs.declared.entry.Logged.{Logged}
-use Rattle.sv_journal.specs.declared.entry.Logged.TheVariants as logged
+use Rattle.sv_journal.specs.declared.entry.BriefReply.{BriefReply}
+use Rattle.sv_journal.specs.declared.entry.BriefReply.TheVariants as brief
 use Rattle.sv_journal.specs.History.{Authored, accepted, actions_of, is_noted, reports, result_at, commit_of, installed, either}
 use Rattle.sv_journal.specs.Sessions.{positions_in, sent_to, named_in, named_to, given_at, committed_writer, is_given, already_given}
 use Rattle.sv_journal.specs.Answer.{Rules, committed_held}
@@ -38,18 +38,18 @@ use Rattle.law_system.proofs.Replied.{no_more}
 
 -- ---- What the deliveries told
 
-told-by : (reply : Logged) (t count s : ℕ) (ds : List Delivery) (sent : List ℕ) → told_positions ds s ≡ sent →
+told-by : (reply : BriefReply) (t count s : ℕ) (ds : List Delivery) (sent : List ℕ) → told_positions ds s ≡ sent →
     told_positions (delivery_by t count reply ++ ds) s ≡ (if t == s then sent ++ positions_in reply else sent)
-told-by (logged.Welcome commit head) t count s ds sent e = ap (λ (l : List ℕ). if t == s then l ++ [] else l) e
-told-by (logged.Relay seq commit head positions) t count s ds sent e = ap (λ (l : List ℕ). if t == s then l ++ positions else l) e
-told-by (logged.Dropped seq chain far) t count s ds sent e = e ∙ sym (no_more (t == s) sent)
-told-by (logged.Denied seq object) t count s ds sent e = e ∙ sym (no_more (t == s) sent)
-told-by (logged.Seen last commit head positions) t count s ds sent e = ap (λ (l : List ℕ). if t == s then l ++ positions else l) e
-told-by (logged.Settled seq pos) t count s ds sent e = e ∙ sym (no_more (t == s) sent)
-told-by (logged.Noted commit) t count s ds sent e = e ∙ sym (no_more (t == s) sent)
-told-by logged.Idle t count s ds sent e = e ∙ sym (no_more (t == s) sent)
-told-by (logged.Refused code detail) t count s ds sent e = e ∙ sym (no_more (t == s) sent)
-told-by logged.Bye t count s ds sent e = e ∙ sym (no_more (t == s) sent)
+told-by (brief.Welcome commit head) t count s ds sent e = ap (λ (l : List ℕ). if t == s then l ++ [] else l) e
+told-by (brief.Relay seq commit head positions) t count s ds sent e = ap (λ (l : List ℕ). if t == s then l ++ positions else l) e
+told-by (brief.Dropped seq chain far) t count s ds sent e = e ∙ sym (no_more (t == s) sent)
+told-by (brief.Denied seq object) t count s ds sent e = e ∙ sym (no_more (t == s) sent)
+told-by (brief.Seen last commit head positions) t count s ds sent e = ap (λ (l : List ℕ). if t == s then l ++ positions else l) e
+told-by (brief.Settled seq pos) t count s ds sent e = e ∙ sym (no_more (t == s) sent)
+told-by (brief.Noted commit) t count s ds sent e = e ∙ sym (no_more (t == s) sent)
+told-by brief.Idle t count s ds sent e = e ∙ sym (no_more (t == s) sent)
+told-by (brief.Refused code detail) t count s ds sent e = e ∙ sym (no_more (t == s) sent)
+told-by brief.Bye t count s ds sent e = e ∙ sym (no_more (t == s) sent)
 
 -- The positions told are those sent.
 pub told-sent : (h : List Entry) (s : ℕ) → told_positions (deliveries_of h) s ≡ sent_to h s
@@ -61,21 +61,21 @@ two_tests true true xs ys = refl
 two_tests true false xs ys = sym (append-nil xs)
 two_tests false d xs ys = refl
 
-named-by : (reply : Logged) (t count s x : ℕ) (ds : List Delivery) (named : List ℕ) → told_commits ds s x ≡ named →
+named-by : (reply : BriefReply) (t count s x : ℕ) (ds : List Delivery) (named : List ℕ) → told_commits ds s x ≡ named →
     told_commits (delivery_by t count reply ++ ds) s x ≡ (if t == s then named ++ named_in reply x else named)
-named-by (logged.Welcome commit head) t count s x ds named e =
+named-by (brief.Welcome commit head) t count s x ds named e =
     ap (λ (l : List ℕ). if (t == s) && is_in x (head_objects head) then l ++ commit ∷ [] else l) e ∙ two_tests (t == s) (is_in x (head_objects head)) named (commit ∷ [])
-named-by (logged.Relay seq commit head positions) t count s x ds named e =
+named-by (brief.Relay seq commit head positions) t count s x ds named e =
     ap (λ (l : List ℕ). if (t == s) && is_in x (head_objects head) then l ++ commit ∷ [] else l) e ∙ two_tests (t == s) (is_in x (head_objects head)) named (commit ∷ [])
-named-by (logged.Dropped seq chain far) t count s x ds named e = e ∙ sym (no_more (t == s) named)
-named-by (logged.Denied seq object) t count s x ds named e = e ∙ sym (no_more (t == s) named)
-named-by (logged.Seen last commit head positions) t count s x ds named e =
+named-by (brief.Dropped seq chain far) t count s x ds named e = e ∙ sym (no_more (t == s) named)
+named-by (brief.Denied seq object) t count s x ds named e = e ∙ sym (no_more (t == s) named)
+named-by (brief.Seen last commit head positions) t count s x ds named e =
     ap (λ (l : List ℕ). if (t == s) && is_in x (head_objects head) then l ++ commit ∷ [] else l) e ∙ two_tests (t == s) (is_in x (head_objects head)) named (commit ∷ [])
-named-by (logged.Settled seq pos) t count s x ds named e = e ∙ sym (no_more (t == s) named)
-named-by (logged.Noted commit) t count s x ds named e = e ∙ sym (no_more (t == s) named)
-named-by logged.Idle t count s x ds named e = e ∙ sym (no_more (t == s) named)
-named-by (logged.Refused code detail) t count s x ds named e = e ∙ sym (no_more (t == s) named)
-named-by logged.Bye t count s x ds named e = e ∙ sym (no_more (t == s) named)
+named-by (brief.Settled seq pos) t count s x ds named e = e ∙ sym (no_more (t == s) named)
+named-by (brief.Noted commit) t count s x ds named e = e ∙ sym (no_more (t == s) named)
+named-by brief.Idle t count s x ds named e = e ∙ sym (no_more (t == s) named)
+named-by (brief.Refused code detail) t count s x ds named e = e ∙ sym (no_more (t == s) named)
+named-by brief.Bye t count s x ds named e = e ∙ sym (no_more (t == s) named)
 
 -- The commits at which an object was told are those of the replies that name it.
 pub told-named : (h : List Entry) (s x : ℕ) → told_commits (deliveries_of h) s x ≡ named_to h s x
@@ -85,10 +85,10 @@ told-named (e ∷ h) s x = named-by e.reply e.session (length (accepted (e ∷ h
 -- ---- Accepted actions with one more entry
 
 -- After a relay the actions are those before with the new one.
-pub relayed-actions : (e : Entry) (h : List Entry) (seq commit : ℕ) (head : List Sent) (positions : List ℕ) → e.reply ≡ logged.Relay seq commit head positions →
+pub relayed-actions : (e : Entry) (h : List Entry) (seq commit : ℕ) (head : List Sent) (positions : List ℕ) → e.reply ≡ brief.Relay seq commit head positions →
     actions_of (e ∷ h) ≡ actions_of h ++ new_of h e.session e.request
 relayed-actions e h seq commit head positions is =
-    ap (λ (reply : Logged). actions_of (record { session = e.session; request = e.request; reply = reply } ∷ h)) is
+    ap (λ (reply : BriefReply). actions_of (record { session = e.session; request = e.request; reply = reply } ∷ h)) is
     ∙ map-append (λ (a : Authored). a.action) (accepted h) _
 
 -- What a legal relay is, among the actions after it.
@@ -101,9 +101,9 @@ pub record IsLegalRelay (K : Keeping) (r : Rules) (e : Entry) (h : List Entry) (
   pub head_is : head ≡ committed_held r (K.kept h) (head_for r.world.shape.objects (actions_of (e ∷ h)) (commit_of (K.kept h)) (sent_to h e.session) (already_given r.world.shape.objects (K.kept h) e.session) target)
 
 pub legal-relay : (K : Keeping) (keeps : IsKeeping K) (r : Rules) (e : Entry) (h : List Entry) (seq commit : ℕ) (head : List Sent) (positions : List ℕ) → LegalFor K r (e ∷ h) →
-    e.reply ≡ logged.Relay seq commit head positions → IsLegalRelay K r e h commit head positions
+    e.reply ≡ brief.Relay seq commit head positions → IsLegalRelay K r e h commit head positions
 legal-relay K keeps r e h seq commit head positions l is =
-    let t : IsRelayReply K r h e.session e.request commit head positions = subst (λ (reply : Logged). TellsFor K r h e.session e.request reply) is (served-tells K keeps r e h l) in
+    let t : IsRelayReply K r h e.session e.request commit head positions = subst (λ (reply : BriefReply). TellsFor K r h e.session e.request reply) is (served-tells K keeps r e h l) in
     let acts : actions_of h ++ new_of h e.session e.request ≡ actions_of (e ∷ h) = sym (relayed-actions e h seq commit head positions is) in
     record {
       target = t.target;
@@ -115,9 +115,9 @@ legal-relay K keeps r e h seq commit head positions l is =
     }
 
 -- What is seen changes no actions.
-seen-actions : (e : Entry) (h : List Entry) (last commit : ℕ) (head : List Sent) (positions : List ℕ) → e.reply ≡ logged.Seen last commit head positions → actions_of (e ∷ h) ≡ actions_of h
+seen-actions : (e : Entry) (h : List Entry) (last commit : ℕ) (head : List Sent) (positions : List ℕ) → e.reply ≡ brief.Seen last commit head positions → actions_of (e ∷ h) ≡ actions_of h
 seen-actions e h last commit head positions is =
-    ap (λ (reply : Logged). actions_of (record { session = e.session; request = e.request; reply = reply } ∷ h)) is
+    ap (λ (reply : BriefReply). actions_of (record { session = e.session; request = e.request; reply = reply } ∷ h)) is
     ∙ ap (map (λ (a : Authored). a.action)) (append-nil (accepted h))
 
 -- What is seen in a legal history, among the actions after it.
@@ -134,9 +134,9 @@ pub record IsLegalSeen (K : Keeping) (r : Rules) (e : Entry) (h : List Entry) (l
   pub head_is : head ≡ committed_held r (K.kept h) (head_to_see r.world.shape.objects (actions_of (e ∷ h)) (commit_of (K.kept h)) (sent_to h e.session) (already_given r.world.shape.objects (K.kept h) e.session) (numbers_of objects) last)
 
 pub legal-seen : (K : Keeping) (keeps : IsKeeping K) (r : Rules) (e : Entry) (h : List Entry) (last commit : ℕ) (head : List Sent) (positions : List ℕ) → LegalFor K r (e ∷ h) →
-    e.reply ≡ logged.Seen last commit head positions → IsLegalSeen K r e h last commit head positions
+    e.reply ≡ brief.Seen last commit head positions → IsLegalSeen K r e h last commit head positions
 legal-seen K keeps r e h last commit head positions l is =
-    let t : IsSeenReply K r h e.session e.request last commit head positions = subst (λ (reply : Logged). TellsFor K r h e.session e.request reply) is (served-tells K keeps r e h l) in
+    let t : IsSeenReply K r h e.session e.request last commit head positions = subst (λ (reply : BriefReply). TellsFor K r h e.session e.request reply) is (served-tells K keeps r e h l) in
     let acts : actions_of h ≡ actions_of (e ∷ h) = sym (seen-actions e h last commit head positions is) in
     record {
       objects = t.objects;
@@ -151,27 +151,27 @@ legal-seen K keeps r e h last commit head positions l is =
       head_is = t.head_is ∙ ap (λ (A : List Action). committed_held r (K.kept h) (head_to_see r.world.shape.objects A (commit_of (K.kept h)) (sent_to h e.session) (already_given r.world.shape.objects (K.kept h) e.session) (numbers_of t.objects) last)) acts;
     }
 
-pub positions-within : (K : Keeping) (keeps : IsKeeping K) (r : Rules) (e : Entry) (h : List Entry) → LegalFor K r (e ∷ h) → (reply : Logged) → e.reply ≡ reply → (p : ℕ) → is_in p (positions_in reply) ≡ true → p ≤ length (accepted (e ∷ h))
-positions-within K keeps r e h l (logged.Relay seq commit head positions) is p m =
+pub positions-within : (K : Keeping) (keeps : IsKeeping K) (r : Rules) (e : Entry) (h : List Entry) → LegalFor K r (e ∷ h) → (reply : BriefReply) → e.reply ≡ reply → (p : ℕ) → is_in p (positions_in reply) ≡ true → p ≤ length (accepted (e ∷ h))
+positions-within K keeps r e h l (brief.Relay seq commit head positions) is p m =
     let t = legal-relay K keeps r e h seq commit head positions l is in
     let within : t.target ≤ length (accepted (e ∷ h)) = t.accepted_to in
     let b = needed-bounds (actions_of (e ∷ h)) (commit_of (K.kept h)) (sent_to h e.session) t.target t.above p (subst (λ (ks : List ℕ). is_in p ks ≡ true) t.positions_are m) in
     let most : p ≤ t.target = b.1 in
     omega arith
-positions-within K keeps r e h l (logged.Welcome commit head) is p m = absurd (true≢false (sym m))
-positions-within K keeps r e h l (logged.Dropped seq chain far) is p m = absurd (true≢false (sym m))
-positions-within K keeps r e h l (logged.Denied seq object) is p m = absurd (true≢false (sym m))
-positions-within K keeps r e h l (logged.Seen last commit head positions) is p m =
+positions-within K keeps r e h l (brief.Welcome commit head) is p m = absurd (true≢false (sym m))
+positions-within K keeps r e h l (brief.Dropped seq chain far) is p m = absurd (true≢false (sym m))
+positions-within K keeps r e h l (brief.Denied seq object) is p m = absurd (true≢false (sym m))
+positions-within K keeps r e h l (brief.Seen last commit head positions) is p m =
     let t = legal-seen K keeps r e h last commit head positions l is in
     let within : last ≤ length (accepted (e ∷ h)) = t.accepted_to in
     let b = see-bounds (actions_of (e ∷ h)) (commit_of (K.kept h)) (sent_to h e.session) (numbers_of t.objects) last p (subst (λ (ks : List ℕ). is_in p ks ≡ true) t.positions_are m) in
     let most : p ≤ last = b.1 in
     omega arith
-positions-within K keeps r e h l (logged.Settled seq pos) is p m = absurd (true≢false (sym m))
-positions-within K keeps r e h l (logged.Noted commit) is p m = absurd (true≢false (sym m))
-positions-within K keeps r e h l logged.Idle is p m = absurd (true≢false (sym m))
-positions-within K keeps r e h l (logged.Refused code detail) is p m = absurd (true≢false (sym m))
-positions-within K keeps r e h l logged.Bye is p m = absurd (true≢false (sym m))
+positions-within K keeps r e h l (brief.Settled seq pos) is p m = absurd (true≢false (sym m))
+positions-within K keeps r e h l (brief.Noted commit) is p m = absurd (true≢false (sym m))
+positions-within K keeps r e h l brief.Idle is p m = absurd (true≢false (sym m))
+positions-within K keeps r e h l (brief.Refused code detail) is p m = absurd (true≢false (sym m))
+positions-within K keeps r e h l brief.Bye is p m = absurd (true≢false (sym m))
 
 -- Each position that was sent was accepted.
 pub sent-within : (K : Keeping) (keeps : IsKeeping K) (r : Rules) (h : List Entry) → LegalFor K r h → (s p : ℕ) → is_in p (sent_to h s) ≡ true → p ≤ length (accepted h)
@@ -385,21 +385,21 @@ module _ (K : Keeping) (keeps : IsKeeping K) (r : Rules) (H : List Entry) where
       }
 
   one-lawful : (e : Entry) (h : List Entry) → IsEarlier (e ∷ h) H → LegalFor K r (e ∷ h) → ResultsAreSerial opening acts (K.kept h) →
-      AreLawful r.world.shape.objects opening acts (deliveries_of h) → (reply : Logged) → e.reply ≡ reply →
+      AreLawful r.world.shape.objects opening acts (deliveries_of h) → (reply : BriefReply) → e.reply ≡ reply →
       AreLawful r.world.shape.objects opening acts (delivery_by e.session (length (accepted (e ∷ h))) reply ++ deliveries_of h)
-  one-lawful e h b l serial rest (logged.Welcome commit head) is =
-      (welcome-lawful e h commit head b serial (subst (λ (reply : Logged). TellsFor K r h e.session e.request reply) is (served-tells K keeps r e h l)), rest)
-  one-lawful e h b l serial rest (logged.Relay seq commit head positions) is =
+  one-lawful e h b l serial rest (brief.Welcome commit head) is =
+      (welcome-lawful e h commit head b serial (subst (λ (reply : BriefReply). TellsFor K r h e.session e.request reply) is (served-tells K keeps r e h l)), rest)
+  one-lawful e h b l serial rest (brief.Relay seq commit head positions) is =
       (relay-lawful e h commit head positions b l.1 serial (legal-relay K keeps r e h seq commit head positions l is), rest)
-  one-lawful e h b l serial rest (logged.Dropped seq chain far) is = rest
-  one-lawful e h b l serial rest (logged.Denied seq object) is = rest
-  one-lawful e h b l serial rest (logged.Seen last commit head positions) is =
+  one-lawful e h b l serial rest (brief.Dropped seq chain far) is = rest
+  one-lawful e h b l serial rest (brief.Denied seq object) is = rest
+  one-lawful e h b l serial rest (brief.Seen last commit head positions) is =
       (seen-lawful e h last commit head positions b l.1 serial (legal-seen K keeps r e h last commit head positions l is), rest)
-  one-lawful e h b l serial rest (logged.Settled seq pos) is = rest
-  one-lawful e h b l serial rest (logged.Noted commit) is = rest
-  one-lawful e h b l serial rest logged.Idle is = rest
-  one-lawful e h b l serial rest (logged.Refused code detail) is = rest
-  one-lawful e h b l serial rest logged.Bye is = rest
+  one-lawful e h b l serial rest (brief.Settled seq pos) is = rest
+  one-lawful e h b l serial rest (brief.Noted commit) is = rest
+  one-lawful e h b l serial rest brief.Idle is = rest
+  one-lawful e h b l serial rest (brief.Refused code detail) is = rest
+  one-lawful e h b l serial rest brief.Bye is = rest
 
   -- The deliveries of an earlier history are lawful, among the actions that were accepted at last.
   pub legal-lawful : (h : List Entry) → IsEarlier h H → LegalFor K r h → ResultsAreSerial opening acts (K.kept h) → AreLawful r.world.shape.objects opening acts (deliveries_of h)

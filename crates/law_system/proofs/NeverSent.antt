@@ -11,8 +11,8 @@ use Rattle.sv_wire.specs.declared.message.ObjectValue.{ObjectValue as Sent}
 use Rattle.sv_wire.specs.declared.message.Request.{Request}
 use Rattle.sv_wire.specs.declared.message.Request.TheVariants as requests
 use Rattle.sv_journal.specs.declared.entry.Entry.{Entry}
-use Rattle.sv_journal.specs.declared.entry.Logged.{Logged}
-use Rattle.sv_journal.specs.declared.entry.Logged.TheVariants as logged
+use Rattle.sv_journal.specs.declared.entry.BriefReply.{BriefReply}
+use Rattle.sv_journal.specs.declared.entry.BriefReply.TheVariants as brief
 use Rattle.sv_journal.specs.History.{Authored, Outcome, Accepted, accepted, actions_of, client_of, is_client, is_relay, is_submit_of, outcome_in, new_action, outcomes_of, next_seq, full_reply, commit_of}
 use Rattle.sv_journal.specs.Sessions.{is_end, kept_outcome, outcome_at, positions_in, sent_to}
 use Rattle.sv_journal.proofs.Named.{client_is, submit_is}
@@ -63,8 +63,8 @@ is_accepted (Accepted m ∷ os) = true
 is_accepted _ = false
 
 accepted-one : (d : Entry) (h : List Entry) (k n p : ℕ) → is_client (client_of h d.session) k ≡ true → is_submit_of d.request n ≡ true → n ≡ next_seq h k →
-    (reply : Logged) → d.reply ≡ reply → Accepted p ∷ [] ≡ outcome_in (suc (length (accepted h))) reply → (p ≡ suc (length (accepted h))) × (length (accepted (d ∷ h)) ≡ suc (length (accepted h)))
-accepted-one d h k n p c q e (logged.Relay seq commit head positions) is told =
+    (reply : BriefReply) → d.reply ≡ reply → Accepted p ∷ [] ≡ outcome_in (suc (length (accepted h))) reply → (p ≡ suc (length (accepted h))) × (length (accepted (d ∷ h)) ≡ suc (length (accepted h)))
+accepted-one d h k n p c q e (brief.Relay seq commit head positions) is told =
     let new = new_action (client_of h d.session) (λ j. suc (length (outcomes_of h j))) d.request in
     let one : length new ≡ 1 = new-counts (client_of h d.session) (λ j. suc (length (outcomes_of h j))) k d.request c (subst (λ (m : ℕ). is_submit_of d.request m ≡ true) e q) in
     let all : length (accepted (d ∷ h)) ≡ length (accepted h) + length new =
@@ -74,15 +74,15 @@ accepted-one d h k n p c q e (logged.Relay seq commit head positions) is told =
     place_of : List Outcome → ℕ
     place_of (Accepted m ∷ os) = m
     place_of _ = 0
-accepted-one d h k n p c q e (logged.Dropped seq chain far) is told = absurd (true≢false (ap is_accepted told))
-accepted-one d h k n p c q e (logged.Denied seq object) is told = absurd (true≢false (ap is_accepted told))
-accepted-one d h k n p c q e (logged.Welcome commit head) is told = cc
-accepted-one d h k n p c q e (logged.Seen last commit head positions) is told = cc
-accepted-one d h k n p c q e (logged.Settled seq pos) is told = cc
-accepted-one d h k n p c q e (logged.Noted commit) is told = cc
-accepted-one d h k n p c q e logged.Idle is told = cc
-accepted-one d h k n p c q e (logged.Refused code detail) is told = cc
-accepted-one d h k n p c q e logged.Bye is told = cc
+accepted-one d h k n p c q e (brief.Dropped seq chain far) is told = absurd (true≢false (ap is_accepted told))
+accepted-one d h k n p c q e (brief.Denied seq object) is told = absurd (true≢false (ap is_accepted told))
+accepted-one d h k n p c q e (brief.Welcome commit head) is told = cc
+accepted-one d h k n p c q e (brief.Seen last commit head positions) is told = cc
+accepted-one d h k n p c q e (brief.Settled seq pos) is told = cc
+accepted-one d h k n p c q e (brief.Noted commit) is told = cc
+accepted-one d h k n p c q e brief.Idle is told = cc
+accepted-one d h k n p c q e (brief.Refused code detail) is told = cc
+accepted-one d h k n p c q e brief.Bye is told = cc
 
 -- An accepted action of a client, with the entry that accepted it.
 pub record IsAcceptance (g : List Entry) (k n p : ℕ) : Type 0 where
@@ -137,21 +137,21 @@ positions-ascend g k n p m q x y l =
     ]
 
 -- A reply that sends a position is a relay, or what is seen.
-abbrev Sends : Logged → Type 0
-Sends reply = ((seq : ℕ) × ((commit : ℕ) × ((head : List Sent) × ((positions : List ℕ) × (reply ≡ logged.Relay seq commit head positions)))))
-    ⊎ ((last : ℕ) × ((commit : ℕ) × ((head : List Sent) × ((positions : List ℕ) × (reply ≡ logged.Seen last commit head positions)))))
+abbrev Sends : BriefReply → Type 0
+Sends reply = ((seq : ℕ) × ((commit : ℕ) × ((head : List Sent) × ((positions : List ℕ) × (reply ≡ brief.Relay seq commit head positions)))))
+    ⊎ ((last : ℕ) × ((commit : ℕ) × ((head : List Sent) × ((positions : List ℕ) × (reply ≡ brief.Seen last commit head positions)))))
 
-sends : (reply : Logged) (p : ℕ) → is_in p (positions_in reply) ≡ true → Sends reply
-sends (logged.Relay seq commit head positions) p m = inl (seq, (commit, (head, (positions, refl))))
-sends (logged.Seen last commit head positions) p m = inr (last, (commit, (head, (positions, refl))))
-sends (logged.Welcome commit head) p m = absurd (true≢false (sym m))
-sends (logged.Dropped seq chain far) p m = absurd (true≢false (sym m))
-sends (logged.Denied seq object) p m = absurd (true≢false (sym m))
-sends (logged.Settled seq pos) p m = absurd (true≢false (sym m))
-sends (logged.Noted commit) p m = absurd (true≢false (sym m))
-sends logged.Idle p m = absurd (true≢false (sym m))
-sends (logged.Refused code detail) p m = absurd (true≢false (sym m))
-sends logged.Bye p m = absurd (true≢false (sym m))
+sends : (reply : BriefReply) (p : ℕ) → is_in p (positions_in reply) ≡ true → Sends reply
+sends (brief.Relay seq commit head positions) p m = inl (seq, (commit, (head, (positions, refl))))
+sends (brief.Seen last commit head positions) p m = inr (last, (commit, (head, (positions, refl))))
+sends (brief.Welcome commit head) p m = absurd (true≢false (sym m))
+sends (brief.Dropped seq chain far) p m = absurd (true≢false (sym m))
+sends (brief.Denied seq object) p m = absurd (true≢false (sym m))
+sends (brief.Settled seq pos) p m = absurd (true≢false (sym m))
+sends (brief.Noted commit) p m = absurd (true≢false (sym m))
+sends brief.Idle p m = absurd (true≢false (sym m))
+sends (brief.Refused code detail) p m = absurd (true≢false (sym m))
+sends brief.Bye p m = absurd (true≢false (sym m))
 
 module _ (awaited : Awaited) where
   open awaited.owner use {keeping as K, rules as r, journal as H, trace as L}
@@ -231,16 +231,16 @@ module _ (awaited : Awaited) where
       sent-there : IsEarlier (w.entry ∷ w.before) H
       sent-there = earlier-then (w.entry ∷ w.before) g H w.there earlier
 
-      told_there : (reply : Logged) → w.entry.reply ≡ reply → TellsFor K r w.before w.entry.session w.entry.request reply
+      told_there : (reply : BriefReply) → w.entry.reply ≡ reply → TellsFor K r w.before w.entry.session w.entry.request reply
       told_there reply is =
-          subst (λ (z : Logged). TellsFor K r w.before w.entry.session w.entry.request z) is
+          subst (λ (z : BriefReply). TellsFor K r w.before w.entry.session w.entry.request z) is
           (served-tells K keeps r w.entry w.before (earlier-served K r (w.entry ∷ w.before) H sent-there legal))
 
-      not-relayed : (seq commit : ℕ) (head : List Sent) (positions : List ℕ) → w.entry.reply ≡ logged.Relay seq commit head positions → ⊥
+      not-relayed : (seq commit : ℕ) (head : List Sent) (positions : List ℕ) → w.entry.reply ≡ brief.Relay seq commit head positions → ⊥
       not-relayed seq commit head positions is =
-          let t : IsRelayReply K r w.before w.entry.session w.entry.request commit head positions = told_there (logged.Relay seq commit head positions) is in
+          let t : IsRelayReply K r w.before w.entry.session w.entry.request commit head positions = told_there (brief.Relay seq commit head positions) is in
           let own : t.client ≡ k = session-client owner s has_s w.before (earlier-rest w.before w.entry H sent-there) t.client (subst (λ (o : ℕ). client_of w.before o ≡ Some t.client) w.session t.joined) in
-          let named : is_in p positions ≡ true = subst (λ (z : Logged). is_in p (positions_in z) ≡ true) is w.named in
+          let named : is_in p positions ≡ true = subst (λ (z : BriefReply). is_in p (positions_in z) ≡ true) is w.named in
           let low : p ≤ t.target = (needed-bounds (actions_of w.before ++ new_of w.before w.entry.session w.entry.request) (commit_of (K.kept w.before)) (sent_to w.before w.entry.session) t.target t.above p
           (subst (λ (ks : List ℕ). is_in p ks ≡ true) t.positions_are named)).1 in
           elim t.kind [
@@ -254,14 +254,14 @@ module _ (awaited : Awaited) where
                       let sub : is_submit_of w.entry.request z.0 ≡ true = ap (λ (q : Request). is_submit_of q z.0) z.1.1.0 ∙ eq-eqb z.0 z.0 refl in
                       let num : z.0 ≡ next_seq w.before k = subst (λ (j : ℕ). z.0 ≡ next_seq w.before j) own fresh.0 in
                       let place : t.target ≡ suc (length (accepted w.before)) = fresh.1.0 ∙ ap suc (actions-count w.before) in
-                      let one' = accepted-one w.entry w.before k z.0 t.target c sub num (logged.Relay seq commit head positions) is (ap (λ (j : ℕ). Accepted j ∷ []) place) in
+                      let one' = accepted-one w.entry w.before k z.0 t.target c sub num (brief.Relay seq commit head positions) is (ap (λ (j : ℕ). Accepted j ∷ []) place) in
                       record { entry = w.entry; before = w.before; there = w.there; client = c; number = num; submit = sub; place = place; grown = one'.1 })
                 ]) low
           ]
 
-      not-seen : (last commit : ℕ) (head : List Sent) (positions : List ℕ) → w.entry.reply ≡ logged.Seen last commit head positions → ⊥
+      not-seen : (last commit : ℕ) (head : List Sent) (positions : List ℕ) → w.entry.reply ≡ brief.Seen last commit head positions → ⊥
       not-seen last commit head positions is =
-          let t : IsSeenReply K r w.before w.entry.session w.entry.request last commit head positions = told_there (logged.Seen last commit head positions) is in
+          let t : IsSeenReply K r w.before w.entry.session w.entry.request last commit head positions = told_there (brief.Seen last commit head positions) is in
           not-looked w.entry w.before w.there (of-from w.entry s w.session (ap is_end t.request)) (requests.Observe t.objects t.wait) t.request refl refl
 
     pub never-sent : is_in p (sent_to g s) ≡ true → ⊥

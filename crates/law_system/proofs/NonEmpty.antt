@@ -8,8 +8,8 @@ use Rattle.sv_wire.specs.declared.message.Item.{Item}
 use Rattle.sv_wire.specs.declared.message.Reply.{Reply}
 use Rattle.sv_wire.specs.declared.message.Reply.TheVariants as replies
 use Rattle.sv_journal.specs.declared.entry.Entry.{Entry}
-use Rattle.sv_journal.specs.declared.entry.Logged.{Logged}
-use Rattle.sv_journal.specs.declared.entry.Logged.TheVariants as logged
+use Rattle.sv_journal.specs.declared.entry.BriefReply.{BriefReply}
+use Rattle.sv_journal.specs.declared.entry.BriefReply.TheVariants as brief
 use Rattle.sv_journal.specs.History.{Authored, Accepted, accepted, actions_of, client_of, commit_of, item_at, full_reply}
 use Rattle.sv_journal.specs.Sessions.{is_over, kept_outcome, sent_to}
 use Rattle.sv_journal.specs.Answer.{Rules, Legal}
@@ -63,18 +63,18 @@ module _ (awaited : Awaited) where
         ]
       ]
 
-  pub positions-some : (seq commit : ℕ) (head : List Sent) (positions : List ℕ) → e.reply ≡ logged.Relay seq commit head positions → positions ≡ [] → ⊥
+  pub positions-some : (seq commit : ℕ) (head : List Sent) (positions : List ℕ) → e.reply ≡ brief.Relay seq commit head positions → positions ≡ [] → ⊥
   positions-some seq commit head positions is none =
       let session : e.session ≡ s = (of-parts e s mine).0 in
-      let t : IsRelayReply K r g e.session e.request commit head positions = subst (λ (y : Logged). TellsFor K r g e.session e.request y) is (served-tells K keeps r e g (earlier-served K r (e ∷ g) H b legal)) in
+      let t : IsRelayReply K r g e.session e.request commit head positions = subst (λ (y : BriefReply). TellsFor K r g e.session e.request y) is (served-tells K keeps r e g (earlier-served K r (e ∷ g) H b legal)) in
       let above : commit_of (K.kept g) < t.target = t.above in
       let free : is_in t.target (sent_to g e.session) ≡ false = false_from_ne_true (is_in t.target (sent_to g e.session)) (λ m. unsent commit head positions t (subst (λ (o : ℕ). is_in t.target (sent_to g o) ≡ true) session m)) in
       let ends = needed-ends (actions_of g ++ new_of g e.session e.request) (commit_of (K.kept g)) (sent_to g e.session) t.target (omega arith) free in
       not-nil ends.0 t.target positions (t.positions_are ∙ ends.1) none
 
-relay-logged : (A : List Authored) (reply : Logged) (seq commit : ℕ) (head : List Sent) (items : List Item) → replies.Relay seq commit head items ≡ full_reply A reply → items ≡ [] →
-    (n : ℕ) × ((c : ℕ) × ((vs : List Sent) × ((ks : List ℕ) × ((reply ≡ logged.Relay n c vs ks) × (ks ≡ [])))))
-relay-logged A (logged.Relay n c vs ks) seq commit head items e none = (n, (c, (vs, (ks, (refl, nothing ks (sym (ap items_in e) ∙ none))))))
+relay-brief : (A : List Authored) (reply : BriefReply) (seq commit : ℕ) (head : List Sent) (items : List Item) → replies.Relay seq commit head items ≡ full_reply A reply → items ≡ [] →
+    (n : ℕ) × ((c : ℕ) × ((vs : List Sent) × ((ks : List ℕ) × ((reply ≡ brief.Relay n c vs ks) × (ks ≡ [])))))
+relay-brief A (brief.Relay n c vs ks) seq commit head items e none = (n, (c, (vs, (ks, (refl, nothing ks (sym (ap items_in e) ∙ none))))))
   where
     items_in : Reply → List Item
     items_in (replies.Relay seq commit head items) = items
@@ -83,22 +83,22 @@ relay-logged A (logged.Relay n c vs ks) seq commit head items e none = (n, (c, (
     nothing : (ks : List ℕ) → map (item_at A) ks ≡ [] → ks ≡ []
     nothing [] f = refl
     nothing (k ∷ ks) f = cc
-relay-logged A (logged.Welcome c vs) seq commit head items e none = cc
-relay-logged A (logged.Dropped n chain far) seq commit head items e none = cc
-relay-logged A (logged.Denied n object) seq commit head items e none = cc
-relay-logged A (logged.Seen last c vs ks) seq commit head items e none = cc
-relay-logged A (logged.Settled n pos) seq commit head items e none = cc
-relay-logged A (logged.Noted c) seq commit head items e none = cc
-relay-logged A logged.Idle seq commit head items e none = cc
-relay-logged A (logged.Refused code detail) seq commit head items e none = cc
-relay-logged A logged.Bye seq commit head items e none = cc
+relay-brief A (brief.Welcome c vs) seq commit head items e none = cc
+relay-brief A (brief.Dropped n chain far) seq commit head items e none = cc
+relay-brief A (brief.Denied n object) seq commit head items e none = cc
+relay-brief A (brief.Seen last c vs ks) seq commit head items e none = cc
+relay-brief A (brief.Settled n pos) seq commit head items e none = cc
+relay-brief A (brief.Noted c) seq commit head items e none = cc
+relay-brief A brief.Idle seq commit head items e none = cc
+relay-brief A (brief.Refused code detail) seq commit head items e none = cc
+relay-brief A brief.Bye seq commit head items e none = cc
 
 pub served-never_empty : (K : Keeping) (r : Rules) (h : List Entry) (L : Trace) (served : IsServed K r h L) (owns : OwnsSessions h L) (s seq commit : ℕ) (head : List Sent) (items : List Item) →
     current_session (reverse L.events) ≡ Some s → KeepsLimits r h L s →
     slice_get (replies_in (accepted h) h s) (length (got (reverse L.events) s)) ≡ Some (replies.Relay seq commit head items) → items ≡ [] → ⊥
 served-never_empty K r h L served owns s seq commit head items current limits is none =
     let x = entered (accepted h) h s (length (got (reverse L.events) s)) (replies.Relay seq commit head items) is in
-    let y = relay-logged (accepted h) x.entry.reply seq commit head items x.replied none in
+    let y = relay-brief (accepted h) x.entry.reply seq commit head items x.replied none in
     let awaited : Awaited = record {
       owner = record { keeping = K; rules = r; journal = h; trace = L; served = served; owns = owns };
       session = s;

@@ -16,8 +16,8 @@ use Rattle.sv_wire.specs.declared.message.Request.TheVariants as requests
 use Rattle.sv_wire.specs.declared.message.Reply.{Reply}
 use Rattle.sv_wire.specs.declared.message.Reply.TheVariants as replies
 use Rattle.sv_journal.specs.declared.entry.Entry.{Entry}
-use Rattle.sv_journal.specs.declared.entry.Logged.{Logged}
-use Rattle.sv_journal.specs.declared.entry.Logged.TheVariants as logged
+use Rattle.sv_journal.specs.declared.entry.BriefReply.{BriefReply}
+use Rattle.sv_journal.specs.declared.entry.BriefReply.TheVariants as brief
 use Rattle.sv_journal.specs.History.{Authored, accepted, actions_of, item_at, full_reply}
 use Rattle.sv_journal.specs.Answer.{Rules}
 use Rattle.sv_journal.specs.Serving.{Keeping}
@@ -56,13 +56,13 @@ observe-only requests.Bad last commit head items a = absurd (true≢false (sym a
 observe-only requests.End last commit head items a = absurd (true≢false (sym a))
 
 -- A reply that is sent as a Seen is one in the journal.
-abbrev IsSeenLogged : List Authored → Logged → ℕ → ℕ → List Sent → List Item → Type 0
-IsSeenLogged A reply last commit head items = (positions : List ℕ) × ((reply ≡ logged.Seen last commit head positions) × (items ≡ map (item_at A) positions))
+abbrev IsSeenBrief : List Authored → BriefReply → ℕ → ℕ → List Sent → List Item → Type 0
+IsSeenBrief A reply last commit head items = (positions : List ℕ) × ((reply ≡ brief.Seen last commit head positions) × (items ≡ map (item_at A) positions))
 
-seen-logged : (A : List Authored) (reply : Logged) (last commit : ℕ) (head : List Sent) (items : List Item) → replies.Seen last commit head items ≡ full_reply A reply →
-    IsSeenLogged A reply last commit head items
-seen-logged A (logged.Seen n c vs ks) last commit head items e =
-    (ks, (ap (λ (m : ℕ). logged.Seen m c vs ks) (sym (ap seen_last e)) ∙ ap (λ (m : ℕ). logged.Seen last m vs ks) (sym (ap seen_commit e)) ∙ ap (λ (ws : List Sent). logged.Seen last commit ws ks) (sym (ap seen_head e)), ap seen_items e))
+seen-brief : (A : List Authored) (reply : BriefReply) (last commit : ℕ) (head : List Sent) (items : List Item) → replies.Seen last commit head items ≡ full_reply A reply →
+    IsSeenBrief A reply last commit head items
+seen-brief A (brief.Seen n c vs ks) last commit head items e =
+    (ks, (ap (λ (m : ℕ). brief.Seen m c vs ks) (sym (ap seen_last e)) ∙ ap (λ (m : ℕ). brief.Seen last m vs ks) (sym (ap seen_commit e)) ∙ ap (λ (ws : List Sent). brief.Seen last commit ws ks) (sym (ap seen_head e)), ap seen_items e))
   where
     seen_last : Reply → ℕ
     seen_last (replies.Seen last commit head items) = last
@@ -79,15 +79,15 @@ seen-logged A (logged.Seen n c vs ks) last commit head items e =
     seen_items : Reply → List Item
     seen_items (replies.Seen last commit head items) = items
     seen_items _ = []
-seen-logged A (logged.Relay seq c vs ks) last commit head items e = cc
-seen-logged A (logged.Welcome c vs) last commit head items e = cc
-seen-logged A (logged.Dropped seq chain far) last commit head items e = cc
-seen-logged A (logged.Denied seq object) last commit head items e = cc
-seen-logged A (logged.Settled seq pos) last commit head items e = cc
-seen-logged A (logged.Noted c) last commit head items e = cc
-seen-logged A logged.Idle last commit head items e = cc
-seen-logged A (logged.Refused code detail) last commit head items e = cc
-seen-logged A logged.Bye last commit head items e = cc
+seen-brief A (brief.Relay seq c vs ks) last commit head items e = cc
+seen-brief A (brief.Welcome c vs) last commit head items e = cc
+seen-brief A (brief.Dropped seq chain far) last commit head items e = cc
+seen-brief A (brief.Denied seq object) last commit head items e = cc
+seen-brief A (brief.Settled seq pos) last commit head items e = cc
+seen-brief A (brief.Noted c) last commit head items e = cc
+seen-brief A brief.Idle last commit head items e = cc
+seen-brief A (brief.Refused code detail) last commit head items e = cc
+seen-brief A brief.Bye last commit head items e = cc
 
 module _ (K : Keeping) (r : Rules) (H : List Entry) (L : Trace) (served : IsServed K r H L) (count : length r.world.values ≡ r.world.shape.objects)
     (serial : ResultsAreSerial r.world.values (actions_of H) (K.kept H)) where
@@ -154,7 +154,7 @@ module _ (K : Keeping) (r : Rules) (H : List Entry) (L : Trace) (served : IsServ
       let a = answers t s reply part in
       let x = entry-of t s reply part in
       let o = observe-only a.request last commit head items a.kind in
-      let y = seen-logged A x.entry.reply last commit head items x.replied in
+      let y = seen-brief A x.entry.reply last commit head items x.replied in
       let seen = legal-seen K keeps r x.entry x.before last commit head y.0 (earlier-served K r (x.entry ∷ x.before) H x.earlier legal) y.1.0 in
       let session : x.entry.session ≡ s = (of-parts x.entry s x.of_it).0 in
       let same_objects : numbers_of seen.objects ≡ numbers_of o.0 =

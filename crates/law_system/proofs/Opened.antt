@@ -12,8 +12,8 @@ use Rattle.sv_wire.specs.declared.message.Request.{Request}
 use Rattle.sv_wire.specs.declared.message.Request.TheVariants as requests
 use Rattle.sv_wire.specs.declared.message.Reply.{Reply}
 use Rattle.sv_journal.specs.declared.entry.Entry.{Entry}
-use Rattle.sv_journal.specs.declared.entry.Logged.{Logged}
-use Rattle.sv_journal.specs.declared.entry.Logged.TheVariants as logged
+use Rattle.sv_journal.specs.declared.entry.BriefReply.{BriefReply}
+use Rattle.sv_journal.specs.declared.entry.BriefReply.TheVariants as brief
 use Rattle.sv_journal.specs.History.{Authored, accepted, client_of, is_client, is_welcome, joining, full_reply, either}
 use Rattle.sv_journal.specs.Sessions.{is_end, is_last, welcomes, is_over, life_of, is_ended}
 use Rattle.sv_client.specs.declared.trace.Event.{Event}
@@ -47,17 +47,17 @@ joining-of requests.Leave k e = absurd (none-some k e)
 joining-of requests.Bad k e = absurd (none-some k e)
 joining-of requests.End k e = absurd (none-some k e)
 
-pub welcome-of : (reply : Logged) → is_welcome reply ≡ true → (commit : ℕ) × ((head : List Sent) × (reply ≡ logged.Welcome commit head))
-welcome-of (logged.Welcome commit head) e = (commit, (head, refl))
-welcome-of (logged.Relay seq commit head positions) e = absurd (true≢false (sym e))
-welcome-of (logged.Dropped seq chain far) e = absurd (true≢false (sym e))
-welcome-of (logged.Denied seq object) e = absurd (true≢false (sym e))
-welcome-of (logged.Seen last commit head positions) e = absurd (true≢false (sym e))
-welcome-of (logged.Settled seq pos) e = absurd (true≢false (sym e))
-welcome-of (logged.Noted commit) e = absurd (true≢false (sym e))
-welcome-of logged.Idle e = absurd (true≢false (sym e))
-welcome-of (logged.Refused code detail) e = absurd (true≢false (sym e))
-welcome-of logged.Bye e = absurd (true≢false (sym e))
+pub welcome-of : (reply : BriefReply) → is_welcome reply ≡ true → (commit : ℕ) × ((head : List Sent) × (reply ≡ brief.Welcome commit head))
+welcome-of (brief.Welcome commit head) e = (commit, (head, refl))
+welcome-of (brief.Relay seq commit head positions) e = absurd (true≢false (sym e))
+welcome-of (brief.Dropped seq chain far) e = absurd (true≢false (sym e))
+welcome-of (brief.Denied seq object) e = absurd (true≢false (sym e))
+welcome-of (brief.Seen last commit head positions) e = absurd (true≢false (sym e))
+welcome-of (brief.Settled seq pos) e = absurd (true≢false (sym e))
+welcome-of (brief.Noted commit) e = absurd (true≢false (sym e))
+welcome-of brief.Idle e = absurd (true≢false (sym e))
+welcome-of (brief.Refused code detail) e = absurd (true≢false (sym e))
+welcome-of brief.Bye e = absurd (true≢false (sym e))
 
 -- An entry that welcomed client k in the session.
 pub record IsWelcomedBy (h : List Entry) (s k : ℕ) : Type 0 where
@@ -155,17 +155,17 @@ ended-since : (d : Entry) (h g : List Entry) (s : ℕ) → IsEarlier (d ∷ h) g
 ended-since d h whole s same is e = or_left ((d.session == s) && is_end d.request) (is_ended h s) (and_from (d.session == s) (is_end d.request) (eq-eqb d.session s is) e)
 ended-since d h whole s (after {g} c b) is e = or_right ((c.session == s) && is_end c.request) (is_ended g s) (ended-since d h g s b is e)
 
-last-kinds : (q : Request) (A : List Authored) (reply : Logged) → is_last reply ≡ true → allows q (full_reply A reply) ≡ true → q ≡ requests.Leave
-last-kinds q A logged.Bye l a = leave-only q a
-last-kinds q A (logged.Refused code detail) l a = absurd (true≢false (sym a ∙ never-refused q code detail))
-last-kinds q A (logged.Welcome commit head) l a = absurd (true≢false (sym l))
-last-kinds q A (logged.Relay seq commit head positions) l a = absurd (true≢false (sym l))
-last-kinds q A (logged.Dropped seq chain far) l a = absurd (true≢false (sym l))
-last-kinds q A (logged.Denied seq object) l a = absurd (true≢false (sym l))
-last-kinds q A (logged.Seen last commit head positions) l a = absurd (true≢false (sym l))
-last-kinds q A (logged.Settled seq pos) l a = absurd (true≢false (sym l))
-last-kinds q A (logged.Noted commit) l a = absurd (true≢false (sym l))
-last-kinds q A logged.Idle l a = absurd (true≢false (sym l))
+last-kinds : (q : Request) (A : List Authored) (reply : BriefReply) → is_last reply ≡ true → allows q (full_reply A reply) ≡ true → q ≡ requests.Leave
+last-kinds q A brief.Bye l a = leave-only q a
+last-kinds q A (brief.Refused code detail) l a = absurd (true≢false (sym a ∙ never-refused q code detail))
+last-kinds q A (brief.Welcome commit head) l a = absurd (true≢false (sym l))
+last-kinds q A (brief.Relay seq commit head positions) l a = absurd (true≢false (sym l))
+last-kinds q A (brief.Dropped seq chain far) l a = absurd (true≢false (sym l))
+last-kinds q A (brief.Denied seq object) l a = absurd (true≢false (sym l))
+last-kinds q A (brief.Seen last commit head positions) l a = absurd (true≢false (sym l))
+last-kinds q A (brief.Settled seq pos) l a = absurd (true≢false (sym l))
+last-kinds q A (brief.Noted commit) l a = absurd (true≢false (sym l))
+last-kinds q A brief.Idle l a = absurd (true≢false (sym l))
 
 -- A Join that a session of a trace has in the journal is one that the trace asks.
 pub join-of : (shape : Shape) (H : List Entry) (M : Trace) → FitsButValues shape H M → (e : Entry) (h : List Entry) → IsEarlier (e ∷ h) H → has_session M e.session ≡ true →

@@ -13,8 +13,8 @@ use Rattle.sv_wire.specs.declared.message.Reply.{Reply}
 use Rattle.sv_wire.specs.declared.message.Reply.TheVariants as replies
 use Rattle.sv_wire.specs.declared.message.ObjectValue.{ObjectValue as Sent}
 use Rattle.sv_journal.specs.declared.entry.Entry.{Entry}
-use Rattle.sv_journal.specs.declared.entry.Logged.{Logged}
-use Rattle.sv_journal.specs.declared.entry.Logged.TheVariants as logged
+use Rattle.sv_journal.specs.declared.entry.BriefReply.{BriefReply}
+use Rattle.sv_journal.specs.declared.entry.BriefReply.TheVariants as brief
 use Rattle.sv_journal.specs.History.{Authored, accepted, client_of, joining, full_reply}
 use Rattle.sv_journal.specs.Sessions.{is_over, life_in, life_of}
 use Rattle.sv_journal.specs.Answer.{Rules, refused}
@@ -47,20 +47,20 @@ first_session [] = 0
 first_session (e ∷ h) = e.session
 
 -- Only a Welcome may answer a Join.
-welcome-logged : (A : List Authored) (q : Request) (client : ClientId) (life : ℕ) (interest : List ObjectId) → q ≡ requests.Join client life interest →
-    (reply : Logged) → allows q (full_reply A reply) ≡ true → (commit : ℕ) × ((head : List Sent) × (reply ≡ logged.Welcome commit head))
-welcome-logged A q client life interest e (logged.Welcome commit head) a = (commit, (head, refl))
-welcome-logged A q client life interest e (logged.Relay seq commit head positions) a =
-    absurd (true≢false (sym a ∙ ap (λ (p : Request). allows p (full_reply A (logged.Relay seq commit head positions))) e))
-welcome-logged A q client life interest e (logged.Dropped seq chain far) a = absurd (true≢false (sym a ∙ ap (λ (p : Request). allows p (replies.Dropped seq chain far)) e))
-welcome-logged A q client life interest e (logged.Denied seq object) a = absurd (true≢false (sym a ∙ ap (λ (p : Request). allows p (replies.Denied seq object)) e))
-welcome-logged A q client life interest e (logged.Seen last commit head positions) a =
-    absurd (true≢false (sym a ∙ ap (λ (p : Request). allows p (full_reply A (logged.Seen last commit head positions))) e))
-welcome-logged A q client life interest e (logged.Settled seq pos) a = absurd (true≢false (sym a ∙ ap (λ (p : Request). allows p (replies.Settled seq pos)) e))
-welcome-logged A q client life interest e (logged.Noted commit) a = absurd (true≢false (sym a ∙ ap (λ (p : Request). allows p (replies.Noted commit)) e))
-welcome-logged A q client life interest e logged.Idle a = absurd (true≢false (sym a ∙ ap (λ (p : Request). allows p replies.Idle) e))
-welcome-logged A q client life interest e (logged.Refused code detail) a = absurd (true≢false (sym a ∙ ap (λ (p : Request). allows p (replies.Refused code detail)) e))
-welcome-logged A q client life interest e logged.Bye a = absurd (true≢false (sym a ∙ ap (λ (p : Request). allows p replies.Bye) e))
+welcome-brief : (A : List Authored) (q : Request) (client : ClientId) (life : ℕ) (interest : List ObjectId) → q ≡ requests.Join client life interest →
+    (reply : BriefReply) → allows q (full_reply A reply) ≡ true → (commit : ℕ) × ((head : List Sent) × (reply ≡ brief.Welcome commit head))
+welcome-brief A q client life interest e (brief.Welcome commit head) a = (commit, (head, refl))
+welcome-brief A q client life interest e (brief.Relay seq commit head positions) a =
+    absurd (true≢false (sym a ∙ ap (λ (p : Request). allows p (full_reply A (brief.Relay seq commit head positions))) e))
+welcome-brief A q client life interest e (brief.Dropped seq chain far) a = absurd (true≢false (sym a ∙ ap (λ (p : Request). allows p (replies.Dropped seq chain far)) e))
+welcome-brief A q client life interest e (brief.Denied seq object) a = absurd (true≢false (sym a ∙ ap (λ (p : Request). allows p (replies.Denied seq object)) e))
+welcome-brief A q client life interest e (brief.Seen last commit head positions) a =
+    absurd (true≢false (sym a ∙ ap (λ (p : Request). allows p (full_reply A (brief.Seen last commit head positions))) e))
+welcome-brief A q client life interest e (brief.Settled seq pos) a = absurd (true≢false (sym a ∙ ap (λ (p : Request). allows p (replies.Settled seq pos)) e))
+welcome-brief A q client life interest e (brief.Noted commit) a = absurd (true≢false (sym a ∙ ap (λ (p : Request). allows p (replies.Noted commit)) e))
+welcome-brief A q client life interest e brief.Idle a = absurd (true≢false (sym a ∙ ap (λ (p : Request). allows p replies.Idle) e))
+welcome-brief A q client life interest e (brief.Refused code detail) a = absurd (true≢false (sym a ∙ ap (λ (p : Request). allows p (replies.Refused code detail)) e))
+welcome-brief A q client life interest e brief.Bye a = absurd (true≢false (sym a ∙ ap (λ (p : Request). allows p replies.Bye) e))
 
 -- A Bye answers a Leave alone.
 pub leave-only : (q : Request) → allows q replies.Bye ≡ true → q ≡ requests.Leave
@@ -141,7 +141,7 @@ module _ (K : Keeping) (r : Rules) (H : List Entry) (L : Trace) (served : IsServ
             let first : slice_get (asked L.client L.interest whole s) 0 ≡ Some join = ap (λ (qs : List Request). slice_get qs 0) begun.asked_are in
             let asked_join : a.request ≡ join = same_Some a.request join (sym asked_there ∙ first) in
             let request_join : i.entry.request ≡ join = entered-as H L s (fits.sessions s (got-has s 0 reply is)) 0 i.entry.request join request_there first refl in
-            let w = welcome-logged A a.request L.client begun.life L.interest asked_join i.entry.reply (subst (λ (y : Reply). allows a.request y ≡ true) i.replied a.kind) in
+            let w = welcome-brief A a.request L.client begun.life L.interest asked_join i.entry.reply (subst (λ (y : Reply). allows a.request y ≡ true) i.replied a.kind) in
             record {
               entry = i.entry;
               before = i.before;
@@ -158,7 +158,7 @@ module _ (K : Keeping) (r : Rules) (H : List Entry) (L : Trace) (served : IsServ
       (client_of h e.session ≡ None) × (life_of h client.0 < life)
   welcome-legal e h client life b w =
       let t : IsWelcomeReply K r h e.session e.request w.commit w.head =
-      subst (λ (reply : Logged). TellsFor K r h e.session e.request reply) w.reply (served-tells K keeps r e h (earlier-served K r (e ∷ h) H b legal)) in
+      subst (λ (reply : BriefReply). TellsFor K r h e.session e.request reply) w.reply (served-tells K keeps r e h (earlier-served K r (e ∷ h) H b legal)) in
       let same_life : t.life ≡ life = ap life_in (sym t.request ∙ w.request) in
       let same_client : t.client.0 ≡ client.0 = same_Some t.client.0 client.0 (ap joining (sym t.request ∙ w.request)) in
       (t.fresh, subst (λ (n : ℕ). life_of h client.0 < n) same_life (subst (λ (k : ℕ). life_of h k < t.life) same_client t.later))

@@ -20,8 +20,8 @@ use Rattle.sv_wire.specs.declared.message.Item.{Item}
 use Rattle.sv_wire.specs.declared.message.Request.{Request}
 use Rattle.sv_wire.specs.declared.message.Reply.{Reply}
 use Rattle.sv_wire.specs.declared.message.Reply.TheVariants as replies
-use Rattle.sv_journal.specs.declared.entry.Logged.{Logged}
-use Rattle.sv_journal.specs.declared.entry.Logged.TheVariants as logged
+use Rattle.sv_journal.specs.declared.entry.BriefReply.{BriefReply}
+use Rattle.sv_journal.specs.declared.entry.BriefReply.TheVariants as brief
 use Rattle.sv_journal.specs.History.{Authored, accepted, actions_of, item_at, full_reply, commit_of}
 use Rattle.sv_journal.specs.Sessions.{sent_to, already_given}
 use Rattle.sv_journal.specs.Answer.{committed_held}
@@ -42,7 +42,7 @@ use Rattle.law_system.proofs.Tests.{three-false, five-false}
 use Rattle.law_system.proofs.Awaited.{Awaited}
 use Rattle.law_system.proofs.Covers.{covered-found}
 use Rattle.law_system.proofs.Histories.{IsEarlier, same, earlier-rest, earlier-served, accepted-grows}
-use Rattle.law_system.proofs.Replies.{TellsFor, IsWelcomeReply, served-tells, logged_head}
+use Rattle.law_system.proofs.Replies.{TellsFor, IsWelcomeReply, served-tells, brief_head}
 use Rattle.law_system.proofs.Lawful.{IsLegalRelay, legal-relay, IsLegalSeen, legal-seen, objects-named}
 use Rattle.law_system.proofs.Entered.{is_of, of-parts, replies-earlier}
 use Rattle.law_system.proofs.Asked.{all}
@@ -134,7 +134,7 @@ module _ (awaited : Awaited) where
   not-back : (c : ℕ) → commit_of (K.kept g) ≤ c → goes_back (Some c) (told whole) ≡ false
   not-back c l = le-ltb c (told whole) (let t : told whole ≤ commit_of (K.kept g) = told-least in omega arith)
 
-  relay-ordered : (seq commit : ℕ) (head : List ObjectValue) (positions : List ℕ) → IsLegalRelay K r e g commit head positions → is_out_of_order whole (full_reply A (logged.Relay seq commit head positions)) ≡ false
+  relay-ordered : (seq commit : ℕ) (head : List ObjectValue) (positions : List ℕ) → IsLegalRelay K r e g commit head positions → is_out_of_order whole (full_reply A (brief.Relay seq commit head positions)) ≡ false
   relay-ordered seq commit head positions t =
       let xs = head_for r.world.shape.objects (actions_of (e ∷ g)) (commit_of (K.kept g)) (sent_to g e.session) (already_given r.world.shape.objects (K.kept g) e.session) t.target in
       let needed = needed_for (actions_of (e ∷ g)) (commit_of (K.kept g)) (sent_to g e.session) t.target in
@@ -150,7 +150,7 @@ module _ (awaited : Awaited) where
       (not-back commit (omega arith)) refl
 
   seen-ordered : length A ≤ most_positions → (last commit : ℕ) (head : List ObjectValue) (positions : List ℕ) → IsLegalSeen K r e g last commit head positions →
-      is_out_of_order whole (full_reply A (logged.Seen last commit head positions)) ≡ false
+      is_out_of_order whole (full_reply A (brief.Seen last commit head positions)) ≡ false
   seen-ordered room last commit head positions t =
       let acts = actions_of (e ∷ g) in
       let seen = numbers_of t.objects in
@@ -176,11 +176,11 @@ module _ (awaited : Awaited) where
       (three-false (nat_lt last commit) (list_any (λ (i : Item). nat_lt last i.pos) items) (nat_lt most_positions last)
       (le-ltb last commit (omega arith)) (none-above A last positions (λ k m. (bounds k m).1)) (le-ltb most_positions last (omega arith)))
 
-  welcome-ordered : (commit : ℕ) (head : List ObjectValue) → IsWelcomeReply K r g e.session e.request commit head → e.reply ≡ logged.Welcome commit head → is_out_of_order whole (replies.Welcome commit head) ≡ false
+  welcome-ordered : (commit : ℕ) (head : List ObjectValue) → IsWelcomeReply K r g e.session e.request commit head → e.reply ≡ brief.Welcome commit head → is_out_of_order whole (replies.Welcome commit head) ≡ false
   welcome-ordered commit head t is =
       let w = join-welcomed awaited t.client t.life t.interest t.request in
       let xs = map (λ (o : ObjectId). o.0) L.interest in
-      let heads : head ≡ committed_held r (K.kept g) xs = ap logged_head (sym is ∙ w.0) in
+      let heads : head ≡ committed_held r (K.kept g) xs = ap brief_head (sym is ∙ w.0) in
       let c : commit ≡ commit_of (K.kept g) = t.commit_is in
       five-false (not (is_ascending (head_objects head))) false false (goes_back (Some commit) (told whole)) false
       (not_from_true (is_ascending (head_objects head))
@@ -188,22 +188,22 @@ module _ (awaited : Awaited) where
       refl refl (not-back commit (omega arith)) refl
 
   -- The next reply is in order.
-  pub ordered : length A ≤ most_positions → (reply : Logged) → e.reply ≡ reply → is_out_of_order whole (full_reply A reply) ≡ false
-  ordered room (logged.Relay seq commit head positions) is = relay-ordered seq commit head positions (legal-relay K keeps r e g seq commit head positions legal_here is)
-  ordered room (logged.Welcome commit head) is =
-      welcome-ordered commit head (subst (λ (y : Logged). TellsFor K r g e.session e.request y) is (served-tells K keeps r e g legal_here)) is
-  ordered room (logged.Noted commit) is =
-      let t : TellsFor K r g e.session e.request (logged.Noted commit) = subst (λ (y : Logged). TellsFor K r g e.session e.request y) is (served-tells K keeps r e g legal_here) in
+  pub ordered : length A ≤ most_positions → (reply : BriefReply) → e.reply ≡ reply → is_out_of_order whole (full_reply A reply) ≡ false
+  ordered room (brief.Relay seq commit head positions) is = relay-ordered seq commit head positions (legal-relay K keeps r e g seq commit head positions legal_here is)
+  ordered room (brief.Welcome commit head) is =
+      welcome-ordered commit head (subst (λ (y : BriefReply). TellsFor K r g e.session e.request y) is (served-tells K keeps r e g legal_here)) is
+  ordered room (brief.Noted commit) is =
+      let t : TellsFor K r g e.session e.request (brief.Noted commit) = subst (λ (y : BriefReply). TellsFor K r g e.session e.request y) is (served-tells K keeps r e g legal_here) in
       let now : commit ≡ commit_of (K.kept (e ∷ g)) = t.1.1 ∙ noted-commit K keeps e g commit is in
       let grows : commit_of (K.kept g) ≤ commit_of (K.kept (e ∷ g)) = commit_grows-kept K keeps e g in
       five-false false false false (goes_back (Some commit) (told whole)) false refl refl refl (not-back commit (omega arith)) refl
-  ordered room (logged.Dropped seq chain far) is = refl
-  ordered room (logged.Denied seq object) is = refl
-  ordered room (logged.Seen last commit head positions) is = seen-ordered room last commit head positions (legal-seen K keeps r e g last commit head positions legal_here is)
-  ordered room (logged.Settled seq pos) is = refl
-  ordered room logged.Idle is = refl
-  ordered room (logged.Refused code detail) is = refl
-  ordered room logged.Bye is = refl
+  ordered room (brief.Dropped seq chain far) is = refl
+  ordered room (brief.Denied seq object) is = refl
+  ordered room (brief.Seen last commit head positions) is = seen-ordered room last commit head positions (legal-seen K keeps r e g last commit head positions legal_here is)
+  ordered room (brief.Settled seq pos) is = refl
+  ordered room brief.Idle is = refl
+  ordered room (brief.Refused code detail) is = refl
+  ordered room brief.Bye is = refl
 
   with-next : (o : ℕ) → IsFront (got (events.Got s (full_reply A e.reply) ∷ whole) o) (replies_in A H o)
   with-next o =
@@ -216,9 +216,9 @@ module _ (awaited : Awaited) where
             (subst (λ (xs : List Reply). IsFront xs (replies_in A H s)) (cond-true (is_of e s) (replies_in A g s ++ reply ∷ []) (replies_in A g s) mine) (replies-earlier A (e ∷ g) H b s)))
       ]
 
-  all-held : (count : length r.world.values ≡ r.world.shape.objects) → ResultsAreSerial r.world.values (actions_of H) (K.kept H) → (reply : Logged) → e.reply ≡ reply →
+  all-held : (count : length r.world.values ≡ r.world.shape.objects) → ResultsAreSerial r.world.values (actions_of H) (K.kept H) → (reply : BriefReply) → e.reply ≡ reply →
       IsAllHeld (held_of whole) e.request (full_reply A reply)
-  all-held count serial (logged.Seen last commit head positions) is =
+  all-held count serial (brief.Seen last commit head positions) is =
       let t = legal-seen K keeps r e g last commit head positions legal_here is in
       let session : e.session ≡ s = (of-parts e s mine).0 in
       let all_got : got whole e.session ≡ replies_in A g e.session = subst (λ (o : ℕ). got whole o ≡ replies_in A g o) (sym session) (got-same awaited) in
@@ -226,15 +226,15 @@ module _ (awaited : Awaited) where
       subst (λ (q : Request). first_unheld held (suc last) (observed_by (kind_of q)) ≡ None) (sym t.request)
       (none-unheld held (suc last) (λ x. slice_index_or (serial_world r.world.values (actions_of H) last) x []) (numbers_of t.objects)
       (seen-whole K keeps r H count legal serial e g b whole (got-replied K r H L served) all_got last commit head positions is t))
-  all-held count serial (logged.Relay seq commit head positions) is = tt
-  all-held count serial (logged.Welcome commit head) is = tt
-  all-held count serial (logged.Noted commit) is = tt
-  all-held count serial (logged.Dropped seq chain far) is = tt
-  all-held count serial (logged.Denied seq object) is = tt
-  all-held count serial (logged.Settled seq pos) is = tt
-  all-held count serial logged.Idle is = tt
-  all-held count serial (logged.Refused code detail) is = tt
-  all-held count serial logged.Bye is = tt
+  all-held count serial (brief.Relay seq commit head positions) is = tt
+  all-held count serial (brief.Welcome commit head) is = tt
+  all-held count serial (brief.Noted commit) is = tt
+  all-held count serial (brief.Dropped seq chain far) is = tt
+  all-held count serial (brief.Denied seq object) is = tt
+  all-held count serial (brief.Settled seq pos) is = tt
+  all-held count serial brief.Idle is = tt
+  all-held count serial (brief.Refused code detail) is = tt
+  all-held count serial brief.Bye is = tt
 
   -- No value that it needs is missing.
   pub complete : length r.world.values ≡ r.world.shape.objects → ResultsAreSerial r.world.values (actions_of H) (K.kept H) →

@@ -8,7 +8,7 @@ use Rattle.sv_pending.specs.Pending.{PendingAction}
 use Rattle.sv_wire.specs.declared.message.ObjectValue.{ObjectValue as Sent}
 use Rattle.sv_wire.specs.declared.message.Request.TheVariants as requests
 use Rattle.sv_journal.specs.declared.entry.Entry.{Entry}
-use Rattle.sv_journal.specs.declared.entry.Logged.TheVariants as logged
+use Rattle.sv_journal.specs.declared.entry.BriefReply.TheVariants as brief
 use Rattle.sv_journal.specs.History.{Authored, Accepted, is_relay, new_action, client_of, outcomes_of, accepted, actions_of, next_seq, authored_at, item_at, commit_of}
 use Rattle.sv_journal.specs.Sessions.{is_end, kept_outcome, sent_to}
 use Rattle.sv_journal.proofs.Named.{client_is, submit_is}
@@ -156,7 +156,7 @@ module _ (awaited : Awaited) where
       ]
 
   -- The positions of a relay that is the next reply end with the one that it is of.
-  pub positions-end : (seq commit : ℕ) (head : List Sent) (positions : List ℕ) → e.reply ≡ logged.Relay seq commit head positions →
+  pub positions-end : (seq commit : ℕ) (head : List Sent) (positions : List ℕ) → e.reply ≡ brief.Relay seq commit head positions →
       (t : IsRelayReply K r g e.session e.request commit head positions) → (xs : List ℕ) × (positions ≡ xs ++ t.target ∷ [])
   positions-end seq commit head positions is t =
       let acts = actions_of g ++ new_of g e.session e.request in
@@ -169,7 +169,7 @@ module _ (awaited : Awaited) where
       (ends.0, t.positions_are ∙ ends.1)
 
   -- So its items end with the front pending action.
-  pub submit-ends : (seq commit : ℕ) (head : List Sent) (positions : List ℕ) → e.reply ≡ logged.Relay seq commit head positions →
+  pub submit-ends : (seq commit : ℕ) (head : List Sent) (positions : List ℕ) → e.reply ≡ brief.Relay seq commit head positions →
       IsRelayReply K r g e.session e.request commit head positions → (n : ℕ) (a : Action) → e.request ≡ requests.Submit n a → (ps : List PendingAction) (ks : List Numbered) → keys ps ≡ (n, a) ∷ ks →
       ends_with_front who ps (map (item_at A) positions) ≡ true
   submit-ends seq commit head positions is t n a request ps ks front =

@@ -10,8 +10,8 @@ use Rattle.sv_wire.specs.declared.message.Request.TheVariants as requests
 use Rattle.sv_wire.specs.declared.message.Reply.{Reply}
 use Rattle.sv_wire.specs.declared.message.Reply.TheVariants as replies
 use Rattle.sv_journal.specs.declared.entry.Entry.{Entry}
-use Rattle.sv_journal.specs.declared.entry.Logged.{Logged}
-use Rattle.sv_journal.specs.declared.entry.Logged.TheVariants as logged
+use Rattle.sv_journal.specs.declared.entry.BriefReply.{BriefReply}
+use Rattle.sv_journal.specs.declared.entry.BriefReply.TheVariants as brief
 use Rattle.sv_journal.specs.History.{Authored, accepted, full_reply}
 use Rattle.sv_journal.specs.Sessions.{is_end}
 use Rattle.sv_journal.specs.Answer.{Rules}
@@ -68,26 +68,26 @@ tellings-got (events.Cut ∷ t) s = tellings-got t s
 tellings-got (events.Quit ∷ t) s = tellings-got t s
 tellings-got (events.Show objects ∷ t) s = tellings-got t s
 
-replied-by : (A : List Authored) (reply : Logged) (n count s : ℕ) (ds : List Delivery) (rs : List Reply) → tellings_to A ds s ≡ flat_map telling_in rs →
+replied-by : (A : List Authored) (reply : BriefReply) (n count s : ℕ) (ds : List Delivery) (rs : List Reply) → tellings_to A ds s ≡ flat_map telling_in rs →
     tellings_to A (delivery_by n count reply ++ ds) s ≡ flat_map telling_in (if n == s then rs ++ full_reply A reply ∷ [] else rs)
-replied-by A (logged.Welcome commit head) n count s ds rs e =
+replied-by A (brief.Welcome commit head) n count s ds rs e =
     ap (λ l. if n == s then l ++ record { commit = commit; head = head; items = [] } ∷ [] else l) e
     ∙ sym (flat-if telling_in (n == s) rs (replies.Welcome commit head))
-replied-by A (logged.Relay seq commit head positions) n count s ds rs e =
-    ap (λ l. if n == s then l ++ telling_in (full_reply A (logged.Relay seq commit head positions)) else l) e
-    ∙ sym (flat-if telling_in (n == s) rs (full_reply A (logged.Relay seq commit head positions)))
-replied-by A (logged.Dropped seq chain far) n count s ds rs e = e ∙ sym (flat-if telling_in (n == s) rs (replies.Dropped seq chain far) ∙ no_more (n == s) (flat_map telling_in rs))
-replied-by A (logged.Denied seq object) n count s ds rs e = e ∙ sym (flat-if telling_in (n == s) rs (replies.Denied seq object) ∙ no_more (n == s) (flat_map telling_in rs))
-replied-by A (logged.Seen last commit head positions) n count s ds rs e =
-    ap (λ l. if n == s then l ++ telling_in (full_reply A (logged.Seen last commit head positions)) else l) e
-    ∙ sym (flat-if telling_in (n == s) rs (full_reply A (logged.Seen last commit head positions)))
-replied-by A (logged.Settled seq pos) n count s ds rs e = e ∙ sym (flat-if telling_in (n == s) rs (replies.Settled seq pos) ∙ no_more (n == s) (flat_map telling_in rs))
-replied-by A (logged.Noted commit) n count s ds rs e = e ∙ sym (flat-if telling_in (n == s) rs (replies.Noted commit) ∙ no_more (n == s) (flat_map telling_in rs))
-replied-by A logged.Idle n count s ds rs e = e ∙ sym (flat-if telling_in (n == s) rs replies.Idle ∙ no_more (n == s) (flat_map telling_in rs))
-replied-by A (logged.Refused code detail) n count s ds rs e = e ∙ sym (flat-if telling_in (n == s) rs (replies.Refused code detail) ∙ no_more (n == s) (flat_map telling_in rs))
-replied-by A logged.Bye n count s ds rs e = e ∙ sym (flat-if telling_in (n == s) rs replies.Bye ∙ no_more (n == s) (flat_map telling_in rs))
+replied-by A (brief.Relay seq commit head positions) n count s ds rs e =
+    ap (λ l. if n == s then l ++ telling_in (full_reply A (brief.Relay seq commit head positions)) else l) e
+    ∙ sym (flat-if telling_in (n == s) rs (full_reply A (brief.Relay seq commit head positions)))
+replied-by A (brief.Dropped seq chain far) n count s ds rs e = e ∙ sym (flat-if telling_in (n == s) rs (replies.Dropped seq chain far) ∙ no_more (n == s) (flat_map telling_in rs))
+replied-by A (brief.Denied seq object) n count s ds rs e = e ∙ sym (flat-if telling_in (n == s) rs (replies.Denied seq object) ∙ no_more (n == s) (flat_map telling_in rs))
+replied-by A (brief.Seen last commit head positions) n count s ds rs e =
+    ap (λ l. if n == s then l ++ telling_in (full_reply A (brief.Seen last commit head positions)) else l) e
+    ∙ sym (flat-if telling_in (n == s) rs (full_reply A (brief.Seen last commit head positions)))
+replied-by A (brief.Settled seq pos) n count s ds rs e = e ∙ sym (flat-if telling_in (n == s) rs (replies.Settled seq pos) ∙ no_more (n == s) (flat_map telling_in rs))
+replied-by A (brief.Noted commit) n count s ds rs e = e ∙ sym (flat-if telling_in (n == s) rs (replies.Noted commit) ∙ no_more (n == s) (flat_map telling_in rs))
+replied-by A brief.Idle n count s ds rs e = e ∙ sym (flat-if telling_in (n == s) rs replies.Idle ∙ no_more (n == s) (flat_map telling_in rs))
+replied-by A (brief.Refused code detail) n count s ds rs e = e ∙ sym (flat-if telling_in (n == s) rs (replies.Refused code detail) ∙ no_more (n == s) (flat_map telling_in rs))
+replied-by A brief.Bye n count s ds rs e = e ∙ sym (flat-if telling_in (n == s) rs replies.Bye ∙ no_more (n == s) (flat_map telling_in rs))
 
-end-bye : (K : Keeping) (r : Rules) (h : List Entry) (s : ℕ) (q : Request) → is_end q ≡ true → reply_for K r h s q ≡ logged.Bye
+end-bye : (K : Keeping) (r : Rules) (h : List Entry) (s : ℕ) (q : Request) → is_end q ≡ true → reply_for K r h s q ≡ brief.Bye
 end-bye K r h s requests.End e = refl
 end-bye K r h s (requests.Join client life interest) e = absurd (true≢false (sym e))
 end-bye K r h s (requests.Submit seq a) e = absurd (true≢false (sym e))
@@ -112,7 +112,7 @@ tellings-replied K r A (e ∷ h) l s =
     let before = tellings-replied K r A h l.1 s in
     let n = length (accepted (e ∷ h)) in
     elim (cases_Bool (is_end e.request)) [
-      | inl y ↦ ap (λ (reply : Logged). tellings_to A (delivery_by e.session n reply ++ deliveries_of h) s) (l.0 ∙ end-bye K r h e.session e.request y)
+      | inl y ↦ ap (λ (reply : BriefReply). tellings_to A (delivery_by e.session n reply ++ deliveries_of h) s) (l.0 ∙ end-bye K r h e.session e.request y)
           ∙ before
           ∙ sym (ap (λ (b : Bool). flat_map telling_in (if b then replies_in A h s ++ full_reply A e.reply ∷ [] else replies_in A h s)) (and_left_out (e.session == s) (is_end e.request) y))
       | inr k ↦ replied-by A e.reply e.session n s (deliveries_of h) (replies_in A h s) before

@@ -17,8 +17,8 @@ use Rattle.sv_wire.specs.declared.message.ObjectValue.{ObjectValue}
 use Rattle.sv_wire.specs.declared.message.Request.{Request}
 use Rattle.sv_wire.specs.declared.message.Request.TheVariants as requests
 use Rattle.sv_journal.specs.declared.entry.Entry.{Entry}
-use Rattle.sv_journal.specs.declared.entry.Logged.{Logged}
-use Rattle.sv_journal.specs.declared.entry.Logged.TheVariants as logged
+use Rattle.sv_journal.specs.declared.entry.BriefReply.{BriefReply}
+use Rattle.sv_journal.specs.declared.entry.BriefReply.TheVariants as brief
 use Rattle.sv_journal.specs.History.{Authored, Outcome, Accepted, Dropped, Denied, new_action, outcomes_of, client_of, accepted, actions_of, next_seq, commit_of}
 use Rattle.sv_journal.specs.Sessions.{is_over, is_live, is_end, life_of, kept_outcome, sent_to, already_given}
 use Rattle.sv_journal.specs.Answer.{Rules, refused, committed_held, reply_to, Legal}
@@ -85,9 +85,9 @@ pub record IsSeenReply (K : Keeping) (r : Rules) (h : List Entry) (s : ℕ) (q :
       (already_given r.world.shape.objects (K.kept h) s) (numbers_of objects) last)
 
 -- The head of a welcome.
-abbrev pub logged_head : Logged → List ObjectValue
-logged_head (logged.Welcome commit head) = head
-logged_head _ = []
+abbrev pub brief_head : BriefReply → List ObjectValue
+brief_head (brief.Welcome commit head) = head
+brief_head _ = []
 
 -- A reply to a client's Submit with this number, whose outcome is kept or which has the client's next number.
 abbrev pub AnswersSubmit : List Entry → ℕ → Request → ℕ → Type 0
@@ -99,16 +99,16 @@ AnswersKept h s q n = (k : ℕ) × ((client_of h s ≡ Some k) × ((a : Action) 
 
 -- The commit after a Done.
 abbrev pub commit_after : Keeping → List Entry → ℕ → Request → ℕ
-commit_after K h s q = commit_of (K.kept (record { session = s; request = q; reply = logged.Noted 0 } ∷ h))
+commit_after K h s q = commit_of (K.kept (record { session = s; request = q; reply = brief.Noted 0 } ∷ h))
 
-abbrev pub TellsFor : Keeping → Rules → List Entry → ℕ → Request → Logged → Type 0
-TellsFor K r h s q (logged.Welcome commit head) = IsWelcomeReply K r h s q commit head
-TellsFor K r h s q (logged.Relay seq commit head positions) = IsRelayReply K r h s q commit head positions
-TellsFor K r h s q (logged.Dropped seq chain far) = AnswersSubmit h s q seq
-TellsFor K r h s q (logged.Denied seq object) = AnswersSubmit h s q seq
-TellsFor K r h s q (logged.Seen last commit head positions) = IsSeenReply K r h s q last commit head positions
-TellsFor K r h s q (logged.Settled seq pos) = AnswersKept h s q seq
-TellsFor K r h s q (logged.Noted commit) = (results : List Done1) × ((q ≡ requests.Done results) × (commit ≡ commit_after K h s q))
+abbrev pub TellsFor : Keeping → Rules → List Entry → ℕ → Request → BriefReply → Type 0
+TellsFor K r h s q (brief.Welcome commit head) = IsWelcomeReply K r h s q commit head
+TellsFor K r h s q (brief.Relay seq commit head positions) = IsRelayReply K r h s q commit head positions
+TellsFor K r h s q (brief.Dropped seq chain far) = AnswersSubmit h s q seq
+TellsFor K r h s q (brief.Denied seq object) = AnswersSubmit h s q seq
+TellsFor K r h s q (brief.Seen last commit head positions) = IsSeenReply K r h s q last commit head positions
+TellsFor K r h s q (brief.Settled seq pos) = AnswersKept h s q seq
+TellsFor K r h s q (brief.Noted commit) = (results : List Done1) × ((q ≡ requests.Done results) × (commit ≡ commit_after K h s q))
 TellsFor K r h s q _ = Unit {0}
 
 -- ---- New actions
@@ -161,7 +161,7 @@ module _ (K : Keeping) (keeps : IsKeeping K) (r : Rules) (h : List Entry) (s : �
 
   new-relay : (k seq : ℕ) (a : Action) (q : Request) → client_of h s ≡ Some k → q ≡ requests.Submit seq a → seq ≡ next_seq h k →
       first_fault_of_action r.world.shape a ≡ None → chain_length (actions_of h) (commit_of (K.kept h)) a ≤ r.bound →
-      TellsFor K r h s q (logged.Relay seq (commit_of (K.kept h))
+      TellsFor K r h s q (brief.Relay seq (commit_of (K.kept h))
       (committed_held r (K.kept h) (head_for r.world.shape.objects (actions_of h ++ a ∷ []) (commit_of (K.kept h)) (sent_to (K.kept h) s) given (suc (length (actions_of h)))))
       (needed_for (actions_of h ++ a ∷ []) (commit_of (K.kept h)) (sent_to (K.kept h) s) (suc (length (actions_of h)))))
   new-relay k seq a q c is n good few =
@@ -250,7 +250,7 @@ served-tells K keeps r e h l = subst (TellsFor K r h e.session e.request) (sym l
 
 -- ---- A server that trusts its clients
 
-abbrev pub Tells : Rules → List Entry → ℕ → Request → Logged → Type 0
+abbrev pub Tells : Rules → List Entry → ℕ → Request → BriefReply → Type 0
 Tells r h s q reply = TellsFor plain r h s q reply
 
 pub legal-tells : (r : Rules) (e : Entry) (h : List Entry) → Legal r (e ∷ h) → Tells r h e.session e.request e.reply

@@ -11,8 +11,8 @@ use Rattle.sv_wire.specs.declared.message.Request.TheVariants as requests
 use Rattle.sv_wire.specs.declared.message.Reply.{Reply}
 use Rattle.sv_wire.specs.declared.message.Reply.TheVariants as replies
 use Rattle.sv_journal.specs.declared.entry.Entry.{Entry}
-use Rattle.sv_journal.specs.declared.entry.Logged.{Logged}
-use Rattle.sv_journal.specs.declared.entry.Logged.TheVariants as logged
+use Rattle.sv_journal.specs.declared.entry.BriefReply.{BriefReply}
+use Rattle.sv_journal.specs.declared.entry.BriefReply.TheVariants as brief
 use Rattle.sv_journal.specs.History.{Authored, Outcome, Accepted, accepted, client_of, is_client, is_submit_of, outcome_in, outcomes_of, next_seq, full_reply}
 use Rattle.sv_journal.specs.Sessions.{is_end}
 use Rattle.sv_journal.specs.Answer.{Rules}
@@ -175,10 +175,10 @@ next-new d h k n a c q e one' =
     omega arith
 
 -- After a reply that settles the Submit, the client's next number is over its number.
-pub answered-next : (K : Keeping) (keeps : IsKeeping K) (r : Rules) (A : List Authored) (d : Entry) (h : List Entry) → LegalFor K r (d ∷ h) → (n : ℕ) (a : Action) → d.request ≡ requests.Submit n a → (reply : Logged) → d.reply ≡ reply →
+pub answered-next : (K : Keeping) (keeps : IsKeeping K) (r : Rules) (A : List Authored) (d : Entry) (h : List Entry) → LegalFor K r (d ∷ h) → (n : ℕ) (a : Action) → d.request ≡ requests.Submit n a → (reply : BriefReply) → d.reply ≡ reply →
     settles (full_reply A reply) ≡ true → (k : ℕ) × ((client_of h d.session ≡ Some k) × (n < next_seq (d ∷ h) k))
-answered-next K keeps r A d h l n a q (logged.Relay seq commit head positions) is s =
-    let t : IsRelayReply K r h d.session d.request commit head positions = subst (λ (y : Logged). TellsFor K r h d.session d.request y) is (served-tells K keeps r d h l) in
+answered-next K keeps r A d h l n a q (brief.Relay seq commit head positions) is s =
+    let t : IsRelayReply K r h d.session d.request commit head positions = subst (λ (y : BriefReply). TellsFor K r h d.session d.request y) is (served-tells K keeps r d h l) in
     let grows : next_seq h t.client ≤ next_seq (d ∷ h) t.client = next-grows h (d ∷ h) (after d same) t.client in
     elim t.kind [
       | inr p ↦ absurd (true≢false (sym (ap is_submit (sym p.0 ∙ q))))
@@ -189,13 +189,13 @@ answered-next K keeps r A d h l n a q (logged.Relay seq commit head positions) i
               t.joined,
               elim p.1.1.1 [
                 | inl kept ↦ (let old : p.0 < next_seq h t.client = kept_known h t.client p.0 (Accepted t.target) kept in omega arith)
-                | inr fresh ↦ next-new d h t.client n a t.joined q (sym number ∙ fresh.0) (ap (λ (y : Logged). length (outcome_in (suc (length (accepted h))) y)) is)
+                | inr fresh ↦ next-new d h t.client n a t.joined q (sym number ∙ fresh.0) (ap (λ (y : BriefReply). length (outcome_in (suc (length (accepted h))) y)) is)
               ],
             ),
           ))
     ]
-answered-next K keeps r A d h l n a q (logged.Dropped seq chain far) is s =
-    let t : AnswersSubmit h d.session d.request seq = subst (λ (y : Logged). TellsFor K r h d.session d.request y) is (served-tells K keeps r d h l) in
+answered-next K keeps r A d h l n a q (brief.Dropped seq chain far) is s =
+    let t : AnswersSubmit h d.session d.request seq = subst (λ (y : BriefReply). TellsFor K r h d.session d.request y) is (served-tells K keeps r d h l) in
     let k = t.0 in
     let number : seq ≡ n = ap submit_number (sym t.1.1.1.0 ∙ q) in
     let grows : next_seq h k ≤ next_seq (d ∷ h) k = next-grows h (d ∷ h) (after d same) k in (
@@ -204,12 +204,12 @@ answered-next K keeps r A d h l n a q (logged.Dropped seq chain far) is s =
         t.1.0,
         elim t.1.1.1.1 [
           | inl o ↦ (let old : seq < next_seq h k = kept_known h k seq o.0 o.1 in omega arith)
-          | inr fresh ↦ next-new d h k n a t.1.0 q (sym number ∙ fresh) (ap (λ (y : Logged). length (outcome_in (suc (length (accepted h))) y)) is)
+          | inr fresh ↦ next-new d h k n a t.1.0 q (sym number ∙ fresh) (ap (λ (y : BriefReply). length (outcome_in (suc (length (accepted h))) y)) is)
         ],
       ),
     )
-answered-next K keeps r A d h l n a q (logged.Denied seq object) is s =
-    let t : AnswersSubmit h d.session d.request seq = subst (λ (y : Logged). TellsFor K r h d.session d.request y) is (served-tells K keeps r d h l) in
+answered-next K keeps r A d h l n a q (brief.Denied seq object) is s =
+    let t : AnswersSubmit h d.session d.request seq = subst (λ (y : BriefReply). TellsFor K r h d.session d.request y) is (served-tells K keeps r d h l) in
     let k = t.0 in
     let number : seq ≡ n = ap submit_number (sym t.1.1.1.0 ∙ q) in
     let grows : next_seq h k ≤ next_seq (d ∷ h) k = next-grows h (d ∷ h) (after d same) k in (
@@ -218,23 +218,23 @@ answered-next K keeps r A d h l n a q (logged.Denied seq object) is s =
         t.1.0,
         elim t.1.1.1.1 [
           | inl o ↦ (let old : seq < next_seq h k = kept_known h k seq o.0 o.1 in omega arith)
-          | inr fresh ↦ next-new d h k n a t.1.0 q (sym number ∙ fresh) (ap (λ (y : Logged). length (outcome_in (suc (length (accepted h))) y)) is)
+          | inr fresh ↦ next-new d h k n a t.1.0 q (sym number ∙ fresh) (ap (λ (y : BriefReply). length (outcome_in (suc (length (accepted h))) y)) is)
         ],
       ),
     )
-answered-next K keeps r A d h l n a q (logged.Settled seq pos) is s =
-    let t : AnswersKept h d.session d.request seq = subst (λ (y : Logged). TellsFor K r h d.session d.request y) is (served-tells K keeps r d h l) in
+answered-next K keeps r A d h l n a q (brief.Settled seq pos) is s =
+    let t : AnswersKept h d.session d.request seq = subst (λ (y : BriefReply). TellsFor K r h d.session d.request y) is (served-tells K keeps r d h l) in
     let k = t.0 in
     let number : seq ≡ n = ap submit_number (sym t.1.1.1.0 ∙ q) in
     let grows : next_seq h k ≤ next_seq (d ∷ h) k = next-grows h (d ∷ h) (after d same) k in
     let old : seq < next_seq h k = kept_known h k seq t.1.1.1.1.0 t.1.1.1.1.1 in
     (k, (t.1.0, omega arith))
-answered-next K keeps r A d h l n a q (logged.Welcome commit head) is s = absurd (true≢false (sym s))
-answered-next K keeps r A d h l n a q (logged.Seen last commit head positions) is s = absurd (true≢false (sym s))
-answered-next K keeps r A d h l n a q (logged.Noted commit) is s = absurd (true≢false (sym s))
-answered-next K keeps r A d h l n a q logged.Idle is s = absurd (true≢false (sym s))
-answered-next K keeps r A d h l n a q (logged.Refused code detail) is s = absurd (true≢false (sym s))
-answered-next K keeps r A d h l n a q logged.Bye is s = absurd (true≢false (sym s))
+answered-next K keeps r A d h l n a q (brief.Welcome commit head) is s = absurd (true≢false (sym s))
+answered-next K keeps r A d h l n a q (brief.Seen last commit head positions) is s = absurd (true≢false (sym s))
+answered-next K keeps r A d h l n a q (brief.Noted commit) is s = absurd (true≢false (sym s))
+answered-next K keeps r A d h l n a q brief.Idle is s = absurd (true≢false (sym s))
+answered-next K keeps r A d h l n a q (brief.Refused code detail) is s = absurd (true≢false (sym s))
+answered-next K keeps r A d h l n a q brief.Bye is s = absurd (true≢false (sym s))
 
 -- ---- A part of the journal that has answered all that the client got
 

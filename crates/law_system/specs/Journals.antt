@@ -8,17 +8,17 @@ use Rattle.sv_eval.specs.Evaluation.{effect_of}
 use Rattle.sv_eval.specs.Serial.{values_at, serial_world}
 use Rattle.sv_wire.specs.declared.message.Done1.{Done1}
 use Rattle.sv_journal.specs.declared.entry.Entry.{Entry}
-use Rattle.sv_journal.specs.declared.entry.Logged.{Logged}
-use Rattle.sv_journal.specs.declared.entry.Logged.TheVariants as logged
+use Rattle.sv_journal.specs.declared.entry.BriefReply.{BriefReply}
+use Rattle.sv_journal.specs.declared.entry.BriefReply.TheVariants as brief
 use Rattle.sv_journal.specs.History.{accepted, result_at}
 use Rattle.law_system.specs.Delivery.{Delivery}
 
 -- The delivery of a reply to a session, when `count` actions are accepted: that of a welcome has no positions.
-abbrev pub delivery_by : ℕ → ℕ → Logged → List Delivery
-delivery_by s count (logged.Welcome commit head) = record { session = s; count = count; commit = commit; head = head; positions = [] } ∷ []
-delivery_by s count (logged.Relay seq commit head positions) =
+abbrev pub delivery_by : ℕ → ℕ → BriefReply → List Delivery
+delivery_by s count (brief.Welcome commit head) = record { session = s; count = count; commit = commit; head = head; positions = [] } ∷ []
+delivery_by s count (brief.Relay seq commit head positions) =
     record { session = s; count = count; commit = commit; head = head; positions = positions } ∷ []
-delivery_by s count (logged.Seen last commit head positions) =
+delivery_by s count (brief.Seen last commit head positions) =
     record { session = s; count = count; commit = commit; head = head; positions = positions } ∷ []
 delivery_by s count _ = []
 

@@ -8,8 +8,8 @@ use Rattle.sv_world.specs.Rights.{may_write}
 use Rattle.sv_world.specs.Sets.{write_set}
 use Rattle.sv_wire.specs.declared.message.Request.TheVariants as requests
 use Rattle.sv_journal.specs.declared.entry.Entry.{Entry}
-use Rattle.sv_journal.specs.declared.entry.Logged.{Logged}
-use Rattle.sv_journal.specs.declared.entry.Logged.TheVariants as logged
+use Rattle.sv_journal.specs.declared.entry.BriefReply.{BriefReply}
+use Rattle.sv_journal.specs.declared.entry.BriefReply.TheVariants as brief
 use Rattle.sv_journal.specs.History.{Authored, client_of, accepted, actions_of, commit_of, outcomes_of, next_seq}
 use Rattle.sv_journal.specs.Answer.{Rules, is_above}
 use Rattle.sv_journal.specs.Laws.{IsRightful}
@@ -41,10 +41,10 @@ pub record IsDenied (r : Rules) (k : ℕ) (a : Action) (object : ℕ) : Type 0 w
   pub lowest : (x : ℕ) → is_in x (write_set a) ≡ true → x < object → may_write r.rights k x ≡ true
 
 -- What the reply to a new action's Submit of client k, after the entries h, says of the action.
-abbrev pub IsOutcome : Rules → List Entry → ℕ → Action → Logged → Type 0
-IsOutcome r h k a (logged.Dropped seq chain far) = IsRightful r (record { client = k; seq = seq; action = a }) × IsDropped r h a chain far
-IsOutcome r h k a (logged.Denied seq object) = IsDenied r k a object.0
-IsOutcome r h k a (logged.Relay seq commit head positions) = IsRightful r (record { client = k; seq = seq; action = a }) × IsWithinLimits r h a
+abbrev pub IsOutcome : Rules → List Entry → ℕ → Action → BriefReply → Type 0
+IsOutcome r h k a (brief.Dropped seq chain far) = IsRightful r (record { client = k; seq = seq; action = a }) × IsDropped r h a chain far
+IsOutcome r h k a (brief.Denied seq object) = IsDenied r k a object.0
+IsOutcome r h k a (brief.Relay seq commit head positions) = IsRightful r (record { client = k; seq = seq; action = a }) × IsWithinLimits r h a
 IsOutcome r h k a _ = Unit {0}
 
 -- The entry's reply is right of its action, where it is a client's Submit with that client's next number.

@@ -15,8 +15,8 @@ use Rattle.sv_wire.specs.declared.message.Request.TheVariants as requests
 use Rattle.sv_wire.specs.declared.message.Reply.{Reply}
 use Rattle.sv_wire.specs.declared.message.Reply.TheVariants as replies
 use Rattle.sv_journal.specs.declared.entry.Entry.{Entry}
-use Rattle.sv_journal.specs.declared.entry.Logged.{Logged}
-use Rattle.sv_journal.specs.declared.entry.Logged.TheVariants as logged
+use Rattle.sv_journal.specs.declared.entry.BriefReply.{BriefReply}
+use Rattle.sv_journal.specs.declared.entry.BriefReply.TheVariants as brief
 use Rattle.sv_journal.specs.History.{actions_of}
 use Rattle.sv_client.specs.declared.trace.Event.{Event}
 use Rattle.sv_client.specs.declared.trace.Event.TheVariants as events
@@ -41,10 +41,10 @@ abbrev pub request_held : List Action → Request → List Held
 request_held A (requests.Done results) = results_held A results
 request_held A _ = []
 
-abbrev pub reply_held : Logged → List Held
-reply_held (logged.Welcome commit head) = head_held commit head
-reply_held (logged.Relay seq commit head positions) = head_held commit head
-reply_held (logged.Seen last commit head positions) = head_held commit head
+abbrev pub reply_held : BriefReply → List Held
+reply_held (brief.Welcome commit head) = head_held commit head
+reply_held (brief.Relay seq commit head positions) = head_held commit head
+reply_held (brief.Seen last commit head positions) = head_held commit head
 reply_held _ = []
 
 -- Each value that an entry prints at a position: those of its reply's head at the reply's commit, and those of its Done at their positions.

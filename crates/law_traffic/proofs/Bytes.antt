@@ -13,7 +13,7 @@ use Rattle.sv_wire.specs.declared.message.Reply.{Reply}
 use Rattle.sv_wire.specs.Spelling.{request_bytes}
 use Rattle.sv_wire.specs.Laws.{IsRequest, IsReply}
 use Rattle.sv_journal.specs.declared.entry.Entry.{Entry}
-use Rattle.sv_journal.specs.declared.entry.Logged.TheVariants as logged
+use Rattle.sv_journal.specs.declared.entry.BriefReply.TheVariants as brief
 use Rattle.sv_journal.specs.History.{accepted}
 use Rattle.sv_journal.specs.Laws.{FullRepliesStay, LegalRelaysNameAccepted}
 use Rattle.sv_client.specs.declared.trace.Trace.{Trace}
@@ -57,7 +57,7 @@ module _ (stay : FullRepliesStay) (name : LegalRelaysNameAccepted) (journal : Li
   abbrev pub all : List Reply
   all = full_over journal answered
 
-  pub just : mine s journal ≡ answered ++ entry_of s requests.End logged.Bye ∷ []
+  pub just : mine s journal ≡ answered ++ entry_of s requests.End brief.Bye ∷ []
   just = loops.just journal s x.out x.server x.server_faults d.served
 
   pub others : AllByRecursion (λ (e : Entry). is_end e.request ≡ false) answered

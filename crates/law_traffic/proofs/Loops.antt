@@ -9,14 +9,14 @@ use Rattle.sv_link.specs.Ends.{Told}
 use Rattle.sv_wire.specs.declared.message.Request.TheVariants as requests
 use Rattle.sv_wire.specs.declared.message.Reply.{Reply}
 use Rattle.sv_journal.specs.declared.entry.Entry.{Entry}
-use Rattle.sv_journal.specs.declared.entry.Logged.{Logged}
-use Rattle.sv_journal.specs.declared.entry.Logged.TheVariants as logged
+use Rattle.sv_journal.specs.declared.entry.BriefReply.{BriefReply}
+use Rattle.sv_journal.specs.declared.entry.BriefReply.TheVariants as brief
 use Rattle.sv_journal.specs.History.{accepted, full_reply}
 use Rattle.sv_journal.specs.Sessions.{is_end}
 use Rattle.sv_journal.specs.Laws.{FullRepliesStay, LegalRelaysNameAccepted}
 use Rattle.sv_journal.specs.History.{entry_of}
 use Rattle.sv_lock.specs.Passes.{session_number}
-use Rattle.sv_journal.proofs.Stays.{logged-back}
+use Rattle.sv_journal.proofs.Stays.{brief-back}
 use Rattle.sv_session.specs.Requests.{stop_of, StopsFor, due_frames}
 use Rattle.sv_session.specs.Serving.{ExplainsOut, ended_by}
 use Rattle.sv_session.specs.declared.outcome.SessionOut.{SessionOut}
@@ -48,7 +48,7 @@ stopped_by journal answered reason f =
       before = full_over journal f.before;
       last = full_reply A f.last.reply;
       are = ap (full_over journal) f.are ∙ map-append (λ (e : Entry). full_reply A e.reply) f.before (f.last ∷ []);
-      stop = ap (λ (l : Logged). is_some (stop_of l)) (logged-back A f.last.reply) ∙ ap is_some f.stop;
+      stop = ap (λ (l : BriefReply). is_some (stop_of l)) (brief-back A f.last.reply) ∙ ap is_some f.stop;
     }
 
 -- ---- The session
@@ -63,13 +63,13 @@ module _ (journal : List Entry) (s : ℕ) (out : SessionOut) (end : Told) (fault
   abbrev all : List Reply
   all = full_over journal answered
 
-  own_is : d.after.mine ≡ answered ++ entry_of s requests.End logged.Bye ∷ []
+  own_is : d.after.mine ≡ answered ++ entry_of s requests.End brief.Bye ∷ []
   own_is =
       d.served.mine
-      ∙ (ap (λ (l : List Entry). (l ++ answered) ++ entry_of (session_number d.before) requests.End logged.Bye ∷ []) d.new
-      ∙ ap (λ (n : ℕ). answered ++ entry_of n requests.End logged.Bye ∷ []) d.number)
+      ∙ (ap (λ (l : List Entry). (l ++ answered) ++ entry_of (session_number d.before) requests.End brief.Bye ∷ []) d.new
+      ∙ ap (λ (n : ℕ). answered ++ entry_of n requests.End brief.Bye ∷ []) d.number)
 
-  pub just : mine s journal ≡ answered ++ entry_of s requests.End logged.Bye ∷ []
+  pub just : mine s journal ≡ answered ++ entry_of s requests.End brief.Bye ∷ []
   just = d.just ∙ own_is
 
   pub others : AllByRecursion (λ (e : Entry). is_end e.request ≡ false) answered
@@ -95,7 +95,7 @@ module _ (journal : List Entry) (s : ℕ) (out : SessionOut) (end : Told) (fault
 
   module _ (stay : FullRepliesStay) (name : LegalRelaysNameAccepted) where
     due : due_frames d.after.seen answered ≡ reply_frames all
-    due = due_is stay name d.after.base d.after.seen journal answered (entry_of s requests.End logged.Bye ∷ []) (session_number d.after) d.served.lawful (d.served.just ∙ own_is) d.seen
+    due = due_is stay name d.after.base d.after.seen journal answered (entry_of s requests.End brief.Bye ∷ []) (session_number d.after) d.served.lawful (d.served.just ∙ own_is) d.seen
 
     pub sent_part : IsPrefix end.sent (reply_frames all)
     sent_part = subst (λ (l : List ℕ). IsPrefix l (reply_frames all)) (sym sent_is) (d.served.replies.0, d.served.replies.1 ∙ due)

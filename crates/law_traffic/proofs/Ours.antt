@@ -10,7 +10,7 @@ use Rattle.sv_wire.specs.declared.message.Request.{Request}
 use Rattle.sv_wire.specs.declared.message.Request.TheVariants as requests
 use Rattle.sv_wire.specs.declared.message.Reply.{Reply}
 use Rattle.sv_journal.specs.declared.entry.Entry.{Entry}
-use Rattle.sv_journal.specs.declared.entry.Logged.TheVariants as logged
+use Rattle.sv_journal.specs.declared.entry.BriefReply.TheVariants as brief
 use Rattle.sv_journal.specs.History.{Authored, full_reply}
 use Rattle.sv_journal.specs.Sessions.{is_end, is_ended}
 use Rattle.sv_journal.specs.History.{entry_of}
@@ -132,9 +132,9 @@ all_ours s j answered end just others =
     both [] a b = tt
     both (e ∷ xs) a b = ((eqb-true e.session s a.0, b.0), both xs a.1 b.1)
 
-module _ (s : ℕ) (j answered : List Entry) (just : mine s j ≡ answered ++ entry_of s requests.End logged.Bye ∷ []) (others : AllByRecursion (λ (e : Entry). is_end e.request ≡ false) answered) where
+module _ (s : ℕ) (j answered : List Entry) (just : mine s j ≡ answered ++ entry_of s requests.End brief.Bye ∷ []) (others : AllByRecursion (λ (e : Entry). is_end e.request ≡ false) answered) where
   abbrev end : Entry
-  end = entry_of s requests.End logged.Bye
+  end = entry_of s requests.End brief.Bye
 
   ours : AllByRecursion (IsOurs s) (reverse answered)
   ours = each-reverse (IsOurs s) answered (all_ours s j answered end just others)
@@ -153,7 +153,7 @@ module _ (s : ℕ) (j answered : List Entry) (just : mine s j ≡ answered ++ en
   replies_are A =
       replies_mine A (reverse j) s
       ∙ (ap (λ (h : List Entry). replies_in A h s) latest
-      ∙ (cond-false (s == s && false) (replies_in A (reverse answered) s ++ full_reply A logged.Bye ∷ []) (replies_in A (reverse answered) s) (and-false (s == s))
+      ∙ (cond-false (s == s && false) (replies_in A (reverse answered) s ++ full_reply A brief.Bye ∷ []) (replies_in A (reverse answered) s) (and-false (s == s))
       ∙ (replies_ours A s (reverse answered) ours ∙ map_reversed (λ (e : Entry). full_reply A e.reply) answered)))
 
   pub one_end : ends_in (reverse j) s ≡ 1

@@ -7,7 +7,7 @@ use Rattle.std.proofs.lemmas.Option.{none-some, same_Some}
 use Rattle.sv_wire.specs.declared.message.Request.{Request}
 use Rattle.sv_wire.specs.declared.message.Request.TheVariants as requests
 use Rattle.sv_journal.specs.declared.entry.Entry.{Entry}
-use Rattle.sv_journal.specs.declared.entry.Logged.TheVariants as logged
+use Rattle.sv_journal.specs.declared.entry.BriefReply.TheVariants as brief
 use Rattle.sv_journal.specs.Sessions.{is_end}
 use Rattle.sv_journal.specs.Laws.{FullRepliesStay, LegalRelaysNameAccepted}
 use Rattle.sv_journal.specs.History.{entry_of}
@@ -81,9 +81,9 @@ module _ (stay : FullRepliesStay) (name : LegalRelaysNameAccepted) (messages : R
       let d = done_of stay name messages scenario journal Ls sessions good run s o in
       let a = answered stay name journal o.trace s x d in
       let j = just stay name journal o.trace s x d in
-      let ours = all_ours s journal a (entry_of s requests.End logged.Bye) j (others stay name journal o.trace s x d) in
+      let ours = all_ours s journal a (entry_of s requests.End brief.Bye) j (others stay name journal o.trace s x d) in
       subst (AllByRecursion (λ (e : Entry). is_owned Ls e ≡ true)) (sym j)
-      (each-append (λ (e : Entry). is_owned Ls e ≡ true) a (entry_of s requests.End logged.Bye ∷ [])
+      (each-append (λ (e : Entry). is_owned Ls e ≡ true) a (entry_of s requests.End brief.Bye ∷ [])
       (all_owned s o a (later stay name journal o.trace s x d) (steps_asked stay name journal o.trace s x d) ours) (refl, tt))
     where
       one_owned : (s : ℕ) (e : Entry) → e.session ≡ s → list_any (λ (M : Trace). has_session M s) Ls ≡ true → is_owned Ls e ≡ true

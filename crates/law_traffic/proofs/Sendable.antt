@@ -7,7 +7,7 @@ use Rattle.sv_wire.specs.declared.message.Request.TheVariants as requests
 use Rattle.sv_wire.specs.Ranges.{RequestFits}
 use Rattle.sv_wire.specs.Laws.{IsRequest, IsReply}
 use Rattle.sv_journal.specs.declared.entry.Entry.{Entry}
-use Rattle.sv_journal.specs.declared.entry.Logged.TheVariants as logged
+use Rattle.sv_journal.specs.declared.entry.BriefReply.TheVariants as brief
 use Rattle.sv_journal.specs.History.{Authored, accepted, full_reply}
 use Rattle.sv_journal.specs.Sessions.{is_end}
 use Rattle.sv_journal.specs.Laws.{FullRepliesStay, LegalRelaysNameAccepted}
@@ -90,7 +90,7 @@ module _ (stay : FullRepliesStay) (name : LegalRelaysNameAccepted) (messages : R
       let d = done_of s o in
       let a = answered stay name journal o.trace s (session_of s o) d in
       subst (AllByRecursion (λ (e : Entry). RequestFits e.request)) (sym (just stay name journal o.trace s (session_of s o) d))
-      (each-append (λ (e : Entry). RequestFits e.request) a (entry_of s requests.End logged.Bye ∷ [])
+      (each-append (λ (e : Entry). RequestFits e.request) a (entry_of s requests.End brief.Bye ∷ [])
       (entries_fit a (steps_messages stay name journal o.trace s (session_of s o) d)) (tt, tt))
 
   few_in : (s : ℕ) → s < session_count scenario → length (mine s journal) ≤ 531
@@ -99,7 +99,7 @@ module _ (stay : FullRepliesStay) (name : LegalRelaysNameAccepted) (messages : R
       let d = done_of s o in
       let a = answered stay name journal o.trace s (session_of s o) d in
       let is = ap (λ (l : List Entry). length l) (just stay name journal o.trace s (session_of s o) d) in
-      let sum = length-append a (entry_of s requests.End logged.Bye ∷ []) in
+      let sum = length-append a (entry_of s requests.End brief.Bye ∷ []) in
       let less = steps_few stay name journal o.trace s (session_of s o) d in
       let most = few-asked (identity_of scenario.world.shape o.trace) o.trace.first o.plan.steps (reverse o.trace.events) o.holds.follows.left s o.holds.good.few_steps o.holds.proper.events o.holds.follows.follows in
       omega (arith, is, sum, less, most)

@@ -10,7 +10,7 @@ use Rattle.sv_wire.specs.declared.message.Request.{Request}
 use Rattle.sv_wire.specs.declared.message.Reply.{Reply}
 use Rattle.sv_wire.specs.Spelling.{request_bytes, reply_bytes}
 use Rattle.sv_journal.specs.declared.entry.Entry.{Entry}
-use Rattle.sv_journal.specs.History.{accepted, logged_of}
+use Rattle.sv_journal.specs.History.{accepted, brief_of}
 use Rattle.sv_session.specs.Requests.{stop_of}
 use Rattle.sv_client.specs.declared.trace.Trace.{Trace}
 use Rattle.sv_client.specs.Traces.{requests_of}
@@ -28,7 +28,7 @@ pub record EndsWithStop (all : List Reply) : Type 0 where
   pub before : List Reply
   pub last : Reply
   pub are : all ≡ before ++ last ∷ []
-  pub stop : IsSome (stop_of (logged_of last))
+  pub stop : IsSome (stop_of (brief_of last))
 
 -- The end was told that no more will come, and each payload that it received is that of one of these requests, in order.
 pub record CameWhole (ended : Bool) (received : List ℕ) (requests : List Request) : Type 0 where

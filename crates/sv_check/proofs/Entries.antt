@@ -10,8 +10,8 @@ use Rattle.sv_wire.specs.declared.message.Reply.{Reply}
 use Rattle.sv_wire.specs.declared.message.Reply.TheVariants as replies
 use Rattle.sv_wire.specs.declared.message.Item.{Item}
 use Rattle.sv_journal.specs.declared.entry.Entry.{Entry}
-use Rattle.sv_journal.specs.declared.entry.Logged.{Logged}
-use Rattle.sv_journal.specs.declared.entry.Logged.TheVariants as logged
+use Rattle.sv_journal.specs.declared.entry.BriefReply.{BriefReply}
+use Rattle.sv_journal.specs.declared.entry.BriefReply.TheVariants as brief
 use Rattle.sv_journal.specs.History.{Authored, accepted, full_reply, item_at}
 use Rattle.sv_journal.specs.Answer.{Legal}
 use Rattle.sv_journal.specs.Laws.{FullRepliesStay, LegalRelaysNameAccepted}
@@ -51,21 +51,21 @@ items_are : (A : List Authored) (ps : List ℕ) → joined 32 item_full (map (it
 items_are A [] = refl
 items_are A (p ∷ ps) = ap (λ (l : List ℕ). item_text A p ++ l) (behind_items A ps)
 
-full_text_is : (A : List Authored) (w : Logged) → full_text (full_reply A w) ≡ reply_text A w
-full_text_is A (logged.Welcome commit head) = refl
-full_text_is A (logged.Relay seq commit head positions) =
+full_text_is : (A : List Authored) (w : BriefReply) → full_text (full_reply A w) ≡ reply_text A w
+full_text_is A (brief.Welcome commit head) = refl
+full_text_is A (brief.Relay seq commit head positions) =
     ap (λ (l : List ℕ). codes "relay " ++ decimal seq ++ codes " at " ++ decimal commit ++ codes " " ++ head_text head ++ codes " " ++ (codes "[" ++ l ++ codes "]")) (items_are A positions)
-full_text_is A (logged.Dropped seq chain far) = refl
-full_text_is A (logged.Denied seq object) = refl
-full_text_is A (logged.Seen last commit head positions) =
+full_text_is A (brief.Dropped seq chain far) = refl
+full_text_is A (brief.Denied seq object) = refl
+full_text_is A (brief.Seen last commit head positions) =
     ap (λ (l : List ℕ). codes "seen " ++ decimal last ++ codes " at " ++ decimal commit ++ codes " " ++ head_text head ++ codes " " ++ (codes "[" ++ l ++ codes "]")) (items_are A positions)
-full_text_is A (logged.Settled seq pos) = refl
-full_text_is A (logged.Noted commit) = refl
-full_text_is A logged.Idle = refl
-full_text_is A (logged.Refused code detail) = refl
-full_text_is A logged.Bye = refl
+full_text_is A (brief.Settled seq pos) = refl
+full_text_is A (brief.Noted commit) = refl
+full_text_is A brief.Idle = refl
+full_text_is A (brief.Refused code detail) = refl
+full_text_is A brief.Bye = refl
 
-pub same_reply_text : (A B : List Authored) (w : Logged) → full_reply A w ≡ full_reply B w → reply_text A w ≡ reply_text B w
+pub same_reply_text : (A B : List Authored) (w : BriefReply) → full_reply A w ≡ full_reply B w → reply_text A w ≡ reply_text B w
 same_reply_text A B w e = sym (full_text_is A w) ∙ ap full_text e ∙ full_text_is B w
 
 -- ---- Entries in order
@@ -120,7 +120,7 @@ same_entry scenario k e f p q s r =
     let reply : e.reply ≡ f.reply = p.reply ∙ rw (s, r) (sym q.reply) in
     ap (λ (n : ℕ). record { session = n; request = e.request; reply = e.reply }) s
     ∙ ap (λ (x : Request). record { session = f.session; request = x; reply = e.reply }) r
-    ∙ ap (λ (w : Logged). record { session = f.session; request = f.request; reply = w }) reply
+    ∙ ap (λ (w : BriefReply). record { session = f.session; request = f.request; reply = w }) reply
 
 module _ (stay : FullRepliesStay) (names : LegalRelaysNameAccepted) (scenario : Scenario) (few : session_count scenario ≤ 64) where
   abbrev shape : Shape

@@ -10,7 +10,7 @@ use Rattle.sv_wire.specs.declared.message.Request.{Request}
 use Rattle.sv_wire.specs.declared.message.Request.TheVariants as requests
 use Rattle.sv_wire.specs.Ranges.{RequestFits}
 use Rattle.sv_journal.specs.declared.entry.Entry.{Entry}
-use Rattle.sv_journal.specs.declared.entry.Logged.{Logged}
+use Rattle.sv_journal.specs.declared.entry.BriefReply.{BriefReply}
 use Rattle.sv_journal.specs.History.{accepted}
 use Rattle.sv_journal.specs.Answer.{Rules, MayBeSession, reply_to}
 use Rattle.sv_journal.specs.Laws.{FullRepliesStay, LegalRelaysNameAccepted}
@@ -167,7 +167,7 @@ module _ (scenario : Scenario) (few : session_count scenario ≤ 64) (entries : 
       TellsEntry scenario entries (entry_of asked.session asked.request (reply_to (rules_of scenario) (reverse entries) asked.session asked.request)) text
   asked_tells asked reads e rest right is =
       let answered : ℕ × Request → Entry = λ (x : ℕ × Request). entry_of x.0 x.1 (reply_to (rules_of scenario) (reverse entries) x.0 x.1) in
-      ap (λ (w : Logged). entry_of e.session e.request w) right.reply ∙ ap answered (same_asked asked reads e rest right is)
+      ap (λ (w : BriefReply). entry_of e.session e.request w) right.reply ∙ ap answered (same_asked asked reads e rest right is)
 
   -- Where its request may not be asked, the text tells no entry.
   pub asked_none : (rules : Rules) → rules ≡ rules_of scenario → (asked : Asked) → ReadsAsked scenario.world.shape text (Ok asked) →

@@ -7,7 +7,7 @@ use Rattle.sv_wire.specs.declared.message.Request.TheVariants as requests
 use Rattle.sv_wire.specs.declared.message.Reply.{Reply}
 use Rattle.sv_wire.specs.declared.message.Reply.TheVariants as replies
 use Rattle.sv_journal.specs.declared.entry.Entry.{Entry}
-use Rattle.sv_journal.specs.declared.entry.Logged.{Logged}
+use Rattle.sv_journal.specs.declared.entry.BriefReply.{BriefReply}
 use Rattle.sv_journal.specs.History.{Authored, accepted, full_reply, client_of}
 use Rattle.sv_journal.specs.Sessions.{is_end, is_last, is_over, welcomes}
 use Rattle.sv_journal.specs.Answer.{Rules, reply_to, refused}
@@ -89,7 +89,7 @@ module _ (scenario : Scenario) (A : List Authored) (s : ℕ) where
   refused_there : (h : List Entry) (e : Entry) → IsEntryAfter scenario h e → is_over h s ≡ true → is_of e s ≡ true → is_refused (full_reply A e.reply) ≡ true
   refused_there h e a o of_it =
       let p = of-parts e s of_it in
-      ap (λ (l : Logged). is_refused (full_reply A l)) (a.reply ∙ refused_by (rules_of scenario) h e.session e.request p.1 (subst (λ (n : ℕ). is_over h n ≡ true) (sym p.0) o))
+      ap (λ (l : BriefReply). is_refused (full_reply A l)) (a.reply ∙ refused_by (rules_of scenario) h e.session e.request p.1 (subst (λ (n : ℕ). is_over h n ≡ true) (sym p.0) o))
 
   beyond : (h : List Entry) (i : ℕ) (reply : Reply) → length (replies_in A h s) ≤ i → slice_get (replies_in A h s) i ≡ Some reply → is_refused reply ≡ true
   beyond h i reply l is = absurd (let within = (got_there (replies_in A h s) i reply is).0 in omega (arith, l, within))

@@ -6,8 +6,8 @@ use Rattle.sv_world.specs.Control.{is_in}
 use Rattle.sv_world.specs.Limits.{most_positions}
 use Rattle.sv_wire.specs.declared.message.Request.{Request}
 use Rattle.sv_journal.specs.declared.entry.Entry.{Entry}
-use Rattle.sv_journal.specs.declared.entry.Logged.{Logged}
-use Rattle.sv_journal.specs.declared.entry.Logged.TheVariants as logged
+use Rattle.sv_journal.specs.declared.entry.BriefReply.{BriefReply}
+use Rattle.sv_journal.specs.declared.entry.BriefReply.TheVariants as brief
 use Rattle.sv_journal.specs.History.{Outcome, Accepted, Dropped, Denied, is_relay, is_noted, is_welcome, outcome_in, outcomes_of, accepted, result_at, commit_of}
 use Rattle.sv_journal.specs.Sessions.{is_end, life_of, positions_in, named_in}
 use Rattle.sv_journal.specs.Answer.{Rules}
@@ -76,7 +76,7 @@ placed-next h e k seq out m is q new' old j n p g =
     go false t = old j n p t
 
 -- The reply tells a new action's outcome, which is not that it was accepted, and does nothing else.
-pub record Settles (reply : Logged) (out : Outcome) : Type 0 where
+pub record Settles (reply : BriefReply) (out : Outcome) : Type 0 where
   pub relay : is_relay reply ≡ false
   pub noted : is_noted reply ≡ false
   pub welcome : is_welcome reply ≡ false
@@ -85,16 +85,16 @@ pub record Settles (reply : Logged) (out : Outcome) : Type 0 where
   pub outcome : (p : ℕ) → outcome_in p reply ≡ out ∷ []
   pub unaccepted : (p : ℕ) → out ≡ Accepted p → ⊥
 
-pub dropped-settles : (seq chain far : ℕ) → Settles (logged.Dropped seq chain far) (Dropped chain far)
+pub dropped-settles : (seq chain far : ℕ) → Settles (brief.Dropped seq chain far) (Dropped chain far)
 dropped-settles seq chain far =
     record { relay = refl; noted = refl; welcome = refl; positions = refl; named = λ x. refl; outcome = λ p. refl; unaccepted = λ p q. cc }
 
-pub denied-settles : (seq : ℕ) (object : ObjectId) → Settles (logged.Denied seq object) (Denied object.0)
+pub denied-settles : (seq : ℕ) (object : ObjectId) → Settles (brief.Denied seq object) (Denied object.0)
 denied-settles seq object =
     record { relay = refl; noted = refl; welcome = refl; positions = refl; named = λ x. refl; outcome = λ p. refl; unaccepted = λ p q. cc }
 
 -- A new action is not accepted.
-pub agree-settled : (r : Rules) (h : List Entry) (v : QueueView) (rows next : List SessionRow) (clients after : Clients) (owed slot s : ℕ) (request : Request) (reply : Logged)
+pub agree-settled : (r : Rules) (h : List Entry) (v : QueueView) (rows next : List SessionRow) (clients after : Clients) (owed slot s : ℕ) (request : Request) (reply : BriefReply)
     (k seq : ℕ) (out : Outcome) → Settles reply out →
     Agrees r h v rows clients owed → seat_in rows slot ≡ Some s → IsNextSubmit h s request k seq → is_end request ≡ false →
     AreAfter slot (entry_of s request reply) rows next → ((j : ℕ) → client_row after j ≡ row_with_outcome (client_row clients) k out j) →

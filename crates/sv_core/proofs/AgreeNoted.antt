@@ -6,7 +6,7 @@ use Rattle.sv_wire.specs.declared.message.Done1.{Done1}
 use Rattle.sv_wire.specs.declared.message.Request.{Request}
 use Rattle.sv_wire.specs.declared.message.Request.TheVariants as requests
 use Rattle.sv_journal.specs.declared.entry.Entry.{Entry}
-use Rattle.sv_journal.specs.declared.entry.Logged.TheVariants as logged
+use Rattle.sv_journal.specs.declared.entry.BriefReply.TheVariants as brief
 use Rattle.sv_journal.specs.History.{either, is_relay, reported, reports, accepted, result_at, run_length, commit_of}
 use Rattle.sv_journal.specs.Sessions.{is_end, positions_in, named_in}
 use Rattle.sv_journal.specs.Answer.{Rules}
@@ -35,7 +35,7 @@ reported-none (d ∷ ds) m p low high =
 
 -- The queue once results were kept and installed, and its commit, against a history in which they are noted.
 pub noted : (r : Rules) (h : List Entry) (v : QueueView) (S : ℕ → List ℕ) (N : ℕ → ℕ → List ℕ) (slot : ℕ) (e : Entry) (c : ℕ) (ds : List Done1) →
-    e.reply ≡ logged.Noted c → e.request ≡ requests.Done ds → All (λ (d : Done1). d.pos ≤ last_position v) ds → v.commit ≡ commit_of h →
+    e.reply ≡ brief.Noted c → e.request ≡ requests.Done ds → All (λ (d : Done1). d.pos ≤ last_position v) ds → v.commit ≡ commit_of h →
     ((t x q : ℕ) → is_in q (N t x) ≡ true → q ≤ commit_of h) → QueueFits r.world (accepted h) (result_at h) S N v →
     QueueFits r.world (accepted (e ∷ h)) (result_at (e ∷ h)) (sent_after e slot S) (named_after e slot N) (ready_installed (with_reports v ds))
     × (((ready_installed (with_reports v ds)).commit ≡ commit_of (e ∷ h)) × (commit_of h ≤ commit_of (e ∷ h)))
@@ -100,8 +100,8 @@ named-seats-low r h rows sound t =
 -- Results are noted.
 pub agree-noted : (r : Rules) (h : List Entry) (v : QueueView) (old next : List SessionRow) (clients : Clients) (owed slot s : ℕ) (request : Request)
     (c : ℕ) (ds : List Done1) → request ≡ requests.Done ds → All (λ (d : Done1). d.pos ≤ last_position v) ds →
-    Agrees r h v old clients owed → seat_in old slot ≡ Some s → AreAfter slot (entry_of s request (logged.Noted c)) old next →
-    Agrees r (entry_of s request (logged.Noted c) ∷ h) (ready_installed (with_reports v ds)) next clients owed
+    Agrees r h v old clients owed → seat_in old slot ≡ Some s → AreAfter slot (entry_of s request (brief.Noted c)) old next →
+    Agrees r (entry_of s request (brief.Noted c) ∷ h) (ready_installed (with_reports v ds)) next clients owed
 agree-noted r h v old next clients owed slot s request c ds asks within a at rows' =
     agree-next r h e v (ready_installed (with_reports v ds)) old next clients clients owed owed slot a at rows'
     (record {
@@ -121,7 +121,7 @@ agree-noted r h v old next clients owed slot s request c ds asks within a at row
     (a.ends ∙ sym (owed-same slot e old next rows' (ap is_end asks)))
   where
     e : Entry
-    e = entry_of s request (logged.Noted c)
+    e = entry_of s request (brief.Noted c)
 
     same : accepted (e ∷ h) ≡ accepted h
     same = accepted-quiet e h refl

@@ -8,8 +8,8 @@ use Rattle.sv_influence.proofs.Places.{members-all}
 use Rattle.sv_wire.specs.declared.message.ObjectValue.{ObjectValue}
 use Rattle.sv_wire.specs.declared.message.Request.{Request}
 use Rattle.sv_journal.specs.declared.entry.Entry.{Entry}
-use Rattle.sv_journal.specs.declared.entry.Logged.{Logged}
-use Rattle.sv_journal.specs.declared.entry.Logged.TheVariants as logged
+use Rattle.sv_journal.specs.declared.entry.BriefReply.{BriefReply}
+use Rattle.sv_journal.specs.declared.entry.BriefReply.TheVariants as brief
 use Rattle.sv_journal.specs.History.{Authored, Accepted, is_client, is_noted, outcomes_of, accepted, actions_of, result_at, run_length, commit_of}
 use Rattle.sv_journal.specs.Sessions.{is_end, life_in, life_of, names, positions_in, named_in, sent_to}
 use Rattle.sv_journal.specs.Answer.{Rules}
@@ -60,15 +60,15 @@ fits-sent r h e v S N slot head ps is low f =
     (fits-given r.world (accepted (e ∷ h)) (result_at h) (sent_also slot ps S) N (marked_all v ps slot) head slot
     (fits-marked r.world (accepted (e ∷ h)) (result_at h) S N v ps slot low f))
 
-pub relay-sends : (seq c : ℕ) (head : List ObjectValue) (ps : List ℕ) → IsSending (logged.Relay seq c head ps) c head ps
+pub relay-sends : (seq c : ℕ) (head : List ObjectValue) (ps : List ℕ) → IsSending (brief.Relay seq c head ps) c head ps
 relay-sends seq c head ps = record { noted = refl; welcome = refl; sends = refl; names_head = λ x. refl }
 
-pub seen-sends : (n c : ℕ) (head : List ObjectValue) (ps : List ℕ) → IsSending (logged.Seen n c head ps) c head ps
+pub seen-sends : (n c : ℕ) (head : List ObjectValue) (ps : List ℕ) → IsSending (brief.Seen n c head ps) c head ps
 seen-sends n c head ps = record { noted = refl; welcome = refl; sends = refl; names_head = λ x. refl }
 
 -- Positions that are there are sent, on a request that brings nothing new.
 pub agree-sent : (r : Rules) (h : List Entry) (v : QueueView) (old next : List SessionRow) (clients : Clients) (owed slot s : ℕ) (request : Request)
-    (reply : Logged) (head : List ObjectValue) (ps : List ℕ) → IsSending reply v.commit head ps →
+    (reply : BriefReply) (head : List ObjectValue) (ps : List ℕ) → IsSending reply v.commit head ps →
     Agrees r h v old clients owed → seat_in old slot ≡ Some s → IsOld h s request → is_end request ≡ false →
     AreAfter slot (entry_of s request reply) old next → All (IsUncommitted v) ps → IsClosed (actions_of h) (commit_of h) (sent_to h s) (λ p. is_in p ps) →
     Agrees r (entry_of s request reply ∷ h) (given_all (marked_all v ps slot) head slot) next clients owed
@@ -106,11 +106,11 @@ agree-sent r h v old next clients owed slot s request reply head ps sends a at i
 pub agree-accept : (r : Rules) (h : List Entry) (v : QueueView) (old next : List SessionRow) (clients after : Clients) (owed slot s : ℕ) (request : Request)
     (k seq c m : ℕ) (head : List ObjectValue) (ps : List ℕ) → c ≡ v.commit → m ≡ suc (last_position v) →
     Agrees r h v old clients owed → seat_in old slot ≡ Some s → IsNextSubmit h s request k seq → length (accepted h) < r.positions → is_end request ≡ false →
-    AreAfter slot (entry_of s request (logged.Relay seq c head ps)) old next →
+    AreAfter slot (entry_of s request (brief.Relay seq c head ps)) old next →
     ((j : ℕ) → client_row after j ≡ row_with_outcome (client_row clients) k (Accepted m) j) →
     All (IsUncommitted (with_action v (record { 0 = k }) seq (action_in request))) ps →
     IsClosed (actions_of h ++ action_in request ∷ []) (commit_of h) (sent_to h s) (λ p. is_in p ps) →
-    Agrees r (entry_of s request (logged.Relay seq c head ps) ∷ h) (given_all (marked_all (with_action v (record { 0 = k }) seq (action_in request)) ps slot) head slot) next after owed
+    Agrees r (entry_of s request (brief.Relay seq c head ps) ∷ h) (given_all (marked_all (with_action v (record { 0 = k }) seq (action_in request)) ps slot) head slot) next after owed
 agree-accept r h v old next clients after owed slot s request k seq c m head ps at last a seat is fewer more rows' clients' within closed =
     agree-next r h e v (given_all (marked_all w ps slot) head slot) old next clients after owed owed slot a seat rows'
     (record {
@@ -130,14 +130,14 @@ agree-accept r h v old next clients after owed slot s request k seq c m head ps 
     })
     (room-given (marked_all w ps slot) head slot ∙ room-marked w ps slot)
     (fits-sent r h e w (sent_seats h old) (named_seats h old) slot head ps
-    (subst (λ n. IsSending (logged.Relay seq n head ps) w.commit head ps) (sym at) (relay-sends seq v.commit head ps)) within fitted)
+    (subst (λ n. IsSending (brief.Relay seq n head ps) w.commit head ps) (sym at) (relay-sends seq v.commit head ps)) within fitted)
     (commit-given (marked_all w ps slot) head slot ∙ commit-marked w ps slot ∙ a.commit ∙ sym commit)
     (λ j. subst (IsClientRow (e ∷ h) j) (sym (clients' j))
     (client-next h e k seq (Accepted m) (client_row clients) is (ap (λ n. Accepted n ∷ []) (let p : suc (length (accepted h)) ≡ m = omega (arith, last, a.fits.last) in p)) refl a.client_rows j))
     (a.ends ∙ sym (owed-same slot e old next rows' more))
   where
     e : Entry
-    e = entry_of s request (logged.Relay seq c head ps)
+    e = entry_of s request (brief.Relay seq c head ps)
 
     w : QueueView
     w = with_action v (record { 0 = k }) seq (action_in request)
@@ -173,8 +173,8 @@ joined_row rows k life j = cond (nat_eq k j) (record (rows k) { life = life }) (
 pub agree-welcome : (r : Rules) (h : List Entry) (v : QueueView) (old next : List SessionRow) (clients after : Clients) (owed slot s : ℕ) (request : Request)
     (k life c : ℕ) (head : List ObjectValue) → c ≡ v.commit →
     Agrees r h v old clients owed → seat_in old slot ≡ Some s → IsJoin r h request k life → is_end request ≡ false →
-    AreAfter slot (entry_of s request (logged.Welcome c head)) old next → ((j : ℕ) → client_row after j ≡ joined_row (client_row clients) k life j) →
-    Agrees r (entry_of s request (logged.Welcome c head) ∷ h) (given_all v head slot) next after owed
+    AreAfter slot (entry_of s request (brief.Welcome c head)) old next → ((j : ℕ) → client_row after j ≡ joined_row (client_row clients) k life j) →
+    Agrees r (entry_of s request (brief.Welcome c head) ∷ h) (given_all v head slot) next after owed
 agree-welcome r h v old next clients after owed slot s request k life c head at a seat is more rows' clients' =
     agree-next r h e v (given_all v head slot) old next clients after owed owed slot a seat rows'
     (record {
@@ -201,7 +201,7 @@ agree-welcome r h v old next clients after owed slot s request k life c head at 
     (a.ends ∙ sym (owed-same slot e old next rows' more))
   where
     e : Entry
-    e = entry_of s request (logged.Welcome c head)
+    e = entry_of s request (brief.Welcome c head)
 
     same : accepted (e ∷ h) ≡ accepted h
     same = accepted-quiet e h refl

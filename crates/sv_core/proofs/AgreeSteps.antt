@@ -4,7 +4,7 @@ use Rattle.std.proofs.lemmas.Bool.{both_ways}
 use Rattle.sv_world.specs.Control.{is_in}
 use Rattle.sv_wire.specs.declared.message.Request.{Request}
 use Rattle.sv_journal.specs.declared.entry.Entry.{Entry}
-use Rattle.sv_journal.specs.declared.entry.Logged.{Logged}
+use Rattle.sv_journal.specs.declared.entry.BriefReply.{BriefReply}
 use Rattle.sv_journal.specs.History.{is_welcome, is_noted, is_client, joining, accepted, result_at, run_length, commit_of}
 use Rattle.sv_journal.specs.Sessions.{is_end, is_last, life_in, life_of, positions_in, named_in}
 use Rattle.sv_journal.specs.Answer.{Rules}
@@ -97,7 +97,7 @@ fits-quiet r h e v S N slot same noted positions named f =
 none : (p : ℕ) {xs : List ℕ} → xs ≡ [] → is_in p xs ≡ true → ⊥
 none p q m = (let no' : false ≡ true = ap (is_in p) (sym q) ∙ m in cc)
 
-pub agree-quiet : (r : Rules) (h : List Entry) (v : QueueView) (rows next : List SessionRow) (clients : Clients) (owed left slot s : ℕ) (request : Request) (reply : Logged) →
+pub agree-quiet : (r : Rules) (h : List Entry) (v : QueueView) (rows next : List SessionRow) (clients : Clients) (owed left slot s : ℕ) (request : Request) (reply : BriefReply) →
     Agrees r h v rows clients owed → seat_in rows slot ≡ Some s → IsQuietEntry h s request reply → (is_end request ≡ true → is_last reply ≡ true) →
     AreAfter slot (entry_of s request reply) rows next → left ≡ count_rows owes_end next → Agrees r (entry_of s request reply ∷ h) v next clients left
 agree-quiet r h v rows next clients owed left slot s request reply a at quiet last after owes =

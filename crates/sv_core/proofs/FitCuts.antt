@@ -15,8 +15,8 @@ use Rattle.sv_queue.specs.Queue.{QueueView, IsUncommitted, queue_actions, sent_p
 use Rattle.sv_influence.specs.Lacking.{latest_cut, MarksAreClosed}
 use Rattle.sv_influence.proofs.Looks.{queue_length}
 use Rattle.sv_journal.specs.declared.entry.Entry.{Entry}
-use Rattle.sv_journal.specs.declared.entry.Logged.{Logged}
-use Rattle.sv_journal.specs.declared.entry.Logged.TheVariants as logged
+use Rattle.sv_journal.specs.declared.entry.BriefReply.{BriefReply}
+use Rattle.sv_journal.specs.declared.entry.BriefReply.TheVariants as brief
 use Rattle.sv_journal.specs.History.{Authored, accepted, actions_of, result_at, commit_of}
 use Rattle.sv_journal.specs.Sessions.{sent_to, named_to}
 use Rattle.sv_journal.specs.Answer.{Rules, committed_held, seen_at}
@@ -82,15 +82,15 @@ module _ (w : World) (A : List Authored) (R : ℕ → Option (List (List ℤ))) 
 pub seen-is : (r : Rules) (h : List Entry) (v : QueueView) (S : ℕ → List ℕ) (N : ℕ → ℕ → List ℕ) (slot s : ℕ) (xs : List ℕ) →
     S slot ≡ sent_to h s → N slot ≡ named_to h s → slot < 1024 → v.commit ≡ commit_of h →
     ((t q : ℕ) → is_in q (S t) ≡ true → q ≤ length (accepted h)) → QueueFits r.world (accepted h) (result_at h) S N v →
-    logged.Seen (latest_cut v slot xs) v.commit (held_in v (seen_bases v slot xs)) (seen_positions v slot xs)
+    brief.Seen (latest_cut v slot xs) v.commit (held_in v (seen_bases v slot xs)) (seen_positions v slot xs)
     ≡ seen_at r h s xs (greatest_cut (actions_of h) (commit_of h) (sent_to h s) xs)
 seen-is r h v S N slot s xs sent named small at within f =
-    ap (λ os. logged.Seen n v.commit os (seen_positions v slot xs)) (held-is r h v (seen_bases v slot xs) (committed-is r h (accepted h) S N v at f))
-    ∙ ap (λ os. logged.Seen n v.commit (committed_held r h os) (seen_positions v slot xs))
+    ap (λ os. brief.Seen n v.commit os (seen_positions v slot xs)) (held-is r h v (seen_bases v slot xs) (committed-is r h (accepted h) S N v at f))
+    ∙ ap (λ os. brief.Seen n v.commit (committed_held r h os) (seen_positions v slot xs))
     (seen_bases-are r.world (accepted h) (result_at h) S N v f within
     (filter (λ x. was_given (actions_in (accepted h)) (S slot) (N slot x) x v.commit) (below r.world.shape.objects)) slot xs small
     (given-are r.world (accepted h) (result_at h) S N v f within slot small))
-    ∙ ap (logged.Seen n v.commit (committed_held r h (head_to_see r.world.shape.objects (actions_of h) v.commit (S slot)
+    ∙ ap (brief.Seen n v.commit (committed_held r h (head_to_see r.world.shape.objects (actions_of h) v.commit (S slot)
     (filter (λ x. was_given (actions_in (accepted h)) (S slot) (N slot x) x v.commit) (below r.world.shape.objects)) xs n)))
     (seen-are r.world (accepted h) (result_at h) S N v f within slot xs small)
     ∙ ap (λ m. told m v.commit (S slot) (N slot)) (cut-is r.world (accepted h) (result_at h) S N v f within slot xs small)
@@ -101,8 +101,8 @@ seen-is r h v S N slot s xs sent named small at within f =
     n : ℕ
     n = latest_cut v slot xs
 
-    told : ℕ → ℕ → List ℕ → (ℕ → List ℕ) → Logged
-    told m c ps ns = logged.Seen m c (committed_held r h (head_to_see r.world.shape.objects (actions_of h) c ps
+    told : ℕ → ℕ → List ℕ → (ℕ → List ℕ) → BriefReply
+    told m c ps ns = brief.Seen m c (committed_held r h (head_to_see r.world.shape.objects (actions_of h) c ps
         (filter (λ x. was_given (actions_of h) ps (ns x) x c) (below r.world.shape.objects)) xs m)) (needed_to_see (actions_of h) c ps xs m)
 
 -- What is seen is uncommitted, and its objects are of the world.

@@ -5,7 +5,7 @@ use Rattle.sv_wire.specs.declared.message.Request.{Request}
 use Rattle.sv_wire.specs.declared.refusal.Refusal.{Refusal}
 use Rattle.sv_wire.specs.Refusals.{code_of}
 use Rattle.sv_journal.specs.declared.entry.Entry.{Entry}
-use Rattle.sv_journal.specs.declared.entry.Logged.TheVariants as logged
+use Rattle.sv_journal.specs.declared.entry.BriefReply.TheVariants as brief
 use Rattle.sv_journal.specs.Answer.{Rules}
 use Rattle.sv_core.specs.declared.decision.Decision.{Decision}
 use Rattle.sv_core.specs.declared.decision.Decision.TheVariants as decisions
@@ -13,64 +13,64 @@ use Rattle.sv_core.specs.Decisions.{reply_by, changes_nothing, IsOld, DecisionHo
 use Rattle.sv_journal.specs.History.{entry_of}
 use Rattle.sv_core.proofs.HistorySteps.{outcomes-quiet, outcomes-old}
 
-quiet-refused : (h : List Entry) (s : ℕ) (request : Request) (code detail : ℕ) → IsQuietEntry h s request (logged.Refused code detail)
+quiet-refused : (h : List Entry) (s : ℕ) (request : Request) (code detail : ℕ) → IsQuietEntry h s request (brief.Refused code detail)
 quiet-refused h s request code detail = record {
   relay = refl;
   noted = refl;
   welcome = refl;
   positions = refl;
   named = λ x. refl;
-  outcomes = λ k. outcomes-quiet (entry_of s request (logged.Refused code detail)) h k refl;
+  outcomes = λ k. outcomes-quiet (entry_of s request (brief.Refused code detail)) h k refl;
 }
 
-quiet-settled : (h : List Entry) (s : ℕ) (request : Request) (seq pos : ℕ) → IsQuietEntry h s request (logged.Settled seq pos)
+quiet-settled : (h : List Entry) (s : ℕ) (request : Request) (seq pos : ℕ) → IsQuietEntry h s request (brief.Settled seq pos)
 quiet-settled h s request seq pos = record {
   relay = refl;
   noted = refl;
   welcome = refl;
   positions = refl;
   named = λ x. refl;
-  outcomes = λ k. outcomes-quiet (entry_of s request (logged.Settled seq pos)) h k refl;
+  outcomes = λ k. outcomes-quiet (entry_of s request (brief.Settled seq pos)) h k refl;
 }
 
-quiet-idle : (h : List Entry) (s : ℕ) (request : Request) → IsQuietEntry h s request logged.Idle
+quiet-idle : (h : List Entry) (s : ℕ) (request : Request) → IsQuietEntry h s request brief.Idle
 quiet-idle h s request = record {
   relay = refl;
   noted = refl;
   welcome = refl;
   positions = refl;
   named = λ x. refl;
-  outcomes = λ k. outcomes-quiet (entry_of s request logged.Idle) h k refl;
+  outcomes = λ k. outcomes-quiet (entry_of s request brief.Idle) h k refl;
 }
 
-pub quiet-bye : (h : List Entry) (s : ℕ) (request : Request) → IsQuietEntry h s request logged.Bye
+pub quiet-bye : (h : List Entry) (s : ℕ) (request : Request) → IsQuietEntry h s request brief.Bye
 quiet-bye h s request = record {
   relay = refl;
   noted = refl;
   welcome = refl;
   positions = refl;
   named = λ x. refl;
-  outcomes = λ k. outcomes-quiet (entry_of s request logged.Bye) h k refl;
+  outcomes = λ k. outcomes-quiet (entry_of s request brief.Bye) h k refl;
 }
 
-quiet-dropped : (h : List Entry) (s : ℕ) (request : Request) (seq chain far : ℕ) → IsOld h s request → IsQuietEntry h s request (logged.Dropped seq chain far)
+quiet-dropped : (h : List Entry) (s : ℕ) (request : Request) (seq chain far : ℕ) → IsOld h s request → IsQuietEntry h s request (brief.Dropped seq chain far)
 quiet-dropped h s request seq chain far old = record {
   relay = refl;
   noted = refl;
   welcome = refl;
   positions = refl;
   named = λ x. refl;
-  outcomes = λ k. outcomes-old (entry_of s request (logged.Dropped seq chain far)) h k old;
+  outcomes = λ k. outcomes-old (entry_of s request (brief.Dropped seq chain far)) h k old;
 }
 
-quiet-denied : (h : List Entry) (s : ℕ) (request : Request) (seq : ℕ) (object : ObjectId) → IsOld h s request → IsQuietEntry h s request (logged.Denied seq object)
+quiet-denied : (h : List Entry) (s : ℕ) (request : Request) (seq : ℕ) (object : ObjectId) → IsOld h s request → IsQuietEntry h s request (brief.Denied seq object)
 quiet-denied h s request seq object old = record {
   relay = refl;
   noted = refl;
   welcome = refl;
   positions = refl;
   named = λ x. refl;
-  outcomes = λ k. outcomes-old (entry_of s request (logged.Denied seq object)) h k old;
+  outcomes = λ k. outcomes-old (entry_of s request (brief.Denied seq object)) h k old;
 }
 
 -- The reply to what changes nothing is such a one.

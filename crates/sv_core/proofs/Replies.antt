@@ -9,8 +9,8 @@ use Rattle.sv_world.proofs.Members.{is_in-head, is_in-tail}
 use Rattle.sv_queue.specs.Queue.{QueueView, last_position, entry_at, given_objects}
 use Rattle.sv_influence.specs.Lacking.{lacking, base_objects}
 use Rattle.sv_journal.specs.declared.entry.Entry.{Entry}
-use Rattle.sv_journal.specs.declared.entry.Logged.{Logged}
-use Rattle.sv_journal.specs.declared.entry.Logged.TheVariants as logged
+use Rattle.sv_journal.specs.declared.entry.BriefReply.{BriefReply}
+use Rattle.sv_journal.specs.declared.entry.BriefReply.TheVariants as brief
 use Rattle.sv_journal.specs.History.{Authored, authored_at, item_at, accepted, actions_of, result_at, commit_of, committed_of}
 use Rattle.sv_journal.specs.Sessions.{sent_to, named_to}
 use Rattle.sv_journal.specs.Answer.{Rules, committed_held, relay_of}
@@ -34,22 +34,22 @@ held-is r h v xs same = ap (λ (values : List (List ℤ)). map (λ x. record { o
 pub relay-is : (r : Rules) (h : List Entry) (v : QueueView) (S : ℕ → List ℕ) (N : ℕ → ℕ → List ℕ) (slot s seq p : ℕ) →
     S slot ≡ sent_to h s → N slot ≡ named_to h s → slot < 1024 → v.commit ≡ commit_of h → v.commit < p → p ≤ length (accepted h) →
     ((t q : ℕ) → is_in q (S t) ≡ true → q ≤ length (accepted h)) → QueueFits r.world (accepted h) (result_at h) S N v →
-    logged.Relay seq v.commit (held_in v (base_objects v slot p)) (lacking v slot p) ≡ relay_of r h (actions_of h) s seq p
+    brief.Relay seq v.commit (held_in v (base_objects v slot p)) (lacking v slot p) ≡ relay_of r h (actions_of h) s seq p
 relay-is r h v S N slot s seq p sent named small at low high within f =
-    ap (λ xs. logged.Relay seq v.commit xs (lacking v slot p)) (held-is r h v (base_objects v slot p) (committed-is r h (accepted h) S N v at f))
-    ∙ ap (λ xs. logged.Relay seq v.commit (committed_held r h xs) (lacking v slot p))
+    ap (λ xs. brief.Relay seq v.commit xs (lacking v slot p)) (held-is r h v (base_objects v slot p) (committed-is r h (accepted h) S N v at f))
+    ∙ ap (λ xs. brief.Relay seq v.commit (committed_held r h xs) (lacking v slot p))
     (bases-are r.world (accepted h) (result_at h) S N v f within
     (filter (λ x. was_given (actions_in (accepted h)) (S slot) (N slot x) x v.commit) (below r.world.shape.objects)) slot p small low high
     (given-are r.world (accepted h) (result_at h) S N v f within slot small))
-    ∙ ap (logged.Relay seq v.commit (committed_held r h (head_for r.world.shape.objects (actions_of h) v.commit (S slot)
+    ∙ ap (brief.Relay seq v.commit (committed_held r h (head_for r.world.shape.objects (actions_of h) v.commit (S slot)
     (filter (λ x. was_given (actions_in (accepted h)) (S slot) (N slot x) x v.commit) (below r.world.shape.objects)) p)))
     (lacking-is r.world (accepted h) (result_at h) S N v f within slot p small low high)
     ∙ ap (λ c. told c (S slot) (N slot)) at
     ∙ ap (λ xs. told (commit_of h) xs (N slot)) sent
     ∙ ap (told (commit_of h) (sent_to h s)) named
   where
-    told : ℕ → List ℕ → (ℕ → List ℕ) → Logged
-    told c xs ns = logged.Relay seq c (committed_held r h (head_for r.world.shape.objects (actions_of h) c xs
+    told : ℕ → List ℕ → (ℕ → List ℕ) → BriefReply
+    told c xs ns = brief.Relay seq c (committed_held r h (head_for r.world.shape.objects (actions_of h) c xs
         (filter (λ x. was_given (actions_of h) xs (ns x) x c) (below r.world.shape.objects)) p)) (needed_for (actions_of h) c xs p)
 
 -- The relay of a new action, which the queue w has beside those of the queue v.
@@ -58,16 +58,16 @@ pub relay-new : (r : Rules) (h : List Entry) (v w : QueueView) (S : ℕ → List
     w.committed ≡ v.committed → given_objects w slot ≡ given_objects v slot →
     ((t q : ℕ) → is_in q (S t) ≡ true → q ≤ length (accepted h)) → QueueFits r.world (accepted h) (result_at h) S N v →
     QueueFits r.world (accepted h ++ a ∷ []) (result_at h) S N w →
-    logged.Relay seq w.commit (held_in w (base_objects w slot (last_position w))) (lacking w slot (last_position w))
+    brief.Relay seq w.commit (held_in w (base_objects w slot (last_position w))) (lacking w slot (last_position w))
     ≡ relay_of r h (actions_of h ++ a.action ∷ []) s seq (suc (length (actions_of h)))
 relay-new r h v w S N a slot s seq sent named small at same values gave within f g =
-    ap (λ p. logged.Relay seq w.commit (held_in w (base_objects w slot p)) (lacking w slot p)) place
-    ∙ ap (λ xs. logged.Relay seq w.commit xs (lacking w slot m)) (held-is r h w (base_objects w slot m) (values ∙ committed-is r h (accepted h) S N v at f))
-    ∙ ap (λ xs. logged.Relay seq w.commit (committed_held r h xs) (lacking w slot m))
+    ap (λ p. brief.Relay seq w.commit (held_in w (base_objects w slot p)) (lacking w slot p)) place
+    ∙ ap (λ xs. brief.Relay seq w.commit xs (lacking w slot m)) (held-is r h w (base_objects w slot m) (values ∙ committed-is r h (accepted h) S N v at f))
+    ∙ ap (λ xs. brief.Relay seq w.commit (committed_held r h xs) (lacking w slot m))
     (bases-are r.world (accepted h ++ a ∷ []) (result_at h) S N w g later
     (filter (λ x. was_given (actions_in (accepted h)) (S slot) (N slot x) x v.commit) (below r.world.shape.objects)) slot m small low high
     (gave ∙ given-are r.world (accepted h) (result_at h) S N v f within slot small))
-    ∙ ap (logged.Relay seq w.commit (committed_held r h (head_for r.world.shape.objects (actions_in (accepted h ++ a ∷ [])) w.commit (S slot)
+    ∙ ap (brief.Relay seq w.commit (committed_held r h (head_for r.world.shape.objects (actions_in (accepted h ++ a ∷ [])) w.commit (S slot)
     (filter (λ x. was_given (actions_in (accepted h)) (S slot) (N slot x) x v.commit) (below r.world.shape.objects)) m)))
     (lacking-is r.world (accepted h ++ a ∷ []) (result_at h) S N w g later slot m small low high)
     ∙ ap (λ c. told c v.commit (actions_in (accepted h ++ a ∷ [])) (S slot) (N slot)) (same ∙ at)
@@ -80,8 +80,8 @@ relay-new r h v w S N a slot s seq sent named small at same values gave within f
     m : ℕ
     m = suc (length (accepted h))
 
-    told : ℕ → ℕ → List Action → List ℕ → (ℕ → List ℕ) → Logged
-    told c d acts xs ns = logged.Relay seq c (committed_held r h (head_for r.world.shape.objects acts c xs
+    told : ℕ → ℕ → List Action → List ℕ → (ℕ → List ℕ) → BriefReply
+    told c d acts xs ns = brief.Relay seq c (committed_held r h (head_for r.world.shape.objects acts c xs
         (filter (λ x. was_given (actions_of h) xs (ns x) x d) (below r.world.shape.objects)) m)) (needed_for acts c xs m)
 
     longer : length (accepted h ++ a ∷ []) ≡ suc (length (accepted h))

@@ -4,7 +4,7 @@ use Rattle.std.proofs.lemmas.Bool.{cases_Bool, eqb-true}
 use mathlib.Core.Bool.{or-false, and-false}
 use Rattle.sv_wire.specs.declared.message.Request.{Request}
 use Rattle.sv_journal.specs.declared.entry.Entry.{Entry}
-use Rattle.sv_journal.specs.declared.entry.Logged.{Logged}
+use Rattle.sv_journal.specs.declared.entry.BriefReply.{BriefReply}
 use Rattle.sv_journal.specs.History.{is_welcome, is_client, joining}
 use Rattle.sv_journal.specs.Sessions.{welcomes}
 use Rattle.sv_journal.proofs.Results.{either_none}
@@ -16,7 +16,7 @@ welcomes-none : (e : Entry) (c : Option ℕ) → is_welcome e.reply ≡ false �
 welcomes-none e None h = refl
 welcomes-none e (Some k) h = rw h refl
 
-pub other_row_stays : (asker : ℕ) (request : Request) (reply : Logged) (r : SessionRow) → is_welcome reply ≡ false →
+pub other_row_stays : (asker : ℕ) (request : Request) (reply : BriefReply) (r : SessionRow) → is_welcome reply ≡ false →
     session_after false (entry_of asker request reply) r ≡ r
 other_row_stays asker request reply r h = rw (welcomes-none (entry_of asker request reply) r.client h, either_none r.client, or-false r.over) refl
 
@@ -31,7 +31,7 @@ welcomes-another : (e : Entry) (c : Option ℕ) → c ≢ joining e.request → 
 welcomes-another e None other = refl
 welcomes-another e (Some k) other = ap (λ (b : Bool). is_welcome e.reply && b) (other-client (joining e.request) k other) ∙ and-false (is_welcome e.reply)
 
-pub row_of_another : (asker : ℕ) (request : Request) (reply : Logged) (r : SessionRow) → r.client ≢ joining request →
+pub row_of_another : (asker : ℕ) (request : Request) (reply : BriefReply) (r : SessionRow) → r.client ≢ joining request →
     session_after false (entry_of asker request reply) r ≡ r
 row_of_another asker request reply r other =
     rw (welcomes-another (entry_of asker request reply) r.client other, either_none r.client, or-false r.over) refl

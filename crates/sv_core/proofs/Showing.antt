@@ -11,8 +11,8 @@ use Rattle.sv_wire.specs.declared.message.Reply.TheVariants as replies
 use Rattle.sv_queue.specs.Queue.{QueueView, last_position}
 use Rattle.sv_influence.specs.Lacking.{bases_to_see, lacking_to_see, latest_cut}
 use Rattle.sv_journal.specs.declared.entry.Entry.{Entry}
-use Rattle.sv_journal.specs.declared.entry.Logged.{Logged}
-use Rattle.sv_journal.specs.declared.entry.Logged.TheVariants as logged
+use Rattle.sv_journal.specs.declared.entry.BriefReply.{BriefReply}
+use Rattle.sv_journal.specs.declared.entry.BriefReply.TheVariants as brief
 use Rattle.sv_journal.specs.History.{accepted, actions_of, result_at, commit_of, full_reply}
 use Rattle.sv_journal.specs.Sessions.{positions_in, sent_to}
 use Rattle.sv_journal.specs.Answer.{Rules, seen_at}
@@ -49,7 +49,7 @@ shows-other r h s q decisions.Note other = refl
 shows-other r h s q decisions.Idle other = refl
 shows-other r h s q decisions.Leave other = refl
 
-shown-parts : (n c : ℕ) (head : List ObjectValue) (ps : List ℕ) → shows_nothing (logged.Seen n c head ps) ≡ true → (head ≡ []) × (ps ≡ [])
+shown-parts : (n c : ℕ) (head : List ObjectValue) (ps : List ℕ) → shows_nothing (brief.Seen n c head ps) ≡ true → (head ≡ []) × (ps ≡ [])
 shown-parts n c [] [] is = (refl, refl)
 shown-parts n c [] (p ∷ ps) is = absurd (true≢false (sym is))
 shown-parts n c (x ∷ xs) ps is = absurd (true≢false (sym is))
@@ -58,8 +58,8 @@ held-none : (v : QueueView) (xs : List ℕ) → held_in v xs ≡ [] → xs ≡ [
 held-none v [] none = refl
 held-none v (x ∷ xs) none = cc
 
-abbrev last_in : Logged → ℕ
-last_in (logged.Seen last commit head positions) = last
+abbrev last_in : BriefReply → ℕ
+last_in (brief.Seen last commit head positions) = last
 last_in reply = 0
 
 unless : (b : Bool) → (b ≡ true → ⊥) → b ≡ false
@@ -88,16 +88,16 @@ module _ (r : Rules) (h : List Entry) (v : QueueView) (rows : List SessionRow) (
   small : slot < 1024
   small = omega (arith, seat-low rows slot s at, k.few)
 
-  said : logged.Seen (latest_cut v slot xs) v.commit (held_in v (seen_bases v slot xs)) (seen_positions v slot xs)
+  said : brief.Seen (latest_cut v slot xs) v.commit (held_in v (seen_bases v slot xs)) (seen_positions v slot xs)
       ≡ seen_at r h s xs (greatest_cut (actions_of h) (commit_of h) (sent_to h s) xs)
   said = seen-is r h v (sent_seats h rows) (named_seats h rows) slot s xs (ap (sent_at h) at) (ap (named_at h) at) small k.commit (sent-within r h rows k.sound) k.fits
 
   known-said : may_be_observed v.shape.objects xs ≡ true → list_all (knows v slot) xs ≡ true →
-      logged.Seen (last_position v) v.commit [] [] ≡ seen_at r h s xs (greatest_cut (actions_of h) (commit_of h) (sent_to h s) xs)
+      brief.Seen (last_position v) v.commit [] [] ≡ seen_at r h s xs (greatest_cut (actions_of h) (commit_of h) (sent_to h s) xs)
   known-said may known =
-      ap (λ n. logged.Seen n v.commit [] []) (known-cut v slot xs known)
-      ∙ ap (λ os. logged.Seen (latest_cut v slot xs) v.commit (held_in v os) []) (known-seen_bases v slot xs may known)
-      ∙ ap (logged.Seen (latest_cut v slot xs) v.commit (held_in v (seen_bases v slot xs))) (known-positions v slot xs known)
+      ap (λ n. brief.Seen n v.commit [] []) (known-cut v slot xs known)
+      ∙ ap (λ os. brief.Seen (latest_cut v slot xs) v.commit (held_in v os) []) (known-seen_bases v slot xs may known)
+      ∙ ap (brief.Seen (latest_cut v slot xs) v.commit (held_in v (seen_bases v slot xs))) (known-positions v slot xs known)
       ∙ said
 
   -- Whoever knows the objects is shown nothing,

@@ -86,7 +86,7 @@ pub record CarriedOut (old new : Core) (h : List Entry) (s : ℕ) (request : Req
   pub count : open_by new ≡ open_by old
   pub owed : owed_by new ≡ owed_by old
   pub keeps : Keeps new (decided_entry old h s request decision ∷ h)
-  pub logged : answer.logged ≡ reply_by (core_rules old) h s request decision
+  pub brief : answer.brief ≡ reply_by (core_rules old) h s request decision
   pub whole : answer.reply ≡ full_reply (accepted (decided_entry old h s request decision ∷ h)) (reply_by (core_rules old) h s request decision)
 
 -- The core stands where it stood.

@@ -12,8 +12,8 @@ use Rattle.sv_wire.specs.declared.message.ObjectValue.{ObjectValue}
 use Rattle.sv_wire.specs.declared.message.Request.{Request}
 use Rattle.sv_wire.specs.declared.message.Request.TheVariants as requests
 use Rattle.sv_journal.specs.declared.entry.Entry.{Entry}
-use Rattle.sv_journal.specs.declared.entry.Logged.{Logged}
-use Rattle.sv_journal.specs.declared.entry.Logged.TheVariants as logged
+use Rattle.sv_journal.specs.declared.entry.BriefReply.{BriefReply}
+use Rattle.sv_journal.specs.declared.entry.BriefReply.TheVariants as brief
 use Rattle.sv_journal.specs.History.{joining, is_welcome, is_relay, is_noted, client_of, is_client, is_submit_of, new_action, outcomes_of, accepted, actions_of, next_seq, commit_of}
 use Rattle.sv_journal.specs.Sessions.{names, positions_in, named_in, life_in, life_of, sent_to}
 use Rattle.sv_journal.specs.Answer.{Rules, refused_as, committed_held, relay_of, seen_at, commit_with, is_bad_result}
@@ -37,21 +37,21 @@ observed_in (requests.Observe objects wait) = numbers_of objects
 observed_in _ = []
 
 -- The reply that a decision stands for.
-abbrev pub reply_by : Rules → List Entry → ℕ → Request → Decision → Logged
+abbrev pub reply_by : Rules → List Entry → ℕ → Request → Decision → BriefReply
 reply_by r h s request (decisions.Refuse refusal detail) = refused_as refusal detail
-reply_by r h s request (decisions.Welcome client life) = logged.Welcome (commit_of h) (committed_held r h (interest_in request))
-reply_by r h s request (decisions.Drop client seq chain far) = logged.Dropped seq chain far
-reply_by r h s request (decisions.Repeat seq chain far) = logged.Dropped seq chain far
-reply_by r h s request (decisions.Deny client seq object) = logged.Denied seq object
-reply_by r h s request (decisions.RepeatDenied seq object) = logged.Denied seq object
-reply_by r h s request (decisions.Settle seq pos) = logged.Settled seq pos
+reply_by r h s request (decisions.Welcome client life) = brief.Welcome (commit_of h) (committed_held r h (interest_in request))
+reply_by r h s request (decisions.Drop client seq chain far) = brief.Dropped seq chain far
+reply_by r h s request (decisions.Repeat seq chain far) = brief.Dropped seq chain far
+reply_by r h s request (decisions.Deny client seq object) = brief.Denied seq object
+reply_by r h s request (decisions.RepeatDenied seq object) = brief.Denied seq object
+reply_by r h s request (decisions.Settle seq pos) = brief.Settled seq pos
 reply_by r h s request (decisions.Relay seq pos) = relay_of r h (actions_of h) s seq pos
 reply_by r h s request (decisions.Accept client seq) = relay_of r h (actions_of h ++ action_in request ∷ []) s seq (suc (length (actions_of h)))
 reply_by r h s request decisions.See =
     seen_at r h s (observed_in request) (greatest_cut (actions_of h) (commit_of h) (sent_to h s) (observed_in request))
-reply_by r h s request decisions.Note = logged.Noted (commit_with h s (results_in request))
-reply_by r h s request decisions.Idle = logged.Idle
-reply_by r h s request decisions.Leave = logged.Bye
+reply_by r h s request decisions.Note = brief.Noted (commit_with h s (results_in request))
+reply_by r h s request decisions.Idle = brief.Idle
+reply_by r h s request decisions.Leave = brief.Bye
 
 -- What is decided changes nothing but its own session: no action is taken in, none is sent, and no result is noted.
 abbrev pub changes_nothing : Decision → Bool
@@ -100,7 +100,7 @@ DecisionHolds r h s request decisions.Idle = Unit {0}
 DecisionHolds r h s request decisions.Leave = Unit {0}
 
 -- The reply accepts, sends, names and reports nothing, and the request gives no client a new outcome by it.
-pub record IsQuietEntry (h : List Entry) (s : ℕ) (request : Request) (reply : Logged) : Type 0 where
+pub record IsQuietEntry (h : List Entry) (s : ℕ) (request : Request) (reply : BriefReply) : Type 0 where
   pub relay : is_relay reply ≡ false
   pub noted : is_noted reply ≡ false
   pub welcome : is_welcome reply ≡ false
@@ -109,7 +109,7 @@ pub record IsQuietEntry (h : List Entry) (s : ℕ) (request : Request) (reply : 
   pub outcomes : (k : ℕ) → outcomes_of (record { session = s; request = request; reply = reply } ∷ h) k ≡ outcomes_of h k
 
 -- The reply sends these positions and names these objects at a commit, and it welcomes nobody and notes nothing.
-pub record IsSending (reply : Logged) (commit : ℕ) (head : List ObjectValue) (positions : List ℕ) : Type 0 where
+pub record IsSending (reply : BriefReply) (commit : ℕ) (head : List ObjectValue) (positions : List ℕ) : Type 0 where
   pub noted : is_noted reply ≡ false
   pub welcome : is_welcome reply ≡ false
   pub sends : positions_in reply ≡ positions

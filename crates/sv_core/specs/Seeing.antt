@@ -5,14 +5,14 @@ use Rattle.sv_world.specs.Limits.{most_items}
 use Rattle.sv_wire.specs.declared.message.Request.{Request}
 use Rattle.sv_wire.specs.declared.message.Reply.{Reply}
 use Rattle.sv_journal.specs.declared.entry.Entry.{Entry}
-use Rattle.sv_journal.specs.declared.entry.Logged.{Logged}
-use Rattle.sv_journal.specs.declared.entry.Logged.TheVariants as logged
+use Rattle.sv_journal.specs.declared.entry.BriefReply.{BriefReply}
+use Rattle.sv_journal.specs.declared.entry.BriefReply.TheVariants as brief
 use Rattle.sv_journal.specs.History.{accepted, actions_of, commit_of, full_reply}
 use Rattle.sv_journal.specs.Answer.{Rules, reply_to_request}
 
 -- A reply shows nothing: it is what an Observe is answered, with no head value and no item.
-abbrev pub shows_nothing : Logged → Bool
-shows_nothing (logged.Seen last commit [] []) = true
+abbrev pub shows_nothing : BriefReply → Bool
+shows_nothing (brief.Seen last commit [] []) = true
 shows_nothing reply = false
 
 -- Whatever was sent before, a relay of an action above the commit has no more items than a relay may have. So it is where the bound on chains is

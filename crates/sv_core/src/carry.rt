@@ -16,7 +16,7 @@ use crate::server_core::Core;
 use crate::sessions::note;
 use std::alloc::AllocError;
 use sv_influence::Chain;
-use sv_journal::Logged;
+use sv_journal::BriefReply;
 use sv_wire::{Reply, Request};
 
 impl Core {
@@ -78,7 +78,7 @@ impl Core {
         ensures owed { owed_by self.new + 1 ≡ owed_by self.old }
         ensures keeps { Keeps self.new (end_entry seat.session ∷ h) }
     {
-        note(&mut self.sessions, seat.slot, &Request::End, &Logged::Bye);
+        note(&mut self.sessions, seat.slot, &Request::End, &BriefReply::Bye);
         self.owed -= 1;
     }
 
@@ -94,7 +94,7 @@ impl Core {
         ensures { CarriedOut self.old self.new h seat.session request.now decision result }
     {
         let answer = plain_answer(decision);
-        note(&mut self.sessions, seat.slot, request, &answer.logged);
+        note(&mut self.sessions, seat.slot, request, &answer.brief);
         answer
     }
 }
@@ -102,35 +102,35 @@ impl Core {
 /// The answer that a decision stands for by itself.
 fn plain_answer(decision: Decision) -> Answer
     requires { changes_nothing decision ≡ true }
-    ensures logged { (r : Rules) (h : List Entry) (s : ℕ) (request : Request) → result.logged ≡ reply_by r h s request decision }
-    ensures reply { (A : List Authored) → result.reply ≡ full_reply A result.logged }
+    ensures brief { (r : Rules) (h : List Entry) (s : ℕ) (request : Request) → result.brief ≡ reply_by r h s request decision }
+    ensures reply { (A : List Authored) → result.reply ≡ full_reply A result.brief }
 {
     match decision {
         Decision::Refuse { refusal, detail } => {
             let code = refusal.code();
             Answer {
-                logged: Logged::Refused { code, detail },
+                brief: BriefReply::Refused { code, detail },
                 reply: Reply::Refused { code, detail },
             }
         }
         Decision::Repeat { seq, chain, far } => Answer {
-            logged: Logged::Dropped { seq, chain, far },
+            brief: BriefReply::Dropped { seq, chain, far },
             reply: Reply::Dropped { seq, chain, far },
         },
         Decision::RepeatDenied { seq, object } => Answer {
-            logged: Logged::Denied { seq, object },
+            brief: BriefReply::Denied { seq, object },
             reply: Reply::Denied { seq, object },
         },
         Decision::Settle { seq, pos } => Answer {
-            logged: Logged::Settled { seq, pos },
+            brief: BriefReply::Settled { seq, pos },
             reply: Reply::Settled { seq, pos },
         },
         Decision::Idle => Answer {
-            logged: Logged::Idle,
+            brief: BriefReply::Idle,
             reply: Reply::Idle,
         },
         Decision::Leave => Answer {
-            logged: Logged::Bye,
+            brief: BriefReply::Bye,
             reply: Reply::Bye,
         },
         _ => unreachable!(),

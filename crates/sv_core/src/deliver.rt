@@ -9,7 +9,7 @@ ghost use Rattle.sv_influence.specs.Lacking.{lacking, base_objects};
 ghost use Rattle.sv_wire.specs.declared.message.ObjectValue.{ObjectValue};
 ghost use Rattle.sv_wire.specs.declared.message.Reply.TheVariants as replies;
 ghost use Rattle.sv_wire.specs.declared.message.Request.TheVariants as requests;
-ghost use Rattle.sv_journal.specs.declared.entry.Logged.TheVariants as logged;
+ghost use Rattle.sv_journal.specs.declared.entry.BriefReply.TheVariants as brief;
 ghost use Rattle.sv_journal.specs.declared.entry.Entry.{Entry};
 ghost use Rattle.sv_journal.specs.History.{Accepted, accepted, commit_of};
 ghost use Rattle.sv_journal.specs.Sessions.{is_end};
@@ -30,7 +30,7 @@ use crate::sessions::note;
 use std::alloc::AllocError;
 use sv_clients::{Clients, Outcome};
 use sv_influence::Chain;
-use sv_journal::Logged;
+use sv_journal::BriefReply;
 use sv_queue::Queue;
 use sv_wire::{Done1, Reply, Request, copy_head};
 use sv_world::{Action, ClientId, ObjectId, copy_action};
@@ -120,7 +120,7 @@ pub fn deliver(queue: &mut Queue, relayed: &Relayed, slot: u16)
 
 /// The answer that a relay is: nothing in it is copied.
 fn answer_of(seq: u32, commit: u32, relayed: Relayed) -> Answer
-    ensures logged { result.logged ≡ logged.Relay seq commit relayed.head relayed.positions }
+    ensures brief { result.brief ≡ brief.Relay seq commit relayed.head relayed.positions }
     ensures reply { result.reply ≡ replies.Relay seq commit relayed.sent_head relayed.items }
 {
     let Relayed {
@@ -130,7 +130,7 @@ fn answer_of(seq: u32, commit: u32, relayed: Relayed) -> Answer
         items,
     } = relayed;
     Answer {
-        logged: Logged::Relay {
+        brief: BriefReply::Relay {
             seq,
             commit,
             head,
@@ -152,7 +152,7 @@ fn send(queue: &mut Queue, slot: u16, seq: u32, relayed: Relayed) -> Answer
     requires objects { All (λ (x : ObjectValue). x.object.0 < queue.old.shape.objects) relayed.head }
     requires slot { slot < queue.old.room }
     ensures queue { queue.new ≡ given_all (marked_all queue.old relayed.positions slot) relayed.head slot }
-    ensures logged { result.logged ≡ logged.Relay seq queue.old.commit relayed.head relayed.positions }
+    ensures brief { result.brief ≡ brief.Relay seq queue.old.commit relayed.head relayed.positions }
     ensures reply { result.reply ≡ replies.Relay seq queue.old.commit relayed.sent_head relayed.items }
 {
     let commit = queue.commit();
@@ -183,10 +183,10 @@ impl Core {
         self.clients.join(client, life)?;
         let commit = self.queue.commit();
         give_all(&mut self.queue, head.as_slice(), seat.slot);
-        let logged = Logged::Welcome { commit, head };
-        note(&mut self.sessions, seat.slot, request, &logged);
+        let brief = BriefReply::Welcome { commit, head };
+        note(&mut self.sessions, seat.slot, request, &brief);
         Ok(Answer {
-            logged,
+            brief,
             reply: Reply::Welcome { commit, head: sent },
         })
     }
@@ -212,10 +212,10 @@ impl Core {
         let Chain { count: chain, far } = found;
         self.clients
             .add_outcome(client, Outcome::Dropped { chain, far })?;
-        let logged = Logged::Dropped { seq, chain, far };
-        note(&mut self.sessions, seat.slot, request, &logged);
+        let brief = BriefReply::Dropped { seq, chain, far };
+        note(&mut self.sessions, seat.slot, request, &brief);
         Ok(Answer {
-            logged,
+            brief,
             reply: Reply::Dropped { seq, chain, far },
         })
     }
@@ -240,10 +240,10 @@ impl Core {
         let ActionId { client, seq } = id;
         self.clients
             .add_outcome(client, Outcome::Denied { object })?;
-        let logged = Logged::Denied { seq, object };
-        note(&mut self.sessions, seat.slot, request, &logged);
+        let brief = BriefReply::Denied { seq, object };
+        note(&mut self.sessions, seat.slot, request, &brief);
         Ok(Answer {
-            logged,
+            brief,
             reply: Reply::Denied { seq, object },
         })
     }
@@ -269,7 +269,7 @@ impl Core {
     {
         let relayed = relay_in(self.alloc, &self.queue, seat.slot, pos)?;
         let answer = send(&mut self.queue, seat.slot, seq, relayed);
-        note(&mut self.sessions, seat.slot, request, &answer.logged);
+        note(&mut self.sessions, seat.slot, request, &answer.brief);
         Ok(answer)
     }
 
@@ -318,7 +318,7 @@ impl Core {
         let action = copy_action(self.alloc, action)?;
         let relayed = take_in(&mut self.queue, &mut self.clients, seat.slot, id, action)?;
         let answer = send(&mut self.queue, seat.slot, id.seq, relayed);
-        note(&mut self.sessions, seat.slot, request, &answer.logged);
+        note(&mut self.sessions, seat.slot, request, &answer.brief);
         Ok(answer)
     }
 
@@ -340,10 +340,10 @@ impl Core {
         take_reports(self.alloc, &mut self.queue, reported_by(request))?;
         self.queue.install();
         let commit = self.queue.commit();
-        let logged = Logged::Noted { commit };
-        note(&mut self.sessions, seat.slot, request, &logged);
+        let brief = BriefReply::Noted { commit };
+        note(&mut self.sessions, seat.slot, request, &brief);
         Ok(Answer {
-            logged,
+            brief,
             reply: Reply::Noted { commit },
         })
     }

@@ -6,7 +6,7 @@ ghost use Rattle.sv_world.specs.Sets.{numbers_of};
 ghost use Rattle.sv_queue.specs.Queue.{IsUncommitted, last_position};
 ghost use Rattle.sv_wire.specs.declared.message.ObjectValue.{ObjectValue};
 ghost use Rattle.sv_wire.specs.declared.message.Reply.TheVariants as replies;
-ghost use Rattle.sv_journal.specs.declared.entry.Logged.TheVariants as logged;
+ghost use Rattle.sv_journal.specs.declared.entry.BriefReply.TheVariants as brief;
 ghost use Rattle.sv_journal.specs.declared.entry.Entry.{Entry};
 ghost use Rattle.sv_journal.specs.Sessions.{is_end};
 ghost use Rattle.sv_core.specs.declared.decision.Decision.TheVariants as decisions;
@@ -26,7 +26,7 @@ use crate::sessions::note;
 use std::alloc::{AllocError, Global};
 use std::marker::Brand;
 use std::sync::ledger::{Blank, Ledger};
-use sv_journal::Logged;
+use sv_journal::BriefReply;
 use sv_lists::List;
 use sv_queue::{Queue, Steps};
 use sv_wire::{Reply, Request};
@@ -44,7 +44,7 @@ fn observed_by(request: &Request) -> &[ObjectId]
 
 /// The answer that is seen: nothing in it is copied.
 fn answer_of(commit: u32, seen: Seen) -> Answer
-    ensures logged { result.logged ≡ logged.Seen seen.last commit seen.relayed.head seen.relayed.positions }
+    ensures brief { result.brief ≡ brief.Seen seen.last commit seen.relayed.head seen.relayed.positions }
     ensures reply { result.reply ≡ replies.Seen seen.last commit seen.relayed.sent_head seen.relayed.items }
 {
     let Seen { last, relayed } = seen;
@@ -55,7 +55,7 @@ fn answer_of(commit: u32, seen: Seen) -> Answer
         items,
     } = relayed;
     Answer {
-        logged: Logged::Seen {
+        brief: BriefReply::Seen {
             last,
             commit,
             head,
@@ -76,7 +76,7 @@ fn send(queue: &mut Queue, slot: u16, seen: Seen) -> Answer
     requires objects { All (λ (x : ObjectValue). x.object.0 < queue.old.shape.objects) seen.relayed.head }
     requires slot { slot < queue.old.room }
     ensures queue { queue.new ≡ given_all (marked_all queue.old seen.relayed.positions slot) seen.relayed.head slot }
-    ensures logged { result.logged ≡ logged.Seen seen.last queue.old.commit seen.relayed.head seen.relayed.positions }
+    ensures brief { result.brief ≡ brief.Seen seen.last queue.old.commit seen.relayed.head seen.relayed.positions }
     ensures reply { result.reply ≡ replies.Seen seen.last queue.old.commit seen.relayed.sent_head seen.relayed.items }
 {
     let commit = queue.commit();
@@ -142,7 +142,7 @@ impl Core {
     {
         let seen = seen_in(self.alloc, &self.queue, seat.slot, observed_by(request))?;
         let answer = send(&mut self.queue, seat.slot, seen);
-        note(&mut self.sessions, seat.slot, request, &answer.logged);
+        note(&mut self.sessions, seat.slot, request, &answer.brief);
         Ok(answer)
     }
 }

@@ -7,7 +7,7 @@ ghost use Rattle.sv_core.specs.Rows.{no_session, new_session, row_at, session_af
 ghost use Rattle.sv_journal.specs.History.{entry_of};
 
 use std::alloc::{AllocError, Global};
-use sv_journal::{Logged, is_end, joining};
+use sv_journal::{BriefReply, is_end, joining};
 use sv_wire::{Refusal, Request};
 
 /// What a core keeps of a session, at the slot where it sits.
@@ -68,7 +68,7 @@ pub fn new_sessions(
 /// Notes in the rows of the sessions what the one at a slot asked and was replied. Only a Join that is welcomed changes another row than the
 /// asker's.
 #[inline(always)]
-pub fn note(rows: &mut Vec<SessionRow>, slot: u16, request: &Request, reply: &Logged)
+pub fn note(rows: &mut Vec<SessionRow>, slot: u16, request: &Request, reply: &BriefReply)
     requires { length rows.old.items < 65536 }
     ensures count { length rows.new.items ≡ length rows.old.items }
     ensures rows { (i : ℕ) → i < length rows.old.items → row_at rows.new.items i ≡ session_after (nat_eq slot i) (entry_of slot request.now reply.now) (row_at rows.old.items i) }
@@ -81,7 +81,7 @@ pub fn note(rows: &mut Vec<SessionRow>, slot: u16, request: &Request, reply: &Lo
 }
 
 #[inline(never)]
-fn note_in_all(rows: &mut Vec<SessionRow>, slot: u16, request: &Request, reply: &Logged)
+fn note_in_all(rows: &mut Vec<SessionRow>, slot: u16, request: &Request, reply: &BriefReply)
     requires { length rows.old.items < 65536 }
     ensures count { length rows.new.items ≡ length rows.old.items }
     ensures rows { (i : ℕ) → i < length rows.old.items → row_at rows.new.items i ≡ session_after (nat_eq slot i) (entry_of slot request.now reply.now) (row_at rows.old.items i) }
@@ -95,7 +95,7 @@ fn note_in_all(rows: &mut Vec<SessionRow>, slot: u16, request: &Request, reply: 
 
 // The row after a request, where it may be another one: it is the asker's, or has the client that the request joins.
 #[tactic(auto, using(crate::proofs::Rows::row_of_another))]
-fn noted(own: bool, request: &Request, reply: &Logged, row: &SessionRow) -> Option<SessionRow>
+fn noted(own: bool, request: &Request, reply: &BriefReply, row: &SessionRow) -> Option<SessionRow>
     ensures some { IfSome result (λ new. (asker : ℕ) → new ≡ session_after own (entry_of asker request.now reply.now) row.now) }
     ensures none { IfNone result ((asker : ℕ) → session_after own (entry_of asker request.now reply.now) row.now ≡ row.now) }
 {
@@ -106,7 +106,7 @@ fn noted(own: bool, request: &Request, reply: &Logged, row: &SessionRow) -> Opti
 }
 
 #[tactic(auto, using(crate::proofs::Rows::other_row_stays))]
-fn note_in_own(rows: &mut Vec<SessionRow>, slot: u16, request: &Request, reply: &Logged)
+fn note_in_own(rows: &mut Vec<SessionRow>, slot: u16, request: &Request, reply: &BriefReply)
     requires { is_welcome reply.now ≡ false }
     ensures count { length rows.new.items ≡ length rows.old.items }
     ensures rows { (i : ℕ) → i < length rows.old.items → row_at rows.new.items i ≡ session_after (nat_eq slot i) (entry_of slot request.now reply.now) (row_at rows.old.items i) }
@@ -118,7 +118,7 @@ fn note_in_own(rows: &mut Vec<SessionRow>, slot: u16, request: &Request, reply: 
 }
 
 /// A row after a request, which may be that of its own session, and its reply.
-fn session_after(own: bool, request: &Request, reply: &Logged, row: &SessionRow) -> SessionRow
+fn session_after(own: bool, request: &Request, reply: &BriefReply, row: &SessionRow) -> SessionRow
     ensures { (asker : ℕ) → result ≡ session_after own (entry_of asker request.now reply.now) row.now }
 {
     let ends = is_end(request);
@@ -146,7 +146,7 @@ fn one_less(left: Option<u16>) -> Option<u16>
 }
 
 /// The client of a session after a request and its reply, which may be its own.
-fn client_after(request: &Request, reply: &Logged, own: bool, client: Option<u16>) -> Option<u16>
+fn client_after(request: &Request, reply: &BriefReply, own: bool, client: Option<u16>) -> Option<u16>
     ensures { result ≡ either client (if own && is_welcome reply.now then joining request.now else None) }
 {
     if client.is_some() {
@@ -160,7 +160,7 @@ fn client_after(request: &Request, reply: &Logged, own: bool, client: Option<u16
 }
 
 /// Whether a session with this client is over by a request, which may be its own, and its reply.
-fn is_over_by(request: &Request, reply: &Logged, own: bool, client: Option<u16>) -> bool
+fn is_over_by(request: &Request, reply: &BriefReply, own: bool, client: Option<u16>) -> bool
     ensures { (asker : ℕ) → result ≡ (if own then is_last reply.now else welcomes (entry_of asker request.now reply.now) client) }
 {
     if own {
@@ -171,7 +171,7 @@ fn is_over_by(request: &Request, reply: &Logged, own: bool, client: Option<u16>)
 }
 
 /// Whether a request is a Join of this client that was welcomed.
-fn welcomes(request: &Request, reply: &Logged, client: Option<u16>) -> bool
+fn welcomes(request: &Request, reply: &BriefReply, client: Option<u16>) -> bool
     ensures { (asker : ℕ) → result ≡ welcomes (entry_of asker request.now reply.now) client }
 {
     let Some(client) = client else {
@@ -186,22 +186,22 @@ fn welcomes(request: &Request, reply: &Logged, client: Option<u16>) -> bool
     }
 }
 
-fn is_welcome(reply: &Logged) -> bool
+fn is_welcome(reply: &BriefReply) -> bool
     ensures { result ≡ is_welcome reply.now }
 {
     match reply {
-        Logged::Welcome { .. } => true,
+        BriefReply::Welcome { .. } => true,
         _ => false,
     }
 }
 
 /// Whether a reply ends its session.
-fn is_last(reply: &Logged) -> bool
+fn is_last(reply: &BriefReply) -> bool
     ensures { result ≡ is_last reply.now }
 {
     match reply {
-        Logged::Bye => true,
-        Logged::Refused { code, .. } => {
+        BriefReply::Bye => true,
+        BriefReply::Refused { code, .. } => {
             *code == Refusal::Malformed.code() || *code == Refusal::TooManyRequests.code()
         }
         _ => false,

@@ -6,7 +6,7 @@ use Rattle.sv_world.specs.declared.check.BadAction.{BadAction}
 use Rattle.sv_world.specs.Faults.{first_fault_of_action}
 use Rattle.sv_wire.specs.declared.message.Request.TheVariants as requests
 use Rattle.sv_journal.specs.declared.entry.Entry.{Entry}
-use Rattle.sv_journal.specs.declared.entry.Logged.{Logged}
+use Rattle.sv_journal.specs.declared.entry.BriefReply.{BriefReply}
 use Rattle.sv_journal.specs.History.{client_of, Outcome, Accepted, Dropped, Denied, next_seq, commit_of}
 use Rattle.sv_journal.specs.Sessions.{is_over, asked_in, kept_outcome}
 use Rattle.sv_journal.specs.Answer.{Rules, reply_to_checked, reply_to_submit, reply_to_member, is_spent}
@@ -15,7 +15,7 @@ use Rattle.sv_journal.specs.Living.{Stewardship, living}
 use Rattle.sv_entries.specs.Laws.{submit_reply, refused_for, FaultsDecide}
 
 -- Two choices by one test.
-both : (P : Logged → Logged → Type 0) (t : Bool) (x x2 y y2 : Logged) → P x x2 → P y y2 → P (cond t x y) (cond t x2 y2)
+both : (P : BriefReply → BriefReply → Type 0) (t : Bool) (x x2 y y2 : BriefReply) → P x x2 → P y y2 → P (cond t x y) (cond t x2 y2)
 both P true x x2 y y2 p q = p
 both P false x x2 y y2 p q = q
 
@@ -24,11 +24,11 @@ module _ (w : Stewardship) (r : Rules) (h : List Entry) (s seq : ℕ) (a b : Act
   abbrev g : List Entry
   g = (living w).kept h
 
-  abbrev IsEach : Logged → Logged → Type 0
+  abbrev IsEach : BriefReply → BriefReply → Type 0
   IsEach x y = ((x ≡ refused_for fault) × (y ≡ refused_for other)) ⊎ (x ≡ y)
 
   -- What is to be shown of two replies of the table.
-  abbrev Shown : Logged → Logged → Type 0
+  abbrev Shown : BriefReply → BriefReply → Type 0
   Shown x y = IsEach (with_last_rows (living w) r h s (requests.Submit seq a) x) (with_last_rows (living w) r h s (requests.Submit seq b) y)
 
   checked_case : (k : ℕ) (o q : Option BadAction) → o ≡ Some fault → q ≡ Some other → Shown (reply_to_checked r g s k seq a o) (reply_to_checked r g s k seq b q)
@@ -48,11 +48,11 @@ module _ (w : Stewardship) (r : Rules) (h : List Entry) (s seq : ℕ) (a b : Act
   each_is : IsEach (submit_reply w r h s seq a) (submit_reply w r h s seq b)
   each_is = both Shown (is_over g s) _ _ _ _ (inr refl) (both Shown (is_spent r.requests (asked_in g s)) _ _ _ _ (inr refl) (member_case (client_of g s)))
 
-  same_is : (x y : Logged) → IsEach x y → fault ≡ other → x ≡ y
+  same_is : (x y : BriefReply) → IsEach x y → fault ≡ other → x ≡ y
   same_is x y (inl (p, q)) e = p ∙ ap refused_for e ∙ sym q
   same_is x y (inr p) e = p
 
-  elsewhere_is : (x y : Logged) → IsEach x y → (x ≡ refused_for fault → ⊥) → x ≡ y
+  elsewhere_is : (x y : BriefReply) → IsEach x y → (x ≡ refused_for fault → ⊥) → x ≡ y
   elsewhere_is x y (inl (p, q)) n = absurd (n p)
   elsewhere_is x y (inr p) n = p
 

@@ -5,8 +5,8 @@ use Rattle.std.specs.List.{flat_map}
 use Rattle.sv_wire.specs.declared.message.Item.{Item}
 use Rattle.sv_world.specs.declared.world.Shape.{Shape}
 use Rattle.sv_journal.specs.declared.entry.Entry.{Entry}
-use Rattle.sv_journal.specs.declared.entry.Logged.{Logged}
-use Rattle.sv_journal.specs.declared.entry.Logged.TheVariants as logged
+use Rattle.sv_journal.specs.declared.entry.BriefReply.{BriefReply}
+use Rattle.sv_journal.specs.declared.entry.BriefReply.TheVariants as brief
 use Rattle.sv_journal.specs.History.{Authored, item_at, full_reply}
 use Rattle.sv_journal.specs.Pieces.{joined, bracketed, head_text}
 use Rattle.sv_journal.specs.Text.{item_text, reply_text, entry_line}
@@ -25,19 +25,19 @@ module _ (A : List Authored) where
   items_as_sent : (ps : List ℕ) → bracketed sent_item (map (item_at A) ps) ≡ bracketed (item_text A) ps
   items_as_sent ps = ap (λ (l : List ℕ). codes "[" ++ l ++ codes "]") (joined_items ps)
 
-  pub text_as_sent : (reply : Logged) → sent_text (full_reply A reply) ≡ reply_text A reply
-  text_as_sent (logged.Welcome commit head) = refl
-  text_as_sent (logged.Relay seq commit head positions) =
+  pub text_as_sent : (reply : BriefReply) → sent_text (full_reply A reply) ≡ reply_text A reply
+  text_as_sent (brief.Welcome commit head) = refl
+  text_as_sent (brief.Relay seq commit head positions) =
       ap (λ (l : List ℕ). codes "relay " ++ decimal seq ++ codes " at " ++ decimal commit ++ codes " " ++ head_text head ++ codes " " ++ l) (items_as_sent positions)
-  text_as_sent (logged.Dropped seq chain far) = refl
-  text_as_sent (logged.Denied seq object) = refl
-  text_as_sent (logged.Seen last commit head positions) =
+  text_as_sent (brief.Dropped seq chain far) = refl
+  text_as_sent (brief.Denied seq object) = refl
+  text_as_sent (brief.Seen last commit head positions) =
       ap (λ (l : List ℕ). codes "seen " ++ decimal last ++ codes " at " ++ decimal commit ++ codes " " ++ head_text head ++ codes " " ++ l) (items_as_sent positions)
-  text_as_sent (logged.Settled seq pos) = refl
-  text_as_sent (logged.Noted commit) = refl
-  text_as_sent logged.Idle = refl
-  text_as_sent (logged.Refused code detail) = refl
-  text_as_sent logged.Bye = refl
+  text_as_sent (brief.Settled seq pos) = refl
+  text_as_sent (brief.Noted commit) = refl
+  text_as_sent brief.Idle = refl
+  text_as_sent (brief.Refused code detail) = refl
+  text_as_sent brief.Bye = refl
 
 pub line_as_sent : (shape : Shape) (A : List Authored) (n : ℕ) (e : Entry) → living_line shape n e.session e.request (full_reply A e.reply) ≡ entry_line shape A n e
 line_as_sent shape A n e = ap (λ (l : List ℕ). asking_text shape n e.session e.request ++ l ++ 10 ∷ []) (text_as_sent A e.reply)

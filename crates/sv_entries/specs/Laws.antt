@@ -9,7 +9,7 @@ use Rattle.sv_wire.specs.declared.message.Reply.{Reply}
 use Rattle.sv_wire.specs.declared.message.Request.TheVariants as requests
 use Rattle.sv_wire.specs.declared.refusal.Refusal.TheVariants as refusals
 use Rattle.sv_journal.specs.declared.entry.Entry.{Entry}
-use Rattle.sv_journal.specs.declared.entry.Logged.{Logged}
+use Rattle.sv_journal.specs.declared.entry.BriefReply.{BriefReply}
 use Rattle.sv_journal.specs.History.{Authored, full_reply}
 use Rattle.sv_journal.specs.Text.{reply_text, entry_line}
 use Rattle.sv_journal.specs.Answer.{Rules, refused_as}
@@ -20,7 +20,7 @@ use Rattle.sv_entries.specs.Asking.{cause_numbered, cause_in, cause_read}
 
 -- A reply has one text: as it was sent, and as a journal keeps it.
 abbrev pub RepliesHaveOneText : Type 0
-RepliesHaveOneText = (A : List Authored) (reply : Logged) → sent_text (full_reply A reply) ≡ reply_text A reply
+RepliesHaveOneText = (A : List Authored) (reply : BriefReply) → sent_text (full_reply A reply) ≡ reply_text A reply
 
 -- An entry has one line: with its reply as it was sent, and as a journal keeps it.
 abbrev pub EntriesHaveOneLine : Type 0
@@ -37,11 +37,11 @@ CausesHaveNumbers = (n : ℕ) (cause : BadAction) → (cause_numbered n ≡ Some
 -- ---- Actions that are refused
 
 -- The reply of a living world to a Submit, behind the entries h of a session.
-abbrev pub submit_reply : Stewardship → Rules → List Entry → ℕ → ℕ → Action → Logged
+abbrev pub submit_reply : Stewardship → Rules → List Entry → ℕ → ℕ → Action → BriefReply
 submit_reply w r h s seq a = reply_for (living w) r h s (requests.Submit seq a)
 
 -- The refusal of an action, by its first fault.
-abbrev pub refused_for : BadAction → Logged
+abbrev pub refused_for : BadAction → BriefReply
 refused_for fault = refused_as refusals.BadAction (cause_number fault)
 
 -- What two Submits of one number, of actions that are refused, are answered: each is refused for its own fault, or both get one reply, in

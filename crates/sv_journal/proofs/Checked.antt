@@ -7,7 +7,7 @@ use Rattle.sv_world.specs.Faults.{first_fault_of_action}
 use Rattle.sv_world.specs.Sets.{numbers_of}
 use Rattle.sv_wire.specs.declared.message.Request.{Request}
 use Rattle.sv_journal.specs.declared.entry.Entry.{Entry}
-use Rattle.sv_journal.specs.declared.entry.Logged.{Logged}
+use Rattle.sv_journal.specs.declared.entry.BriefReply.{BriefReply}
 use Rattle.sv_journal.specs.History.{Authored, accepted, actions_of}
 use Rattle.sv_journal.specs.Answer.{Rules, relay_of}
 use Rattle.sv_journal.specs.Serving.{Keeping, plain, reply_for, LegalFor, IsKeeping}
@@ -51,7 +51,7 @@ good_kept k law r h s q inv = each_reply k law r h s (λ w. AreGood r.world.shap
 pub served_good : (k : Keeping) → IsKeeping k → (r : Rules) (h : List Entry) → LegalFor k r h → AreGood r.world.shape h
 served_good k law r [] legal = tt
 served_good k law r (e ∷ h) legal =
-    subst (λ (w : Logged). AreGood r.world.shape (entry_of e.session e.request w ∷ h)) (sym legal.0) (good_kept k law r h e.session e.request (served_good k law r h legal.1))
+    subst (λ (w : BriefReply). AreGood r.world.shape (entry_of e.session e.request w ∷ h)) (sym legal.0) (good_kept k law r h e.session e.request (served_good k law r h legal.1))
 
 pub served_actions_are_good : ServedActionsAreGood
 served_actions_are_good k r h law legal = All-from_recursion (IsGood r.world.shape) (accepted h) (served_good k law r h legal)

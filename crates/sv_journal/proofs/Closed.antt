@@ -13,7 +13,7 @@ use Rattle.sv_world.proofs.Seeing.{see-closed}
 use Rattle.sv_world.proofs.Writers.{action_at-append, last_writer-same}
 use Rattle.sv_wire.specs.declared.message.Request.{Request}
 use Rattle.sv_journal.specs.declared.entry.Entry.{Entry}
-use Rattle.sv_journal.specs.declared.entry.Logged.{Logged}
+use Rattle.sv_journal.specs.declared.entry.BriefReply.{BriefReply}
 use Rattle.sv_journal.specs.History.{Authored, accepted, actions_of, commit_of}
 use Rattle.sv_journal.specs.Sessions.{positions_in, sent_to}
 use Rattle.sv_journal.specs.Answer.{Rules, relay_of}
@@ -70,10 +70,10 @@ module _ (k : Keeping) (law : IsKeeping k) (r : Rules) (h : List Entry) (s : ℕ
   abbrev marks : List ℕ
   marks = sent_to (k.kept h) s
 
-  abbrev ClosesBy : Logged → Type 0
+  abbrev ClosesBy : BriefReply → Type 0
   ClosesBy w = CloseWith (actions_of (entry_of s q w ∷ h)) c marks (positions_in w)
 
-  closes_over : (w : Logged) (A : List Action) → actions_of (entry_of s q w ∷ h) ≡ A → CloseWith A c marks (positions_in w) → ClosesBy w
+  closes_over : (w : BriefReply) (A : List Action) → actions_of (entry_of s q w ∷ h) ≡ A → CloseWith A c marks (positions_in w) → ClosesBy w
   closes_over w A is closes = subst (λ (B : List Action). CloseWith B c marks (positions_in w)) (sym is) closes
 
   closes_here : ClosesBy (reply_for k r h s q)
@@ -143,7 +143,7 @@ served_closed needed k law r [] legal s = λ p x m reads above. absurd (true≢f
 served_closed needed k law r (e ∷ h) legal s =
     next_closed k law e h s (λ p m. sent-within (length (accepted h)) h s p (all_named needed k law r h legal.1) m) (served_closed needed k law r h legal.1 s)
     (λ own. subst (λ (sent : List ℕ). CloseWith (actions_of (e ∷ h)) (commit_of (k.kept h)) sent (positions_in e.reply)) (ap (sent_to (k.kept h)) own ∙ sent-kept k law h s)
-    (subst (λ (w : Logged). CloseWith (actions_of (entry_of e.session e.request w ∷ h)) (commit_of (k.kept h)) (sent_to (k.kept h) e.session) (positions_in w))
+    (subst (λ (w : BriefReply). CloseWith (actions_of (entry_of e.session e.request w ∷ h)) (commit_of (k.kept h)) (sent_to (k.kept h) e.session) (positions_in w))
     (sym legal.0) (closes_here k law r h e.session e.request)))
 
 pub served_sent_is_closed : NeededWithin → ServedSentIsClosed

@@ -17,8 +17,8 @@ use Rattle.sv_wire.specs.declared.message.Request.{Request}
 use Rattle.sv_wire.specs.declared.message.Request.TheVariants as requests
 use Rattle.sv_wire.specs.Grammar.{IsWireAction, IsWireReply}
 use Rattle.sv_journal.specs.declared.entry.Entry.{Entry}
-use Rattle.sv_journal.specs.declared.entry.Logged.{Logged}
-use Rattle.sv_journal.specs.declared.entry.Logged.TheVariants as logged
+use Rattle.sv_journal.specs.declared.entry.BriefReply.{BriefReply}
+use Rattle.sv_journal.specs.declared.entry.BriefReply.TheVariants as brief
 use Rattle.sv_journal.specs.History.{is_noted, Authored, accepted, actions_of, commit_of, item_at, full_reply}
 use Rattle.sv_journal.specs.Sessions.{positions_in, sent_to}
 use Rattle.sv_journal.specs.Answer.{Rules, refused, relay_of, committed_held, is_bad_result, is_bad_done}
@@ -40,35 +40,35 @@ GoodWhereNone = (shape : Shape) (a : Action) → first_fault_of_action shape a �
 
 -- ---- Each reply, but for its items
 
-abbrev Fits : Logged → Type 0
-Fits (logged.Welcome commit head) = IsHead 64 head
-Fits (logged.Relay seq commit head positions) = IsHead (16 * length positions) head
-Fits (logged.Seen last commit head positions) = IsHead (16 * (length positions + 1)) head
-Fits (logged.Refused code detail) = (1 ≤ code) × (code ≤ 12)
+abbrev Fits : BriefReply → Type 0
+Fits (brief.Welcome commit head) = IsHead 64 head
+Fits (brief.Relay seq commit head positions) = IsHead (16 * length positions) head
+Fits (brief.Seen last commit head positions) = IsHead (16 * (length positions + 1)) head
+Fits (brief.Refused code detail) = (1 ≤ code) × (code ≤ 12)
 Fits _ = Unit {0}
 
 few_reads : GoodWhereNone → (shape : Shape) (A : List Authored) → AllByRecursion (IsGood shape) A → FewReads (map (λ (x : Authored). x.action) A)
 few_reads law shape [] good = tt
 few_reads law shape (a ∷ A) good = ((law shape a.action good.0).few_reads, few_reads law shape A good.1)
 
-abbrev Keeps : Keeping → Rules → List Entry → ℕ → Request → Logged → Type 0
+abbrev Keeps : Keeping → Rules → List Entry → ℕ → Request → BriefReply → Type 0
 Keeps k r h s q w = AreResults r.world.shape.attrs (k.kept (entry_of s q w ∷ h)) × Fits w
 
 module _ (k : Keeping) (law : IsKeeping k) (r : Rules) (h : List Entry) (s : ℕ) (q : Request) (results : AreResults r.world.shape.attrs (k.kept h)) where
   abbrev n : ℕ
   n = r.world.shape.attrs
 
-  quiet : (w : Logged) → is_noted w ≡ false → Fits w → Keeps k r h s q w
+  quiet : (w : BriefReply) → is_noted w ≡ false → Fits w → Keeps k r h s q w
   quiet w is fits =
       let next = law.next (entry_of s q w) h in
       (subst (AreResults n) (sym next.1) (results_quiet n (k.kept h) s (with_results next.0 q) w is results), fits)
 
-  noted : (ds : List Done1) → q ≡ requests.Done ds → is_bad_done r (k.kept h) s ds ≡ false → (commit : ℕ) → Keeps k r h s q (logged.Noted commit)
+  noted : (ds : List Done1) → q ≡ requests.Done ds → is_bad_done r (k.kept h) s ds ≡ false → (commit : ℕ) → Keeps k r h s q (brief.Noted commit)
   noted ds asked fine commit =
-      let next = law.next (entry_of s q (logged.Noted commit)) h in
+      let next = law.next (entry_of s q (brief.Noted commit)) h in
       let good = some_good (is_bad_result r (k.kept h) s) next.0 ds (or_parts _ _ fine).1 in
       let some : with_results next.0 q ≡ requests.Done (filter next.0 ds) = ap (with_results next.0) asked in (
-        subst (AreResults n) (sym (next.1 ∙ ap (λ (x : Request). entry_of s x (logged.Noted commit) ∷ k.kept h) some))
+        subst (AreResults n) (sym (next.1 ∙ ap (λ (x : Request). entry_of s x (brief.Noted commit) ∷ k.kept h) some))
             (results_noted r (k.kept h) s (filter next.0 ds) commit good results),
         tt,
       )
@@ -77,17 +77,17 @@ fits_here : HeadAscends → HeadWithin → GoodWhereNone → (k : Keeping) → I
     AreGood r.world.shape h → AreResults r.world.shape.attrs (k.kept h) → Keeps k r h s q (reply_for k r h s q)
 fits_here ascends within none_good k law r h s q limits good results = each_row k law r h s (Keeps k r h s q) q (record {
   refusal = λ code detail some few told. quiet k law r h s q results (refused code detail) refl (some, few);
-  bye = quiet k law r h s q results logged.Bye refl tt;
+  bye = quiet k law r h s q results brief.Bye refl tt;
   welcome = λ client life interest asked open_still live later fine.
       let xs = map (λ (o : ObjectId). o.0) interest in
-      quiet k law r h s q results (logged.Welcome (commit_of (k.kept h)) (committed_held r (k.kept h) xs)) refl (welcome_head r (k.kept h) xs limits results fine);
-  dropped = λ j seq a client asked next good room rightful. quiet k law r h s q results (logged.Dropped seq _ _) refl tt;
-  dropped_again = λ j seq a chain far client asked is. quiet k law r h s q results (logged.Dropped seq chain far) refl tt;
-  denied = λ j seq object a client asked next good room forbidden. quiet k law r h s q results (logged.Denied seq _) refl tt;
-  denied_again = λ j seq object a client asked is. quiet k law r h s q results (logged.Denied seq _) refl tt;
-  settled = λ j seq p a client asked is. quiet k law r h s q results (logged.Settled seq p) refl tt;
-  noted = λ ds asked fine. noted k law r h s q results ds asked fine (commit_of (k.kept (entry_of s q (logged.Noted 0) ∷ h)));
-  idle = quiet k law r h s q results logged.Idle refl tt;
+      quiet k law r h s q results (brief.Welcome (commit_of (k.kept h)) (committed_held r (k.kept h) xs)) refl (welcome_head r (k.kept h) xs limits results fine);
+  dropped = λ j seq a client asked next good room rightful. quiet k law r h s q results (brief.Dropped seq _ _) refl tt;
+  dropped_again = λ j seq a chain far client asked is. quiet k law r h s q results (brief.Dropped seq chain far) refl tt;
+  denied = λ j seq object a client asked next good room forbidden. quiet k law r h s q results (brief.Denied seq _) refl tt;
+  denied_again = λ j seq object a client asked is. quiet k law r h s q results (brief.Denied seq _) refl tt;
+  settled = λ j seq p a client asked is. quiet k law r h s q results (brief.Settled seq p) refl tt;
+  noted = λ ds asked fine. noted k law r h s q results ds asked fine (commit_of (k.kept (entry_of s q (brief.Noted 0) ∷ h)));
+  idle = quiet k law r h s q results brief.Idle refl tt;
   fresh = λ j seq a client asked next none chain room rightful.
       relay (actions_of h ++ a ∷ []) seq (suc (length (actions_of h))) (one_more (actions_of h) a few (none_good r.world.shape a none).few_reads);
   again = λ j seq p a client asked kept above. relay (actions_of h) seq p few;
@@ -138,28 +138,28 @@ wire_items : GoodWhereNone → (shape : Shape) (A : List Authored) (ps : List �
 wire_items law shape A [] good named = tt
 wire_items law shape A (p ∷ ps) good named = (wire_item law shape A p good named.0.0 named.0.1, wire_items law shape A ps good named.1)
 
-wire_reply : GoodWhereNone → (r : Rules) (A : List Authored) (w : Logged) → r.bound ≤ 32 → AllByRecursion (IsGood r.world.shape) A → NamesAccepted (length A) w →
+wire_reply : GoodWhereNone → (r : Rules) (A : List Authored) (w : BriefReply) → r.bound ≤ 32 → AllByRecursion (IsGood r.world.shape) A → NamesAccepted (length A) w →
     length (positions_in w) ≤ most_sent r w → Fits w → IsWireReply (full_reply A w)
-wire_reply law r A (logged.Welcome commit head) bound good named small fits = wire_head 64 528 head (omega arith) fits
-wire_reply law r A (logged.Relay seq commit head positions) bound good named small fits = record {
+wire_reply law r A (brief.Welcome commit head) bound good named small fits = wire_head 64 528 head (omega arith) fits
+wire_reply law r A (brief.Relay seq commit head positions) bound good named small fits = record {
   base = wire_head (16 * length positions) 528 head (omega (arith, small, bound)) fits;
   few = omega (arith, length-map positions (item_at A), small, bound);
   each = All-from_recursion (λ (i : Item). IsWireAction i.action) (map (item_at A) positions)
       (wire_items law r.world.shape A positions good (recursion_from_All (λ p. (1 ≤ p) × (p ≤ length A)) positions named));
 }
-wire_reply law r A (logged.Dropped seq chain far) bound good named small fits = tt
-wire_reply law r A (logged.Denied seq object) bound good named small fits = tt
-wire_reply law r A (logged.Seen last commit head positions) bound good named small fits = record {
+wire_reply law r A (brief.Dropped seq chain far) bound good named small fits = tt
+wire_reply law r A (brief.Denied seq object) bound good named small fits = tt
+wire_reply law r A (brief.Seen last commit head positions) bound good named small fits = record {
   base = wire_head (16 * (length positions + 1)) 544 head (omega (arith, small)) fits;
   few = omega (arith, length-map positions (item_at A), small);
   each = All-from_recursion (λ (i : Item). IsWireAction i.action) (map (item_at A) positions)
       (wire_items law r.world.shape A positions good (recursion_from_All (λ p. (1 ≤ p) × (p ≤ length A)) positions named));
 }
-wire_reply law r A (logged.Settled seq pos) bound good named small fits = tt
-wire_reply law r A (logged.Noted commit) bound good named small fits = tt
-wire_reply law r A logged.Idle bound good named small fits = tt
-wire_reply law r A (logged.Refused code detail) bound good named small fits = (fits.0, omega (arith, fits.1))
-wire_reply law r A logged.Bye bound good named small fits = tt
+wire_reply law r A (brief.Settled seq pos) bound good named small fits = tt
+wire_reply law r A (brief.Noted commit) bound good named small fits = tt
+wire_reply law r A brief.Idle bound good named small fits = tt
+wire_reply law r A (brief.Refused code detail) bound good named small fits = (fits.0, omega (arith, fits.1))
+wire_reply law r A brief.Bye bound good named small fits = tt
 
 wire_replies : GoodWhereNone → (r : Rules) (A : List Authored) (h : List Entry) → r.bound ≤ 32 → AllByRecursion (IsGood r.world.shape) A →
     AllByRecursion (λ (e : Entry). NamesAccepted (length A) e.reply) h → AllByRecursion (λ (e : Entry). length (positions_in e.reply) ≤ most_sent r e.reply) h →

@@ -15,8 +15,8 @@ use Rattle.sv_world.proofs.Seeing.{see-bounds}
 use Rattle.sv_wire.specs.declared.message.Request.{Request}
 use Rattle.sv_wire.specs.declared.message.Request.TheVariants as requests
 use Rattle.sv_journal.specs.declared.entry.Entry.{Entry}
-use Rattle.sv_journal.specs.declared.entry.Logged.{Logged}
-use Rattle.sv_journal.specs.declared.entry.Logged.TheVariants as logged
+use Rattle.sv_journal.specs.declared.entry.BriefReply.{BriefReply}
+use Rattle.sv_journal.specs.declared.entry.BriefReply.TheVariants as brief
 use Rattle.sv_journal.specs.History.{is_relay, client_of, outcomes_of, Outcome, Accepted, Dropped, Denied, outcome_in, is_client, is_submit_of, Authored, accepted, actions_of, next_seq, commit_of, entry_of}
 use Rattle.sv_journal.specs.Sessions.{kept_count, outcome_at, kept_outcome, positions_in, sent_to}
 use Rattle.sv_journal.specs.Answer.{Rules, relay_of}
@@ -90,18 +90,18 @@ submit_is requests.Bad n e = cc
 submit_is requests.End n e = cc
 
 told_within : (e : Entry) (h : List Entry) (k : ℕ) → client_of h e.session ≡ Some k → (a : Action) → e.request ≡ requests.Submit (next_seq h k) a →
-    (w : Logged) → e.reply ≡ w → AllByRecursion (TellsWithin (length (accepted (e ∷ h)))) (outcome_in (suc (length (accepted h))) w)
-told_within e h k client a asked (logged.Relay seq commit head positions) is =
+    (w : BriefReply) → e.reply ≡ w → AllByRecursion (TellsWithin (length (accepted (e ∷ h)))) (outcome_in (suc (length (accepted h))) w)
+told_within e h k client a asked (brief.Relay seq commit head positions) is =
     (omega (arith, accepted_one_more e h k (next_seq h k) a (ap is_relay is) client asked refl), tt)
-told_within e h k client a asked (logged.Dropped seq chain far) is = (tt, tt)
-told_within e h k client a asked (logged.Denied seq object) is = (tt, tt)
-told_within e h k client a asked (logged.Seen last commit head positions) is = tt
-told_within e h k client a asked (logged.Welcome commit head) is = tt
-told_within e h k client a asked (logged.Settled seq pos) is = tt
-told_within e h k client a asked (logged.Noted commit) is = tt
-told_within e h k client a asked logged.Idle is = tt
-told_within e h k client a asked (logged.Refused code detail) is = tt
-told_within e h k client a asked logged.Bye is = tt
+told_within e h k client a asked (brief.Dropped seq chain far) is = (tt, tt)
+told_within e h k client a asked (brief.Denied seq object) is = (tt, tt)
+told_within e h k client a asked (brief.Seen last commit head positions) is = tt
+told_within e h k client a asked (brief.Welcome commit head) is = tt
+told_within e h k client a asked (brief.Settled seq pos) is = tt
+told_within e h k client a asked (brief.Noted commit) is = tt
+told_within e h k client a asked brief.Idle is = tt
+told_within e h k client a asked (brief.Refused code detail) is = tt
+told_within e h k client a asked brief.Bye is = tt
 
 pub outcomes_within : (h : List Entry) (k : ℕ) → AllByRecursion (TellsWithin (length (accepted h))) (outcomes_of h k)
 outcomes_within [] k = tt
@@ -139,20 +139,20 @@ kept_within h k seq p =
     at (suc n) e = all_get (TellsWithin (length (accepted h))) (outcomes_of h k) n (Accepted p) (outcomes_within h k) e
 
 -- One reply after the entries h.
-abbrev Named : List Entry → ℕ → Request → Logged → Type 0
+abbrev Named : List Entry → ℕ → Request → BriefReply → Type 0
 Named h s q w = NamesAccepted (length (accepted (entry_of s q w ∷ h))) w
 
-not_sent : (h : List Entry) (s : ℕ) (q : Request) (w : Logged) → is_relay w ≡ false → is_seen w ≡ false → Named h s q w
-not_sent h s q (logged.Relay seq commit head positions) e f = absurd (cc)
-not_sent h s q (logged.Welcome commit head) e f = tt
-not_sent h s q (logged.Dropped seq chain far) e f = tt
-not_sent h s q (logged.Denied seq object) e f = tt
-not_sent h s q (logged.Seen last commit head positions) e f = absurd (cc)
-not_sent h s q (logged.Settled seq pos) e f = tt
-not_sent h s q (logged.Noted commit) e f = tt
-not_sent h s q logged.Idle e f = tt
-not_sent h s q (logged.Refused code detail) e f = tt
-not_sent h s q logged.Bye e f = tt
+not_sent : (h : List Entry) (s : ℕ) (q : Request) (w : BriefReply) → is_relay w ≡ false → is_seen w ≡ false → Named h s q w
+not_sent h s q (brief.Relay seq commit head positions) e f = absurd (cc)
+not_sent h s q (brief.Welcome commit head) e f = tt
+not_sent h s q (brief.Dropped seq chain far) e f = tt
+not_sent h s q (brief.Denied seq object) e f = tt
+not_sent h s q (brief.Seen last commit head positions) e f = absurd (cc)
+not_sent h s q (brief.Settled seq pos) e f = tt
+not_sent h s q (brief.Noted commit) e f = tt
+not_sent h s q brief.Idle e f = tt
+not_sent h s q (brief.Refused code detail) e f = tt
+not_sent h s q brief.Bye e f = tt
 
 relay_named : NeededWithin → (r : Rules) (g h : List Entry) (s : ℕ) (q : Request) (A : List Action) (seq i : ℕ) → commit_of g < i →
     i ≤ length (accepted (entry_of s q (relay_of r g A s seq i) ∷ h)) → Named h s q (relay_of r g A s seq i)
@@ -188,17 +188,17 @@ named_here needed k law r h s q = each_reply k law r h s (Named h s q) q (record
       (omega (arith, count, accepted_grow (entry_of s q (seen_now r (k.kept h) (actions_of h) s (numbers_of objects))) h));
 })
 
-pub names_later : (m n : ℕ) (w : Logged) → m ≤ n → NamesAccepted m w → NamesAccepted n w
-names_later m n (logged.Relay seq commit head positions) le f = λ k d low. let at = f k d low in (at.0, omega (arith, le, at.1))
-names_later m n (logged.Welcome commit head) le f = tt
-names_later m n (logged.Dropped seq chain far) le f = tt
-names_later m n (logged.Denied seq object) le f = tt
-names_later m n (logged.Seen last commit head positions) le f = λ k d low. let at = f k d low in (at.0, omega (arith, le, at.1))
-names_later m n (logged.Settled seq pos) le f = tt
-names_later m n (logged.Noted commit) le f = tt
-names_later m n logged.Idle le f = tt
-names_later m n (logged.Refused code detail) le f = tt
-names_later m n logged.Bye le f = tt
+pub names_later : (m n : ℕ) (w : BriefReply) → m ≤ n → NamesAccepted m w → NamesAccepted n w
+names_later m n (brief.Relay seq commit head positions) le f = λ k d low. let at = f k d low in (at.0, omega (arith, le, at.1))
+names_later m n (brief.Welcome commit head) le f = tt
+names_later m n (brief.Dropped seq chain far) le f = tt
+names_later m n (brief.Denied seq object) le f = tt
+names_later m n (brief.Seen last commit head positions) le f = λ k d low. let at = f k d low in (at.0, omega (arith, le, at.1))
+names_later m n (brief.Settled seq pos) le f = tt
+names_later m n (brief.Noted commit) le f = tt
+names_later m n brief.Idle le f = tt
+names_later m n (brief.Refused code detail) le f = tt
+names_later m n brief.Bye le f = tt
 
 pub all_names_later : (m n : ℕ) (h : List Entry) → m ≤ n → AllByRecursion (λ (e : Entry). NamesAccepted m e.reply) h → AllByRecursion (λ (e : Entry). NamesAccepted n e.reply) h
 all_names_later m n [] le f = tt
@@ -226,19 +226,19 @@ member-within n p (q ∷ ps) all m =
       | inr rest ↦ member-within n p ps all.1 rest
     ]
 
-pub named-within : (n p : ℕ) (w : Logged) → NamesAccepted n w → is_in p (positions_in w) ≡ true → p ≤ n
-named-within n p (logged.Relay seq commit head positions) all m =
+pub named-within : (n p : ℕ) (w : BriefReply) → NamesAccepted n w → is_in p (positions_in w) ≡ true → p ≤ n
+named-within n p (brief.Relay seq commit head positions) all m =
     member-within n p positions (recursion_from_All (λ (q : ℕ). (1 ≤ q) × (q ≤ n)) positions all) m
-named-within n p (logged.Seen last commit head positions) all m =
+named-within n p (brief.Seen last commit head positions) all m =
     member-within n p positions (recursion_from_All (λ (q : ℕ). (1 ≤ q) × (q ≤ n)) positions all) m
-named-within n p (logged.Welcome commit head) all m = absurd (true≢false (sym m))
-named-within n p (logged.Dropped seq chain far) all m = absurd (true≢false (sym m))
-named-within n p (logged.Denied seq object) all m = absurd (true≢false (sym m))
-named-within n p (logged.Settled seq pos) all m = absurd (true≢false (sym m))
-named-within n p (logged.Noted commit) all m = absurd (true≢false (sym m))
-named-within n p logged.Idle all m = absurd (true≢false (sym m))
-named-within n p (logged.Refused code detail) all m = absurd (true≢false (sym m))
-named-within n p logged.Bye all m = absurd (true≢false (sym m))
+named-within n p (brief.Welcome commit head) all m = absurd (true≢false (sym m))
+named-within n p (brief.Dropped seq chain far) all m = absurd (true≢false (sym m))
+named-within n p (brief.Denied seq object) all m = absurd (true≢false (sym m))
+named-within n p (brief.Settled seq pos) all m = absurd (true≢false (sym m))
+named-within n p (brief.Noted commit) all m = absurd (true≢false (sym m))
+named-within n p brief.Idle all m = absurd (true≢false (sym m))
+named-within n p (brief.Refused code detail) all m = absurd (true≢false (sym m))
+named-within n p brief.Bye all m = absurd (true≢false (sym m))
 
 pub sent-within : (n : ℕ) (h : List Entry) (s p : ℕ) → AllByRecursion (λ (e : Entry). NamesAccepted n e.reply) h → is_in p (sent_to h s) ≡ true → p ≤ n
 sent-within n [] s p all m = absurd (true≢false (sym m))

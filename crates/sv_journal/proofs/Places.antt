@@ -8,7 +8,7 @@ use Rattle.sv_world.specs.Control.{blank}
 use Rattle.sv_wire.specs.declared.message.Request.{Request}
 use Rattle.sv_wire.specs.declared.message.Request.TheVariants as requests
 use Rattle.sv_journal.specs.declared.entry.Entry.{Entry}
-use Rattle.sv_journal.specs.declared.entry.Logged.TheVariants as logged
+use Rattle.sv_journal.specs.declared.entry.BriefReply.TheVariants as brief
 use Rattle.sv_journal.specs.declared.rows.Acceptance.{Acceptance}
 use Rattle.sv_journal.specs.History.{is_relay, client_of, outcomes_of, Authored, new_action, accepted, authored_at}
 use Rattle.sv_journal.specs.Rows.{new_place, places_of}
@@ -181,7 +181,7 @@ pub submits_are : (m n : ℕ) (a b : Action) → requests.Submit m a ≡ request
 submits_are m n a b e = (cc, cc)
 
 any_entry : Entry
-any_entry = record { session = 0; request = requests.Poll; reply = logged.Idle }
+any_entry = record { session = 0; request = requests.Poll; reply = brief.Idle }
 
 pub author_at : (entries : List Entry) (pos : ℕ) → 1 ≤ pos → pos ≤ length (accepted (reverse entries)) →
     (row : Acceptance) → row ≡ get_or (places_of (reverse entries)) (pos - 1) row → row.client.0 ≡ (authored_at (accepted (reverse entries)) pos).client

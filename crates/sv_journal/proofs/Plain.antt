@@ -16,7 +16,7 @@ use Rattle.sv_wire.specs.declared.message.Request.{Request}
 use Rattle.sv_wire.specs.declared.message.Request.TheVariants as requests
 use Rattle.sv_wire.specs.declared.refusal.Refusal.TheVariants as refusals
 use Rattle.sv_journal.specs.declared.entry.Entry.{Entry}
-use Rattle.sv_journal.specs.declared.entry.Logged.{Logged}
+use Rattle.sv_journal.specs.declared.entry.BriefReply.{BriefReply}
 use Rattle.sv_journal.specs.History.{client_of, Outcome, Accepted, Dropped, Denied, accepted, actions_of, next_seq, result_at, commit_of}
 use Rattle.sv_journal.specs.Sessions.{is_over, is_live, asked_in, life_of, kept_outcome, positions_in, sent_to}
 use Rattle.sv_journal.specs.Answer.{Rules, refused_as, is_above, reply_to_allowed, reply_by_rights, is_full, reply_to_good, reply_to_checked, reply_to_submit, is_bad_done, is_abandoned, orphans, reply_to_poll, is_good_interest, is_no_next_life, reply_to_join, reply_to_client, reply_to_member, is_spent, reply_to, Legal}
@@ -80,7 +80,7 @@ plain-keeping = record {
 
 module _ (r : Rules) (h : List Entry) (s : ℕ) where
   -- The last rows are what they were.
-  abbrev Same : Request → Logged → Type 0
+  abbrev Same : Request → BriefReply → Type 0
   Same q w = with_last_rows plain r h s q w ≡ w
 
   allowed-same : (seq : ℕ) (a : Action) → Same (requests.Submit seq a) (reply_to_allowed r h s seq a)
@@ -133,7 +133,7 @@ module _ (r : Rules) (h : List Entry) (s : ℕ) where
       cond_both (is_no_next_life r.leap (life_of h j) life) _ _ (Same q) (λ _. refl) (λ _.
       cond_both (is_good_interest r.world.shape.objects interest) _ _ (Same q) (λ _. refl) (λ _. refl))))
 
-  open-same : (q : Request) (w : Logged) → Same q w →
+  open-same : (q : Request) (w : BriefReply) → Same q w →
       Same q (if is_over h s then refused_as refusals.Over 0 else (if is_spent r.requests (asked_in h s) then refused_as refusals.TooManyRequests 0 else w))
   open-same q w same =
       cond_both (is_over h s) _ _ (Same q) (λ _. refl) (λ _. cond_both (is_spent r.requests (asked_in h s)) _ _ (Same q) (λ _. refl) (λ _. same))

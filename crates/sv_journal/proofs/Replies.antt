@@ -17,8 +17,8 @@ use Rattle.sv_wire.specs.declared.message.Request.{Request}
 use Rattle.sv_wire.specs.declared.message.Request.TheVariants as requests
 use Rattle.sv_wire.specs.declared.refusal.Refusal.TheVariants as refusals
 use Rattle.sv_journal.specs.declared.entry.Entry.{Entry}
-use Rattle.sv_journal.specs.declared.entry.Logged.{Logged}
-use Rattle.sv_journal.specs.declared.entry.Logged.TheVariants as logged
+use Rattle.sv_journal.specs.declared.entry.BriefReply.{BriefReply}
+use Rattle.sv_journal.specs.declared.entry.BriefReply.TheVariants as brief
 use Rattle.sv_journal.specs.History.{is_relay, client_of, Outcome, Accepted, Dropped, Denied, Authored, actions_of, next_seq, commit_of}
 use Rattle.sv_journal.specs.Sessions.{is_over, is_live, asked_in, life_of, kept_outcome, positions_in, sent_to, already_given}
 use Rattle.sv_journal.specs.Answer.{Rules, refused, refused_as, relay_of, is_above, committed_held, reply_to_allowed, reply_by_rights, is_full, reply_to_good, reply_to_checked, reply_to_submit, is_bad_done, orphans, reply_to_poll, is_good_interest, is_no_next_life, reply_to_join, reply_to_client, reply_to_member, is_spent}
@@ -26,54 +26,54 @@ use Rattle.sv_journal.specs.Serving.{Keeping, noted_after, polled_after, with_la
 use Rattle.sv_journal.proofs.Kept.{client-kept, accepted-kept, actions-kept, next-kept, kept_outcome-kept, over-kept, live-kept, life-kept}
 
 -- What a session sees of objects at the greatest cut, where A are the actions.
-abbrev pub seen_of : Rules → List Entry → List Action → ℕ → List ℕ → ℕ → Logged
-seen_of r h A s xs n = logged.Seen n (commit_of h)
+abbrev pub seen_of : Rules → List Entry → List Action → ℕ → List ℕ → ℕ → BriefReply
+seen_of r h A s xs n = brief.Seen n (commit_of h)
     (committed_held r h (head_to_see r.world.shape.objects A (commit_of h) (sent_to h s) (already_given r.world.shape.objects h s) xs n))
     (needed_to_see A (commit_of h) (sent_to h s) xs n)
 
 abbrev pub cut_for : List Entry → List Action → ℕ → List ℕ → ℕ
 cut_for h A s xs = greatest_cut A (commit_of h) (sent_to h s) xs
 
-abbrev pub seen_now : Rules → List Entry → List Action → ℕ → List ℕ → Logged
+abbrev pub seen_now : Rules → List Entry → List Action → ℕ → List ℕ → BriefReply
 seen_now r h A s xs = seen_of r h A s xs (cut_for h A s xs)
 
-abbrev pub is_seen : Logged → Bool
-is_seen (logged.Seen last commit head positions) = true
+abbrev pub is_seen : BriefReply → Bool
+is_seen (brief.Seen last commit head positions) = true
 is_seen _ = false
 
-pub sends_none : (w : Logged) → is_relay w ≡ false → is_seen w ≡ false → positions_in w ≡ []
-sends_none (logged.Relay seq commit head positions) e f = absurd (cc)
-sends_none (logged.Seen last commit head positions) e f = absurd (cc)
-sends_none (logged.Welcome commit head) e f = refl
-sends_none (logged.Dropped seq chain far) e f = refl
-sends_none (logged.Denied seq object) e f = refl
-sends_none (logged.Settled seq pos) e f = refl
-sends_none (logged.Noted commit) e f = refl
-sends_none logged.Idle e f = refl
-sends_none (logged.Refused code detail) e f = refl
-sends_none logged.Bye e f = refl
+pub sends_none : (w : BriefReply) → is_relay w ≡ false → is_seen w ≡ false → positions_in w ≡ []
+sends_none (brief.Relay seq commit head positions) e f = absurd (cc)
+sends_none (brief.Seen last commit head positions) e f = absurd (cc)
+sends_none (brief.Welcome commit head) e f = refl
+sends_none (brief.Dropped seq chain far) e f = refl
+sends_none (brief.Denied seq object) e f = refl
+sends_none (brief.Settled seq pos) e f = refl
+sends_none (brief.Noted commit) e f = refl
+sends_none brief.Idle e f = refl
+sends_none (brief.Refused code detail) e f = refl
+sends_none brief.Bye e f = refl
 
 -- What a refusal tells besides its code: a small number, or a client's next number or life.
 abbrev pub IsDetail : List Entry → ℕ → Type 0
 IsDetail h n = (n ≤ 11) ⊎ ((j : ℕ) × ((n ≡ next_seq h j) ⊎ (n ≡ life_of h j)))
 
 -- The reply of each row, with what the row knows of its request and of the history before it.
-pub record HoldsByEachRow (k : Keeping) (r : Rules) (h : List Entry) (s : ℕ) (q : Request) (P : Logged → Type 0) : Type 0 where
+pub record HoldsByEachRow (k : Keeping) (r : Rules) (h : List Entry) (s : ℕ) (q : Request) (P : BriefReply → Type 0) : Type 0 where
   pub refusal : (code detail : ℕ) → 1 ≤ code → code ≤ 12 → IsDetail h detail → P (refused code detail)
-  pub bye : P logged.Bye
+  pub bye : P brief.Bye
   pub welcome : (client : ClientId) (life : ℕ) (interest : List ObjectId) → q ≡ requests.Join client life interest → is_over h s ≡ false → is_live h s ≡ false →
       life_of h client.0 < life → is_good_interest r.world.shape.objects (map (λ (o : ObjectId). o.0) interest) ≡ true →
-      P (logged.Welcome (commit_of (k.kept h)) (committed_held r (k.kept h) (map (λ (o : ObjectId). o.0) interest)))
+      P (brief.Welcome (commit_of (k.kept h)) (committed_held r (k.kept h) (map (λ (o : ObjectId). o.0) interest)))
   pub dropped : (j seq : ℕ) (a : Action) → client_of h s ≡ Some j → q ≡ requests.Submit seq a → seq ≡ next_seq h j → first_fault_of_action r.world.shape a ≡ None →
       is_full r h seq ≡ false → first_forbidden r.rights j a ≡ None →
-      P (logged.Dropped seq (chain_length (actions_of h) (commit_of (k.kept h)) a) (influence_distance (actions_of h) (commit_of (k.kept h)) a))
+      P (brief.Dropped seq (chain_length (actions_of h) (commit_of (k.kept h)) a) (influence_distance (actions_of h) (commit_of (k.kept h)) a))
   pub dropped_again : (j seq : ℕ) (a : Action) (chain far : ℕ) → client_of h s ≡ Some j → q ≡ requests.Submit seq a → kept_outcome h j seq ≡ Some (Dropped chain far) →
-      P (logged.Dropped seq chain far)
+      P (brief.Dropped seq chain far)
   pub denied : (j seq object : ℕ) (a : Action) → client_of h s ≡ Some j → q ≡ requests.Submit seq a → seq ≡ next_seq h j → first_fault_of_action r.world.shape a ≡ None →
-      is_full r h seq ≡ false → first_forbidden r.rights j a ≡ Some object → P (logged.Denied seq (object_numbered object))
+      is_full r h seq ≡ false → first_forbidden r.rights j a ≡ Some object → P (brief.Denied seq (object_numbered object))
   pub denied_again : (j seq object : ℕ) (a : Action) → client_of h s ≡ Some j → q ≡ requests.Submit seq a → kept_outcome h j seq ≡ Some (Denied object) →
-      P (logged.Denied seq (object_numbered object))
-  pub settled : (j seq p : ℕ) (a : Action) → client_of h s ≡ Some j → q ≡ requests.Submit seq a → kept_outcome h j seq ≡ Some (Accepted p) → P (logged.Settled seq p)
+      P (brief.Denied seq (object_numbered object))
+  pub settled : (j seq p : ℕ) (a : Action) → client_of h s ≡ Some j → q ≡ requests.Submit seq a → kept_outcome h j seq ≡ Some (Accepted p) → P (brief.Settled seq p)
   pub fresh : (j seq : ℕ) (a : Action) → client_of h s ≡ Some j → q ≡ requests.Submit seq a → seq ≡ next_seq h j →
       first_fault_of_action r.world.shape a ≡ None → chain_length (actions_of h) (commit_of (k.kept h)) a ≤ r.bound →
       is_full r h seq ≡ false → first_forbidden r.rights j a ≡ None →
@@ -81,7 +81,7 @@ pub record HoldsByEachRow (k : Keeping) (r : Rules) (h : List Entry) (s : ℕ) (
   pub again : (j seq p : ℕ) (a : Action) → client_of h s ≡ Some j → q ≡ requests.Submit seq a → kept_outcome h j seq ≡ Some (Accepted p) → commit_of (k.kept h) < p →
       P (relay_of r (k.kept h) (actions_of h) s seq p)
   pub noted : (results : List Done1) → q ≡ requests.Done results → is_bad_done r (k.kept h) s results ≡ false → P (noted_after k h s q)
-  pub idle : P logged.Idle
+  pub idle : P brief.Idle
   pub poll : (j p : ℕ) (ps : List ℕ) → client_of h s ≡ Some j → q ≡ requests.Poll → is_over h s ≡ false → k.due h s ≡ p ∷ ps → P (relay_of r (k.kept h) (actions_of h) s 0 p)
   pub seen : (j wait : ℕ) (objects : List ObjectId) → client_of h s ≡ Some j → q ≡ requests.Observe objects wait → is_over h s ≡ false →
       may_be_observed r.world.shape.objects (numbers_of objects) ≡ true → P (seen_now r (k.kept h) (actions_of h) s (numbers_of objects))
@@ -99,12 +99,12 @@ cause-few TooLarge = omega arith
 cause-few TooDeep = omega arith
 cause-few BadOrigin = omega arith
 
-module _ (k : Keeping) (law : IsKeeping k) (r : Rules) (h : List Entry) (s : ℕ) (P : Logged → Type 0) where
+module _ (k : Keeping) (law : IsKeeping k) (r : Rules) (h : List Entry) (s : ℕ) (P : BriefReply → Type 0) where
   abbrev Holds : Request → Type 0
   Holds q = HoldsByEachRow k r h s q P
 
   -- What is to be shown of a reply of the table.
-  abbrev Shown : Request → Logged → Type 0
+  abbrev Shown : Request → BriefReply → Type 0
   Shown q w = P (with_last_rows k r h s q w)
 
   none_told : IsDetail h 0
@@ -115,7 +115,7 @@ module _ (k : Keeping) (law : IsKeeping k) (r : Rules) (h : List Entry) (s : ℕ
   allowed_case j seq a rows client next good room rightful =
       cond_both (nat_lt r.bound (chain_length (actions_of (k.kept h)) (commit_of (k.kept h)) a)
       || is_above r.reach (influence_distance (actions_of (k.kept h)) (commit_of (k.kept h)) a)) _ _ (Shown (requests.Submit seq a))
-      (λ _. subst (λ (A : List Action). P (logged.Dropped seq (chain_length A (commit_of (k.kept h)) a) (influence_distance A (commit_of (k.kept h)) a)))
+      (λ _. subst (λ (A : List Action). P (brief.Dropped seq (chain_length A (commit_of (k.kept h)) a) (influence_distance A (commit_of (k.kept h)) a)))
       (sym (actions-kept k law h)) (rows.dropped j seq a client refl next good room rightful))
       (λ n. subst (λ (A : List Action). nat_lt r.bound (chain_length A (commit_of (k.kept h)) a) ≡ false → P (relay_of r (k.kept h) (A ++ a ∷ []) s seq (suc (length A))))
       (sym (actions-kept k law h)) (λ within. rows.fresh j seq a client refl next good (ltb-false _ _ within) room rightful) (or_parts _ _ n).0)
@@ -185,7 +185,7 @@ module _ (k : Keeping) (law : IsKeeping k) (r : Rules) (h : List Entry) (s : ℕ
   join_case : (client : ClientId) (life : ℕ) (interest : List ObjectId) → Holds (requests.Join client life interest) → is_over h s ≡ false →
       Shown (requests.Join client life interest) (reply_to_join r (k.kept h) s client.0 life (map (λ (o : ObjectId). o.0) interest))
   join_case client life interest rows open_still =
-      let Q : Logged → Type 0 = Shown (requests.Join client life interest) in
+      let Q : BriefReply → Type 0 = Shown (requests.Join client life interest) in
       cond_both (is_live (k.kept h) s) _ _ Q (λ _. rows.refusal 3 0 (omega arith) (omega arith) none_told) (λ live.
       cond_both (nat_le r.clients client.0) _ _ Q (λ _. rows.refusal 10 0 (omega arith) (omega arith) none_told) (λ _.
       cond_both (is_no_next_life r.leap (life_of (k.kept h) client.0) life) _ _ Q (λ _. rows.refusal 11 (life_of (k.kept h) client.0) (omega arith) (omega arith) (inr (client.0, inr (life-kept k law h client.0)))) (λ later.
@@ -194,7 +194,7 @@ module _ (k : Keeping) (law : IsKeeping k) (r : Rules) (h : List Entry) (s : ℕ
       (subst (λ m. m < life) (life-kept k law h client.0) (leb-false life (life_of (k.kept h) client.0) (or_parts _ _ later).0)) good)
       (λ _. rows.refusal 8 0 (omega arith) (omega arith) none_told))))
 
-  open_case : (q : Request) → Holds q → (w : Logged) → (is_over h s ≡ false → Shown q w) →
+  open_case : (q : Request) → Holds q → (w : BriefReply) → (is_over h s ≡ false → Shown q w) →
       Shown q (if is_over (k.kept h) s then refused_as refusals.Over 0 else (if is_spent r.requests (asked_in (k.kept h) s) then refused_as refusals.TooManyRequests 0 else w))
   open_case q rows w p =
       cond_both (is_over (k.kept h) s) _ _ (Shown q) (λ _. rows.refusal 4 0 (omega arith) (omega arith) none_told)
@@ -216,8 +216,8 @@ module _ (k : Keeping) (law : IsKeeping k) (r : Rules) (h : List Entry) (s : ℕ
   each_row requests.End rows = rows.bye
 
 -- With one case for all replies that send nothing.
-pub record HoldsByRow (k : Keeping) (r : Rules) (h : List Entry) (s : ℕ) (q : Request) (P : Logged → Type 0) : Type 0 where
-  pub other : (w : Logged) → is_relay w ≡ false → is_seen w ≡ false → P w
+pub record HoldsByRow (k : Keeping) (r : Rules) (h : List Entry) (s : ℕ) (q : Request) (P : BriefReply → Type 0) : Type 0 where
+  pub other : (w : BriefReply) → is_relay w ≡ false → is_seen w ≡ false → P w
   pub fresh : (j seq : ℕ) (a : Action) → client_of h s ≡ Some j → q ≡ requests.Submit seq a → seq ≡ next_seq h j →
       first_fault_of_action r.world.shape a ≡ None → chain_length (actions_of h) (commit_of (k.kept h)) a ≤ r.bound →
       is_full r h seq ≡ false → first_forbidden r.rights j a ≡ None →
@@ -228,10 +228,10 @@ pub record HoldsByRow (k : Keeping) (r : Rules) (h : List Entry) (s : ℕ) (q : 
   pub seen : (j wait : ℕ) (objects : List ObjectId) → client_of h s ≡ Some j → q ≡ requests.Observe objects wait → is_over h s ≡ false →
       may_be_observed r.world.shape.objects (numbers_of objects) ≡ true → P (seen_now r (k.kept h) (actions_of h) s (numbers_of objects))
 
-pub each_reply : (k : Keeping) → IsKeeping k → (r : Rules) (h : List Entry) (s : ℕ) (P : Logged → Type 0) (q : Request) → HoldsByRow k r h s q P → P (reply_for k r h s q)
+pub each_reply : (k : Keeping) → IsKeeping k → (r : Rules) (h : List Entry) (s : ℕ) (P : BriefReply → Type 0) (q : Request) → HoldsByRow k r h s q P → P (reply_for k r h s q)
 each_reply k law r h s P q rows = each_row k law r h s P q (record {
   refusal = λ code detail some few told. rows.other (refused code detail) refl refl;
-  bye = rows.other logged.Bye refl refl;
+  bye = rows.other brief.Bye refl refl;
   welcome = λ client life interest asked open_still live later good. rows.other _ refl refl;
   dropped = λ j seq a client asked next good room rightful. rows.other _ refl refl;
   dropped_again = λ j seq a chain far client asked is. rows.other _ refl refl;
@@ -239,7 +239,7 @@ each_reply k law r h s P q rows = each_row k law r h s P q (record {
   denied_again = λ j seq object a client asked is. rows.other _ refl refl;
   settled = λ j seq p a client asked is. rows.other _ refl refl;
   noted = λ results asked good. rows.other _ refl refl;
-  idle = rows.other logged.Idle refl refl;
+  idle = rows.other brief.Idle refl refl;
   fresh = rows.fresh;
   again = rows.again;
   poll = rows.poll;

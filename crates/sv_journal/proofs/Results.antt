@@ -11,8 +11,8 @@ use Rattle.sv_wire.specs.declared.message.Done1.{Done1}
 use Rattle.sv_wire.specs.declared.message.Request.{Request}
 use Rattle.sv_wire.specs.declared.message.Request.TheVariants as requests
 use Rattle.sv_journal.specs.declared.entry.Entry.{Entry}
-use Rattle.sv_journal.specs.declared.entry.Logged.{Logged}
-use Rattle.sv_journal.specs.declared.entry.Logged.TheVariants as logged
+use Rattle.sv_journal.specs.declared.entry.BriefReply.{BriefReply}
+use Rattle.sv_journal.specs.declared.entry.BriefReply.TheVariants as brief
 use Rattle.sv_journal.specs.History.{either, is_noted, reported, reports, accepted, actions_of, result_at, commit_of, installed, committed_of}
 use Rattle.sv_journal.specs.Sessions.{sent_to}
 use Rattle.sv_journal.specs.Answer.{Rules, is_bad_result}
@@ -65,7 +65,7 @@ pub either_none : {X : Type 0} (o : Option X) → either o None ≡ o
 either_none (Some x) = refl
 either_none None = refl
 
-pub results_quiet : (n : ℕ) (h : List Entry) (s : ℕ) (q : Request) (w : Logged) → is_noted w ≡ false → AreResults n h → AreResults n (entry_of s q w ∷ h)
+pub results_quiet : (n : ℕ) (h : List Entry) (s : ℕ) (q : Request) (w : BriefReply) → is_noted w ≡ false → AreResults n h → AreResults n (entry_of s q w ∷ h)
 results_quiet n h s q w quiet results p values is =
     results p values (sym (ap (λ b. either (result_at h p) (if b then reports p q else None)) quiet ∙ either_none (result_at h p)) ∙ is)
 
@@ -128,7 +128,7 @@ found_good r h s p (d ∷ ds) values good open_still is =
     go false here f parts ih = ih parts.1 open_still f
 
 pub results_noted : (r : Rules) (h : List Entry) (s : ℕ) (ds : List Done1) (commit : ℕ) → list_any (is_bad_result r h s) ds ≡ false →
-    AreResults r.world.shape.attrs h → AreResults r.world.shape.attrs (entry_of s (requests.Done ds) (logged.Noted commit) ∷ h)
+    AreResults r.world.shape.attrs h → AreResults r.world.shape.attrs (entry_of s (requests.Done ds) (brief.Noted commit) ∷ h)
 results_noted r h s ds commit good results p values is = go (result_at h p) refl is
   where
     go : (o : Option (List (List ℤ))) → result_at h p ≡ o → either o (reported p ds) ≡ Some values → HaveNumbers r.world.shape.attrs values

@@ -12,8 +12,8 @@ use Rattle.sv_world.specs.Sets.{numbers_of, write_set}
 use Rattle.sv_wire.specs.declared.message.Request.{Request}
 use Rattle.sv_wire.specs.declared.message.Request.TheVariants as requests
 use Rattle.sv_journal.specs.declared.entry.Entry.{Entry}
-use Rattle.sv_journal.specs.declared.entry.Logged.{Logged}
-use Rattle.sv_journal.specs.declared.entry.Logged.TheVariants as logged
+use Rattle.sv_journal.specs.declared.entry.BriefReply.{BriefReply}
+use Rattle.sv_journal.specs.declared.entry.BriefReply.TheVariants as brief
 use Rattle.sv_journal.specs.History.{client_of, outcome_in, outcomes_of, is_client, is_submit_of, Outcome, Accepted, Dropped, Denied, Authored, accepted, actions_of, next_seq}
 use Rattle.sv_journal.specs.Rows.{tells_outcome}
 use Rattle.sv_journal.specs.Sessions.{kept_outcome}
@@ -88,13 +88,13 @@ allowed-kept k law r h s q inv = each_reply k law r h s (λ w. AreAllowed r (acc
 all-allowed : (k : Keeping) → IsKeeping k → (r : Rules) (h : List Entry) → LegalFor k r h → AreAllowed r (accepted h)
 all-allowed k law r [] legal = (tt, omega arith)
 all-allowed k law r (e ∷ h) legal =
-    subst (λ (w : Logged). AreAllowed r (accepted (entry_of e.session e.request w ∷ h))) (sym legal.0)
+    subst (λ (w : BriefReply). AreAllowed r (accepted (entry_of e.session e.request w ∷ h))) (sym legal.0)
     (allowed-kept k law r h e.session e.request (all-allowed k law r h legal.1))
 
 -- ---- A client's numbers
 
 -- Where a reply tells the outcome of client i's next action, that action's number is one that there is.
-abbrev IsNumbered : List Entry → ℕ → ℕ → Request → Logged → Type 0
+abbrev IsNumbered : List Entry → ℕ → ℕ → Request → BriefReply → Type 0
 IsNumbered h s i q w = is_client (client_of h s) i ≡ true → is_submit_of q (next_seq h i) ≡ true → tells_outcome w ≡ true → next_seq h i ≤ most_positions
 
 module _ (h : List Entry) (s i : ℕ) (q : Request) where
@@ -132,29 +132,29 @@ module _ (h : List Entry) (s i : ℕ) (q : Request) where
   })
 
 -- The outcomes that a reply tells are as many as it says that it tells.
-none-told : (p : ℕ) (w : Logged) → tells_outcome w ≡ false → outcome_in p w ≡ []
-none-told p (logged.Relay seq commit head positions) e = cc
-none-told p (logged.Dropped seq chain far) e = cc
-none-told p (logged.Denied seq object) e = cc
-none-told p (logged.Welcome commit head) e = refl
-none-told p (logged.Seen last commit head positions) e = refl
-none-told p (logged.Settled seq pos) e = refl
-none-told p (logged.Noted commit) e = refl
-none-told p logged.Idle e = refl
-none-told p (logged.Refused code detail) e = refl
-none-told p logged.Bye e = refl
+none-told : (p : ℕ) (w : BriefReply) → tells_outcome w ≡ false → outcome_in p w ≡ []
+none-told p (brief.Relay seq commit head positions) e = cc
+none-told p (brief.Dropped seq chain far) e = cc
+none-told p (brief.Denied seq object) e = cc
+none-told p (brief.Welcome commit head) e = refl
+none-told p (brief.Seen last commit head positions) e = refl
+none-told p (brief.Settled seq pos) e = refl
+none-told p (brief.Noted commit) e = refl
+none-told p brief.Idle e = refl
+none-told p (brief.Refused code detail) e = refl
+none-told p brief.Bye e = refl
 
-one-told : (p : ℕ) (w : Logged) → length (outcome_in p w) ≤ 1
-one-told p (logged.Relay seq commit head positions) = omega arith
-one-told p (logged.Dropped seq chain far) = omega arith
-one-told p (logged.Denied seq object) = omega arith
-one-told p (logged.Welcome commit head) = omega arith
-one-told p (logged.Seen last commit head positions) = omega arith
-one-told p (logged.Settled seq pos) = omega arith
-one-told p (logged.Noted commit) = omega arith
-one-told p logged.Idle = omega arith
-one-told p (logged.Refused code detail) = omega arith
-one-told p logged.Bye = omega arith
+one-told : (p : ℕ) (w : BriefReply) → length (outcome_in p w) ≤ 1
+one-told p (brief.Relay seq commit head positions) = omega arith
+one-told p (brief.Dropped seq chain far) = omega arith
+one-told p (brief.Denied seq object) = omega arith
+one-told p (brief.Welcome commit head) = omega arith
+one-told p (brief.Seen last commit head positions) = omega arith
+one-told p (brief.Settled seq pos) = omega arith
+one-told p (brief.Noted commit) = omega arith
+one-told p brief.Idle = omega arith
+one-told p (brief.Refused code detail) = omega arith
+one-told p brief.Bye = omega arith
 
 one-more : (e : Entry) (h : List Entry) (i : ℕ) → IsNumbered h e.session i e.request e.reply → length (outcomes_of h i) ≤ most_positions →
     length (outcomes_of (e ∷ h) i) ≤ most_positions

@@ -13,7 +13,7 @@ use Rattle.sv_world.proofs.Greatest.{cut-few}
 use Rattle.sv_wire.specs.declared.message.Request.{Request}
 use Rattle.sv_wire.specs.declared.message.Request.TheVariants as requests
 use Rattle.sv_journal.specs.declared.entry.Entry.{Entry}
-use Rattle.sv_journal.specs.declared.entry.Logged.{Logged}
+use Rattle.sv_journal.specs.declared.entry.BriefReply.{BriefReply}
 use Rattle.sv_journal.specs.History.{is_relay, client_of, outcomes_of, Outcome, Accepted, Authored, new_action, accepted, actions_of, next_seq, commit_of}
 use Rattle.sv_journal.specs.Sessions.{kept_count, outcome_at, kept_outcome, sent_to, positions_in}
 use Rattle.sv_journal.specs.Answer.{Rules, relay_of}
@@ -116,29 +116,29 @@ not_by_poll : (o : Option ℕ) (next : ℕ → ℕ) → new_action o next reques
 not_by_poll None next = refl
 not_by_poll (Some k) next = refl
 
-abbrev pub entry_of : ℕ → Request → Logged → Entry
+abbrev pub entry_of : ℕ → Request → BriefReply → Entry
 entry_of s q w = record { session = s; request = q; reply = w }
 
 -- A Submit that is repeated adds no action, and a Poll neither.
-pub none_again : (h : List Entry) (s j seq p : ℕ) (q : Request) (a : Action) (w : Logged) → client_of h s ≡ Some j → q ≡ requests.Submit seq a →
+pub none_again : (h : List Entry) (s j seq p : ℕ) (q : Request) (a : Action) (w : BriefReply) → client_of h s ≡ Some j → q ≡ requests.Submit seq a →
     kept_outcome h j seq ≡ Some (Accepted p) → is_relay w ≡ true → new_by (entry_of s q w) h ≡ []
 none_again h s j seq p q a w client asked kept relayed =
     rw (relayed, client, asked, ne_eqb seq (next_seq h j) (λ e. omega (arith, e, kept_known h j seq (Accepted p) kept))) refl
 
-pub none_polled : (h : List Entry) (s : ℕ) (q : Request) (w : Logged) → q ≡ requests.Poll → is_relay w ≡ true → new_by (entry_of s q w) h ≡ []
+pub none_polled : (h : List Entry) (s : ℕ) (q : Request) (w : BriefReply) → q ≡ requests.Poll → is_relay w ≡ true → new_by (entry_of s q w) h ≡ []
 none_polled h s q w asked relayed = rw (relayed, asked) (not_by_poll (client_of h s) (λ i. suc (length (outcomes_of h i))))
 
 -- A new one adds its own.
-pub one_fresh : (h : List Entry) (s j seq : ℕ) (q : Request) (a : Action) (w : Logged) → client_of h s ≡ Some j → q ≡ requests.Submit seq a → seq ≡ next_seq h j →
+pub one_fresh : (h : List Entry) (s j seq : ℕ) (q : Request) (a : Action) (w : BriefReply) → client_of h s ≡ Some j → q ≡ requests.Submit seq a → seq ≡ next_seq h j →
     is_relay w ≡ true → new_by (entry_of s q w) h ≡ record { client = j; seq = seq; action = a } ∷ []
 one_fresh h s j seq q a w client asked next relayed = rw (relayed, client, asked, eq-eqb seq (next_seq h j) next) refl
 
 -- ---- Each reply
 
-abbrev KeepsBound : Rules → Keeping → List Entry → ℕ → Request → Logged → Type 0
+abbrev KeepsBound : Rules → Keeping → List Entry → ℕ → Request → BriefReply → Type 0
 KeepsBound r k h s q w = AreBounded r.bound k (entry_of s q w ∷ h) × (length (positions_in w) ≤ most_sent r w)
 
-no_items : (r : Rules) (w : Logged) → is_relay w ≡ false → is_seen w ≡ false → length (positions_in w) ≤ most_sent r w
+no_items : (r : Rules) (w : BriefReply) → is_relay w ≡ false → is_seen w ≡ false → length (positions_in w) ≤ most_sent r w
 no_items r w e f = omega (arith, ap (λ (ps : List ℕ). length ps) (sends_none w e f))
 
 bound_kept : SizeWithin → (k : Keeping) → IsKeeping k → (r : Rules) (h : List Entry) (s : ℕ) (q : Request) → AreBounded r.bound k h →

@@ -10,7 +10,7 @@ use Rattle.sv_wire.specs.declared.message.Request.TheVariants as requests
 use Rattle.sv_journal.specs.declared.entry.Entry.{Entry}
 use Rattle.sv_journal.specs.History.{Authored, client_of, is_relay, new_action, outcomes_of, accepted}
 use Rattle.sv_journal.specs.Sessions.{is_over, is_end, asked_in}
-use Rattle.sv_journal.specs.declared.entry.Logged.{Logged}
+use Rattle.sv_journal.specs.declared.entry.BriefReply.{BriefReply}
 use Rattle.sv_journal.specs.Answer.{Rules, Legal, refused, is_spent}
 use Rattle.sv_journal.specs.Serving.{Keeping, plain, with_last_rows, reply_for, LegalFor, IsKeeping}
 use Rattle.sv_journal.proofs.Kept.{asked-kept}
@@ -58,7 +58,7 @@ spent-more most (suc n) e h low f few =
 -- ---- A relay
 
 module _ (k : Keeping) (law : IsKeeping k) (r : Rules) (most : ℕ) (limited : r.requests ≡ Some most) (h : List Entry) (s : ℕ) where
-  open-few : (q : Request) (w : Logged) →
+  open-few : (q : Request) (w : BriefReply) →
       is_relay (with_last_rows k r h s q (cond (is_over (k.kept h) s) (refused 4 0) (cond (is_spent r.requests (asked_in (k.kept h) s)) (refused 9 0) w))) ≡ true → asked_in h s < most
   open-few q w = go (is_over (k.kept h) s) (is_spent r.requests (asked_in (k.kept h) s)) refl
     where

@@ -8,9 +8,9 @@ use Rattle.sv_world.specs.Control.{blank}
 use Rattle.sv_wire.specs.declared.message.Item.{Item}
 use Rattle.sv_wire.specs.declared.message.Reply.TheVariants as replies
 use Rattle.sv_journal.specs.declared.entry.Entry.{Entry}
-use Rattle.sv_journal.specs.declared.entry.Logged.{Logged}
-use Rattle.sv_journal.specs.declared.entry.Logged.TheVariants as logged
-use Rattle.sv_journal.specs.History.{is_relay, client_of, outcomes_of, Authored, new_action, accepted, authored_at, item_at, full_reply, logged_of}
+use Rattle.sv_journal.specs.declared.entry.BriefReply.{BriefReply}
+use Rattle.sv_journal.specs.declared.entry.BriefReply.TheVariants as brief
+use Rattle.sv_journal.specs.History.{is_relay, client_of, outcomes_of, Authored, new_action, accepted, authored_at, item_at, full_reply, brief_of}
 use Rattle.sv_journal.specs.Text.{NamesAccepted}
 use Rattle.sv_journal.specs.Laws.{FullRepliesStay}
 
@@ -35,17 +35,17 @@ positions-back A [] = refl
 positions-back A (k ∷ ks) = ap (λ (l : List ℕ). k ∷ l) (positions-back A ks)
 
 -- What a reply in full is kept as is the reply again.
-pub logged-back : (A : List Authored) (l : Logged) → logged_of (full_reply A l) ≡ l
-logged-back A (logged.Welcome commit head) = refl
-logged-back A (logged.Relay seq commit head ps) = ap (logged.Relay seq commit head) (positions-back A ps)
-logged-back A (logged.Dropped seq chain far) = refl
-logged-back A (logged.Denied seq object) = refl
-logged-back A (logged.Seen last commit head ps) = ap (logged.Seen last commit head) (positions-back A ps)
-logged-back A (logged.Settled seq pos) = refl
-logged-back A (logged.Noted commit) = refl
-logged-back A logged.Idle = refl
-logged-back A (logged.Refused code detail) = refl
-logged-back A logged.Bye = refl
+pub brief-back : (A : List Authored) (l : BriefReply) → brief_of (full_reply A l) ≡ l
+brief-back A (brief.Welcome commit head) = refl
+brief-back A (brief.Relay seq commit head ps) = ap (brief.Relay seq commit head) (positions-back A ps)
+brief-back A (brief.Dropped seq chain far) = refl
+brief-back A (brief.Denied seq object) = refl
+brief-back A (brief.Seen last commit head ps) = ap (brief.Seen last commit head) (positions-back A ps)
+brief-back A (brief.Settled seq pos) = refl
+brief-back A (brief.Noted commit) = refl
+brief-back A brief.Idle = refl
+brief-back A (brief.Refused code detail) = refl
+brief-back A brief.Bye = refl
 
 pub item_stays : (A more : List Authored) (p : ℕ) → p ≤ length A → item_at (A ++ more) p ≡ item_at A p
 item_stays A more p last =
@@ -55,19 +55,19 @@ pub items_stay : (A more : List Authored) (ps : List ℕ) → AllByRecursion (λ
 items_stay A more [] h = refl
 items_stay A more (p ∷ ps) h = rw (item_stays A more p h.0.1, items_stay A more ps h.1) refl
 
-pub over_more : (A more : List Authored) (reply : Logged) → NamesAccepted (length A) reply → full_reply (A ++ more) reply ≡ full_reply A reply
-over_more A more (logged.Welcome commit head) h = refl
-over_more A more (logged.Relay seq commit head positions) h =
+pub over_more : (A more : List Authored) (reply : BriefReply) → NamesAccepted (length A) reply → full_reply (A ++ more) reply ≡ full_reply A reply
+over_more A more (brief.Welcome commit head) h = refl
+over_more A more (brief.Relay seq commit head positions) h =
     ap (λ (items : List Item). replies.Relay seq commit head items) (items_stay A more positions (recursion_from_All _ positions h))
-over_more A more (logged.Dropped seq chain far) h = refl
-over_more A more (logged.Denied seq object) h = refl
-over_more A more (logged.Seen last commit head positions) h =
+over_more A more (brief.Dropped seq chain far) h = refl
+over_more A more (brief.Denied seq object) h = refl
+over_more A more (brief.Seen last commit head positions) h =
     ap (λ (items : List Item). replies.Seen last commit head items) (items_stay A more positions (recursion_from_All _ positions h))
-over_more A more (logged.Settled seq pos) h = refl
-over_more A more (logged.Noted commit) h = refl
-over_more A more logged.Idle h = refl
-over_more A more (logged.Refused code detail) h = refl
-over_more A more logged.Bye h = refl
+over_more A more (brief.Settled seq pos) h = refl
+over_more A more (brief.Noted commit) h = refl
+over_more A more brief.Idle h = refl
+over_more A more (brief.Refused code detail) h = refl
+over_more A more brief.Bye h = refl
 
 pub full_replies_stay : FullRepliesStay
 full_replies_stay later earlier reply h =

@@ -7,8 +7,8 @@ use Rattle.sv_world.proofs.Members.{is_in-filter_parts}
 use Rattle.sv_world.proofs.Bases.{below-is_in}
 use Rattle.sv_wire.specs.declared.message.Request.{Request}
 use Rattle.sv_journal.specs.declared.entry.Entry.{Entry}
-use Rattle.sv_journal.specs.declared.entry.Logged.{Logged}
-use Rattle.sv_journal.specs.declared.entry.Logged.TheVariants as logged
+use Rattle.sv_journal.specs.declared.entry.BriefReply.{BriefReply}
+use Rattle.sv_journal.specs.declared.entry.BriefReply.TheVariants as brief
 use Rattle.sv_journal.specs.History.{Authored, accepted, result_at, commit_of}
 use Rattle.sv_journal.specs.Sessions.{is_over, sent_to}
 use Rattle.sv_journal.specs.Answer.{Rules, orphans, reply_to_poll, reply_to, Legal}
@@ -42,13 +42,13 @@ module _ (w : Stewardship) where
   }
     where
       heed-noted : (h : List Entry) (s commit : ℕ) (request : Request) →
-          commit_of (heeded w (record { session = s; request = request; reply = logged.Noted commit } ∷ h))
-          ≡ commit_of (heeded w (record { session = s; request = request; reply = logged.Noted 0 } ∷ h))
+          commit_of (heeded w (record { session = s; request = request; reply = brief.Noted commit } ∷ h))
+          ≡ commit_of (heeded w (record { session = s; request = request; reply = brief.Noted 0 } ∷ h))
       heed-noted h s commit request = go (counts w h s)
         where
           go : (b : Bool) →
-              commit_of ((if b then record { session = s; request = request; reply = logged.Noted commit } else record { session = s; request = with_results (λ d. false) request; reply = logged.Noted commit }) ∷ heeded w h)
-              ≡ commit_of ((if b then record { session = s; request = request; reply = logged.Noted 0 } else record { session = s; request = with_results (λ d. false) request; reply = logged.Noted 0 }) ∷ heeded w h)
+              commit_of ((if b then record { session = s; request = request; reply = brief.Noted commit } else record { session = s; request = with_results (λ d. false) request; reply = brief.Noted commit }) ∷ heeded w h)
+              ≡ commit_of ((if b then record { session = s; request = request; reply = brief.Noted 0 } else record { session = s; request = with_results (λ d. false) request; reply = brief.Noted 0 }) ∷ heeded w h)
           go true = refl
           go false = refl
 
@@ -105,19 +105,19 @@ all-heeded : (h : List Entry) → heeded nobody h ≡ h
 all-heeded [] = refl
 all-heeded (e ∷ h) = ap (λ (g : List Entry). e ∷ g) (all-heeded h)
 
-last-same : (r : Rules) (h : List Entry) (s : ℕ) (q : Request) (v : Logged) → with_last_rows (living nobody) r h s q v ≡ with_last_rows plain r h s q v
-last-same r h s q (logged.Noted commit) =
-    ap (λ (g : List Entry). logged.Noted (commit_of (record { session = s; request = q; reply = logged.Noted 0 } ∷ g))) (all-heeded h)
-last-same r h s q (logged.Relay seq commit head positions) =
-    ap (λ (g : List Entry). if is_poll q then reply_to_poll r g s (orphans g) else logged.Relay seq commit head positions) (all-heeded h)
-last-same r h s q logged.Idle = ap (λ (g : List Entry). reply_to_poll r g s (orphans g)) (all-heeded h)
-last-same r h s q (logged.Welcome commit head) = refl
-last-same r h s q (logged.Dropped seq chain far) = refl
-last-same r h s q (logged.Denied seq object) = refl
-last-same r h s q (logged.Seen last commit head positions) = refl
-last-same r h s q (logged.Settled seq pos) = refl
-last-same r h s q (logged.Refused code detail) = refl
-last-same r h s q logged.Bye = refl
+last-same : (r : Rules) (h : List Entry) (s : ℕ) (q : Request) (v : BriefReply) → with_last_rows (living nobody) r h s q v ≡ with_last_rows plain r h s q v
+last-same r h s q (brief.Noted commit) =
+    ap (λ (g : List Entry). brief.Noted (commit_of (record { session = s; request = q; reply = brief.Noted 0 } ∷ g))) (all-heeded h)
+last-same r h s q (brief.Relay seq commit head positions) =
+    ap (λ (g : List Entry). if is_poll q then reply_to_poll r g s (orphans g) else brief.Relay seq commit head positions) (all-heeded h)
+last-same r h s q brief.Idle = ap (λ (g : List Entry). reply_to_poll r g s (orphans g)) (all-heeded h)
+last-same r h s q (brief.Welcome commit head) = refl
+last-same r h s q (brief.Dropped seq chain far) = refl
+last-same r h s q (brief.Denied seq object) = refl
+last-same r h s q (brief.Seen last commit head positions) = refl
+last-same r h s q (brief.Settled seq pos) = refl
+last-same r h s q (brief.Refused code detail) = refl
+last-same r h s q brief.Bye = refl
 
 nobody-replies : (r : Rules) (h : List Entry) (s : ℕ) (q : Request) → reply_for (living nobody) r h s q ≡ reply_to r h s q
 nobody-replies r h s q =

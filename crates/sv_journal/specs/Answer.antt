@@ -20,8 +20,8 @@ use Rattle.sv_wire.specs.declared.refusal.Refusal.{Refusal}
 use Rattle.sv_wire.specs.declared.refusal.Refusal.TheVariants as refusals
 use Rattle.sv_wire.specs.Refusals.{code_of}
 use Rattle.sv_journal.specs.declared.entry.Entry.{Entry}
-use Rattle.sv_journal.specs.declared.entry.Logged.{Logged}
-use Rattle.sv_journal.specs.declared.entry.Logged.TheVariants as logged
+use Rattle.sv_journal.specs.declared.entry.BriefReply.{BriefReply}
+use Rattle.sv_journal.specs.declared.entry.BriefReply.TheVariants as brief
 use Rattle.sv_journal.specs.History.{client_of, Outcome, Accepted, Dropped, Denied, accepted, actions_of, next_seq, result_at, commit_of, committed_of}
 use Rattle.sv_journal.specs.Sessions.{is_over, is_live, asked_in, life_of, kept_outcome, sent_to, already_given, positions_in}
 
@@ -57,10 +57,10 @@ MayBeSession None s = Unit {0}
 MayBeSession (Some sessions) s = s < sessions
 
 -- A refusal, by its code and its detail; and by what it is for.
-abbrev pub refused : ℕ → ℕ → Logged
-refused code detail = logged.Refused code detail
+abbrev pub refused : ℕ → ℕ → BriefReply
+refused code detail = brief.Refused code detail
 
-abbrev pub refused_as : Refusal → ℕ → Logged
+abbrev pub refused_as : Refusal → ℕ → BriefReply
 refused_as refusal detail = refused (code_of refusal) detail
 
 -- ---- Relays
@@ -70,8 +70,8 @@ abbrev pub committed_held : Rules → List Entry → List ℕ → List ObjectVal
 committed_held r h xs = map (λ x. record { object = record { 0 = x }; value = slice_index_or (committed_of r.world.values h) x [] }) xs
 
 -- The relay of position i of the actions A to a session: what the session lacks of it, and the base values that go with that.
-abbrev pub relay_of : Rules → List Entry → List Action → ℕ → ℕ → ℕ → Logged
-relay_of r h A s seq i = logged.Relay seq (commit_of h)
+abbrev pub relay_of : Rules → List Entry → List Action → ℕ → ℕ → ℕ → BriefReply
+relay_of r h A s seq i = brief.Relay seq (commit_of h)
     (committed_held r h (head_for r.world.shape.objects A (commit_of h) (sent_to h s) (already_given r.world.shape.objects h s) i))
     (needed_for A (commit_of h) (sent_to h s) i)
 
@@ -83,15 +83,15 @@ is_above None n = false
 is_above (Some limit) n = nat_lt limit n
 
 -- An action that its client may make is dropped by its chain or its reach, or is accepted as the last one.
-abbrev pub reply_to_allowed : Rules → List Entry → ℕ → ℕ → Action → Logged
+abbrev pub reply_to_allowed : Rules → List Entry → ℕ → ℕ → Action → BriefReply
 reply_to_allowed r h s seq a =
     if nat_lt r.bound (chain_length (actions_of h) (commit_of h) a) || is_above r.reach (influence_distance (actions_of h) (commit_of h) a)
-    then logged.Dropped seq (chain_length (actions_of h) (commit_of h) a) (influence_distance (actions_of h) (commit_of h) a)
+    then brief.Dropped seq (chain_length (actions_of h) (commit_of h) a) (influence_distance (actions_of h) (commit_of h) a)
     else relay_of r h (actions_of h ++ a ∷ []) s seq (suc (length (actions_of h)))
 
 -- It is denied where it writes what its client may not write.
-abbrev pub reply_by_rights : Rules → List Entry → ℕ → ℕ → Action → Option ℕ → Logged
-reply_by_rights r h s seq a (Some object) = logged.Denied seq (object_numbered object)
+abbrev pub reply_by_rights : Rules → List Entry → ℕ → ℕ → Action → Option ℕ → BriefReply
+reply_by_rights r h s seq a (Some object) = brief.Denied seq (object_numbered object)
 reply_by_rights r h s seq a None = reply_to_allowed r h s seq a
 
 -- No position is left, or no number for a client's next action.
@@ -99,23 +99,23 @@ abbrev pub is_full : Rules → List Entry → ℕ → Bool
 is_full r h seq = nat_le r.positions (length (accepted h)) || nat_lt most_positions seq
 
 -- An action that the check passes.
-abbrev pub reply_to_good : Rules → List Entry → ℕ → ℕ → ℕ → Action → Logged
+abbrev pub reply_to_good : Rules → List Entry → ℕ → ℕ → ℕ → Action → BriefReply
 reply_to_good r h s k seq a = if is_full r h seq then refused_as refusals.Full 0 else reply_by_rights r h s seq a (first_forbidden r.rights k a)
 
-abbrev pub reply_to_checked : Rules → List Entry → ℕ → ℕ → ℕ → Action → Option BadAction → Logged
+abbrev pub reply_to_checked : Rules → List Entry → ℕ → ℕ → ℕ → Action → Option BadAction → BriefReply
 reply_to_checked r h s k seq a (Some cause) = refused_as refusals.BadAction (cause_number cause)
 reply_to_checked r h s k seq a None = reply_to_good r h s k seq a
 
-abbrev pub reply_to_new : Rules → List Entry → ℕ → ℕ → ℕ → Action → Logged
+abbrev pub reply_to_new : Rules → List Entry → ℕ → ℕ → ℕ → Action → BriefReply
 reply_to_new r h s k seq a = if seq == next_seq h k
     then reply_to_checked r h s k seq a (first_fault_of_action r.world.shape a)
     else refused_as refusals.WrongSequence (next_seq h k)
 
 -- A repeated Submit is answered by its kept outcome; its action is not looked at.
-abbrev pub reply_to_submit : Rules → List Entry → ℕ → ℕ → ℕ → Action → Option Outcome → Logged
-reply_to_submit r h s k seq a (Some (Dropped chain far)) = logged.Dropped seq chain far
-reply_to_submit r h s k seq a (Some (Denied object)) = logged.Denied seq (object_numbered object)
-reply_to_submit r h s k seq a (Some (Accepted p)) = if nat_le p (commit_of h) then logged.Settled seq p else relay_of r h (actions_of h) s seq p
+abbrev pub reply_to_submit : Rules → List Entry → ℕ → ℕ → ℕ → Action → Option Outcome → BriefReply
+reply_to_submit r h s k seq a (Some (Dropped chain far)) = brief.Dropped seq chain far
+reply_to_submit r h s k seq a (Some (Denied object)) = brief.Denied seq (object_numbered object)
+reply_to_submit r h s k seq a (Some (Accepted p)) = if nat_le p (commit_of h) then brief.Settled seq p else relay_of r h (actions_of h) s seq p
 reply_to_submit r h s k seq a None = reply_to_new r h s k seq a
 
 -- ---- Dones
@@ -133,10 +133,10 @@ is_bad_done r h s results = length results == 0 || nat_lt most_items (length res
 
 -- The commit once the results are noted.
 abbrev pub commit_with : List Entry → ℕ → List Done1 → ℕ
-commit_with h s results = commit_of (record { session = s; request = requests.Done results; reply = logged.Noted 0 } ∷ h)
+commit_with h s results = commit_of (record { session = s; request = requests.Done results; reply = brief.Noted 0 } ∷ h)
 
-abbrev pub reply_to_done : Rules → List Entry → ℕ → List Done1 → Logged
-reply_to_done r h s results = if is_bad_done r h s results then refused_as refusals.BadResults 0 else logged.Noted (commit_with h s results)
+abbrev pub reply_to_done : Rules → List Entry → ℕ → List Done1 → BriefReply
+reply_to_done r h s results = if is_bad_done r h s results then refused_as refusals.BadResults 0 else brief.Noted (commit_with h s results)
 
 -- ---- Polls
 
@@ -148,21 +148,21 @@ is_abandoned h p = list_all (λ (e : Entry). not (is_in p (positions_in e.reply)
 abbrev pub orphans : List Entry → List ℕ
 orphans h = filter (λ p. nat_lt (commit_of h) p && is_none (result_at h p) && is_abandoned h p) (below (suc (length (accepted h))))
 
-abbrev pub reply_to_poll : Rules → List Entry → ℕ → List ℕ → Logged
-reply_to_poll r h s [] = logged.Idle
+abbrev pub reply_to_poll : Rules → List Entry → ℕ → List ℕ → BriefReply
+reply_to_poll r h s [] = brief.Idle
 reply_to_poll r h s (p ∷ ps) = relay_of r h (actions_of h) s 0 p
 
 -- ---- Observes
 
 -- What a session is shown of objects at a position: what it lacks of an action that would read them behind it, and the base values that go
 -- with that.
-abbrev pub seen_at : Rules → List Entry → ℕ → List ℕ → ℕ → Logged
-seen_at r h s xs n = logged.Seen n (commit_of h)
+abbrev pub seen_at : Rules → List Entry → ℕ → List ℕ → ℕ → BriefReply
+seen_at r h s xs n = brief.Seen n (commit_of h)
     (committed_held r h (head_to_see r.world.shape.objects (actions_of h) (commit_of h) (sent_to h s) (already_given r.world.shape.objects h s) xs n))
     (needed_to_see (actions_of h) (commit_of h) (sent_to h s) xs n)
 
 -- An Observe is shown its objects at the greatest cut.
-abbrev pub reply_to_observe : Rules → List Entry → ℕ → List ℕ → Logged
+abbrev pub reply_to_observe : Rules → List Entry → ℕ → List ℕ → BriefReply
 reply_to_observe r h s xs = if may_be_observed r.world.shape.objects xs
     then seen_at r h s xs (greatest_cut (actions_of h) (commit_of h) (sent_to h s) xs)
     else refused_as refusals.BadInterest 0
@@ -176,27 +176,27 @@ is_good_interest objects xs = nat_le (length xs) most_interest && is_ascending x
 abbrev pub is_no_next_life : Option ℕ → ℕ → ℕ → Bool
 is_no_next_life leap greatest life = nat_le life greatest || is_above leap (life - greatest)
 
-abbrev pub reply_to_join : Rules → List Entry → ℕ → ℕ → ℕ → List ℕ → Logged
+abbrev pub reply_to_join : Rules → List Entry → ℕ → ℕ → ℕ → List ℕ → BriefReply
 reply_to_join r h s k life interest = if is_live h s then refused_as refusals.AlreadyJoined 0
     else if nat_le r.clients k then refused_as refusals.NoSuchClient 0
     else if is_no_next_life r.leap (life_of h k) life then refused_as refusals.OldLife (life_of h k)
-    else if is_good_interest r.world.shape.objects interest then logged.Welcome (commit_of h) (committed_held r h interest)
+    else if is_good_interest r.world.shape.objects interest then brief.Welcome (commit_of h) (committed_held r h interest)
     else refused_as refusals.BadInterest 0
 
 -- The reply to client k's request in a session that it joined.
-abbrev pub reply_to_client : Rules → List Entry → ℕ → ℕ → Request → Logged
+abbrev pub reply_to_client : Rules → List Entry → ℕ → ℕ → Request → BriefReply
 reply_to_client r h s k (requests.Submit seq a) = reply_to_submit r h s k seq a (kept_outcome h k seq)
 reply_to_client r h s k (requests.Done results) = reply_to_done r h s results
 reply_to_client r h s k requests.Poll = reply_to_poll r h s (orphans h)
 reply_to_client r h s k (requests.Observe objects wait) = reply_to_observe r h s (numbers_of objects)
-reply_to_client r h s k _ = logged.Bye
+reply_to_client r h s k _ = brief.Bye
 
-abbrev pub reply_to_member : Rules → List Entry → ℕ → Option ℕ → Request → Logged
+abbrev pub reply_to_member : Rules → List Entry → ℕ → Option ℕ → Request → BriefReply
 reply_to_member r h s None request = refused_as refusals.NotJoined 0
 reply_to_member r h s (Some k) request = reply_to_client r h s k request
 
 -- The reply in a session that is not over and not spent.
-abbrev pub reply_to_open : Rules → List Entry → ℕ → Request → Logged
+abbrev pub reply_to_open : Rules → List Entry → ℕ → Request → BriefReply
 reply_to_open r h s requests.Bad = refused_as refusals.Malformed 0
 reply_to_open r h s (requests.Join client life interest) = reply_to_join r h s client.0 life (map (λ (o : ObjectId). o.0) interest)
 reply_to_open r h s request = reply_to_member r h s (client_of h s) request
@@ -206,14 +206,14 @@ abbrev pub is_spent : Option ℕ → ℕ → Bool
 is_spent None asked = false
 is_spent (Some most) asked = nat_le most asked
 
-abbrev pub reply_to_request : Rules → List Entry → ℕ → Request → Logged
+abbrev pub reply_to_request : Rules → List Entry → ℕ → Request → BriefReply
 reply_to_request r h s request = if is_over h s then refused_as refusals.Over 0
     else if is_spent r.requests (asked_in h s) then refused_as refusals.TooManyRequests 0
     else reply_to_open r h s request
 
 -- The reply to a request of a session, after the entries h.
-abbrev pub reply_to : Rules → List Entry → ℕ → Request → Logged
-reply_to r h s requests.End = logged.Bye
+abbrev pub reply_to : Rules → List Entry → ℕ → Request → BriefReply
+reply_to r h s requests.End = brief.Bye
 reply_to r h s request = reply_to_request r h s request
 
 -- A journal is legal: the reply of each entry is the one that the entries before it give.

@@ -12,8 +12,8 @@ use Rattle.sv_wire.specs.declared.message.Reply.{Reply}
 use Rattle.sv_wire.specs.declared.message.Reply.TheVariants as replies
 use Rattle.sv_wire.specs.declared.message.Item.{Item}
 use Rattle.sv_journal.specs.declared.entry.Entry.{Entry}
-use Rattle.sv_journal.specs.declared.entry.Logged.{Logged}
-use Rattle.sv_journal.specs.declared.entry.Logged.TheVariants as logged
+use Rattle.sv_journal.specs.declared.entry.BriefReply.{BriefReply}
+use Rattle.sv_journal.specs.declared.entry.BriefReply.TheVariants as brief
 
 -- The first of two that is there.
 abbrev pub either : {A : Type 0} → Option A → Option A → Option A
@@ -22,16 +22,16 @@ either None other = other
 
 -- ---- Replies
 
-abbrev pub is_welcome : Logged → Bool
-is_welcome (logged.Welcome commit head) = true
+abbrev pub is_welcome : BriefReply → Bool
+is_welcome (brief.Welcome commit head) = true
 is_welcome _ = false
 
-abbrev pub is_relay : Logged → Bool
-is_relay (logged.Relay seq commit head positions) = true
+abbrev pub is_relay : BriefReply → Bool
+is_relay (brief.Relay seq commit head positions) = true
 is_relay _ = false
 
-abbrev pub is_noted : Logged → Bool
-is_noted (logged.Noted commit) = true
+abbrev pub is_noted : BriefReply → Bool
+is_noted (brief.Noted commit) = true
 is_noted _ = false
 
 -- ---- Clients
@@ -70,10 +70,10 @@ is_submit_of (requests.Submit seq action) n = seq == n
 is_submit_of _ n = false
 
 -- The outcome that the reply to a new Submit tells, where the next position is p.
-abbrev pub outcome_in : ℕ → Logged → List Outcome
-outcome_in p (logged.Relay seq commit head positions) = Accepted p ∷ []
-outcome_in p (logged.Dropped seq chain far) = Dropped chain far ∷ []
-outcome_in p (logged.Denied seq object) = Denied object.0 ∷ []
+abbrev pub outcome_in : ℕ → BriefReply → List Outcome
+outcome_in p (brief.Relay seq commit head positions) = Accepted p ∷ []
+outcome_in p (brief.Dropped seq chain far) = Dropped chain far ∷ []
+outcome_in p (brief.Denied seq object) = Denied object.0 ∷ []
 outcome_in p _ = []
 
 -- The action of a Submit of client k, where that client's next number is `next k`.
@@ -145,35 +145,35 @@ abbrev pub item_at : List Authored → ℕ → Item
 item_at A p = record { pos = p; client = record { 0 = (authored_at A p).client }; seq = (authored_at A p).seq; action = (authored_at A p).action }
 
 -- The reply as it was sent: with the items in place of their positions.
-abbrev pub full_reply : List Authored → Logged → Reply
-full_reply A (logged.Welcome commit head) = replies.Welcome commit head
-full_reply A (logged.Relay seq commit head positions) = replies.Relay seq commit head (map (item_at A) positions)
-full_reply A (logged.Dropped seq chain far) = replies.Dropped seq chain far
-full_reply A (logged.Denied seq object) = replies.Denied seq object
-full_reply A (logged.Seen last commit head positions) = replies.Seen last commit head (map (item_at A) positions)
-full_reply A (logged.Settled seq pos) = replies.Settled seq pos
-full_reply A (logged.Noted commit) = replies.Noted commit
-full_reply A logged.Idle = replies.Idle
-full_reply A (logged.Refused code detail) = replies.Refused code detail
-full_reply A logged.Bye = replies.Bye
+abbrev pub full_reply : List Authored → BriefReply → Reply
+full_reply A (brief.Welcome commit head) = replies.Welcome commit head
+full_reply A (brief.Relay seq commit head positions) = replies.Relay seq commit head (map (item_at A) positions)
+full_reply A (brief.Dropped seq chain far) = replies.Dropped seq chain far
+full_reply A (brief.Denied seq object) = replies.Denied seq object
+full_reply A (brief.Seen last commit head positions) = replies.Seen last commit head (map (item_at A) positions)
+full_reply A (brief.Settled seq pos) = replies.Settled seq pos
+full_reply A (brief.Noted commit) = replies.Noted commit
+full_reply A brief.Idle = replies.Idle
+full_reply A (brief.Refused code detail) = replies.Refused code detail
+full_reply A brief.Bye = replies.Bye
 
 -- A reply as the journal keeps it: with the positions of its items in their place.
-abbrev pub logged_of : Reply → Logged
-logged_of (replies.Welcome commit head) = logged.Welcome commit head
-logged_of (replies.Relay seq commit head items) = logged.Relay seq commit head (map (λ (i : Item). i.pos) items)
-logged_of (replies.Dropped seq chain far) = logged.Dropped seq chain far
-logged_of (replies.Denied seq object) = logged.Denied seq object
-logged_of (replies.Seen last commit head items) = logged.Seen last commit head (map (λ (i : Item). i.pos) items)
-logged_of (replies.Settled seq pos) = logged.Settled seq pos
-logged_of (replies.Noted commit) = logged.Noted commit
-logged_of replies.Idle = logged.Idle
-logged_of (replies.Refused code detail) = logged.Refused code detail
-logged_of replies.Bye = logged.Bye
+abbrev pub brief_of : Reply → BriefReply
+brief_of (replies.Welcome commit head) = brief.Welcome commit head
+brief_of (replies.Relay seq commit head items) = brief.Relay seq commit head (map (λ (i : Item). i.pos) items)
+brief_of (replies.Dropped seq chain far) = brief.Dropped seq chain far
+brief_of (replies.Denied seq object) = brief.Denied seq object
+brief_of (replies.Seen last commit head items) = brief.Seen last commit head (map (λ (i : Item). i.pos) items)
+brief_of (replies.Settled seq pos) = brief.Settled seq pos
+brief_of (replies.Noted commit) = brief.Noted commit
+brief_of replies.Idle = brief.Idle
+brief_of (replies.Refused code detail) = brief.Refused code detail
+brief_of replies.Bye = brief.Bye
 
 -- The entry of a request and its reply.
-abbrev pub entry_of : ℕ → Request → Logged → Entry
+abbrev pub entry_of : ℕ → Request → BriefReply → Entry
 entry_of s request reply = record { session = s; request = request; reply = reply }
 
 -- The entry of a session's End.
 abbrev pub end_entry : ℕ → Entry
-end_entry s = entry_of s requests.End logged.Bye
+end_entry s = entry_of s requests.End brief.Bye

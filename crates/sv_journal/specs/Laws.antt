@@ -7,8 +7,8 @@ use Rattle.sv_world.specs.Rights.{may_write}
 use Rattle.sv_world.specs.Sets.{write_set}
 use Rattle.sv_wire.specs.Grammar.{IsWireReply}
 use Rattle.sv_journal.specs.declared.entry.Entry.{Entry}
-use Rattle.sv_journal.specs.declared.entry.Logged.{Logged}
-use Rattle.sv_journal.specs.declared.entry.Logged.TheVariants as logged
+use Rattle.sv_journal.specs.declared.entry.BriefReply.{BriefReply}
+use Rattle.sv_journal.specs.declared.entry.BriefReply.TheVariants as brief
 use Rattle.sv_journal.specs.History.{Authored, accepted, actions_of, outcomes_of, commit_of, full_reply}
 use Rattle.sv_journal.specs.Answer.{Rules, Legal}
 use Rattle.sv_journal.specs.Serving.{Keeping, plain, LegalFor, IsKeeping}
@@ -18,7 +18,7 @@ use Rattle.sv_journal.specs.Text.{NamesAccepted, RelaysNameAccepted}
 
 -- A reply that names positions of a beginning of a journal has the same items over the whole.
 abbrev pub FullRepliesStay : Type 0
-FullRepliesStay = (later earlier : List Entry) (reply : Logged) → NamesAccepted (length (accepted earlier)) reply →
+FullRepliesStay = (later earlier : List Entry) (reply : BriefReply) → NamesAccepted (length (accepted earlier)) reply →
     full_reply (accepted (later ++ earlier)) reply ≡ full_reply (accepted earlier) reply
 
 -- The relays of a legal journal name accepted actions.
@@ -26,8 +26,8 @@ abbrev pub LegalRelaysNameAccepted : Type 0
 LegalRelaysNameAccepted = (r : Rules) (h : List Entry) → Legal r h → RelaysNameAccepted (reverse h)
 
 -- How many items a reply has at most: a relay one more than the bound, and what is seen as many as a report has results.
-abbrev pub most_sent : Rules → Logged → ℕ
-most_sent r (logged.Seen last commit head positions) = most_items
+abbrev pub most_sent : Rules → BriefReply → ℕ
+most_sent r (brief.Seen last commit head positions) = most_items
 most_sent r _ = r.bound + 1
 
 -- No reply of a legal journal has more items.

@@ -6,8 +6,8 @@ use Rattle.sv_wire.specs.declared.message.Request.{Request}
 use Rattle.sv_wire.specs.declared.message.Request.TheVariants as requests
 use Rattle.sv_journal.specs.declared.entry.Entry.{Entry}
 use Rattle.sv_journal.specs.declared.rows.Acceptance.{Acceptance}
-use Rattle.sv_journal.specs.declared.entry.Logged.{Logged}
-use Rattle.sv_journal.specs.declared.entry.Logged.TheVariants as logged
+use Rattle.sv_journal.specs.declared.entry.BriefReply.{BriefReply}
+use Rattle.sv_journal.specs.declared.entry.BriefReply.TheVariants as brief
 use Rattle.sv_journal.specs.History.{client_of, outcomes_of, is_relay, is_submit_of}
 
 -- Where the action of a client's Submit stands, if it has the client's next number.
@@ -22,10 +22,10 @@ places_of [] = []
 places_of (e ∷ h) = places_of h ++ (if is_relay e.reply then new_place (client_of h e.session) (λ k. suc (length (outcomes_of h k))) (length h) e.request else [])
 
 -- The replies that tell a new action's outcome.
-abbrev pub tells_outcome : Logged → Bool
-tells_outcome (logged.Relay seq commit head positions) = true
-tells_outcome (logged.Dropped seq chain far) = true
-tells_outcome (logged.Denied seq object) = true
+abbrev pub tells_outcome : BriefReply → Bool
+tells_outcome (brief.Relay seq commit head positions) = true
+tells_outcome (brief.Dropped seq chain far) = true
+tells_outcome (brief.Denied seq object) = true
 tells_outcome _ = false
 
 -- How many outcomes a client has after an entry of one of its sessions, where it had n.

@@ -6,8 +6,8 @@ use Rattle.sv_wire.specs.declared.message.Done1.{Done1}
 use Rattle.sv_wire.specs.declared.message.Request.{Request}
 use Rattle.sv_wire.specs.declared.message.Request.TheVariants as requests
 use Rattle.sv_journal.specs.declared.entry.Entry.{Entry}
-use Rattle.sv_journal.specs.declared.entry.Logged.{Logged}
-use Rattle.sv_journal.specs.declared.entry.Logged.TheVariants as logged
+use Rattle.sv_journal.specs.declared.entry.BriefReply.{BriefReply}
+use Rattle.sv_journal.specs.declared.entry.BriefReply.TheVariants as brief
 use Rattle.sv_journal.specs.History.{accepted, commit_of}
 use Rattle.sv_journal.specs.Sessions.{is_over, sent_to}
 use Rattle.sv_journal.specs.Answer.{Rules, orphans, reply_to, reply_to_poll}
@@ -30,24 +30,24 @@ is_poll requests.Poll = true
 is_poll _ = false
 
 -- A Done is noted with the commit after it.
-abbrev pub noted_after : Keeping → List Entry → ℕ → Request → Logged
-noted_after k h s request = logged.Noted (commit_of (k.kept (record { session = s; request = request; reply = logged.Noted 0 } ∷ h)))
+abbrev pub noted_after : Keeping → List Entry → ℕ → Request → BriefReply
+noted_after k h s request = brief.Noted (commit_of (k.kept (record { session = s; request = request; reply = brief.Noted 0 } ∷ h)))
 
 -- A Poll is sent the first position that is due to its session, if there is one.
-abbrev pub polled_after : Keeping → Rules → List Entry → ℕ → Logged
+abbrev pub polled_after : Keeping → Rules → List Entry → ℕ → BriefReply
 polled_after k r h s = reply_to_poll r (k.kept h) s (k.due h s)
 
 -- The last three rows of the table, in place of those of a server that trusts its clients: how a Done is noted that is not bad, and how a Poll
 -- is answered that is not refused.
-abbrev pub with_last_rows : Keeping → Rules → List Entry → ℕ → Request → Logged → Logged
-with_last_rows k r h s request (logged.Noted commit) = noted_after k h s request
-with_last_rows k r h s request (logged.Relay seq commit head positions) =
-    if is_poll request then polled_after k r h s else logged.Relay seq commit head positions
-with_last_rows k r h s request logged.Idle = polled_after k r h s
+abbrev pub with_last_rows : Keeping → Rules → List Entry → ℕ → Request → BriefReply → BriefReply
+with_last_rows k r h s request (brief.Noted commit) = noted_after k h s request
+with_last_rows k r h s request (brief.Relay seq commit head positions) =
+    if is_poll request then polled_after k r h s else brief.Relay seq commit head positions
+with_last_rows k r h s request brief.Idle = polled_after k r h s
 with_last_rows k r h s request reply = reply
 
 -- The reply to a request of a session, after the entries h: that of the table to what is kept of them, but for the last rows.
-abbrev pub reply_for : Keeping → Rules → List Entry → ℕ → Request → Logged
+abbrev pub reply_for : Keeping → Rules → List Entry → ℕ → Request → BriefReply
 reply_for k r h s request = with_last_rows k r h s request (reply_to r (k.kept h) s request)
 
 -- A journal is legal for a keeping: the reply of each entry is the one that the entries before it give.
@@ -68,8 +68,8 @@ pub record IsKeeping (k : Keeping) : Type 0 where
   pub none : k.kept [] ≡ []
   pub next : (e : Entry) (h : List Entry) → (test : Done1 → Bool) × (k.kept (e ∷ h) ≡ record e { request = with_results test e.request } ∷ k.kept h)
   pub noted : (h : List Entry) (s commit : ℕ) (request : Request) →
-      commit_of (k.kept (record { session = s; request = request; reply = logged.Noted commit } ∷ h))
-      ≡ commit_of (k.kept (record { session = s; request = request; reply = logged.Noted 0 } ∷ h))
+      commit_of (k.kept (record { session = s; request = request; reply = brief.Noted commit } ∷ h))
+      ≡ commit_of (k.kept (record { session = s; request = request; reply = brief.Noted 0 } ∷ h))
   pub above : (h : List Entry) (s p : ℕ) → is_in p (k.due h s) ≡ true → commit_of (k.kept h) < p
   pub within : (h : List Entry) (s p : ℕ) → is_in p (k.due h s) ≡ true → p ≤ length (accepted h)
   pub unsent : (h : List Entry) (s p : ℕ) → is_in p (k.due h s) ≡ true → is_over h s ≡ false → is_in p (sent_to h s) ≡ false

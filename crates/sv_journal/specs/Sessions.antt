@@ -11,8 +11,8 @@ use Rattle.sv_wire.specs.declared.message.Request.TheVariants as requests
 use Rattle.sv_wire.specs.declared.refusal.Refusal.TheVariants as refusals
 use Rattle.sv_wire.specs.Refusals.{code_of}
 use Rattle.sv_journal.specs.declared.entry.Entry.{Entry}
-use Rattle.sv_journal.specs.declared.entry.Logged.{Logged}
-use Rattle.sv_journal.specs.declared.entry.Logged.TheVariants as logged
+use Rattle.sv_journal.specs.declared.entry.BriefReply.{BriefReply}
+use Rattle.sv_journal.specs.declared.entry.BriefReply.TheVariants as brief
 use Rattle.sv_journal.specs.History.{is_welcome, joining, client_of, is_client, Outcome, outcomes_of, next_seq, actions_of, commit_of}
 
 -- ---- Sessions
@@ -21,14 +21,14 @@ abbrev pub is_joined : List Entry → ℕ → Bool
 is_joined h s = is_some (client_of h s)
 
 -- The replies that end their session: Bye, and Refused for a malformed payload or a spent session.
-abbrev pub is_last : Logged → Bool
-is_last logged.Bye = true
-is_last (logged.Refused code detail) = code == code_of refusals.Malformed || code == code_of refusals.TooManyRequests
+abbrev pub is_last : BriefReply → Bool
+is_last brief.Bye = true
+is_last (brief.Refused code detail) = code == code_of refusals.Malformed || code == code_of refusals.TooManyRequests
 is_last _ = false
 
 -- The replies after which a session is asked nothing more: those that end it, and Refused since it was over.
-abbrev pub is_stopping : Logged → Bool
-is_stopping (logged.Refused code detail) = is_last (logged.Refused code detail) || code == code_of refusals.Over
+abbrev pub is_stopping : BriefReply → Bool
+is_stopping (brief.Refused code detail) = is_last (brief.Refused code detail) || code == code_of refusals.Over
 is_stopping reply = is_last reply
 
 -- The entry is a Join of the client that was answered Welcome.
@@ -82,9 +82,9 @@ kept_outcome h k seq = if nat_le (next_seq h k) (seq + kept_count) then outcome_
 
 -- ---- Marks
 
-abbrev pub positions_in : Logged → List ℕ
-positions_in (logged.Relay seq commit head positions) = positions
-positions_in (logged.Seen last commit head positions) = positions
+abbrev pub positions_in : BriefReply → List ℕ
+positions_in (brief.Relay seq commit head positions) = positions
+positions_in (brief.Seen last commit head positions) = positions
 positions_in _ = []
 
 -- The positions that the relays answered to a session, and what it saw, name.
@@ -96,10 +96,10 @@ abbrev pub names : List ObjectValue → ℕ → Bool
 names head x = is_in x (map (λ (v : ObjectValue). v.object.0) head)
 
 -- The commit of a reply whose head names an object.
-abbrev pub named_in : Logged → ℕ → List ℕ
-named_in (logged.Welcome commit head) x = if names head x then commit ∷ [] else []
-named_in (logged.Relay seq commit head positions) x = if names head x then commit ∷ [] else []
-named_in (logged.Seen last commit head positions) x = if names head x then commit ∷ [] else []
+abbrev pub named_in : BriefReply → ℕ → List ℕ
+named_in (brief.Welcome commit head) x = if names head x then commit ∷ [] else []
+named_in (brief.Relay seq commit head positions) x = if names head x then commit ∷ [] else []
+named_in (brief.Seen last commit head positions) x = if names head x then commit ∷ [] else []
 named_in _ x = []
 
 abbrev pub named_to : List Entry → ℕ → ℕ → List ℕ

@@ -8,8 +8,8 @@ use Rattle.sv_text.specs.Canonical.{canonical}
 use Rattle.sv_wire.specs.declared.message.Request.{Request}
 use Rattle.sv_wire.specs.declared.message.Request.TheVariants as requests
 use Rattle.sv_journal.specs.declared.entry.Entry.{Entry}
-use Rattle.sv_journal.specs.declared.entry.Logged.{Logged}
-use Rattle.sv_journal.specs.declared.entry.Logged.TheVariants as logged
+use Rattle.sv_journal.specs.declared.entry.BriefReply.{BriefReply}
+use Rattle.sv_journal.specs.declared.entry.BriefReply.TheVariants as brief
 use Rattle.sv_journal.specs.History.{Authored, authored_at, accepted}
 use Rattle.sv_journal.specs.Pieces.{bracketed, head_text, objects_text, result_text}
 
@@ -32,19 +32,19 @@ request_text shape requests.Leave = codes "leave"
 request_text shape requests.Bad = codes "bad"
 request_text shape requests.End = codes "end"
 
-abbrev pub reply_text : List Authored → Logged → List ℕ
-reply_text A (logged.Welcome commit head) = codes "welcome " ++ decimal commit ++ codes " " ++ head_text head
-reply_text A (logged.Relay seq commit head positions) =
+abbrev pub reply_text : List Authored → BriefReply → List ℕ
+reply_text A (brief.Welcome commit head) = codes "welcome " ++ decimal commit ++ codes " " ++ head_text head
+reply_text A (brief.Relay seq commit head positions) =
     codes "relay " ++ decimal seq ++ codes " at " ++ decimal commit ++ codes " " ++ head_text head ++ codes " " ++ bracketed (item_text A) positions
-reply_text A (logged.Dropped seq chain far) = codes "dropped " ++ decimal seq ++ codes " chain " ++ decimal chain ++ codes " far " ++ decimal far
-reply_text A (logged.Denied seq object) = codes "denied " ++ decimal seq ++ codes " object " ++ decimal object.0
-reply_text A (logged.Seen last commit head positions) =
+reply_text A (brief.Dropped seq chain far) = codes "dropped " ++ decimal seq ++ codes " chain " ++ decimal chain ++ codes " far " ++ decimal far
+reply_text A (brief.Denied seq object) = codes "denied " ++ decimal seq ++ codes " object " ++ decimal object.0
+reply_text A (brief.Seen last commit head positions) =
     codes "seen " ++ decimal last ++ codes " at " ++ decimal commit ++ codes " " ++ head_text head ++ codes " " ++ bracketed (item_text A) positions
-reply_text A (logged.Settled seq pos) = codes "settled " ++ decimal seq ++ codes " at " ++ decimal pos
-reply_text A (logged.Noted commit) = codes "noted " ++ decimal commit
-reply_text A logged.Idle = codes "idle"
-reply_text A (logged.Refused code detail) = codes "refused " ++ decimal code ++ codes " " ++ decimal detail
-reply_text A logged.Bye = codes "bye"
+reply_text A (brief.Settled seq pos) = codes "settled " ++ decimal seq ++ codes " at " ++ decimal pos
+reply_text A (brief.Noted commit) = codes "noted " ++ decimal commit
+reply_text A brief.Idle = codes "idle"
+reply_text A (brief.Refused code detail) = codes "refused " ++ decimal code ++ codes " " ++ decimal detail
+reply_text A brief.Bye = codes "bye"
 
 -- The line of the entry with number n, among the accepted actions A.
 abbrev pub entry_line : Shape → List Authored → ℕ → Entry → List ℕ
@@ -61,9 +61,9 @@ abbrev pub journal_text : Shape → List Entry → List ℕ
 journal_text shape entries = codes "journal " ++ decimal (length entries) ++ 10 ∷ entry_lines shape (accepted (reverse entries)) 1 entries
 
 -- Each position that a reply names is one of so many accepted actions.
-abbrev pub NamesAccepted : ℕ → Logged → Type 0
-NamesAccepted count (logged.Relay seq commit head positions) = All (λ p. (1 ≤ p) × (p ≤ count)) positions
-NamesAccepted count (logged.Seen last commit head positions) = All (λ p. (1 ≤ p) × (p ≤ count)) positions
+abbrev pub NamesAccepted : ℕ → BriefReply → Type 0
+NamesAccepted count (brief.Relay seq commit head positions) = All (λ p. (1 ≤ p) × (p ≤ count)) positions
+NamesAccepted count (brief.Seen last commit head positions) = All (λ p. (1 ≤ p) × (p ≤ count)) positions
 NamesAccepted count _ = Unit {0}
 
 -- Each position that a reply of the journal names is that of an accepted action.

@@ -1,6 +1,6 @@
 //! The entries of a journal.
 ghost use Rattle.std.specs.Prelude.{◌≡◌};
-ghost use Rattle.sv_journal.specs.History.{logged_of};
+ghost use Rattle.sv_journal.specs.History.{brief_of};
 ghost use Rattle.sv_journal.specs.Sessions.{is_end, is_stopping};
 
 use sv_lists::List;
@@ -9,7 +9,7 @@ use sv_world::ObjectId;
 
 /// A reply as the journal keeps it: a relay, and what was seen, name the positions of their items, whose actions stand in the journal already.
 #[derive(Debug, Drop)]
-pub enum Logged {
+pub enum BriefReply {
     Welcome {
         commit: u32,
         head: List<ObjectValue>,
@@ -55,7 +55,7 @@ pub enum Logged {
 pub struct Entry {
     pub session: u16,
     pub request: Request,
-    pub reply: Logged,
+    pub reply: BriefReply,
 }
 
 /// Whether a request is the End of a session.
@@ -67,7 +67,7 @@ pub fn is_end(request: &Request) -> bool
 
 /// Whether a session is asked nothing more after a reply.
 pub fn is_stopping(reply: &Reply) -> bool
-    ensures { result ≡ is_stopping (logged_of reply.now) }
+    ensures { result ≡ is_stopping (brief_of reply.now) }
 {
     match reply {
         Reply::Bye => true,

@@ -8,7 +8,7 @@ ghost use Rattle.sv_journal.specs.Text.{item_text, reply_text, entry_line, entry
 use crate::journal::Journal;
 use crate::pieces::{append_head, append_items};
 use crate::requests::put_request;
-use crate::{Entry, Logged};
+use crate::{Entry, BriefReply};
 use std::alloc::AllocError;
 use sv_wire::ObjectValue;
 use sv_world::{ObjectId, Shape};
@@ -42,13 +42,13 @@ fn append_relayed(
     append_items(journal, positions, out)
 }
 
-fn append_reply(journal: &Journal, reply: &Logged, out: &mut String) -> Result<(), AllocError>
+fn append_reply(journal: &Journal, reply: &BriefReply, out: &mut String) -> Result<(), AllocError>
     requires { NamesAccepted (length (accepted (reverse journal.now.entries))) reply.now }
     ensures { OnOk result (string_bytes out.new ≡ string_bytes out.old ++ reply_text (accepted (reverse journal.now.entries)) reply.now) }
 {
     match reply {
-        Logged::Welcome { commit, head } => append_welcome(*commit, head.as_slice(), out),
-        Logged::Relay {
+        BriefReply::Welcome { commit, head } => append_welcome(*commit, head.as_slice(), out),
+        BriefReply::Relay {
             seq,
             commit,
             head,
@@ -57,9 +57,9 @@ fn append_reply(journal: &Journal, reply: &Logged, out: &mut String) -> Result<(
             write!(out, "relay {seq} at {commit} ")?;
             append_relayed(journal, head.as_slice(), positions.as_slice(), out)
         }
-        Logged::Dropped { seq, chain, far } => write!(out, "dropped {seq} chain {chain} far {far}"),
-        Logged::Denied { seq, object } => append_denied(*seq, *object, out),
-        Logged::Seen {
+        BriefReply::Dropped { seq, chain, far } => write!(out, "dropped {seq} chain {chain} far {far}"),
+        BriefReply::Denied { seq, object } => append_denied(*seq, *object, out),
+        BriefReply::Seen {
             last,
             commit,
             head,
@@ -68,11 +68,11 @@ fn append_reply(journal: &Journal, reply: &Logged, out: &mut String) -> Result<(
             write!(out, "seen {last} at {commit} ")?;
             append_relayed(journal, head.as_slice(), positions.as_slice(), out)
         }
-        Logged::Settled { seq, pos } => write!(out, "settled {seq} at {pos}"),
-        Logged::Noted { commit } => write!(out, "noted {commit}"),
-        Logged::Idle => out.push_str("idle"),
-        Logged::Refused { code, detail } => write!(out, "refused {code} {detail}"),
-        Logged::Bye => out.push_str("bye"),
+        BriefReply::Settled { seq, pos } => write!(out, "settled {seq} at {pos}"),
+        BriefReply::Noted { commit } => write!(out, "noted {commit}"),
+        BriefReply::Idle => out.push_str("idle"),
+        BriefReply::Refused { code, detail } => write!(out, "refused {code} {detail}"),
+        BriefReply::Bye => out.push_str("bye"),
     }
 }
 
@@ -128,11 +128,11 @@ fn are_accepted(count: usize, positions: &[u32]) -> bool
     true
 }
 
-fn names_accepted(count: usize, reply: &Logged) -> bool
+fn names_accepted(count: usize, reply: &BriefReply) -> bool
     ensures { MatchBool result (NamesAccepted count reply.now) (NamesAccepted count reply.now → ⊥) }
 {
     match reply {
-        Logged::Relay { positions, .. } | Logged::Seen { positions, .. } => {
+        BriefReply::Relay { positions, .. } | BriefReply::Seen { positions, .. } => {
             are_accepted(count, positions.as_slice())
         }
         _ => true,

@@ -7,7 +7,7 @@ ghost use Rattle.sv_journal.specs.declared.entry.Entry.{Entry};
 ghost use Rattle.sv_journal.specs.History.{is_welcome, is_relay, is_submit_of, joining};
 ghost use Rattle.sv_journal.specs.Rows.{tells_outcome, count_after, accepts, AreAllRows};
 
-use crate::{Entry, Logged};
+use crate::{Entry, BriefReply};
 use std::alloc::AllocError;
 use sv_wire::Request;
 use sv_world::ClientId;
@@ -54,7 +54,7 @@ pub fn joining(request: &Request) -> Option<u16>
 pub fn joining_client(entry: &Entry) -> Option<ClientId>
     ensures { option_map (λ (c : ClientId). c.0) result ≡ (if is_welcome entry.now.reply then joining entry.now.request else None) }
 {
-    let Logged::Welcome { .. } = &entry.reply else {
+    let BriefReply::Welcome { .. } = &entry.reply else {
         return None;
     };
     match joining(&entry.request) {
@@ -79,19 +79,19 @@ pub fn new_seq(request: &Request, count: u32) -> Option<u32>
     }
 }
 
-fn is_relay(reply: &Logged) -> bool
+fn is_relay(reply: &BriefReply) -> bool
     ensures { result ≡ is_relay reply.now }
 {
-    matches!(reply, Logged::Relay { .. })
+    matches!(reply, BriefReply::Relay { .. })
 }
 
 /// Whether a reply tells what came of a new action.
-fn tells_outcome(reply: &Logged) -> bool
+fn tells_outcome(reply: &BriefReply) -> bool
     ensures { result ≡ tells_outcome reply.now }
 {
     matches!(
         reply,
-        Logged::Relay { .. } | Logged::Dropped { .. } | Logged::Denied { .. }
+        BriefReply::Relay { .. } | BriefReply::Dropped { .. } | BriefReply::Denied { .. }
     )
 }
 

@@ -5,7 +5,7 @@ use Rattle.std.proofs.lemmas.Bool.{true≢false, and_parts, eq-eqb, ltb-true, co
 use Rattle.sv_world.specs.Control.{below, is_in}
 use Rattle.sv_wire.specs.declared.message.Request.TheVariants as requests
 use Rattle.sv_journal.specs.declared.entry.Entry.{Entry}
-use Rattle.sv_journal.specs.declared.entry.Logged.{Logged}
+use Rattle.sv_journal.specs.declared.entry.BriefReply.{BriefReply}
 use Rattle.sv_journal.specs.Answer.{Rules}
 use Rattle.sv_journal.specs.Sessions.{is_ended}
 use Rattle.sv_core.specs.Rows.{has_entry}
@@ -48,7 +48,7 @@ fewer p q weaker s fails rest (x ∷ xs) found = go (p x) refl found (fewer p q 
         not_weaker true f = absurd (true≢false (sym (weaker x f) ∙ e))
         not_weaker false f = f
 
-module _ (h : List Entry) (s : ℕ) (reply : Logged) (others : List ℕ) (first : open_sessions h ≡ s ∷ others) where
+module _ (h : List Entry) (s : ℕ) (reply : BriefReply) (others : List ℕ) (first : open_sessions h ≡ s ∷ others) where
   abbrev ended : List Entry
   ended = entry_of s requests.End reply ∷ h
 

@@ -15,8 +15,8 @@ use Rattle.sv_wire.specs.declared.message.Request.TheVariants as requests
 use Rattle.sv_wire.specs.declared.message.Reply.{Reply}
 use Rattle.sv_text.specs.Canonical.{canonical}
 use Rattle.sv_journal.specs.declared.entry.Entry.{Entry}
-use Rattle.sv_journal.specs.declared.entry.Logged.{Logged}
-use Rattle.sv_journal.specs.declared.entry.Logged.TheVariants as logged
+use Rattle.sv_journal.specs.declared.entry.BriefReply.{BriefReply}
+use Rattle.sv_journal.specs.declared.entry.BriefReply.TheVariants as brief
 use Rattle.sv_journal.specs.History.{Authored, authored_at, accepted, full_reply, client_of, new_action, next_seq, is_relay}
 use Rattle.sv_journal.specs.Pieces.{joined, bracketed, head_text}
 use Rattle.sv_journal.specs.Text.{item_text, action_text, request_text, reply_text, entry_line}
@@ -48,19 +48,19 @@ module _ (A B : List Authored) (same : (p : ℕ) → item_text A p ≡ item_text
   items_alike : (ps : List ℕ) → bracketed (item_text A) ps ≡ bracketed (item_text B) ps
   items_alike ps = ap (λ (l : List ℕ). codes "[" ++ l ++ codes "]") (joined_alike ps)
 
-  replies_alike : (reply : Logged) → reply_text A reply ≡ reply_text B reply
-  replies_alike (logged.Welcome commit head) = refl
-  replies_alike (logged.Relay seq commit head positions) =
+  replies_alike : (reply : BriefReply) → reply_text A reply ≡ reply_text B reply
+  replies_alike (brief.Welcome commit head) = refl
+  replies_alike (brief.Relay seq commit head positions) =
       ap (λ (l : List ℕ). codes "relay " ++ decimal seq ++ codes " at " ++ decimal commit ++ codes " " ++ head_text head ++ codes " " ++ l) (items_alike positions)
-  replies_alike (logged.Dropped seq chain far) = refl
-  replies_alike (logged.Denied seq object) = refl
-  replies_alike (logged.Seen last commit head positions) =
+  replies_alike (brief.Dropped seq chain far) = refl
+  replies_alike (brief.Denied seq object) = refl
+  replies_alike (brief.Seen last commit head positions) =
       ap (λ (l : List ℕ). codes "seen " ++ decimal last ++ codes " at " ++ decimal commit ++ codes " " ++ head_text head ++ codes " " ++ l) (items_alike positions)
-  replies_alike (logged.Settled seq pos) = refl
-  replies_alike (logged.Noted commit) = refl
-  replies_alike logged.Idle = refl
-  replies_alike (logged.Refused code detail) = refl
-  replies_alike logged.Bye = refl
+  replies_alike (brief.Settled seq pos) = refl
+  replies_alike (brief.Noted commit) = refl
+  replies_alike brief.Idle = refl
+  replies_alike (brief.Refused code detail) = refl
+  replies_alike brief.Bye = refl
 
 -- ---- One more that was accepted, by its author and number
 
@@ -118,10 +118,10 @@ module _ (v : WorldView) (s seq : ℕ) (a b : Action) (fault other : BadAction) 
   line_with action reply =
       decimal (suc (length h)) ++ codes " s" ++ decimal s ++ codes " " ++ (codes "submit " ++ decimal seq ++ codes " " ++ action) ++ codes " -> " ++ reply ++ 10 ∷ []
 
-  abbrev list_by : Logged → Action → List Authored
+  abbrev list_by : BriefReply → Action → List Authored
   list_by reply x = accepted (entry_of s (requests.Submit seq x) reply ∷ h)
 
-  replies_same : (reply : Logged) → reply_text (list_by reply a) reply ≡ reply_text (list_by reply b) reply
+  replies_same : (reply : BriefReply) → reply_text (list_by reply a) reply ≡ reply_text (list_by reply b) reply
   replies_same reply =
       replies_alike (list_by reply a) (list_by reply b)
       (new_alike (accepted h) seq a b (is_relay reply) (client_of h s) (next_seq h)) reply
@@ -133,7 +133,7 @@ module _ (v : WorldView) (s seq : ℕ) (a b : Action) (fault other : BadAction) 
   lines_same =
       ap (λ (t : List ℕ). line_with t (reply_text (list_by (reply_in v s (requests.Submit seq a)) a) (reply_in v s (requests.Submit seq a)))) (bad_text shape a fault bad)
       ∙ ap (λ (t : List ℕ). line_with (codes "bad") t) (replies_same (reply_in v s (requests.Submit seq a)))
-      ∙ ap (λ (reply : Logged). line_with (codes "bad") (reply_text (list_by reply b) reply)) one
+      ∙ ap (λ (reply : BriefReply). line_with (codes "bad") (reply_text (list_by reply b) reply)) one
       ∙ ap (λ (t : List ℕ). line_with t (reply_text (list_by (reply_in v s (requests.Submit seq b)) b) (reply_in v s (requests.Submit seq b)))) (sym (bad_text shape b other worse))
 
 -- ---- What a line asks for has the line
@@ -163,7 +163,7 @@ module _ (causes : CausesAreTold) (numbers : CausesHaveNumbers) (by_faults : Rep
       → cause_read (behind (requests.Submit seq a) rest) ≡ Some fault
   cause_is seq a fault rest is =
       let full : told v s (requests.Submit seq a) ≡ full_reply (accepted (entry_of s (requests.Submit seq a) (reply_in v s (requests.Submit seq a)) ∷ v.history)) (refused_for fault) =
-      ap (λ (r : Logged). full_reply (accepted (entry_of s (requests.Submit seq a) (reply_in v s (requests.Submit seq a)) ∷ v.history)) r) is in
+      ap (λ (r : BriefReply). full_reply (accepted (entry_of s (requests.Submit seq a) (reply_in v s (requests.Submit seq a)) ∷ v.history)) r) is in
       ap (λ (r : Reply). cause_read (sent_text r ++ 10 ∷ rest)) full
       ∙ causes (full_reply [] (refused_for fault)) rest (omega arith, few_causes fault)
       ∙ (numbers (cause_number fault) fault).1 refl

@@ -31,8 +31,8 @@ use Rattle.sv_wire.specs.declared.message.Request.TheVariants as requests
 use Rattle.sv_text.specs.Canonical.{object_in, ref_text, between, op_text, comparison_text, joint_text, expr_text, cond_text, spaced, block_text, else_text, stmt_text, object_text, spaced_objects, written, origin_text, body_text, canonical}
 use Rattle.sv_text.proofs.Layers.{pair_text_is, lit_text, attr_text, test_text_is, joint_text_is, not_text, set_text_is, if_text}
 use Rattle.sv_journal.specs.declared.entry.Entry.{Entry}
-use Rattle.sv_journal.specs.declared.entry.Logged.{Logged}
-use Rattle.sv_journal.specs.declared.entry.Logged.TheVariants as logged
+use Rattle.sv_journal.specs.declared.entry.BriefReply.{BriefReply}
+use Rattle.sv_journal.specs.declared.entry.BriefReply.TheVariants as brief
 use Rattle.sv_journal.specs.History.{Authored, authored_at}
 use Rattle.sv_journal.specs.Pieces.{joined, bracketed, value_text, held_text, head_text, objects_text, result_text}
 use Rattle.sv_journal.specs.Text.{item_text, action_text, request_text, reply_text, entry_line}
@@ -297,29 +297,29 @@ shown_work A word n commit head positions f =
     refl)
     (shown_bracketed (item_text A) (shown_item A) positions)
 
-shown_reply : (A : List Authored) (r : Logged) → IsShown (reply_text A r)
-shown_reply A (logged.Welcome commit head) =
+shown_reply : (A : List Authored) (r : BriefReply) → IsShown (reply_text A r)
+shown_reply A (brief.Welcome commit head) =
     let one = codes "welcome " ++ decimal commit in
     then_shown (one ++ codes " ") (head_text head) (then_shown one (codes " ") (numbered (codes "welcome ") commit refl) refl) (shown_head head)
-shown_reply A (logged.Relay seq commit head positions) = shown_work A (codes "relay ") seq commit head positions refl
-shown_reply A (logged.Seen last commit head positions) = shown_work A (codes "seen ") last commit head positions refl
-shown_reply A (logged.Dropped seq chain far) =
+shown_reply A (brief.Relay seq commit head positions) = shown_work A (codes "relay ") seq commit head positions refl
+shown_reply A (brief.Seen last commit head positions) = shown_work A (codes "seen ") last commit head positions refl
+shown_reply A (brief.Dropped seq chain far) =
     let one = codes "dropped " ++ decimal seq in
     let two = one ++ codes " chain " ++ decimal chain in
     numbered (two ++ codes " far ") far
     (then_shown two (codes " far ") (numbered (one ++ codes " chain ") chain (then_shown one (codes " chain ") (numbered (codes "dropped ") seq refl) refl)) refl)
-shown_reply A (logged.Denied seq object) =
+shown_reply A (brief.Denied seq object) =
     let one = codes "denied " ++ decimal seq in
     numbered (one ++ codes " object ") object.0 (then_shown one (codes " object ") (numbered (codes "denied ") seq refl) refl)
-shown_reply A (logged.Settled seq position) =
+shown_reply A (brief.Settled seq position) =
     let one = codes "settled " ++ decimal seq in
     numbered (one ++ codes " at ") position (then_shown one (codes " at ") (numbered (codes "settled ") seq refl) refl)
-shown_reply A (logged.Noted commit) = numbered (codes "noted ") commit refl
-shown_reply A logged.Idle = refl
-shown_reply A (logged.Refused code detail) =
+shown_reply A (brief.Noted commit) = numbered (codes "noted ") commit refl
+shown_reply A brief.Idle = refl
+shown_reply A (brief.Refused code detail) =
     let one = codes "refused " ++ decimal code in
     numbered (one ++ codes " ") detail (then_shown one (codes " ") (numbered (codes "refused ") code refl) refl)
-shown_reply A logged.Bye = refl
+shown_reply A brief.Bye = refl
 
 -- ---- One line
 

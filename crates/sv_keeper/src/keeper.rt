@@ -76,13 +76,13 @@ impl<F: Folder> Keeper<F> {
         let Some(next) = self.next.checked_add(1) else {
             return Err(KeepFault::Broken);
         };
-        let Answer { logged, reply } = match self.core.step(session, request) {
+        let Answer { brief, reply } = match self.core.step(session, request) {
             Ok(answer) => answer,
             Err(StepFault::NotOpen) => return Err(KeepFault::NotOpen),
             Err(StepFault::NoRoom) => return Err(KeepFault::NoRoom),
             Err(StepFault::Memory) => return Err(KeepFault::Memory),
         };
-        drop(logged);
+        drop(brief);
         replies_have_one_text();
         match self
             .group

@@ -89,13 +89,13 @@ impl LineWalk {
         ensures next { OnErr result (self.new.next ≡ self.old.next) }
     {
         self.core.is_lawful();
-        let Answer { logged, reply } = match self.core.step(session, request) {
+        let Answer { brief, reply } = match self.core.step(session, request) {
             Ok(answer) => answer,
             Err(StepFault::Memory) => return Err(WalkStop::Memory),
             Err(StepFault::NotOpen) => return Err(WalkStop::Wrong(LineCause::Session)),
             Err(StepFault::NoRoom) => return Err(WalkStop::Wrong(LineCause::Session)),
         };
-        drop(logged);
+        drop(brief);
         self.line.clear();
         let Ok(()) = self
             .line

@@ -18,8 +18,8 @@ use Rattle.sv_wire.specs.declared.message.Request.{Request}
 use Rattle.sv_wire.specs.declared.message.Request.TheVariants as requests
 use Rattle.sv_text.specs.Canonical.{canonical}
 use Rattle.sv_journal.specs.declared.entry.Entry.{Entry}
-use Rattle.sv_journal.specs.declared.entry.Logged.{Logged}
-use Rattle.sv_journal.specs.declared.entry.Logged.TheVariants as logged
+use Rattle.sv_journal.specs.declared.entry.BriefReply.{BriefReply}
+use Rattle.sv_journal.specs.declared.entry.BriefReply.TheVariants as brief
 use Rattle.sv_journal.specs.History.{Authored, authored_at}
 use Rattle.sv_journal.specs.Pieces.{joined, bracketed, value_text, held_text, head_text, objects_text, result_text}
 use Rattle.sv_journal.specs.Text.{item_text, action_text, request_text, reply_text, entry_line, entry_lines}
@@ -164,29 +164,29 @@ inner_work A word n commit head positions f =
     refl)
     (inner_bracketed (item_text A) (inner_item A) positions)
 
-pub inner_reply : (A : List Authored) (r : Logged) → IsInner (reply_text A r)
-inner_reply A (logged.Welcome commit head) =
+pub inner_reply : (A : List Authored) (r : BriefReply) → IsInner (reply_text A r)
+inner_reply A (brief.Welcome commit head) =
     let one = codes "welcome " ++ decimal commit in
     then_inner (one ++ codes " ") (head_text head) (then_inner one (codes " ") (numbered (codes "welcome ") commit refl) refl) (inner_head head)
-inner_reply A (logged.Relay seq commit head positions) = inner_work A (codes "relay ") seq commit head positions refl
-inner_reply A (logged.Seen last commit head positions) = inner_work A (codes "seen ") last commit head positions refl
-inner_reply A (logged.Dropped seq chain far) =
+inner_reply A (brief.Relay seq commit head positions) = inner_work A (codes "relay ") seq commit head positions refl
+inner_reply A (brief.Seen last commit head positions) = inner_work A (codes "seen ") last commit head positions refl
+inner_reply A (brief.Dropped seq chain far) =
     let one = codes "dropped " ++ decimal seq in
     let two = one ++ codes " chain " ++ decimal chain in
     numbered (two ++ codes " far ") far
     (then_inner two (codes " far ") (numbered (one ++ codes " chain ") chain (then_inner one (codes " chain ") (numbered (codes "dropped ") seq refl) refl)) refl)
-inner_reply A (logged.Denied seq object) =
+inner_reply A (brief.Denied seq object) =
     let one = codes "denied " ++ decimal seq in
     numbered (one ++ codes " object ") object.0 (then_inner one (codes " object ") (numbered (codes "denied ") seq refl) refl)
-inner_reply A (logged.Settled seq position) =
+inner_reply A (brief.Settled seq position) =
     let one = codes "settled " ++ decimal seq in
     numbered (one ++ codes " at ") position (then_inner one (codes " at ") (numbered (codes "settled ") seq refl) refl)
-inner_reply A (logged.Noted commit) = numbered (codes "noted ") commit refl
-inner_reply A logged.Idle = refl
-inner_reply A (logged.Refused code detail) =
+inner_reply A (brief.Noted commit) = numbered (codes "noted ") commit refl
+inner_reply A brief.Idle = refl
+inner_reply A (brief.Refused code detail) =
     let one = codes "refused " ++ decimal code in
     numbered (one ++ codes " ") detail (then_inner one (codes " ") (numbered (codes "refused ") code refl) refl)
-inner_reply A logged.Bye = refl
+inner_reply A brief.Bye = refl
 
 -- ---- One line
 

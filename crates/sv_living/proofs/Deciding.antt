@@ -15,8 +15,8 @@ use Rattle.sv_wire.specs.declared.message.Request.{Request}
 use Rattle.sv_wire.specs.declared.message.Request.TheVariants as requests
 use Rattle.sv_wire.specs.declared.refusal.Refusal.TheVariants as refusals
 use Rattle.sv_journal.specs.declared.entry.Entry.{Entry}
-use Rattle.sv_journal.specs.declared.entry.Logged.{Logged}
-use Rattle.sv_journal.specs.declared.entry.Logged.TheVariants as logged
+use Rattle.sv_journal.specs.declared.entry.BriefReply.{BriefReply}
+use Rattle.sv_journal.specs.declared.entry.BriefReply.TheVariants as brief
 use Rattle.sv_journal.specs.History.{is_noted, client_of, is_client, new_action, Outcome, Accepted, Dropped, Denied, actions_of, next_seq, commit_of}
 use Rattle.sv_journal.specs.Sessions.{is_end, is_over, is_live, asked_in, life_of, kept_outcome}
 use Rattle.sv_journal.specs.Answer.{Rules, refused_as, is_above, is_full, is_spent, is_no_next_life, is_bad_done, is_good_interest, reply_to_allowed, reply_by_rights, reply_to_checked, reply_to_submit, reply_to_join, reply_to_client, reply_to_member, reply_to_request, reply_to, reply_to_poll, orphans}
@@ -33,11 +33,11 @@ use Rattle.sv_living.proofs.Heeding.{accepted_heeded, heard_none}
 
 -- ---- Only a Poll is answered Idle
 
-abbrev is_idle : Logged → Bool
-is_idle logged.Idle = true
+abbrev is_idle : BriefReply → Bool
+is_idle brief.Idle = true
 is_idle _ = false
 
-abbrev IsBusy : Logged → Type 0
+abbrev IsBusy : BriefReply → Type 0
 IsBusy v = is_idle v ≡ false
 
 module _ (r : Rules) (g : List Entry) (s : ℕ) where
@@ -81,7 +81,7 @@ module _ (r : Rules) (g : List Entry) (s : ℕ) where
       cond_both (is_no_next_life r.leap (life_of g k) life) _ _ IsBusy (λ _. refl) (λ _.
       cond_both (is_good_interest r.world.shape.objects xs) _ _ IsBusy (λ _. refl) (λ _. refl))))
 
-  open-busy : (v : Logged) → IsBusy v → IsBusy (if is_over g s then refused_as refusals.Over 0 else (if is_spent r.requests (asked_in g s) then refused_as refusals.TooManyRequests 0 else v))
+  open-busy : (v : BriefReply) → IsBusy v → IsBusy (if is_over g s then refused_as refusals.Over 0 else (if is_spent r.requests (asked_in g s) then refused_as refusals.TooManyRequests 0 else v))
   open-busy v busy = cond_both (is_over g s) _ _ IsBusy (λ _. refl) (λ _. cond_both (is_spent r.requests (asked_in g s)) _ _ IsBusy (λ _. refl) (λ _. busy))
 
   request-busy : (q : Request) → is_poll q ≡ false → IsBusy (reply_to_request r g s q)
@@ -94,7 +94,7 @@ module _ (r : Rules) (g : List Entry) (s : ℕ) where
   request-busy requests.Bad unasked = open-busy _ refl
   request-busy requests.End unasked = open-busy _ (member-busy (client_of g s) requests.End unasked)
 
-  pub idle-poll : (q : Request) → logged.Idle ≡ reply_to_request r g s q → is_poll q ≡ true
+  pub idle-poll : (q : Request) → brief.Idle ≡ reply_to_request r g s q → is_poll q ≡ true
   idle-poll q is = go (is_poll q) refl
     where
       go : (b : Bool) → is_poll q ≡ b → b ≡ true
@@ -135,35 +135,35 @@ old-poll h s = record { accepts = none (client_of h s); outcomes = λ k. never (
 -- ---- The last rows where all counts, and nothing is due to a steward
 
 -- the reply is one to a Poll that is not refused
-abbrev is_polled : Request → Logged → Bool
-is_polled q logged.Idle = true
-is_polled q (logged.Relay seq commit head positions) = is_poll q
+abbrev is_polled : Request → BriefReply → Bool
+is_polled q brief.Idle = true
+is_polled q (brief.Relay seq commit head positions) = is_poll q
 is_polled q _ = false
 
 module _ (w : Stewardship) (r : Rules) (h : List Entry) (s : ℕ) (q : Request) where
   due-same : is_stewards w.steward h s ≡ false → reply_to_poll r (heeded w h) s (due_to w h s) ≡ reply_to_poll r (heeded w h) s (orphans (heeded w h))
   due-same apart = ap (λ (b : Bool). reply_to_poll r (heeded w h) s (if b then unreported (heeded w h) s else orphans (heeded w h))) apart
 
-  rows-same : (v : Logged) → (is_noted v ≡ true → counts w h s ≡ true) → (is_polled q v ≡ true → is_stewards w.steward h s ≡ false)
+  rows-same : (v : BriefReply) → (is_noted v ≡ true → counts w h s ≡ true) → (is_polled q v ≡ true → is_stewards w.steward h s ≡ false)
       → with_last_rows (living w) r h s q v ≡ with_last_rows plain r (heeded w h) s q v
-  rows-same (logged.Noted commit) counted other =
-      ap (λ (b : Bool). logged.Noted (commit_of ((if b then record { session = s; request = q; reply = logged.Noted 0 } else record { session = s; request = with_results (λ d. false) q; reply = logged.Noted 0 }) ∷ heeded w h)))
+  rows-same (brief.Noted commit) counted other =
+      ap (λ (b : Bool). brief.Noted (commit_of ((if b then record { session = s; request = q; reply = brief.Noted 0 } else record { session = s; request = with_results (λ d. false) q; reply = brief.Noted 0 }) ∷ heeded w h)))
       (counted refl)
-  rows-same (logged.Relay seq commit head positions) counted other = go (is_poll q) other
+  rows-same (brief.Relay seq commit head positions) counted other = go (is_poll q) other
     where
       go : (b : Bool) → (b ≡ true → is_stewards w.steward h s ≡ false)
-          → (if b then reply_to_poll r (heeded w h) s (due_to w h s) else logged.Relay seq commit head positions)
-          ≡ (if b then reply_to_poll r (heeded w h) s (orphans (heeded w h)) else logged.Relay seq commit head positions)
+          → (if b then reply_to_poll r (heeded w h) s (due_to w h s) else brief.Relay seq commit head positions)
+          ≡ (if b then reply_to_poll r (heeded w h) s (orphans (heeded w h)) else brief.Relay seq commit head positions)
       go true other = due-same (other refl)
       go false other = refl
-  rows-same logged.Idle counted other = due-same (other refl)
-  rows-same (logged.Welcome commit head) counted other = refl
-  rows-same (logged.Dropped seq chain far) counted other = refl
-  rows-same (logged.Denied seq object) counted other = refl
-  rows-same (logged.Seen last commit head positions) counted other = refl
-  rows-same (logged.Settled seq pos) counted other = refl
-  rows-same (logged.Refused code detail) counted other = refl
-  rows-same logged.Bye counted other = refl
+  rows-same brief.Idle counted other = due-same (other refl)
+  rows-same (brief.Welcome commit head) counted other = refl
+  rows-same (brief.Dropped seq chain far) counted other = refl
+  rows-same (brief.Denied seq object) counted other = refl
+  rows-same (brief.Seen last commit head positions) counted other = refl
+  rows-same (brief.Settled seq pos) counted other = refl
+  rows-same (brief.Refused code detail) counted other = refl
+  rows-same brief.Bye counted other = refl
 
   -- As its core decides.
   as-core : (d : Decision) → is_end q ≡ false → reply_by r (heeded w h) s q d ≡ reply_to_request r (heeded w h) s q
@@ -267,8 +267,8 @@ module _ (w : Stewardship) (r : Rules) (h : List Entry) (s : ℕ) where
   noted-none : (rs : List Done1) → counts w h s ≡ false → reply_by r (heeded w h) s (requests.Done rs) decisions.Note ≡ reply_to_request r (heeded w h) s (requests.Done rs)
       → reply_by r (heeded w h) s (requests.Done []) decisions.Note ≡ reply_for (living w) r h s (requests.Done rs)
   noted-none rs uncounted told =
-      ap (λ (x : Request). logged.Noted (commit_of (record { session = s; request = x; reply = logged.Noted 0 } ∷ heeded w h))) (sym none)
-      ∙ sym (ap (λ (b : Bool). logged.Noted (commit_of ((if b then record { session = s; request = requests.Done rs; reply = logged.Noted 0 } else record { session = s; request = with_results (λ d. false) (requests.Done rs); reply = logged.Noted 0 }) ∷ heeded w h))) uncounted)
+      ap (λ (x : Request). brief.Noted (commit_of (record { session = s; request = x; reply = brief.Noted 0 } ∷ heeded w h))) (sym none)
+      ∙ sym (ap (λ (b : Bool). brief.Noted (commit_of ((if b then record { session = s; request = requests.Done rs; reply = brief.Noted 0 } else record { session = s; request = with_results (λ d. false) (requests.Done rs); reply = brief.Noted 0 }) ∷ heeded w h))) uncounted)
       ∙ ap (with_last_rows (living w) r h s (requests.Done rs)) told
     where
       none : with_results (λ d. false) (requests.Done rs) ≡ requests.Done []

@@ -5,7 +5,7 @@ use Rattle.sv_wire.specs.declared.message.Done1.{Done1}
 use Rattle.sv_wire.specs.declared.message.Request.{Request}
 use Rattle.sv_wire.specs.declared.message.Request.TheVariants as requests
 use Rattle.sv_journal.specs.declared.entry.Entry.{Entry}
-use Rattle.sv_journal.specs.declared.entry.Logged.{Logged}
+use Rattle.sv_journal.specs.declared.entry.BriefReply.{BriefReply}
 use Rattle.sv_journal.specs.History.{client_of, accepted}
 use Rattle.sv_journal.specs.Serving.{with_results}
 use Rattle.sv_journal.specs.Living.{Stewardship, counts, heeded, living}
@@ -20,7 +20,7 @@ client_heeded w = client-kept (living w) (living-keeping w)
 pub accepted_heeded : (w : Stewardship) (h : List Entry) → accepted (heeded w h) ≡ accepted h
 accepted_heeded w = accepted-kept (living w) (living-keeping w)
 
-pub heeded_next : (w : Stewardship) (h : List Entry) (s : ℕ) (request : Request) (reply : Logged)
+pub heeded_next : (w : Stewardship) (h : List Entry) (s : ℕ) (request : Request) (reply : BriefReply)
     → heeded w (entry_of s request reply ∷ h) ≡ entry_of s (heard w h s request) reply ∷ heeded w h
 heeded_next w h s request reply = go (counts w h s)
   where

@@ -9,8 +9,8 @@ use Rattle.sv_wire.specs.declared.message.Request.{Request}
 use Rattle.sv_wire.specs.declared.message.Request.TheVariants as requests
 use Rattle.sv_wire.specs.declared.message.Reply.{Reply}
 use Rattle.sv_journal.specs.declared.entry.Entry.{Entry}
-use Rattle.sv_journal.specs.declared.entry.Logged.{Logged}
-use Rattle.sv_journal.specs.declared.entry.Logged.TheVariants as logged
+use Rattle.sv_journal.specs.declared.entry.BriefReply.{BriefReply}
+use Rattle.sv_journal.specs.declared.entry.BriefReply.TheVariants as brief
 use Rattle.sv_journal.specs.History.{Authored, accepted, actions_of, commit_of, full_reply}
 use Rattle.sv_journal.specs.Sessions.{is_end}
 use Rattle.sv_journal.specs.Answer.{Rules, reply_to, reply_to_request, reply_to_poll}
@@ -48,31 +48,31 @@ module _ (w : Stewardship) (r : Rules) (h : List Entry) (s : ℕ) (q : Request) 
   polled-shows (p ∷ ps) = refl
 
   -- a reply that shows nothing is of no last row
-  rows-quiet : (v : Logged) → shows_nothing v ≡ true → with_last_rows (living w) r h s q v ≡ v
-  rows-quiet (logged.Seen last commit head positions) quiet = refl
-  rows-quiet (logged.Noted commit) quiet = absurd (true≢false (sym quiet))
-  rows-quiet (logged.Relay seq commit head positions) quiet = absurd (true≢false (sym quiet))
-  rows-quiet logged.Idle quiet = absurd (true≢false (sym quiet))
-  rows-quiet (logged.Welcome commit head) quiet = refl
-  rows-quiet (logged.Dropped seq chain far) quiet = refl
-  rows-quiet (logged.Denied seq object) quiet = refl
-  rows-quiet (logged.Settled seq pos) quiet = refl
-  rows-quiet (logged.Refused code detail) quiet = refl
-  rows-quiet logged.Bye quiet = refl
+  rows-quiet : (v : BriefReply) → shows_nothing v ≡ true → with_last_rows (living w) r h s q v ≡ v
+  rows-quiet (brief.Seen last commit head positions) quiet = refl
+  rows-quiet (brief.Noted commit) quiet = absurd (true≢false (sym quiet))
+  rows-quiet (brief.Relay seq commit head positions) quiet = absurd (true≢false (sym quiet))
+  rows-quiet brief.Idle quiet = absurd (true≢false (sym quiet))
+  rows-quiet (brief.Welcome commit head) quiet = refl
+  rows-quiet (brief.Dropped seq chain far) quiet = refl
+  rows-quiet (brief.Denied seq object) quiet = refl
+  rows-quiet (brief.Settled seq pos) quiet = refl
+  rows-quiet (brief.Refused code detail) quiet = refl
+  rows-quiet brief.Bye quiet = refl
 
-  rows-shown : (v : Logged) → shows_nothing v ≡ false → shows_nothing (with_last_rows (living w) r h s q v) ≡ false
-  rows-shown (logged.Seen last commit head positions) shown = shown
-  rows-shown (logged.Noted commit) shown = refl
-  rows-shown (logged.Relay seq commit head positions) shown =
-      cond_both (is_poll q) (reply_to_poll r (heeded w h) s (due_to w h s)) (logged.Relay seq commit head positions) (λ (v : Logged). shows_nothing v ≡ false)
+  rows-shown : (v : BriefReply) → shows_nothing v ≡ false → shows_nothing (with_last_rows (living w) r h s q v) ≡ false
+  rows-shown (brief.Seen last commit head positions) shown = shown
+  rows-shown (brief.Noted commit) shown = refl
+  rows-shown (brief.Relay seq commit head positions) shown =
+      cond_both (is_poll q) (reply_to_poll r (heeded w h) s (due_to w h s)) (brief.Relay seq commit head positions) (λ (v : BriefReply). shows_nothing v ≡ false)
       (λ _. polled-shows (due_to w h s)) (λ _. refl)
-  rows-shown logged.Idle shown = polled-shows (due_to w h s)
-  rows-shown (logged.Welcome commit head) shown = refl
-  rows-shown (logged.Dropped seq chain far) shown = refl
-  rows-shown (logged.Denied seq object) shown = refl
-  rows-shown (logged.Settled seq pos) shown = refl
-  rows-shown (logged.Refused code detail) shown = refl
-  rows-shown logged.Bye shown = refl
+  rows-shown brief.Idle shown = polled-shows (due_to w h s)
+  rows-shown (brief.Welcome commit head) shown = refl
+  rows-shown (brief.Dropped seq chain far) shown = refl
+  rows-shown (brief.Denied seq object) shown = refl
+  rows-shown (brief.Settled seq pos) shown = refl
+  rows-shown (brief.Refused code detail) shown = refl
+  rows-shown brief.Bye shown = refl
 
   for-quiet : is_end q ≡ false → shows_nothing (reply_to_request r (heeded w h) s q) ≡ true → reply_for (living w) r h s q ≡ reply_to_request r (heeded w h) s q
   for-quiet more quiet =
@@ -81,7 +81,7 @@ module _ (w : Stewardship) (r : Rules) (h : List Entry) (s : ℕ) (q : Request) 
 
   for-shown : is_end q ≡ false → shows_nothing (reply_to_request r (heeded w h) s q) ≡ false → shows_nothing (reply_for (living w) r h s q) ≡ false
   for-shown more shown =
-      ap (λ (v : Logged). shows_nothing (with_last_rows (living w) r h s q v)) (reply-open r (heeded w h) s q more)
+      ap (λ (v : BriefReply). shows_nothing (with_last_rows (living w) r h s q v)) (reply-open r (heeded w h) s q more)
       ∙ rows-shown (reply_to_request r (heeded w h) s q) shown
 
   -- An open session is answered as its core would.

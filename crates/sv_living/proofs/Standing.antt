@@ -6,8 +6,8 @@ use Rattle.sv_wire.specs.declared.message.Request.{Request}
 use Rattle.sv_wire.specs.declared.message.Request.TheVariants as requests
 use Rattle.sv_wire.specs.declared.message.Reply.TheVariants as replies
 use Rattle.sv_journal.specs.declared.entry.Entry.{Entry}
-use Rattle.sv_journal.specs.declared.entry.Logged.{Logged}
-use Rattle.sv_journal.specs.declared.entry.Logged.TheVariants as logged
+use Rattle.sv_journal.specs.declared.entry.BriefReply.{BriefReply}
+use Rattle.sv_journal.specs.declared.entry.BriefReply.TheVariants as brief
 use Rattle.sv_journal.specs.History.{Authored, accepted, full_reply}
 use Rattle.sv_journal.specs.Sessions.{is_end, is_ended}
 use Rattle.sv_journal.specs.Answer.{Rules}
@@ -50,7 +50,7 @@ ended-heeded w (e ∷ h) s = ap₂ (λ (a b : Bool). a || b) (go (counts w h e.s
     go false = ap (λ (x : Bool). nat_eq e.session s && x) (end-same (λ d. false) e.request)
 
 pub heeded-end : (w : Stewardship) (h : List Entry) (s : ℕ) → heeded w (end_entry s ∷ h) ≡ end_entry s ∷ heeded w h
-heeded-end w h s = heeded_next w h s requests.End logged.Bye ∙ ap (λ (q : Request). entry_of s q logged.Bye ∷ heeded w h) (go (counts w h s))
+heeded-end w h s = heeded_next w h s requests.End brief.Bye ∙ ap (λ (q : Request). entry_of s q brief.Bye ∷ heeded w h) (go (counts w h s))
   where
     go : (b : Bool) → cond b requests.End requests.End ≡ requests.End
     go true = refl
@@ -101,15 +101,15 @@ carried-on old new' w h s q x d a is decided out' = record {
   seats = out.seats;
   count = out.count;
   keeps = subst (Keeps new') same out.keeps;
-  logged = out.logged ∙ decided.reply;
-  whole = out.whole ∙ ap₂ (λ (A : List Authored) (v : Logged). full_reply A v) (ap accepted same ∙ accepted_heeded w (living_entry w (core_rules old) h s q ∷ h)) decided.reply;
+  brief = out.brief ∙ decided.reply;
+  whole = out.whole ∙ ap₂ (λ (A : List Authored) (v : BriefReply). full_reply A v) (ap accepted same ∙ accepted_heeded w (living_entry w (core_rules old) h s q ∷ h)) decided.reply;
 }
   where
     out : CarriedOut old new' (heeded w h) s (heard w h s q) d a
     out = subst (λ (y : Request). CarriedOut old new' (heeded w h) s y d a) (sym is) out'
 
     same : (decided_entry old (heeded w h) s (heard w h s q) d ∷ heeded w h) ≡ heeded w (living_entry w (core_rules old) h s q ∷ h)
-    same = ap (λ (v : Logged). entry_of s (heard w h s q) v ∷ heeded w h) decided.reply ∙ sym (heeded_next w h s q (reply_for (living w) (core_rules old) h s q))
+    same = ap (λ (v : BriefReply). entry_of s (heard w h s q) v ∷ heeded w h) decided.reply ∙ sym (heeded_next w h s q (reply_for (living w) (core_rules old) h s q))
 
 -- After its End a session's slot is freed.
 pub left-slot : (old mid new' : Core) (w : Stewardship) (h : List Entry) (seat : Seat) → core_rules mid ≡ core_rules old → ((slot : ℕ) → session_at mid slot ≡ session_at old slot) → open_by mid ≡ open_by old
@@ -227,13 +227,13 @@ module _ (c : Live) (h : List Entry) (was : KeepsLiving c h) where
       order = (may-open h s here, was.order);
       legal = legal-next core s q on.rules;
     };
-    logged = on.logged;
+    brief = on.brief;
     whole = on.whole;
   }
 
-  pub stepped-end : (core : Core) (seat : Seat) (a : Answer) → Left c.core core (stewardship_at c) h seat → SitsAt c.core seat → is_open h seat.session ≡ true → a.logged ≡ logged.Bye → a.reply ≡ replies.Bye
+  pub stepped-end : (core : Core) (seat : Seat) (a : Answer) → Left c.core core (stewardship_at c) h seat → SitsAt c.core seat → is_open h seat.session ≡ true → a.brief ≡ brief.Bye → a.reply ≡ replies.Bye
       → Moved c (record c { core = core; table = others seat.session c.table }) h seat.session requests.End a
-  stepped-end core seat a left at here logged' reply = record {
+  stepped-end core seat a left at here brief' reply = record {
     rules = left.rules;
     stewards = refl;
     keeps = record {
@@ -244,7 +244,7 @@ module _ (c : Live) (h : List Entry) (was : KeepsLiving c h) where
       order = (may-open h seat.session here, was.order);
       legal = legal-next core seat.session requests.End left.rules;
     };
-    logged = logged';
+    brief = brief';
     whole = reply;
   }
 
@@ -264,7 +264,7 @@ module _ (c : Live) (h : List Entry) (was : KeepsLiving c h) where
       order = (may-next h s (is ∙ was.next) begins, was.order);
       legal = legal-next core s q (on.rules ∙ seated.rules);
     };
-    logged = subst (λ (x : Rules). a.logged ≡ reply_for (living (stewardship_at c)) x h s q) seated.rules on.logged;
+    brief = subst (λ (x : Rules). a.brief ≡ reply_for (living (stewardship_at c)) x h s q) seated.rules on.brief;
     whole = subst (λ (x : Rules). a.reply ≡ full_reply (accepted (living_entry (stewardship_at c) x h s q ∷ h)) (reply_for (living (stewardship_at c)) x h s q)) seated.rules on.whole;
   }
     where
@@ -276,8 +276,8 @@ module _ (c : Live) (h : List Entry) (was : KeepsLiving c h) where
 
   -- The next session made no request but its End.
   pub stepped-unused : (mid core : Core) (seat : Seat) (s : ℕ) (a : Answer) → WasSeated c.core mid (heeded (stewardship_at c) h) seat → Left mid core (stewardship_at c) h seat → seat.session ≡ s → s ≡ c.next → may_begin h ≡ true
-      → a.logged ≡ logged.Bye → a.reply ≡ replies.Bye → Moved c (record c { core = core; next = c.next + 1 }) h s requests.End a
-  stepped-unused mid core seat s a seated left number is begins logged' reply = record {
+      → a.brief ≡ brief.Bye → a.reply ≡ replies.Bye → Moved c (record c { core = core; next = c.next + 1 }) h s requests.End a
+  stepped-unused mid core seat s a seated left number is begins brief' reply = record {
     rules = left.rules ∙ seated.rules;
     stewards = refl;
     keeps = record {
@@ -289,7 +289,7 @@ module _ (c : Live) (h : List Entry) (was : KeepsLiving c h) where
       order = (may-next h s (is ∙ was.next) begins, was.order);
       legal = legal-next core s requests.End (left.rules ∙ seated.rules);
     };
-    logged = logged';
+    brief = brief';
     whole = reply;
   }
     where

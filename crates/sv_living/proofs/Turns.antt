@@ -9,7 +9,7 @@ use Rattle.sv_world.proofs.Bases.{is_in-below, below-ascending}
 use Rattle.sv_world.proofs.Members.{is_in-filter, is_in-filter_parts}
 use Rattle.sv_wire.specs.declared.message.Request.{Request}
 use Rattle.sv_journal.specs.declared.entry.Entry.{Entry}
-use Rattle.sv_journal.specs.declared.entry.Logged.{Logged}
+use Rattle.sv_journal.specs.declared.entry.BriefReply.{BriefReply}
 use Rattle.sv_journal.specs.Sessions.{is_end, is_ended}
 use Rattle.sv_core.specs.declared.seats.Seat.{Seat}
 use Rattle.sv_core.specs.declared.server_core.Core.{Core}
@@ -33,14 +33,14 @@ pub open-parts : (h : List Entry) (s : ℕ) → is_open h s ≡ true → (has_en
 open-parts h s is = let parts = and_parts (has_entry h s) (not (is_ended h s)) is in (parts.0, not-true (is_ended h s) parts.1)
 
 module _ (h : List Entry) (s : ℕ) where
-  entry-same : (q : Request) (reply : Logged) → has_entry h s ≡ true → (t : ℕ) → has_entry (entry_of s q reply ∷ h) t ≡ has_entry h t
+  entry-same : (q : Request) (reply : BriefReply) → has_entry h s ≡ true → (t : ℕ) → has_entry (entry_of s q reply ∷ h) t ≡ has_entry h t
   entry-same q reply here t = go (nat_eq s t) (λ same. subst (λ (u : ℕ). has_entry h u ≡ true) (eqb-true s t same) here)
     where
       go : (b : Bool) → (b ≡ true → has_entry h t ≡ true) → (b || has_entry h t) ≡ has_entry h t
       go true has = sym (has refl)
       go false has = refl
 
-  open-same : (q : Request) (reply : Logged) → is_end q ≡ false → has_entry h s ≡ true → (t : ℕ) → is_open (entry_of s q reply ∷ h) t ≡ is_open h t
+  open-same : (q : Request) (reply : BriefReply) → is_end q ≡ false → has_entry h s ≡ true → (t : ℕ) → is_open (entry_of s q reply ∷ h) t ≡ is_open h t
   open-same q reply more here t = go (nat_eq s t) (λ same. subst (λ (u : ℕ). has_entry h u ≡ true) (eqb-true s t same) here)
     where
       go : (b : Bool) → (b ≡ true → has_entry h t ≡ true) → ((b || has_entry h t) && not ((b && is_end q) || is_ended h t)) ≡ (has_entry h t && not (is_ended h t))
@@ -61,14 +61,14 @@ module _ (h : List Entry) (s : ℕ) where
       go true out = sym (out refl)
       go false out = refl
 
-  open-first : (q : Request) (reply : Logged) → is_end q ≡ false → has_entry h s ≡ false → (t : ℕ) → is_open (entry_of s q reply ∷ h) t ≡ (nat_eq s t || is_open h t)
+  open-first : (q : Request) (reply : BriefReply) → is_end q ≡ false → has_entry h s ≡ false → (t : ℕ) → is_open (entry_of s q reply ∷ h) t ≡ (nat_eq s t || is_open h t)
   open-first q reply more none t = go (nat_eq s t) (λ same. subst (λ (u : ℕ). is_ended h u ≡ false) (eqb-true s t same) (unended h s none))
     where
       go : (b : Bool) → (b ≡ true → is_ended h t ≡ false) → ((b || has_entry h t) && not ((b && is_end q) || is_ended h t)) ≡ (b || (has_entry h t && not (is_ended h t)))
       go true free = ap₂ (λ (x y : Bool). not (x || y)) more (free refl)
       go false free = refl
 
-  entry-next : (q : Request) (reply : Logged) (next : ℕ) → s ≡ next → ((t : ℕ) → has_entry h t ≡ nat_lt t next) → (t : ℕ) → has_entry (entry_of s q reply ∷ h) t ≡ nat_lt t (next + 1)
+  entry-next : (q : Request) (reply : BriefReply) (next : ℕ) → s ≡ next → ((t : ℕ) → has_entry h t ≡ nat_lt t next) → (t : ℕ) → has_entry (entry_of s q reply ∷ h) t ≡ nat_lt t (next + 1)
   entry-next q reply next is all t = elim (cases_eq s t) [
     | inl same ↦ ap (λ (b : Bool). b || has_entry h t) (eq-eqb s t same) ∙ sym (lt-ltb t (next + 1) (omega (arith, same, is)))
     | inr other ↦ ap (λ (b : Bool). b || has_entry h t) (ne_eqb s t other) ∙ all t ∙ elim (cases_lt t next) [
@@ -103,7 +103,7 @@ module _ (old new' : Core) (h : List Entry) (seats : List Seat) (next : ℕ) (wa
     entries = was.entries;
   }
 
-  pub open-answered : (s : ℕ) (q : Request) (reply : Logged) → ((slot : ℕ) → session_at new' slot ≡ session_at old slot) → open_by new' ≡ open_by old → is_end q ≡ false → is_open h s ≡ true
+  pub open-answered : (s : ℕ) (q : Request) (reply : BriefReply) → ((slot : ℕ) → session_at new' slot ≡ session_at old slot) → open_by new' ≡ open_by old → is_end q ≡ false → is_open h s ≡ true
       → AreOpen new' (entry_of s q reply ∷ h) seats next
   open-answered s q reply same count more here =
       let has = (open-parts h s here).0 in record {
@@ -154,7 +154,7 @@ module _ (old new' : Core) (h : List Entry) (seats : List Seat) (next : ℕ) (wa
       ne t apart same = let clash : true ≡ false = sym (eq-eqb seat.session t same) ∙ apart in cc
 
   -- The next session took a slot that was free, and was answered.
-  pub open-more : (seat : Seat) (q : Request) (reply : Logged) → session_at old seat.slot ≡ None
+  pub open-more : (seat : Seat) (q : Request) (reply : BriefReply) → session_at old seat.slot ≡ None
       → ((slot : ℕ) → session_at new' slot ≡ cond (nat_eq seat.slot slot) (Some seat.session) (session_at old slot)) → open_by new' ≡ open_by old + 1 → is_end q ≡ false
       → seat.session ≡ next → has_entry h seat.session ≡ false → AreOpen new' (entry_of seat.session q reply ∷ h) (seats ++ seat ∷ []) (next + 1)
   open-more seat q reply free taken count more is none =
@@ -212,8 +212,8 @@ module _ (core : Core) (h : List Entry) (seats : List Seat) (next : ℕ) (was : 
   count-is = sym (length-map seats (λ (seat : Seat). seat.session)) ∙ ap length numbers-are
 
 -- The number of the next session, with one more entry.
-pub next-same : (h : List Entry) (s : ℕ) (q : Request) (reply : Logged) → has_entry h s ≡ true → next_session (entry_of s q reply ∷ h) ≡ next_session h
+pub next-same : (h : List Entry) (s : ℕ) (q : Request) (reply : BriefReply) → has_entry h s ≡ true → next_session (entry_of s q reply ∷ h) ≡ next_session h
 next-same h s q reply here = ap (λ (b : Bool). cond b (next_session h) (suc (next_session h))) here
 
-pub next-more : (h : List Entry) (s : ℕ) (q : Request) (reply : Logged) → has_entry h s ≡ false → next_session (entry_of s q reply ∷ h) ≡ next_session h + 1
+pub next-more : (h : List Entry) (s : ℕ) (q : Request) (reply : BriefReply) → has_entry h s ≡ false → next_session (entry_of s q reply ∷ h) ≡ next_session h + 1
 next-more h s q reply none = ap (λ (b : Bool). cond b (next_session h) (suc (next_session h))) none ∙ omega arith

@@ -68,7 +68,7 @@ pub record CarriedOn (old new : Core) (w : Stewardship) (h : List Entry) (s : �
   pub seats : (slot : ℕ) → session_at new slot ≡ session_at old slot
   pub count : open_by new ≡ open_by old
   pub keeps : Keeps new (heeded w (living_entry w (core_rules old) h s request ∷ h))
-  pub logged : answer.logged ≡ reply_for (living w) (core_rules old) h s request
+  pub brief : answer.brief ≡ reply_for (living w) (core_rules old) h s request
   pub whole : answer.reply ≡ full_reply (accepted (living_entry w (core_rules old) h s request ∷ h)) (reply_for (living w) (core_rules old) h s request)
 
 -- The next session was seated at a slot that was free, and its first request, which is no End, was answered so.
@@ -90,7 +90,7 @@ pub record Moved (old new : Live) (h : List Entry) (s : ℕ) (request : Request)
   pub rules : rules_at new ≡ rules_at old
   pub stewards : stewardship_at new ≡ stewardship_at old
   pub keeps : KeepsLiving new (living_entry (stewardship_at old) (rules_at old) h s request ∷ h)
-  pub logged : answer.logged ≡ reply_for (living (stewardship_at old)) (rules_at old) h s request
+  pub brief : answer.brief ≡ reply_for (living (stewardship_at old)) (rules_at old) h s request
   pub whole : answer.reply
       ≡ full_reply (accepted (living_entry (stewardship_at old) (rules_at old) h s request ∷ h)) (reply_for (living (stewardship_at old)) (rules_at old) h s request)
 

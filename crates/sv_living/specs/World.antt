@@ -2,7 +2,7 @@
 use Rattle.std.specs.Prelude.{◌≡◌, ℕ, true, false, ◌==◌, List, ◌∷◌, Result, Ok, Err}
 use Rattle.sv_wire.specs.declared.message.Request.{Request}
 use Rattle.sv_journal.specs.declared.entry.Entry.{Entry}
-use Rattle.sv_journal.specs.declared.entry.Logged.{Logged}
+use Rattle.sv_journal.specs.declared.entry.BriefReply.{BriefReply}
 use Rattle.sv_journal.specs.History.{accepted, full_reply}
 use Rattle.sv_journal.specs.Answer.{Rules}
 use Rattle.sv_journal.specs.Serving.{reply_for}
@@ -24,7 +24,7 @@ abbrev pub heeded_in : WorldView → List Entry
 heeded_in v = heeded v.stewardship v.history
 
 -- The reply to a request of a session, by the answer table.
-abbrev pub reply_in : WorldView → ℕ → Request → Logged
+abbrev pub reply_in : WorldView → ℕ → Request → BriefReply
 reply_in v s request = reply_for (living v.stewardship) v.rules v.history s request
 
 -- A world once a request was answered: its history has one entry more, with the reply of the table.
@@ -34,7 +34,7 @@ after v s request = record v { history = entry_of s request (reply_in v s reques
 -- A request was answered by the table, as its reply is kept and in full, and the world is what this entry makes of it.
 pub record WorldAnswered (old new : WorldView) (s : ℕ) (request : Request) (answer : Answer) : Type 0 where
   pub world : new ≡ after old s request
-  pub logged : answer.logged ≡ reply_in old s request
+  pub brief : answer.brief ≡ reply_in old s request
   pub whole : answer.reply ≡ full_reply (accepted (after old s request).history) (reply_in old s request)
 
 -- Why a request was not answered.

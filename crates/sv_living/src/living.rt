@@ -88,7 +88,7 @@ impl LivingCore {
     {
         match self.live.step(session, request) {
             Ok(answer) => {
-                self.past.enter(session, request, &answer.logged);
+                self.past.enter(session, request, &answer.brief);
                 Ok(answer)
             }
             Err(fault) => Err(fault),

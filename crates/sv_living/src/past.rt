@@ -4,14 +4,14 @@ ghost use Rattle.sv_journal.specs.History.{entry_of};
 
 use http_server::Log;
 use std::marker::Model;
-use sv_journal::Logged;
+use sv_journal::BriefReply;
 use sv_wire::Request;
 
 /// All that was asked and replied. It takes no memory: contracts see it as the entries, the latest first.
 #[derive(Drop)]
 pub struct WorldPast {
     asked: Log<u64, Request>,
-    replied: Log<u64, Logged>,
+    replied: Log<u64, BriefReply>,
 }
 
 impl Model for WorldPast {
@@ -42,7 +42,7 @@ impl WorldPast {
     }
 
     /// Enters what a session asked, and what it was replied.
-    pub fn enter(&mut self, session: u64, request: &Request, reply: &Logged)
+    pub fn enter(&mut self, session: u64, request: &Request, reply: &BriefReply)
         ensures { self.new ≡ entry_of session request.now reply.now ∷ self.old }
     {
         self.asked = self.asked.and(&session, request);

@@ -4,7 +4,7 @@ ghost use Rattle.sv_world.specs.Limits.{most_open};
 ghost use Rattle.sv_wire.specs.declared.message.Request.TheVariants as requests;
 ghost use Rattle.sv_wire.specs.declared.message.Reply.TheVariants as replies;
 ghost use Rattle.sv_journal.specs.declared.entry.Entry.{Entry};
-ghost use Rattle.sv_journal.specs.declared.entry.Logged.TheVariants as logged;
+ghost use Rattle.sv_journal.specs.declared.entry.BriefReply.TheVariants as brief;
 ghost use Rattle.sv_journal.specs.Sessions.{is_end, is_ended};
 ghost use Rattle.sv_journal.specs.Living.{is_stewards, heeded};
 ghost use Rattle.sv_core.specs.Cores.{core_rules, open_by, SitsAt, Keeps, IsUnseated, Remained};
@@ -23,7 +23,7 @@ use crate::stewards::Stewards;
 use crate::table::OpenSessions;
 use std::alloc::{AllocError, Global};
 use sv_core::{Answer, Core, Decision, Seat};
-use sv_journal::Logged;
+use sv_journal::BriefReply;
 use sv_lists::List;
 use sv_wire::{Reply, Request};
 
@@ -114,11 +114,11 @@ fn answer(
 
 /// The answer to an End.
 fn bye() -> Answer
-    ensures logged { result.logged ≡ logged.Bye }
+    ensures brief { result.brief ≡ brief.Bye }
     ensures reply { result.reply ≡ replies.Bye }
 {
     Answer {
-        logged: Logged::Bye,
+        brief: BriefReply::Bye,
         reply: Reply::Bye,
     }
 }

@@ -6,8 +6,8 @@ use Rattle.sv_wire.specs.declared.message.Request.{Request}
 use Rattle.sv_wire.specs.declared.message.Reply.{Reply}
 use Rattle.sv_wire.specs.Grammar.{IsWireReply, IsWireWork}
 use Rattle.sv_journal.specs.declared.entry.Entry.{Entry}
-use Rattle.sv_journal.specs.declared.entry.Logged.{Logged}
-use Rattle.sv_journal.specs.declared.entry.Logged.TheVariants as logged
+use Rattle.sv_journal.specs.declared.entry.BriefReply.{BriefReply}
+use Rattle.sv_journal.specs.declared.entry.BriefReply.TheVariants as brief
 use Rattle.sv_journal.specs.History.{Authored, accepted, full_reply}
 use Rattle.sv_journal.specs.Laws.{AreWithinLimits, ServedRepliesAreMessages}
 use Rattle.sv_journal.specs.Living.{living}
@@ -31,19 +31,19 @@ nothing_is_work most = record {
   each = All-nil _;
 }
 
-nothing_is_message : (A : List Authored) (l : Logged) → shows_nothing l ≡ true → IsWireReply (full_reply A l)
-nothing_is_message A (logged.Seen last commit [] []) e = nothing_is_work _
-nothing_is_message A (logged.Seen last commit [] (p ∷ positions)) e = cc
-nothing_is_message A (logged.Seen last commit (x ∷ head) positions) e = cc
-nothing_is_message A (logged.Welcome commit head) e = cc
-nothing_is_message A (logged.Relay seq commit head positions) e = cc
-nothing_is_message A (logged.Dropped seq chain far) e = cc
-nothing_is_message A (logged.Denied seq object) e = cc
-nothing_is_message A (logged.Settled seq pos) e = cc
-nothing_is_message A (logged.Noted commit) e = cc
-nothing_is_message A logged.Idle e = cc
-nothing_is_message A (logged.Refused code detail) e = cc
-nothing_is_message A logged.Bye e = cc
+nothing_is_message : (A : List Authored) (l : BriefReply) → shows_nothing l ≡ true → IsWireReply (full_reply A l)
+nothing_is_message A (brief.Seen last commit [] []) e = nothing_is_work _
+nothing_is_message A (brief.Seen last commit [] (p ∷ positions)) e = cc
+nothing_is_message A (brief.Seen last commit (x ∷ head) positions) e = cc
+nothing_is_message A (brief.Welcome commit head) e = cc
+nothing_is_message A (brief.Relay seq commit head positions) e = cc
+nothing_is_message A (brief.Dropped seq chain far) e = cc
+nothing_is_message A (brief.Denied seq object) e = cc
+nothing_is_message A (brief.Settled seq pos) e = cc
+nothing_is_message A (brief.Noted commit) e = cc
+nothing_is_message A brief.Idle e = cc
+nothing_is_message A (brief.Refused code detail) e = cc
+nothing_is_message A brief.Bye e = cc
 
 pub quiet_is_message : (v : WorldView) (s : ℕ) (request : Request) (reply : Reply) → IsQuietReply v.rules v.stewardship v.history s request (Some reply) → IsWireReply reply
 quiet_is_message v s request reply q =

@@ -4,7 +4,7 @@ use Rattle.std.specs.Prelude.{if◌then◌else◌}
 use Rattle.std.proofs.lemmas.Bool.{and_parts, eqb-true}
 use Rattle.sv_wire.specs.declared.message.Request.{Request}
 use Rattle.sv_journal.specs.declared.entry.Entry.{Entry}
-use Rattle.sv_journal.specs.declared.entry.Logged.{Logged}
+use Rattle.sv_journal.specs.declared.entry.BriefReply.{BriefReply}
 use Rattle.sv_journal.specs.Sessions.{is_end, is_ended}
 use Rattle.sv_core.specs.Rows.{has_entry}
 use Rattle.sv_journal.specs.History.{entry_of}
@@ -53,7 +53,7 @@ unended_who_asks h order s ask = go (asking h s ask)
     go (inr next) = unended h s (above_next h order s (omega (arith, next)))
 
 -- Who asked something else than its End is open.
-pub open_after : (h : List Entry) → AreInOrder h → (s : ℕ) → may_ask h s ≡ true → (q : Request) (reply : Logged) → is_end q ≡ false
+pub open_after : (h : List Entry) → AreInOrder h → (s : ℕ) → may_ask h s ≡ true → (q : Request) (reply : BriefReply) → is_end q ≡ false
     → is_open (entry_of s q reply ∷ h) s ≡ true
 open_after h order s ask q reply more =
     ap₂ (λ (a b : Bool). (a || has_entry h s) && not ((a && is_end q) || b)) (eq-eqb s s refl) (unended_who_asks h order s ask)

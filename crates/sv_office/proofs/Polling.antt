@@ -7,8 +7,8 @@ use Rattle.sv_wire.specs.declared.message.Request.TheVariants as requests
 use Rattle.sv_wire.specs.declared.message.Reply.{Reply}
 use Rattle.sv_wire.specs.declared.refusal.Refusal.TheVariants as refusals
 use Rattle.sv_journal.specs.declared.entry.Entry.{Entry}
-use Rattle.sv_journal.specs.declared.entry.Logged.{Logged}
-use Rattle.sv_journal.specs.declared.entry.Logged.TheVariants as logged
+use Rattle.sv_journal.specs.declared.entry.BriefReply.{BriefReply}
+use Rattle.sv_journal.specs.declared.entry.BriefReply.TheVariants as brief
 use Rattle.sv_journal.specs.Answer.{Rules, is_spent, orphans, refused_as, reply_to_member, reply_to_poll}
 use Rattle.sv_journal.specs.History.{Authored, client_of, full_reply, is_relay, item_at}
 use Rattle.sv_journal.specs.Serving.{Keeping, reply_for, with_last_rows}
@@ -22,33 +22,33 @@ item_positions A [] = refl
 item_positions A (p ∷ ps) = ap (λ (qs : List ℕ). p ∷ qs) (item_positions A ps)
 
 -- The items of a reply in full stand at the positions that it names.
-pub full_positions : (A : List Authored) (l : Logged) → map (λ (i : Item). i.pos) (items_of (full_reply A l)) ≡ positions_in l
-full_positions A (logged.Relay seq commit head positions) = item_positions A positions
-full_positions A (logged.Seen last commit head positions) = item_positions A positions
-full_positions A (logged.Welcome commit head) = refl
-full_positions A (logged.Dropped seq chain far) = refl
-full_positions A (logged.Denied seq object) = refl
-full_positions A (logged.Settled seq pos) = refl
-full_positions A (logged.Noted commit) = refl
-full_positions A logged.Idle = refl
-full_positions A (logged.Refused code detail) = refl
-full_positions A logged.Bye = refl
+pub full_positions : (A : List Authored) (l : BriefReply) → map (λ (i : Item). i.pos) (items_of (full_reply A l)) ≡ positions_in l
+full_positions A (brief.Relay seq commit head positions) = item_positions A positions
+full_positions A (brief.Seen last commit head positions) = item_positions A positions
+full_positions A (brief.Welcome commit head) = refl
+full_positions A (brief.Dropped seq chain far) = refl
+full_positions A (brief.Denied seq object) = refl
+full_positions A (brief.Settled seq pos) = refl
+full_positions A (brief.Noted commit) = refl
+full_positions A brief.Idle = refl
+full_positions A (brief.Refused code detail) = refl
+full_positions A brief.Bye = refl
 
-abbrev is_sent : Logged → Type 0
+abbrev is_sent : BriefReply → Type 0
 is_sent l = (is_relay l ≡ true) × ((A : List Authored) → asks_for_done (full_reply A l) ≡ true)
 
-abbrev was_refused : Logged → Type 0
+abbrev was_refused : BriefReply → Type 0
 was_refused l = (A : List Authored) → is_refused (full_reply A l) ≡ true
 
 -- There is nothing, or there is, or it was refused.
-abbrev IsPolled : Logged → Type 0
-IsPolled l = (l ≡ logged.Idle) ⊎ (is_sent l ⊎ was_refused l)
+abbrev IsPolled : BriefReply → Type 0
+IsPolled l = (l ≡ brief.Idle) ⊎ (is_sent l ⊎ was_refused l)
 
 clash : {b : Bool} → b ≡ true → b ≡ false → ⊥
 clash t f = let e : true ≡ false = sym t ∙ f in cc
 
 module _ (k : Keeping) (r : Rules) (h : List Entry) (s : ℕ) where
-  abbrev row : Logged → Logged
+  abbrev row : BriefReply → BriefReply
   row l = with_last_rows k r h s requests.Poll l
 
   due : (ps : List ℕ) → IsPolled (reply_to_poll r (k.kept h) s ps)
@@ -82,10 +82,10 @@ module _ (k : Keeping) (r : Rules) (h : List Entry) (s : ℕ) where
     is = whole ∙ ap (λ (q : Request). full_reply A (reply_for k r h s q)) poll
 
     -- Where there was nothing to report, a Poll was answered Idle.
-    pub polled_idle : asks_for_done reply ≡ false → reply_for k r h s request ≡ logged.Idle
+    pub polled_idle : asks_for_done reply ≡ false → reply_for k r h s request ≡ brief.Idle
     polled_idle nothing = ap (reply_for k r h s) poll ∙ go polled_row
       where
-        go : IsPolled (reply_for k r h s requests.Poll) → reply_for k r h s requests.Poll ≡ logged.Idle
+        go : IsPolled (reply_for k r h s requests.Poll) → reply_for k r h s requests.Poll ≡ brief.Idle
         go (inl idle) = idle
         go (inr (inl relay)) = absurd (clash (ap asks_for_done is ∙ relay.1 A) nothing)
         go (inr (inr refused)) = absurd (clash (ap is_refused is ∙ refused A) taken)

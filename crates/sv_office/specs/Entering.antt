@@ -5,7 +5,7 @@ use Rattle.sv_wire.specs.declared.message.Request.{Request}
 use Rattle.sv_wire.specs.declared.message.Request.TheVariants as requests
 use Rattle.sv_wire.specs.declared.message.Reply.{Reply}
 use Rattle.sv_journal.specs.declared.entry.Entry.{Entry}
-use Rattle.sv_journal.specs.declared.entry.Logged.TheVariants as logged
+use Rattle.sv_journal.specs.declared.entry.BriefReply.TheVariants as brief
 use Rattle.sv_journal.specs.History.{accepted, full_reply, is_relay}
 use Rattle.sv_journal.specs.Sessions.{is_end, positions_in}
 use Rattle.sv_core.specs.Rows.{has_entry}
@@ -119,7 +119,7 @@ pub record AsksInOne (steward mine after : Option ℕ) (h g : List Entry) : Type
 
 -- The steward polled, and was answered that there is nothing to report; or it reported a result for each position that it was sent.
 pub data IsReported (t : ℕ) (h : List Entry) : List Entry → Type 0 where
-  polled : {p : Entry} → p.session ≡ t → p.request ≡ requests.Poll → p.reply ≡ logged.Idle → IsReported t h (p ∷ h)
+  polled : {p : Entry} → p.session ≡ t → p.request ≡ requests.Poll → p.reply ≡ brief.Idle → IsReported t h (p ∷ h)
   reported : {p d : Entry} (results : List Done1) → p.session ≡ t → p.request ≡ requests.Poll → is_relay p.reply ≡ true → d.session ≡ t
       → d.request ≡ requests.Done results → reported_at results ≡ positions_in p.reply → IsReported t h (d ∷ p ∷ h)
 

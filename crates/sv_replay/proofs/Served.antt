@@ -7,7 +7,7 @@ use Rattle.sv_wire.specs.declared.message.Reply.{Reply}
 use Rattle.sv_wire.specs.declared.message.Request.{Request}
 use Rattle.sv_wire.specs.declared.message.Request.TheVariants as requests
 use Rattle.sv_journal.specs.declared.entry.Entry.{Entry}
-use Rattle.sv_journal.specs.History.{accepted, full_reply, logged_of}
+use Rattle.sv_journal.specs.History.{accepted, full_reply, brief_of}
 use Rattle.sv_journal.specs.Sessions.{is_end, is_ended}
 use Rattle.sv_journal.specs.Answer.{reply_to}
 use Rattle.law_system.specs.Fits.{replies_in}
@@ -21,7 +21,7 @@ use Rattle.sv_journal.specs.History.{entry_of}
 use Rattle.sv_sequencer.specs.Step.{SequencerView, history, GrewByEntry, StepAnswered}
 use Rattle.sv_session.specs.Requests.{stop_of}
 use Rattle.sv_exchange.specs.View.{ExchangeView, TakesRequest}
-use Rattle.sv_journal.proofs.Stays.{logged-back}
+use Rattle.sv_journal.proofs.Stays.{brief-back}
 use Rattle.sv_replay.specs.Serving.{ServerView, Answers, sequencer_view, whole_reply, next_history, next_channel, with_answer, Entered, HadTurn, one_if}
 
 IsAsked : Request → Type 0
@@ -107,11 +107,11 @@ pub entered_longer : (s : ℕ) (q : Request) (v w : ServerView) (c d : ExchangeV
 entered_longer s q v w c d done = let long : length w.history ≡ length (served v.server v.history s q) = ap (λ (h : List Entry). length h) done.entries in omega (arith, long)
 
 -- A step entered a request with its reply.
-pub answer_entered : (v w : ServerView) (s : ℕ) (q : Request) (reply : Reply) (stops : Bool) (b d : ExchangeView) → Answers v w s q reply → stops ≡ is_some (stop_of (logged_of reply)) →
+pub answer_entered : (v w : ServerView) (s : ℕ) (q : Request) (reply : Reply) (stops : Bool) (b d : ExchangeView) → Answers v w s q reply → stops ≡ is_some (stop_of (brief_of reply)) →
     d ≡ record b { replies = b.replies ++ reply ∷ []; stopped = stops } → Entered s q v w d (with_answer v.server v.history s q b)
 answer_entered v w s q reply stops b d done stop sent =
     let last : stops ≡ is_some (stop_of (v.server.answers v.history s q)) =
-    stop ∙ ap (λ l. is_some (stop_of l)) (ap logged_of done.whole ∙ logged-back (accepted (served v.server v.history s q)) (v.server.answers v.history s q)) in
+    stop ∙ ap (λ l. is_some (stop_of l)) (ap brief_of done.whole ∙ brief-back (accepted (served v.server v.history s q)) (v.server.answers v.history s q)) in
     record {
       rules = done.rules;
       server = done.server;

@@ -4,8 +4,8 @@ use Rattle.std.specs.Prelude.{if◌then◌else◌, ◌&&◌}
 use Rattle.std.proofs.lemmas.Bool.{cases_eq, ne_eqb, eq-eqb}
 use Rattle.sv_wire.specs.declared.message.Request.{Request}
 use Rattle.sv_journal.specs.declared.entry.Entry.{Entry}
-use Rattle.sv_journal.specs.declared.entry.Logged.{Logged}
-use Rattle.sv_journal.specs.declared.entry.Logged.TheVariants as logged
+use Rattle.sv_journal.specs.declared.entry.BriefReply.{BriefReply}
+use Rattle.sv_journal.specs.declared.entry.BriefReply.TheVariants as brief
 use Rattle.sv_journal.specs.History.{Outcome, Accepted, Dropped, Denied, accepted, client_of, is_client, is_submit_of, outcome_in, outcomes_of, either, is_welcome, joining}
 use Rattle.sv_report.specs.Drops.{is_dropped, is_new_submit, drops, dropped_count}
 use Rattle.sv_report.specs.Laws.{dropped_of, sum_below}
@@ -65,19 +65,19 @@ swapped true false = refl
 swapped false true = refl
 swapped false false = refl
 
-told_drop : (p : ℕ) (reply : Logged) → dropped_of (outcome_in p reply) ≡ bit (is_dropped reply)
-told_drop p (logged.Welcome commit head) = refl
-told_drop p (logged.Relay seq commit head positions) = refl
-told_drop p (logged.Dropped seq chain far) = refl
-told_drop p (logged.Denied seq object) = refl
-told_drop p (logged.Seen last commit head positions) = refl
-told_drop p (logged.Settled seq pos) = refl
-told_drop p (logged.Noted commit) = refl
-told_drop p logged.Idle = refl
-told_drop p (logged.Refused code detail) = refl
-told_drop p logged.Bye = refl
+told_drop : (p : ℕ) (reply : BriefReply) → dropped_of (outcome_in p reply) ≡ bit (is_dropped reply)
+told_drop p (brief.Welcome commit head) = refl
+told_drop p (brief.Relay seq commit head positions) = refl
+told_drop p (brief.Dropped seq chain far) = refl
+told_drop p (brief.Denied seq object) = refl
+told_drop p (brief.Seen last commit head positions) = refl
+told_drop p (brief.Settled seq pos) = refl
+told_drop p (brief.Noted commit) = refl
+told_drop p brief.Idle = refl
+told_drop p (brief.Refused code detail) = refl
+told_drop p brief.Bye = refl
 
-told_if : (b : Bool) (p : ℕ) (reply : Logged) → dropped_of (if b then outcome_in p reply else []) ≡ bit (b && is_dropped reply)
+told_if : (b : Bool) (p : ℕ) (reply : BriefReply) → dropped_of (if b then outcome_in p reply else []) ≡ bit (b && is_dropped reply)
 told_if true p reply = told_drop p reply
 told_if false p reply = refl
 
@@ -88,10 +88,10 @@ dropped_both (Dropped chain far ∷ os) ns = let ih = dropped_both os ns in omeg
 dropped_both (Denied object ∷ os) ns = dropped_both os ns
 
 -- What an entry adds to the dropped outcomes of client k, where the client of its session is o.
-abbrev adds : Option ℕ → (ℕ → ℕ) → Request → Logged → ℕ → ℕ
+abbrev adds : Option ℕ → (ℕ → ℕ) → Request → BriefReply → ℕ → ℕ
 adds o count q reply k = bit ((is_client o k && is_submit_of q (suc (count k))) && is_dropped reply)
 
-adds_one : (j : ℕ) (count : ℕ → ℕ) (q : Request) (reply : Logged) (k : ℕ) →
+adds_one : (j : ℕ) (count : ℕ → ℕ) (q : Request) (reply : BriefReply) (k : ℕ) →
     adds (Some j) count q reply k ≡ only_at j (bit (is_dropped reply && is_submit_of q (suc (count j)))) k
 adds_one j count q reply k = go (cases_eq j k)
   where
@@ -100,7 +100,7 @@ adds_one j count q reply k = go (cases_eq j k)
         ∙ ap (λ (i : ℕ). bit (is_dropped reply && is_submit_of q (suc (count i)))) (sym e))
     go (inr d) = rw (ne_eqb j k d) refl
 
-adds_all : (n : ℕ) (o : Option ℕ) (count : ℕ → ℕ) (q : Request) (reply : Logged) → ((k : ℕ) → o ≡ Some k → k < n) →
+adds_all : (n : ℕ) (o : Option ℕ) (count : ℕ → ℕ) (q : Request) (reply : BriefReply) → ((k : ℕ) → o ≡ Some k → k < n) →
     sum_below n (adds o count q reply) ≡ bit (is_dropped reply && is_new_submit o count q)
 adds_all n None count q reply below = sum_none n ∙ swapped false (is_dropped reply)
 adds_all n (Some j) count q reply below =

@@ -2,12 +2,12 @@
 use Rattle.std.specs.Prelude.{ℕ, suc, Bool, true, false, ◌&&◌, List, [], ◌∷◌, length, Option, Some, None, if◌then◌else◌}
 use Rattle.sv_wire.specs.declared.message.Request.{Request}
 use Rattle.sv_journal.specs.declared.entry.Entry.{Entry}
-use Rattle.sv_journal.specs.declared.entry.Logged.{Logged}
-use Rattle.sv_journal.specs.declared.entry.Logged.TheVariants as logged
+use Rattle.sv_journal.specs.declared.entry.BriefReply.{BriefReply}
+use Rattle.sv_journal.specs.declared.entry.BriefReply.TheVariants as brief
 use Rattle.sv_journal.specs.History.{client_of, outcomes_of, is_submit_of}
 
-abbrev pub is_dropped : Logged → Bool
-is_dropped (logged.Dropped seq chain far) = true
+abbrev pub is_dropped : BriefReply → Bool
+is_dropped (brief.Dropped seq chain far) = true
 is_dropped _ = false
 
 -- The request is a Submit of client k with that client's next number, where `count k` of its actions have an outcome.

@@ -7,14 +7,14 @@ ghost use Rattle.sv_report.specs.Drops.{is_dropped, drops, dropped_count};
 
 use std::alloc::{AllocError, Global};
 use sv_journal::{
-    Entry, Logged, count_after, joining_client, make_client_rows, make_count_rows, new_seq,
+    Entry, BriefReply, count_after, joining_client, make_client_rows, make_count_rows, new_seq,
 };
 use sv_world::ClientId;
 
-fn is_dropped(reply: &Logged) -> bool
+fn is_dropped(reply: &BriefReply) -> bool
     ensures { result ≡ is_dropped reply.now }
 {
-    matches!(reply, Logged::Dropped { .. })
+    matches!(reply, BriefReply::Dropped { .. })
 }
 
 /// Whether an entry of a client that had `count` outcomes drops a new Submit.

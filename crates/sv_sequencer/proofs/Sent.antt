@@ -10,7 +10,7 @@ use Rattle.std.proofs.Crossing.{crosses}
 use Rattle.sv_wire.specs.contracts.message.Request as request
 use Rattle.sv_wire.specs.contracts.message.Reply as reply
 use Rattle.sv_journal.specs.contracts.entry.Entry as entry
-use Rattle.sv_journal.specs.contracts.entry.Logged as logged
+use Rattle.sv_journal.specs.contracts.entry.BriefReply as brief
 use Rattle.sv_journal.specs.contracts.journal.Journal as journal
 use Rattle.sv_lists.proofs.list.List.TheSendSync as lists
 use Rattle.sv_world.proofs.short.Short.TheSendSync as shorts
@@ -26,11 +26,11 @@ use Rattle.sv_core.proofs.Sent.{action-field-sends, core-field-sends}
 request-field-sends : IsSend (request.the_field).row
 request-field-sends = search (lists.the_send, shorts.the_send, action-field-sends, sendable, crosses) depth 30 fits 10000
 
-logged-field-sends : IsSend (logged.the_field).row
-logged-field-sends = search (lists.the_send, shorts.the_send, sendable, crosses) depth 30
+brief-field-sends : IsSend (brief.the_field).row
+brief-field-sends = search (lists.the_send, shorts.the_send, sendable, crosses) depth 30
 
 entry-sends : IsSend entry.the_row
-entry-sends = search (request-field-sends, logged-field-sends, sendable, crosses) depth 20
+entry-sends = search (request-field-sends, brief-field-sends, sendable, crosses) depth 20
 
 journal-sends : IsSend journal.the_row
 journal-sends = search (entry-sends, sendable, crosses) depth 40

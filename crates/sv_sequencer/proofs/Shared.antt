@@ -6,10 +6,10 @@ use Rattle.std.proofs.lemmas.List.Elements.{All-head, All-tail}
 use Rattle.sv_wire.specs.declared.message.Reply.{Reply}
 use Rattle.sv_wire.specs.declared.message.Request.{Request}
 use Rattle.sv_journal.specs.declared.entry.Entry.{Entry}
-use Rattle.sv_journal.specs.History.{accepted, full_reply, logged_of}
+use Rattle.sv_journal.specs.History.{accepted, full_reply, brief_of}
 use Rattle.sv_journal.specs.Sessions.{is_end, is_ended}
 use Rattle.sv_journal.specs.Answer.{reply_to}
-use Rattle.sv_journal.proofs.Stays.{logged-back}
+use Rattle.sv_journal.proofs.Stays.{brief-back}
 use Rattle.sv_lock.specs.Histories.{entries_of}
 use Rattle.sv_journal.specs.History.{entry_of}
 use Rattle.sv_sequencer.specs.Step.{SequencerView, history, StepAnswered}
@@ -17,9 +17,9 @@ use Rattle.sv_sequencer.specs.Shared.{IsFullReply, IsFullInOrder}
 
 -- The journal grew by the entry of the answer.
 pub answer-entered : (old new : SequencerView) (s : ℕ) (q : Request) (r : Reply) → StepAnswered old new s q r →
-    new.journal.entries ≡ old.journal.entries ++ entry_of s q (logged_of r) ∷ []
+    new.journal.entries ≡ old.journal.entries ++ entry_of s q (brief_of r) ∷ []
 answer-entered old new s q r a =
-    a.grew.entries ∙ ap (λ l. old.journal.entries ++ entry_of s q l ∷ []) (sym (ap logged_of a.whole ∙ logged-back (accepted (history new)) (reply_to old.rules (history old) s q)))
+    a.grew.entries ∙ ap (λ l. old.journal.entries ++ entry_of s q l ∷ []) (sym (ap brief_of a.whole ∙ brief-back (accepted (history new)) (reply_to old.rules (history old) s q)))
 
 last-whole : (r : Reply) (h h' : List Entry) (e : Entry) → h ≡ e ∷ h' → r ≡ full_reply (accepted h) e.reply → IsFullReply r h
 last-whole r h h' e is whole = subst (IsFullReply r) (sym is) (whole ∙ ap (λ x. full_reply (accepted x) e.reply) is)
@@ -35,7 +35,7 @@ both-ok (Ok t) gives p = gives t p
 both-ok (Err e) gives p = p
 
 pub step-entered : {E : Type 0} (old new : SequencerView) (s : ℕ) (q : Request) (o : Result Reply E) → IfOk o (λ r. StepAnswered old new s q r) →
-    IfOk o (λ r. new.journal.entries ≡ old.journal.entries ++ entry_of s q (logged_of r) ∷ [])
+    IfOk o (λ r. new.journal.entries ≡ old.journal.entries ++ entry_of s q (brief_of r) ∷ [])
 step-entered old new s q o answers = both-ok o (λ r a. answer-entered old new s q r a) answers
 
 pub step-whole : {E : Type 0} (old new : SequencerView) (s : ℕ) (q : Request) (o : Result Reply E) → IfOk o (λ r. StepAnswered old new s q r) →

@@ -12,7 +12,7 @@ ghost use Rattle.sv_journal.specs.History.{entry_of, end_entry};
 
 use std::alloc::{AllocError, Global};
 use sv_core::{Answer, Core, Decided, Opened, Seat};
-use sv_journal::{Entry, Journal, Logged};
+use sv_journal::{Entry, Journal, BriefReply};
 use sv_wire::{Reply, Request};
 use sv_world::World;
 
@@ -55,7 +55,7 @@ pub fn enter_end(core: &mut Core, journal: &mut Journal, session: u16)
     journal.push(Entry {
         session,
         request: Request::End,
-        reply: Logged::Bye,
+        reply: BriefReply::Bye,
     });
 }
 
@@ -139,14 +139,14 @@ fn carry_out(
 /// Enters a request with its reply into a journal that has room, and gives the reply in full.
 fn enter(journal: &mut Journal, session: u16, request: Request, answer: Answer) -> Reply
     requires { 0 < journal.old.spare }
-    ensures journal { journal.new ≡ record { entries = journal.old.entries ++ entry_of session request answer.logged ∷ []; spare = journal.old.spare - 1 } }
+    ensures journal { journal.new ≡ record { entries = journal.old.entries ++ entry_of session request answer.brief ∷ []; spare = journal.old.spare - 1 } }
     ensures reply { result ≡ answer.reply }
 {
-    let Answer { logged, reply } = answer;
+    let Answer { brief, reply } = answer;
     journal.push(Entry {
         session,
         request,
-        reply: logged,
+        reply: brief,
     });
     reply
 }

@@ -3,7 +3,7 @@ ghost use Rattle.std.specs.Prelude.{◌≡◌, true, reverse, refl};
 ghost use Rattle.sv_journal.specs.Sessions.{is_end};
 ghost use Rattle.sv_journal.specs.Answer.{Legal};
 ghost use Rattle.sv_sequencer.specs.Shared.{IsFullInOrder, MayAsk};
-ghost use Rattle.sv_journal.specs.History.{logged_of};
+ghost use Rattle.sv_journal.specs.History.{brief_of};
 ghost use Rattle.sv_journal.specs.History.{entry_of};
 
 use crate::sequencer::Sequencer;
@@ -28,7 +28,7 @@ impl Object for Sequencer {
 
     ghost lawful = { λ rules entries. Legal rules (reverse entries) };
 
-    ghost entry = { λ session request reply. entry_of session request (logged_of reply) };
+    ghost entry = { λ session request reply. entry_of session request (brief_of reply) };
 
     ghost number_of = { λ e. e.session };
 

@@ -9,8 +9,8 @@ use mathlib.Core.List.{IsPrefix}
 use Rattle.sv_frame.specs.Frames.{frame, frames_of}
 use Rattle.sv_wire.specs.Spelling.{reply_bytes}
 use Rattle.sv_journal.specs.declared.entry.Entry.{Entry}
-use Rattle.sv_journal.specs.declared.entry.Logged.{Logged}
-use Rattle.sv_journal.specs.declared.entry.Logged.TheVariants as logged
+use Rattle.sv_journal.specs.declared.entry.BriefReply.{BriefReply}
+use Rattle.sv_journal.specs.declared.entry.BriefReply.TheVariants as brief
 use Rattle.sv_journal.specs.History.{Authored, accepted, full_reply}
 use Rattle.sv_journal.specs.Text.{NamesAccepted}
 use Rattle.sv_journal.specs.Laws.{FullRepliesStay}
@@ -40,17 +40,17 @@ accepted_on before after p =
     let grown = accepted_grows (reverse p.0) (reverse before) in
     (grown.0, ap (λ (h : List Entry). accepted (reverse h)) (sym p.1) ∙ (ap accepted (reverse-append before p.0) ∙ grown.1))
 
-names_more : (A more : List Authored) (l : Logged) → NamesAccepted (length A) l → NamesAccepted (length (A ++ more)) l
-names_more A more (logged.Relay seq commit head positions) f = λ k d low. let at = f k d low in (at.0, omega (arith, at.1, length-append A more))
-names_more A more (logged.Seen last commit head positions) f = λ k d low. let at = f k d low in (at.0, omega (arith, at.1, length-append A more))
-names_more A more (logged.Welcome commit head) f = tt
-names_more A more (logged.Dropped seq chain far) f = tt
-names_more A more (logged.Denied seq object) f = tt
-names_more A more (logged.Settled seq pos) f = tt
-names_more A more (logged.Noted commit) f = tt
-names_more A more logged.Idle f = tt
-names_more A more (logged.Refused code detail) f = tt
-names_more A more logged.Bye f = tt
+names_more : (A more : List Authored) (l : BriefReply) → NamesAccepted (length A) l → NamesAccepted (length (A ++ more)) l
+names_more A more (brief.Relay seq commit head positions) f = λ k d low. let at = f k d low in (at.0, omega (arith, at.1, length-append A more))
+names_more A more (brief.Seen last commit head positions) f = λ k d low. let at = f k d low in (at.0, omega (arith, at.1, length-append A more))
+names_more A more (brief.Welcome commit head) f = tt
+names_more A more (brief.Dropped seq chain far) f = tt
+names_more A more (brief.Denied seq object) f = tt
+names_more A more (brief.Settled seq pos) f = tt
+names_more A more (brief.Noted commit) f = tt
+names_more A more brief.Idle f = tt
+names_more A more (brief.Refused code detail) f = tt
+names_more A more brief.Bye f = tt
 
 -- what was named so far is named still
 pub named_on : (before after entries : List Entry) → IsPrefix before after → AllNameAccepted before entries → AllNameAccepted after entries

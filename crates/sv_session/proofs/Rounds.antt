@@ -13,7 +13,7 @@ use Rattle.sv_wire.specs.declared.message.Request.TheVariants as requests
 use Rattle.sv_wire.specs.Grammar.{IsWireReply}
 use Rattle.sv_wire.specs.Spelling.{reply_bytes}
 use Rattle.sv_journal.specs.declared.entry.Entry.{Entry}
-use Rattle.sv_journal.specs.History.{accepted, full_reply, logged_of}
+use Rattle.sv_journal.specs.History.{accepted, full_reply, brief_of}
 use Rattle.sv_journal.specs.Sessions.{is_end}
 use Rattle.sv_journal.specs.Answer.{Rules, Legal, reply_to}
 use Rattle.sv_journal.specs.Laws.{AreWithinLimits, LegalRelaysNameAccepted, LegalRepliesAreMessages}
@@ -64,10 +64,10 @@ all_latest P h e rest is all = (recursion_from_All P (e ∷ rest) (subst (All P)
 
 -- a call of the lock steps a request of the session
 pub steps : (before after : SessionPass) (request : Request) (reply : Reply) → LegalRelaysNameAccepted → LegalRepliesAreMessages → AreWithinLimits before.base → is_end request ≡ false →
-    IsSamePass before after → GoesOnTo before.seen (entry_of (session_number before) request (logged_of reply)) after.seen →
-    after.mine ≡ before.mine ++ entry_of (session_number before) request (logged_of reply) ∷ [] → IsFullInOrder reply after.seen → Legal after.base (reverse after.seen) → Steps before request reply after
+    IsSamePass before after → GoesOnTo before.seen (entry_of (session_number before) request (brief_of reply)) after.seen →
+    after.mine ≡ before.mine ++ entry_of (session_number before) request (brief_of reply) ∷ [] → IsFullInOrder reply after.seen → Legal after.base (reverse after.seen) → Steps before request reply after
 steps before after request reply names messages limits no_end same on mine whole legal =
-    let e = entry_of (session_number before) request (logged_of reply) in
+    let e = entry_of (session_number before) request (brief_of reply) in
     let at = latest before.seen e after.seen on in
     let full = whole_of reply (reverse after.seen) e at.0 at.1 whole in
     let replied = legal_latest after.base (reverse after.seen) e at.0 at.1 legal in
@@ -85,14 +85,14 @@ steps before after request reply names messages limits no_end same on mine whole
       told = refl;
       whole = ap reply_bytes full;
       message = subst IsWireReply (sym full) (all_latest (λ (x : Entry). IsWireReply (full_reply (accepted (reverse after.seen)) x.reply)) (reverse after.seen) e at.0 at.1 within);
-      leave = λ left. left_by_leave after.base at.0 (session_number before) request (logged_of reply) replied no_end left;
-      bad = λ is. bad_stops after.base at.0 (session_number before) (logged_of reply) (replied ∙ ap (reply_to after.base at.0 (session_number before)) is);
+      leave = λ left. left_by_leave after.base at.0 (session_number before) request (brief_of reply) replied no_end left;
+      bad = λ is. bad_stops after.base at.0 (session_number before) (brief_of reply) (replied ∙ ap (reply_to after.base at.0 (session_number before)) is);
     }
 
 -- the same, where the call was answered
 pub steps_if : {X : Type 0} (before after : SessionPass) (request : Request) (o : Result Reply X) → LegalRelaysNameAccepted → LegalRepliesAreMessages → AreWithinLimits before.base → is_end request ≡ false →
-    IsSamePass before after → IfOk o (λ r. GoesOnTo before.seen (entry_of (session_number before) request (logged_of r)) after.seen) →
-    IfOk o (λ r. after.mine ≡ before.mine ++ entry_of (session_number before) request (logged_of r) ∷ []) → IfOk o (λ r. IsFullInOrder r after.seen) → Legal after.base (reverse after.seen) →
+    IsSamePass before after → IfOk o (λ r. GoesOnTo before.seen (entry_of (session_number before) request (brief_of r)) after.seen) →
+    IfOk o (λ r. after.mine ≡ before.mine ++ entry_of (session_number before) request (brief_of r) ∷ []) → IfOk o (λ r. IsFullInOrder r after.seen) → Legal after.base (reverse after.seen) →
     IfOk o (λ r. Steps before request r after)
 steps_if before after request (Ok reply) names messages limits no_end same on mine whole legal = steps before after request reply names messages limits no_end same on mine whole legal
 steps_if before after request (Err e) names messages limits no_end same on mine whole legal = tt
@@ -103,7 +103,7 @@ module _ (a : Stand) (q : Request) (reply : Reply) (inbox : List ℕ) (told : To
   due_same : a.outbox ++ frame (reply_bytes reply) ≡ a.outbox ++ due_frames pass.seen (s.entry ∷ [])
   due_same = ap (λ l. a.outbox ++ l) (ap frame s.whole ∙ sym (frames_of_one pass.seen s.entry))
 
-  alone : stop_after (s.entry ∷ []) ≡ stop_of (logged_of reply)
+  alone : stop_after (s.entry ∷ []) ≡ stop_of (brief_of reply)
   alone = stop_alone s.entry ∙ ap stop_of s.told
 
   no_end_here : All (λ (e : Entry). is_end e.request ≡ false) (s.entry ∷ [])
@@ -112,14 +112,14 @@ module _ (a : Stand) (q : Request) (reply : Reply) (inbox : List ℕ) (told : To
   received_none : (sent : List ℕ) → record a.told { sent = a.told.sent ++ sent } ≡ record a.told { sent = a.told.sent ++ sent; received = a.told.received ++ [] }
   received_none sent = ap (λ (l : List ℕ). record a.told { sent = a.told.sent ++ sent; received = l }) (sym (append-nil a.told.received))
 
-  not_bad : stop_of (logged_of reply) ≡ None → q ≢ requests.Bad
+  not_bad : stop_of (brief_of reply) ≡ None → q ≢ requests.Bad
   not_bad none bad = let some : IsSome (stop_of s.entry.reply) = s.bad bad in let no : stop_of s.entry.reply ≡ None = ap stop_of s.told ∙ none in absurd (none_is_some (stop_of s.entry.reply) no some)
     where
       none_is_some : (o : Option SessionOut) → o ≡ None → IsSome o → ⊥
       none_is_some None e there = cc
       none_is_some (Some out) e there = cc
 
-  pub on_answered : (outbox : List ℕ) → stop_of (logged_of reply) ≡ None → PostsOn a.told (a.outbox ++ frame (reply_bytes reply)) told outbox →
+  pub on_answered : (outbox : List ℕ) → stop_of (brief_of reply) ≡ None → PostsOn a.told (a.outbox ++ frame (reply_bytes reply)) told outbox →
       LoopGoesOn a (record { told = told; pass = pass; inbox = inbox; outbox = outbox })
   on_answered outbox none posts =
       record {
@@ -134,7 +134,7 @@ module _ (a : Stand) (q : Request) (reply : Reply) (inbox : List ℕ) (told : To
         on = alone ∙ none;
       }
 
-  stops_for : (reason : SessionOut) → stop_of (logged_of reply) ≡ Some reason → StopsFor reason (s.entry ∷ [])
+  stops_for : (reason : SessionOut) → stop_of (brief_of reply) ≡ Some reason → StopsFor reason (s.entry ∷ [])
   stops_for reason is = record {
     before = [];
     last = s.entry;
@@ -147,21 +147,21 @@ module _ (a : Stand) (q : Request) (reply : Reply) (inbox : List ℕ) (told : To
   breaks : LoopBreaksOff (s.entry ∷ [])
   breaks = record { before = []; last = s.entry ∷ []; are = refl; few = omega arith; on = refl }
 
-  ended_same : (out : SessionOut) → (stop_of (logged_of reply) ≡ Some out) ⊎ IsBroken out → (b : Bool) → ended_by out b ≡ b
-  ended_same out (inl is) b = each_reason (λ o. ended_by o b ≡ b) (logged_of reply) out is refl refl refl refl
+  ended_same : (out : SessionOut) → (stop_of (brief_of reply) ≡ Some out) ⊎ IsBroken out → (b : Bool) → ended_by out b ≡ b
+  ended_same out (inl is) b = each_reason (λ o. ended_by o b ≡ b) (brief_of reply) out is refl refl refl refl
   ended_same out (inr (inl is)) b = ap (λ o. ended_by o b) is
   ended_same out (inr (inr is)) b = ap (λ o. ended_by o b) is
 
-  explains_stop : (out : SessionOut) → stop_of (logged_of reply) ≡ Some out → (stream sent due : List ℕ) → sent ≡ due → ExplainsOut out stream (s.entry ∷ []) sent due
+  explains_stop : (out : SessionOut) → stop_of (brief_of reply) ≡ Some out → (stream sent due : List ℕ) → sent ≡ due → ExplainsOut out stream (s.entry ∷ []) sent due
   explains_stop out is stream sent due all =
-      each_reason (λ o. stop_of (logged_of reply) ≡ Some o → ExplainsOut o stream (s.entry ∷ []) sent due) (logged_of reply) out is
+      each_reason (λ o. stop_of (brief_of reply) ≡ Some o → ExplainsOut o stream (s.entry ∷ []) sent due) (brief_of reply) out is
       (λ e. (stops_for outs.Left e, all)) (λ e. (stops_for outs.Malformed e, all)) (λ e. (stops_for outs.Ended e, all)) (λ e. (stops_for outs.Spent e, all)) is
 
   explains_broken : (out : SessionOut) → IsBroken out → (stream sent due : List ℕ) → ExplainsOut out stream (s.entry ∷ []) sent due
   explains_broken out (inl is) stream sent due = subst (λ o. ExplainsOut o stream (s.entry ∷ []) sent due) (sym is) breaks
   explains_broken out (inr is) stream sent due = subst (λ o. ExplainsOut o stream (s.entry ∷ []) sent due) (sym is) breaks
 
-  pub halts_answered : (out : SessionOut) → PostsLast a.told (a.outbox ++ frame (reply_bytes reply)) (stop_of (logged_of reply)) out told → Halts a out told pass
+  pub halts_answered : (out : SessionOut) → PostsLast a.told (a.outbox ++ frame (reply_bytes reply)) (stop_of (brief_of reply)) out told → Halts a out told pass
   halts_answered out posts =
       record {
         received = [];
@@ -176,16 +176,16 @@ module _ (a : Stand) (q : Request) (reply : Reply) (inbox : List ℕ) (told : To
         exactly = exactly posts.why;
       }
     where
-      kinds : ((stop_of (logged_of reply) ≡ Some out) × (posts.sent ≡ a.outbox ++ frame (reply_bytes reply))) ⊎ (IsBroken out × (posts.sent ≢ a.outbox ++ frame (reply_bytes reply))) → (stop_of (logged_of reply) ≡ Some out) ⊎ IsBroken out
+      kinds : ((stop_of (brief_of reply) ≡ Some out) × (posts.sent ≡ a.outbox ++ frame (reply_bytes reply))) ⊎ (IsBroken out × (posts.sent ≢ a.outbox ++ frame (reply_bytes reply))) → (stop_of (brief_of reply) ≡ Some out) ⊎ IsBroken out
       kinds (inl w) = inl w.0
       kinds (inr w) = inr w.0
 
-      cause : ((stop_of (logged_of reply) ≡ Some out) × (posts.sent ≡ a.outbox ++ frame (reply_bytes reply))) ⊎ (IsBroken out × (posts.sent ≢ a.outbox ++ frame (reply_bytes reply))) →
+      cause : ((stop_of (brief_of reply) ≡ Some out) × (posts.sent ≡ a.outbox ++ frame (reply_bytes reply))) ⊎ (IsBroken out × (posts.sent ≢ a.outbox ++ frame (reply_bytes reply))) →
           ExplainsOut out (a.inbox ++ []) (s.entry ∷ []) posts.sent (a.outbox ++ due_frames pass.seen (s.entry ∷ []))
       cause (inl w) = explains_stop out w.0 (a.inbox ++ []) posts.sent _ (w.1 ∙ due_same)
       cause (inr w) = explains_broken out w.0 (a.inbox ++ []) posts.sent _
 
-      exactly : ((stop_of (logged_of reply) ≡ Some out) × (posts.sent ≡ a.outbox ++ frame (reply_bytes reply))) ⊎ (IsBroken out × (posts.sent ≢ a.outbox ++ frame (reply_bytes reply))) →
+      exactly : ((stop_of (brief_of reply) ≡ Some out) × (posts.sent ≡ a.outbox ++ frame (reply_bytes reply))) ⊎ (IsBroken out × (posts.sent ≢ a.outbox ++ frame (reply_bytes reply))) →
           (reason : SessionOut) → stop_after (s.entry ∷ []) ≡ Some reason → posts.sent ≡ a.outbox ++ due_frames pass.seen (s.entry ∷ []) → out ≡ reason
       exactly (inl w) reason stop all = let both : Some out ≡ Some reason = sym w.0 ∙ (sym alone ∙ stop) in cc
       exactly (inr w) reason stop all = absurd (w.1 (all ∙ sym due_same))
@@ -256,7 +256,7 @@ module _ (a : Stand) where
 -- ---- What the round answers
 
 pub round_posted : (result : Option SessionOut) (a : Stand) (q : Request) (reply : Reply) (inbox : List ℕ) (told : Told) (pass : SessionPass) (outbox : List ℕ) → TakesOffRequest a.inbox q inbox → Steps a.pass q reply pass →
-    IsReplyPosted result (stop_of (logged_of reply)) a.told (a.outbox ++ frame (reply_bytes reply)) told outbox → IsRound result a (stand told pass inbox outbox)
+    IsReplyPosted result (stop_of (brief_of reply)) a.told (a.outbox ++ frame (reply_bytes reply)) told outbox → IsRound result a (stand told pass inbox outbox)
 round_posted None a q reply inbox told pass outbox takes s posts = on_answered a q reply inbox told pass takes s outbox posts.0 posts.1
 round_posted (Some out) a q reply inbox told pass outbox takes s posts = halts_answered a q reply inbox told pass takes s out posts
 

@@ -14,9 +14,9 @@ use Rattle.sv_wire.specs.declared.message.Reply.{Reply}
 use Rattle.sv_wire.specs.declared.message.Reply.TheVariants as replies
 use Rattle.sv_world.specs.Rights.{first_forbidden}
 use Rattle.sv_journal.specs.declared.entry.Entry.{Entry}
-use Rattle.sv_journal.specs.declared.entry.Logged.{Logged}
-use Rattle.sv_journal.specs.declared.entry.Logged.TheVariants as logged
-use Rattle.sv_journal.specs.History.{client_of, Outcome, Accepted, Dropped, Denied, actions_of, next_seq, commit_of, either, logged_of}
+use Rattle.sv_journal.specs.declared.entry.BriefReply.{BriefReply}
+use Rattle.sv_journal.specs.declared.entry.BriefReply.TheVariants as brief
+use Rattle.sv_journal.specs.History.{client_of, Outcome, Accepted, Dropped, Denied, actions_of, next_seq, commit_of, either, brief_of}
 use Rattle.sv_journal.specs.Sessions.{is_over, is_live, is_end, asked_in, life_of, kept_outcome}
 use Rattle.sv_journal.specs.Answer.{Rules, is_above, is_full, is_spent, is_no_next_life, is_bad_done, is_good_interest, orphans, reply_to, reply_to_request, reply_to_open, reply_to_member, reply_to_client, reply_to_join, reply_to_submit, reply_to_checked, reply_by_rights, reply_to_poll, reply_to_observe}
 use Rattle.sv_session.specs.Requests.{stop_of, stop_after}
@@ -25,12 +25,12 @@ use Rattle.sv_session.specs.declared.outcome.SessionOut.TheVariants as outs
 
 -- ---- Bye
 
-abbrev is_bye : Logged → Bool
-is_bye logged.Bye = true
+abbrev is_bye : BriefReply → Bool
+is_bye brief.Bye = true
 is_bye _ = false
 
 -- A motive: a reply that is not Bye.
-abbrev IsOther : Logged → Type 0
+abbrev IsOther : BriefReply → Type 0
 IsOther l = is_bye l ≡ false
 
 join_other : (r : Rules) (h : List Entry) (s k life : ℕ) (interest : List ℕ) → IsOther (reply_to_join r h s k life interest)
@@ -107,20 +107,20 @@ code_stop false true c e = cc
 code_stop false false true e = cc
 code_stop false false false e = cc
 
-left_is_bye : (l : Logged) → stop_of l ≡ Some outs.Left → is_bye l ≡ true
-left_is_bye (logged.Welcome commit head) e = absurd cc
-left_is_bye (logged.Relay seq commit head positions) e = absurd cc
-left_is_bye (logged.Dropped seq chain far) e = absurd cc
-left_is_bye (logged.Denied seq object) e = absurd cc
-left_is_bye (logged.Seen last commit head positions) e = absurd cc
-left_is_bye (logged.Settled seq pos) e = absurd cc
-left_is_bye (logged.Noted commit) e = absurd cc
-left_is_bye logged.Idle e = absurd cc
-left_is_bye (logged.Refused code detail) e = absurd (code_stop (code == 1) (code == 4) (code == 9) e)
-left_is_bye logged.Bye e = refl
+left_is_bye : (l : BriefReply) → stop_of l ≡ Some outs.Left → is_bye l ≡ true
+left_is_bye (brief.Welcome commit head) e = absurd cc
+left_is_bye (brief.Relay seq commit head positions) e = absurd cc
+left_is_bye (brief.Dropped seq chain far) e = absurd cc
+left_is_bye (brief.Denied seq object) e = absurd cc
+left_is_bye (brief.Seen last commit head positions) e = absurd cc
+left_is_bye (brief.Settled seq pos) e = absurd cc
+left_is_bye (brief.Noted commit) e = absurd cc
+left_is_bye brief.Idle e = absurd cc
+left_is_bye (brief.Refused code detail) e = absurd (code_stop (code == 1) (code == 4) (code == 9) e)
+left_is_bye brief.Bye e = refl
 
 -- only a Leave is answered Bye
-pub left_by_leave : (r : Rules) (h : List Entry) (s : ℕ) (request : Request) (l : Logged) → l ≡ reply_to r h s request → is_end request ≡ false → stop_of l ≡ Some outs.Left →
+pub left_by_leave : (r : Rules) (h : List Entry) (s : ℕ) (request : Request) (l : BriefReply) → l ≡ reply_to r h s request → is_end request ≡ false → stop_of l ≡ Some outs.Left →
     request ≡ requests.Leave
 left_by_leave r h s request l is no_end e =
     elim (is_leave request) [
@@ -132,7 +132,7 @@ left_by_leave r h s request l is no_end e =
     ]
 
 -- Bad always stops the session
-pub bad_stops : (r : Rules) (h : List Entry) (s : ℕ) (l : Logged) → l ≡ reply_to r h s requests.Bad → IsSome (stop_of l)
+pub bad_stops : (r : Rules) (h : List Entry) (s : ℕ) (l : BriefReply) → l ≡ reply_to r h s requests.Bad → IsSome (stop_of l)
 bad_stops r h s l is =
     subst (λ x. IsSome (stop_of x)) (sym is)
     (cond_both (is_over h s) _ _ (λ x. IsSome (stop_of x)) (λ _. refl) (λ _. cond_both (is_spent r.requests (asked_in h s)) _ _ (λ x. IsSome (stop_of x)) (λ _. refl) (λ _. refl)))
@@ -164,22 +164,22 @@ code_reason P false false true out e malformed ended spent = let same : outs.Spe
 code_reason P false false false out e malformed ended spent = absurd cc
 
 -- what holds for each reason to stop holds for the reason of a reply
-pub each_reason : (P : SessionOut → Type 0) (l : Logged) (out : SessionOut) → stop_of l ≡ Some out → P outs.Left → P outs.Malformed → P outs.Ended → P outs.Spent → P out
-each_reason P (logged.Welcome commit head) out e left malformed ended spent = absurd cc
-each_reason P (logged.Relay seq commit head positions) out e left malformed ended spent = absurd cc
-each_reason P (logged.Dropped seq chain far) out e left malformed ended spent = absurd cc
-each_reason P (logged.Denied seq object) out e left malformed ended spent = absurd cc
-each_reason P (logged.Seen last commit head positions) out e left malformed ended spent = absurd cc
-each_reason P (logged.Settled seq pos) out e left malformed ended spent = absurd cc
-each_reason P (logged.Noted commit) out e left malformed ended spent = absurd cc
-each_reason P logged.Idle out e left malformed ended spent = absurd cc
-each_reason P (logged.Refused code detail) out e left malformed ended spent = code_reason P (code == 1) (code == 4) (code == 9) out e malformed ended spent
-each_reason P logged.Bye out e left malformed ended spent = let same : outs.Left ≡ out = cc in subst P same left
+pub each_reason : (P : SessionOut → Type 0) (l : BriefReply) (out : SessionOut) → stop_of l ≡ Some out → P outs.Left → P outs.Malformed → P outs.Ended → P outs.Spent → P out
+each_reason P (brief.Welcome commit head) out e left malformed ended spent = absurd cc
+each_reason P (brief.Relay seq commit head positions) out e left malformed ended spent = absurd cc
+each_reason P (brief.Dropped seq chain far) out e left malformed ended spent = absurd cc
+each_reason P (brief.Denied seq object) out e left malformed ended spent = absurd cc
+each_reason P (brief.Seen last commit head positions) out e left malformed ended spent = absurd cc
+each_reason P (brief.Settled seq pos) out e left malformed ended spent = absurd cc
+each_reason P (brief.Noted commit) out e left malformed ended spent = absurd cc
+each_reason P brief.Idle out e left malformed ended spent = absurd cc
+each_reason P (brief.Refused code detail) out e left malformed ended spent = code_reason P (code == 1) (code == 4) (code == 9) out e malformed ended spent
+each_reason P brief.Bye out e left malformed ended spent = let same : outs.Left ≡ out = cc in subst P same left
 
 -- ---- Which replies stop a session
 
 -- A reply that stops its session is a Bye or a refusal.
-pub stops-kinds : (w : Reply) → is_some (stop_of (logged_of w)) ≡ true → (w ≡ replies.Bye) ⊎ ((code : ℕ) × ((detail : ℕ) × (w ≡ replies.Refused code detail)))
+pub stops-kinds : (w : Reply) → is_some (stop_of (brief_of w)) ≡ true → (w ≡ replies.Bye) ⊎ ((code : ℕ) × ((detail : ℕ) × (w ≡ replies.Refused code detail)))
 stops-kinds replies.Bye l = inl refl
 stops-kinds (replies.Refused code detail) l = inr (code, (detail, refl))
 stops-kinds (replies.Welcome commit head) l = cc

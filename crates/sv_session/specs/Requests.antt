@@ -11,8 +11,8 @@ use Rattle.sv_wire.specs.Messages.{request_at}
 use Rattle.sv_wire.specs.Spelling.{reply_bytes}
 use Rattle.sv_exchange.specs.Incoming.{read_or_bad}
 use Rattle.sv_journal.specs.declared.entry.Entry.{Entry}
-use Rattle.sv_journal.specs.declared.entry.Logged.{Logged}
-use Rattle.sv_journal.specs.declared.entry.Logged.TheVariants as logged
+use Rattle.sv_journal.specs.declared.entry.BriefReply.{BriefReply}
+use Rattle.sv_journal.specs.declared.entry.BriefReply.TheVariants as brief
 use Rattle.sv_journal.specs.History.{either, accepted, full_reply}
 use Rattle.sv_session.specs.declared.outcome.SessionOut.{SessionOut}
 use Rattle.sv_session.specs.declared.outcome.SessionOut.TheVariants as outs
@@ -52,9 +52,9 @@ stop_for_code code = if code == code_of refusals.Malformed then Some outs.Malfor
     else None
 
 -- why a session stops after a reply, where it does
-abbrev pub stop_of : Logged → Option SessionOut
-stop_of logged.Bye = Some outs.Left
-stop_of (logged.Refused code detail) = stop_for_code code
+abbrev pub stop_of : BriefReply → Option SessionOut
+stop_of brief.Bye = Some outs.Left
+stop_of (brief.Refused code detail) = stop_for_code code
 stop_of _ = None
 
 -- why a session stops after these entries: the first of their replies that stops it

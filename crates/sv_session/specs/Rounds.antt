@@ -8,7 +8,7 @@ use Rattle.sv_wire.specs.declared.message.Request.TheVariants as requests
 use Rattle.sv_wire.specs.Grammar.{IsWireReply}
 use Rattle.sv_wire.specs.Spelling.{reply_bytes}
 use Rattle.sv_journal.specs.declared.entry.Entry.{Entry}
-use Rattle.sv_journal.specs.History.{accepted, logged_of}
+use Rattle.sv_journal.specs.History.{accepted, brief_of}
 use Rattle.sv_journal.specs.Sessions.{is_end}
 use Rattle.sv_journal.specs.Text.{NamesAccepted}
 use Rattle.sv_link.specs.Ends.{Told, sending, receiving}
@@ -58,7 +58,7 @@ pub record Steps (before : SessionPass) (request : Request) (reply : Reply) (aft
   pub entry : Entry
   pub on : StepsOn before (entry ∷ []) after
   pub asks : entry.request ≡ request
-  pub told : entry.reply ≡ logged_of reply
+  pub told : entry.reply ≡ brief_of reply
   pub whole : reply_bytes reply ≡ reply_payload after.seen entry
   pub message : IsWireReply reply
   pub leave : stop_of entry.reply ≡ Some outs.Left → request ≡ requests.Leave

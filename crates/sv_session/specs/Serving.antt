@@ -6,7 +6,7 @@ use Rattle.sv_frame.specs.Frames.{too_long}
 use Rattle.sv_frame.specs.Streams.{split_frames}
 use Rattle.sv_wire.specs.declared.message.Request.TheVariants as requests
 use Rattle.sv_journal.specs.declared.entry.Entry.{Entry}
-use Rattle.sv_journal.specs.declared.entry.Logged.TheVariants as logged
+use Rattle.sv_journal.specs.declared.entry.BriefReply.TheVariants as brief
 use Rattle.sv_journal.specs.Sessions.{is_end}
 use Rattle.sv_journal.specs.Answer.{Rules, MayBeSession, Legal}
 use Rattle.sv_journal.specs.Laws.{AreWithinLimits}
@@ -79,7 +79,7 @@ pub record Served (old : Told) (before : SessionPass) (out : SessionOut) (new : 
   pub goes_on : IsPrefix before.seen after.seen
   pub lawful : Legal after.base (reverse after.seen)
   pub just : entries_of (λ (e : Entry). e.session) (session_number after) after.seen ≡ after.mine
-  pub mine : after.mine ≡ (before.mine ++ answered) ++ entry_of (session_number before) requests.End logged.Bye ∷ []
+  pub mine : after.mine ≡ (before.mine ++ answered) ++ entry_of (session_number before) requests.End brief.Bye ∷ []
   pub no_other : All (λ (e : Entry). is_end e.request ≡ false) answered
   pub requests : IsPrefix (entry_requests answered) (requests_read received)
   pub replies : IsPrefix sent (due_frames after.seen answered)

@@ -4,7 +4,7 @@ ghost use Rattle.sv_frame.specs.Frames.{frame};
 ghost use Rattle.sv_wire.specs.Grammar.{IsWireReply};
 ghost use Rattle.sv_wire.specs.Spelling.{reply_bytes};
 ghost use Rattle.sv_exchange.specs.Outgoing.{KeepsBack};
-ghost use Rattle.sv_journal.specs.History.{logged_of};
+ghost use Rattle.sv_journal.specs.History.{brief_of};
 ghost use Rattle.sv_session.specs.Requests.{stop_for_code, stop_of};
 ghost use Rattle.sv_session.specs.Answers.{IsReplyPosted, RoundCause};
 
@@ -31,7 +31,7 @@ fn stop_for_refusal(code: u8) -> Option<SessionOut>
 
 /// Why a session stops after a reply, if it does.
 pub fn stop_for(reply: &Reply) -> Option<SessionOut>
-    ensures stop { result ≡ stop_of (logged_of reply.now) }
+    ensures stop { result ≡ stop_of (brief_of reply.now) }
     ensures reason { IfSome result (λ out. out ≢ SessionOut.LinkFault) }
 {
     match reply {
@@ -45,7 +45,7 @@ pub fn stop_for(reply: &Reply) -> Option<SessionOut>
 pub(crate) fn post<E: End>(reply: &Reply, outbox: &mut Outbox, end: &mut E) -> Option<SessionOut>
     requires open { (E.told end.old).closed ≡ false }
     requires message { IsWireReply reply.now }
-    ensures posts { IsReplyPosted result (stop_of (logged_of reply.now)) (E.told end.old) (outbox.old ++ frame (reply_bytes reply.now)) (E.told end.new) outbox.new }
+    ensures posts { IsReplyPosted result (stop_of (brief_of reply.now)) (E.told end.old) (outbox.old ++ frame (reply_bytes reply.now)) (E.told end.new) outbox.new }
     ensures kept { result ≡ None → KeepsBack outbox.old (length (frame (reply_bytes reply.now))) (E.told end.old) (E.told end.new) }
     ensures cause { RoundCause (E.faults end.old) (E.faults end.new) result }
     ensures calm { E.calm end.old → (result ≢ Some SessionOut.LinkFault) × E.calm end.new }

@@ -10,7 +10,7 @@ use Rattle.sv_wire.specs.declared.message.Request.{Request}
 use Rattle.sv_wire.specs.declared.message.Request.TheVariants as requests
 use Rattle.sv_wire.specs.declared.refusal.Refusal.TheVariants as refusals
 use Rattle.sv_journal.specs.declared.entry.Entry.{Entry}
-use Rattle.sv_journal.specs.declared.entry.Logged.TheVariants as logged
+use Rattle.sv_journal.specs.declared.entry.BriefReply.TheVariants as brief
 use Rattle.sv_journal.specs.History.{is_welcome, client_of, commit_of}
 use Rattle.sv_journal.specs.Sessions.{is_over, is_live, asked_in, life_of}
 use Rattle.sv_journal.specs.Answer.{Rules, refused_as, committed_held, is_good_interest, is_no_next_life, is_spent}
@@ -47,7 +47,7 @@ welcomed-number r h s client life interest w = go (is_over g s) (is_spent r.requ
     go : (a b c d : Bool) → nat_le r.clients client.0 ≡ d →
         is_welcome (with_last_rows agreed r h s (requests.Join client life interest) (if a then refused_as refusals.Over 0 else if b then refused_as refusals.TooManyRequests 0 else if c then refused_as refusals.AlreadyJoined 0
         else if d then refused_as refusals.NoSuchClient 0 else if is_no_next_life r.leap (life_of g client.0) life then refused_as refusals.OldLife (life_of g client.0)
-        else if is_good_interest r.world.shape.objects wanted then logged.Welcome (commit_of g) (committed_held r g wanted) else refused_as refusals.BadInterest 0)) ≡ true →
+        else if is_good_interest r.world.shape.objects wanted then brief.Welcome (commit_of g) (committed_held r g wanted) else refused_as refusals.BadInterest 0)) ≡ true →
         client.0 < r.clients
     go true b c d e w = absurd (true≢false (sym w))
     go false true c d e w = absurd (true≢false (sym w))

@@ -15,8 +15,8 @@ use Rattle.sv_wire.specs.declared.message.Request.{Request}
 use Rattle.sv_wire.specs.declared.message.Request.TheVariants as requests
 use Rattle.sv_wire.specs.declared.refusal.Refusal.TheVariants as refusals
 use Rattle.sv_journal.specs.declared.entry.Entry.{Entry}
-use Rattle.sv_journal.specs.declared.entry.Logged.{Logged}
-use Rattle.sv_journal.specs.declared.entry.Logged.TheVariants as logged
+use Rattle.sv_journal.specs.declared.entry.BriefReply.{BriefReply}
+use Rattle.sv_journal.specs.declared.entry.BriefReply.TheVariants as brief
 use Rattle.sv_journal.specs.History.{Authored, is_noted, client_of, is_client, is_submit_of, new_action, Outcome, Accepted, Dropped, Denied, actions_of, next_seq, commit_of}
 use Rattle.sv_journal.specs.Sessions.{is_end, is_over, is_live, asked_in, life_of, kept_outcome}
 use Rattle.sv_journal.specs.Answer.{Rules, refused_as, is_above, is_full, is_bad_done, is_good_interest, is_no_next_life, is_spent, reply_by_rights, reply_to_checked, reply_to_submit, reply_to_join, reply_to_client, reply_to_member, reply_to_request, reply_to_poll}
@@ -37,11 +37,11 @@ use Rattle.sv_witness.proofs.Forms.{polled-quiet}
 
 -- ---- Only a Poll is answered Idle
 
-abbrev is_idle : Logged → Bool
-is_idle logged.Idle = true
+abbrev is_idle : BriefReply → Bool
+is_idle brief.Idle = true
 is_idle _ = false
 
-abbrev IsBusy : Logged → Type 0
+abbrev IsBusy : BriefReply → Type 0
 IsBusy w = is_idle w ≡ false
 
 module _ (r : Rules) (g : List Entry) (s : ℕ) where
@@ -82,7 +82,7 @@ module _ (r : Rules) (g : List Entry) (s : ℕ) where
       cond_both (is_no_next_life r.leap (life_of g k) life) _ _ IsBusy (λ _. refl) (λ _.
       cond_both (is_good_interest r.world.shape.objects xs) _ _ IsBusy (λ _. refl) (λ _. refl))))
 
-  open-busy : (w : Logged) → IsBusy w → IsBusy (if is_over g s then refused_as refusals.Over 0 else (if is_spent r.requests (asked_in g s) then refused_as refusals.TooManyRequests 0 else w))
+  open-busy : (w : BriefReply) → IsBusy w → IsBusy (if is_over g s then refused_as refusals.Over 0 else (if is_spent r.requests (asked_in g s) then refused_as refusals.TooManyRequests 0 else w))
   open-busy w busy = cond_both (is_over g s) _ _ IsBusy (λ _. refl) (λ _. cond_both (is_spent r.requests (asked_in g s)) _ _ IsBusy (λ _. refl) (λ _. busy))
 
   request-busy : (q : Request) → is_poll q ≡ false → IsBusy (reply_to_request r g s q)
@@ -95,7 +95,7 @@ module _ (r : Rules) (g : List Entry) (s : ℕ) where
   request-busy requests.Bad unasked = open-busy _ refl
   request-busy requests.End unasked = open-busy _ (member-busy (client_of g s) requests.End unasked)
 
-  idle-poll : (q : Request) → logged.Idle ≡ reply_to_request r g s q → is_poll q ≡ true
+  idle-poll : (q : Request) → brief.Idle ≡ reply_to_request r g s q → is_poll q ≡ true
   idle-poll q is = go (is_poll q) refl
     where
       go : (b : Bool) → is_poll q ≡ b → b ≡ true
@@ -302,8 +302,8 @@ module _ (r : Rules) (h : List Entry) (s : ℕ) where
 
 -- ---- A session without a client is refused
 
-abbrev is_refused : Logged → Bool
-is_refused (logged.Refused code detail) = true
+abbrev is_refused : BriefReply → Bool
+is_refused (brief.Refused code detail) = true
 is_refused _ = false
 
 pub record HasClient (h : List Entry) (s : ℕ) : Type 0 where
@@ -311,7 +311,7 @@ pub record HasClient (h : List Entry) (s : ℕ) : Type 0 where
   pub joined : client_of h s ≡ Some client
 
 module _ (r : Rules) (h : List Entry) (s : ℕ) (q : Request) where
-  abbrev member_reply : Bool → Bool → Option ℕ → Logged
+  abbrev member_reply : Bool → Bool → Option ℕ → BriefReply
   member_reply over spent client =
       with_last_rows agreed r h s q
       (if over then refused_as refusals.Over 0 else if spent then refused_as refusals.TooManyRequests 0 else reply_to_member r (agreed_history h) s client q)

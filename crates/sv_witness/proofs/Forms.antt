@@ -17,8 +17,8 @@ use Rattle.sv_wire.specs.declared.message.Done1.{Done1}
 use Rattle.sv_wire.specs.declared.message.Request.{Request}
 use Rattle.sv_wire.specs.declared.message.Request.TheVariants as requests
 use Rattle.sv_journal.specs.declared.entry.Entry.{Entry}
-use Rattle.sv_journal.specs.declared.entry.Logged.{Logged}
-use Rattle.sv_journal.specs.declared.entry.Logged.TheVariants as logged
+use Rattle.sv_journal.specs.declared.entry.BriefReply.{BriefReply}
+use Rattle.sv_journal.specs.declared.entry.BriefReply.TheVariants as brief
 use Rattle.sv_journal.specs.History.{Authored, is_noted, accepted, actions_of, reported, reports, commit_of}
 use Rattle.sv_journal.specs.Sessions.{sent_to}
 use Rattle.sv_journal.specs.Answer.{Rules, is_bad_result, reply_to_poll, reply_to_request}
@@ -40,17 +40,17 @@ pub polled-quiet : (r : Rules) (h : List Entry) (s : ℕ) (ps : List ℕ) → is
 polled-quiet r h s [] = refl
 polled-quiet r h s (p ∷ ps) = refl
 
-pub done-noted : (r : Rules) (h : List Entry) (s : ℕ) (results : List Done1) (w : Logged) → is_noted (with_last_rows agreed r h s (requests.Done results) w) ≡ true → is_noted w ≡ true
-done-noted r h s results (logged.Noted commit) e = refl
-done-noted r h s results (logged.Welcome commit head) e = e
-done-noted r h s results (logged.Relay seq commit head positions) e = e
-done-noted r h s results (logged.Dropped seq chain far) e = e
-done-noted r h s results (logged.Denied seq object) e = e
-done-noted r h s results (logged.Seen last commit head positions) e = e
-done-noted r h s results (logged.Settled seq pos) e = e
-done-noted r h s results logged.Idle e = absurd (true≢false (sym e ∙ polled-quiet r (agreed_history h) s (due_to h s)))
-done-noted r h s results (logged.Refused code detail) e = e
-done-noted r h s results logged.Bye e = e
+pub done-noted : (r : Rules) (h : List Entry) (s : ℕ) (results : List Done1) (w : BriefReply) → is_noted (with_last_rows agreed r h s (requests.Done results) w) ≡ true → is_noted w ≡ true
+done-noted r h s results (brief.Noted commit) e = refl
+done-noted r h s results (brief.Welcome commit head) e = e
+done-noted r h s results (brief.Relay seq commit head positions) e = e
+done-noted r h s results (brief.Dropped seq chain far) e = e
+done-noted r h s results (brief.Denied seq object) e = e
+done-noted r h s results (brief.Seen last commit head positions) e = e
+done-noted r h s results (brief.Settled seq pos) e = e
+done-noted r h s results brief.Idle e = absurd (true≢false (sym e ∙ polled-quiet r (agreed_history h) s (due_to h s)))
+done-noted r h s results (brief.Refused code detail) e = e
+done-noted r h s results brief.Bye e = e
 
 pub witnessed-at : (r : Rules) (e : Entry) (b whole : List Entry) → IsEarlier (e ∷ b) whole → IsWitnessed r whole → e.reply ≡ witnessed_reply r b e.session e.request
 witnessed-at r e b whole same l = l.0

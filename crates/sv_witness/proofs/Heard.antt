@@ -9,7 +9,7 @@ use Rattle.sv_world.specs.declared.world.Shape.{Shape}
 use Rattle.sv_wire.specs.declared.message.Request.{Request}
 use Rattle.sv_wire.specs.declared.message.Request.TheVariants as requests
 use Rattle.sv_journal.specs.declared.entry.Entry.{Entry}
-use Rattle.sv_journal.specs.declared.entry.Logged.TheVariants as logged
+use Rattle.sv_journal.specs.declared.entry.BriefReply.TheVariants as brief
 use Rattle.sv_journal.specs.History.{joining, client_of, is_client, accepted}
 use Rattle.sv_journal.specs.Sessions.{is_end}
 use Rattle.sv_journal.specs.Answer.{Rules}
@@ -88,8 +88,8 @@ heard-plain None h s q f = refl
 heard-plain (Some k) h s q f = cond-false (is_client (client_of h s) k) (lied q) q (f k refl)
 
 -- An End is answered with a Bye.
-witness-byes : (r : Rules) (liar : Option ℕ) (h : List Entry) (s : ℕ) → witnessed_reply r h s (heard_of liar h s requests.End) ≡ logged.Bye
-witness-byes r liar h s = heard-by (λ (x : Request). witnessed_reply r h s x ≡ logged.Bye) liar h s requests.End refl refl
+witness-byes : (r : Rules) (liar : Option ℕ) (h : List Entry) (s : ℕ) → witnessed_reply r h s (heard_of liar h s requests.End) ≡ brief.Bye
+witness-byes r liar h s = heard-by (λ (x : Request). witnessed_reply r h s x ≡ brief.Bye) liar h s requests.End refl refl
 
 -- ---- Its journal
 

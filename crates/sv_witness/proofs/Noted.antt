@@ -10,8 +10,8 @@ use Rattle.sv_wire.specs.declared.message.Request.{Request}
 use Rattle.sv_wire.specs.declared.message.Request.TheVariants as requests
 use Rattle.sv_queue.specs.Queue.{QueueView, entry_at}
 use Rattle.sv_journal.specs.declared.entry.Entry.{Entry}
-use Rattle.sv_journal.specs.declared.entry.Logged.{Logged}
-use Rattle.sv_journal.specs.declared.entry.Logged.TheVariants as logged
+use Rattle.sv_journal.specs.declared.entry.BriefReply.{BriefReply}
+use Rattle.sv_journal.specs.declared.entry.BriefReply.TheVariants as brief
 use Rattle.sv_journal.specs.History.{Authored, either, is_noted, is_relay, client_of, new_action, outcomes_of, accepted, reported, reports}
 use Rattle.law_system.proofs.Commits.{commit-grows}
 use Rattle.law_system.proofs.Histories.{same, after}
@@ -35,17 +35,17 @@ Values = Option (List (List ℤ))
 pub agreed-grows : (e : Entry) (h : List Entry) → agreed_commit h ≤ agreed_commit (e ∷ h)
 agreed-grows e h = commit-grows (agreed_history h) (agreed_history (e ∷ h)) (after _ same)
 
-noted-no-relay : (w : Logged) → is_noted w ≡ true → is_relay w ≡ false
-noted-no-relay (logged.Noted commit) n = refl
-noted-no-relay (logged.Welcome commit head) n = cc
-noted-no-relay (logged.Relay seq commit head positions) n = cc
-noted-no-relay (logged.Dropped seq chain far) n = cc
-noted-no-relay (logged.Denied seq object) n = cc
-noted-no-relay (logged.Seen last commit head positions) n = cc
-noted-no-relay (logged.Settled seq pos) n = cc
-noted-no-relay logged.Idle n = cc
-noted-no-relay (logged.Refused code detail) n = cc
-noted-no-relay logged.Bye n = cc
+noted-no-relay : (w : BriefReply) → is_noted w ≡ true → is_relay w ≡ false
+noted-no-relay (brief.Noted commit) n = refl
+noted-no-relay (brief.Welcome commit head) n = cc
+noted-no-relay (brief.Relay seq commit head positions) n = cc
+noted-no-relay (brief.Dropped seq chain far) n = cc
+noted-no-relay (brief.Denied seq object) n = cc
+noted-no-relay (brief.Seen last commit head positions) n = cc
+noted-no-relay (brief.Settled seq pos) n = cc
+noted-no-relay brief.Idle n = cc
+noted-no-relay (brief.Refused code detail) n = cc
+noted-no-relay brief.Bye n = cc
 
 -- ---- Entries that are no noted Done
 

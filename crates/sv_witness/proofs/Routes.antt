@@ -9,7 +9,7 @@ use Rattle.sv_wire.specs.declared.message.Request.{Request}
 use Rattle.sv_wire.specs.declared.message.Request.TheVariants as requests
 use Rattle.sv_wire.specs.declared.refusal.Refusal.TheVariants as refusals
 use Rattle.sv_journal.specs.declared.entry.Entry.{Entry}
-use Rattle.sv_journal.specs.declared.entry.Logged.TheVariants as logged
+use Rattle.sv_journal.specs.declared.entry.BriefReply.TheVariants as brief
 use Rattle.sv_journal.specs.History.{is_noted, client_of, accepted, reports}
 use Rattle.sv_journal.specs.Sessions.{is_over, asked_in, sent_to}
 use Rattle.sv_journal.specs.Answer.{Rules, refused_as, is_bad_done, commit_with, reply_to_member, is_spent, reply_to_request}
@@ -83,7 +83,7 @@ pub noted-may : (r : Rules) (h : List Entry) (s : ℕ) (results : List Done1) �
 noted-may r h s results noted = go (is_over h s) (is_spent r.requests (asked_in h s)) (client_of h s) refl noted
   where
     done : (k : ℕ) → client_of h s ≡ Some k → (c : Bool) → is_bad_done r h s results ≡ c →
-        is_noted (if c then refused_as refusals.BadResults 0 else logged.Noted (commit_with h s results)) ≡ true → MayReport r h s results
+        is_noted (if c then refused_as refusals.BadResults 0 else brief.Noted (commit_with h s results)) ≡ true → MayReport r h s results
     done k joined true bad n = absurd (true≢false (sym n))
     done k joined false good n = record { client = k; joined = joined; good = good }
 

@@ -6,8 +6,8 @@ use Rattle.sv_wire.specs.declared.message.Reply.{Reply}
 use Rattle.sv_wire.specs.declared.message.Request.{Request}
 use Rattle.sv_wire.specs.declared.message.Request.TheVariants as requests
 use Rattle.sv_journal.specs.declared.entry.Entry.{Entry}
-use Rattle.sv_journal.specs.declared.entry.Logged.{Logged}
-use Rattle.sv_journal.specs.declared.entry.Logged.TheVariants as logged
+use Rattle.sv_journal.specs.declared.entry.BriefReply.{BriefReply}
+use Rattle.sv_journal.specs.declared.entry.BriefReply.TheVariants as brief
 use Rattle.sv_journal.specs.History.{is_noted, client_of, accepted, reported, commit_of, full_reply}
 use Rattle.sv_journal.specs.Sessions.{is_ended}
 use Rattle.sv_journal.specs.View.{JournalView}
@@ -50,15 +50,15 @@ pub quiet-replied : (old core : Core) (before after : JournalView) (rows : List 
 quiet-replied old core before after rows ds h s q d reply is done told quiet = record {
   rules = done.entered.rules;
   standing = record {
-    keeps = subst (Keeps core) (ap (λ (w : Logged). entry_of s (emptied q) w ∷ agreed_history h) told ∙ sym (quiet-entry e h quiet)) done.entered.keeps;
+    keeps = subst (Keeps core) (ap (λ (w : BriefReply). entry_of s (emptied q) w ∷ agreed_history h) told ∙ sym (quiet-entry e h quiet)) done.entered.keeps;
     seats = still-seated old core done.entered.rules done.entered.seats is.seats;
     stands = subst (λ (r : Rules). KeepsBeside r rows ds (e ∷ h)) (sym done.entered.rules) (quiet-stands (core_rules old) rows ds e h quiet refl is.stands);
   };
-  entries = done.entered.entries ∙ ap (λ (w : Logged). before.entries ++ entry_of s q w ∷ []) told;
+  entries = done.entered.entries ∙ ap (λ (w : BriefReply). before.entries ++ entry_of s q w ∷ []) told;
   room = done.entered.room;
   whole =
       done.whole
-      ∙ ap (λ (w : Logged). full_reply (accepted (entry_of s (emptied q) w ∷ agreed_history h)) w) told
+      ∙ ap (λ (w : BriefReply). full_reply (accepted (entry_of s (emptied q) w ∷ agreed_history h)) w) told
       ∙ quiet-whole e h (witnessed_reply (core_rules old) h s q) quiet;
 }
   where
@@ -76,13 +76,13 @@ module _ (old core : Core) (before after : JournalView) (rows : List RowView) (d
   told = noted-reply (core_rules old) h s k results joined good rows (queue_of old) is.stands.reports is.keeps.fits is.keeps.commit ∙ sym answer
 
   abbrev last : ℕ
-  last = commit_of (agreed_history (entry_of s (requests.Done results) (logged.Noted 0) ∷ h))
+  last = commit_of (agreed_history (entry_of s (requests.Done results) (brief.Noted 0) ∷ h))
 
   pub noted-keeps : Keeps core (agreed_history (witnessed_entry (core_rules old) h s (requests.Done results) ∷ h))
   noted-keeps =
-      subst (λ (w : Logged). Keeps core (agreed_history (entry_of s (requests.Done results) w ∷ h))) (sym answer)
+      subst (λ (w : BriefReply). Keeps core (agreed_history (entry_of s (requests.Done results) w ∷ h))) (sym answer)
       (subst (Keeps core)
-      (ap (λ (w : Logged). entry_of s (requests.Done (agreed_results (queue_of old) rows (counted_results (agreed_commit h) rows k results))) w ∷ agreed_history h) (told ∙ answer)
+      (ap (λ (w : BriefReply). entry_of s (requests.Done (agreed_results (queue_of old) rows (counted_results (agreed_commit h) rows k results))) w ∷ agreed_history h) (told ∙ answer)
       ∙ sym (noted-entry (core_rules old) h s k results joined good rows (queue_of old) last is.stands.reports is.keeps.fits is.keeps.commit))
       done.entered.keeps)
 
@@ -96,13 +96,13 @@ module _ (old core : Core) (before after : JournalView) (rows : List RowView) (d
       keeps = noted-keeps;
       seats = still-seated old core done.entered.rules done.entered.seats is.seats;
       stands = subst (λ (r : Rules). KeepsBeside r new made (witnessed_entry (core_rules old) h s (requests.Done results) ∷ h)) (sym done.entered.rules)
-          (subst (λ (w : Logged). KeepsBeside (core_rules old) new made (entry_of s (requests.Done results) w ∷ h)) (sym answer)
+          (subst (λ (w : BriefReply). KeepsBeside (core_rules old) new made (entry_of s (requests.Done results) w ∷ h)) (sym answer)
           (noted-stands (core_rules old) h s k results joined good rows new ds last (sym answer)
-          (subst (λ (w : Logged). (p : ℕ) → agreed_commit (entry_of s (requests.Done results) w ∷ h) < p →
+          (subst (λ (w : BriefReply). (p : ℕ) → agreed_commit (entry_of s (requests.Done results) w ∷ h) < p →
           kept_at new p ≡ with_values k (reported p (counted_results (agreed_commit h) rows k results)) (kept_at rows p)) answer now)
           is.stands));
     };
-    entries = done.entered.entries ∙ ap (λ (w : Logged). before.entries ++ entry_of s (requests.Done results) w ∷ []) told;
+    entries = done.entered.entries ∙ ap (λ (w : BriefReply). before.entries ++ entry_of s (requests.Done results) w ∷ []) told;
     room = done.entered.room;
     whole = done.whole ∙ ap (full_reply (accepted (witnessed_entry (core_rules old) h s (requests.Done results) ∷ h))) told;
   }

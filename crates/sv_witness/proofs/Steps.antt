@@ -9,8 +9,8 @@ use Rattle.sv_wire.specs.declared.message.Request.{Request}
 use Rattle.sv_wire.specs.declared.message.Request.TheVariants as requests
 use Rattle.sv_queue.specs.Queue.{QueueView, entry_at, last_position}
 use Rattle.sv_journal.specs.declared.entry.Entry.{Entry}
-use Rattle.sv_journal.specs.declared.entry.Logged.{Logged}
-use Rattle.sv_journal.specs.declared.entry.Logged.TheVariants as logged
+use Rattle.sv_journal.specs.declared.entry.BriefReply.{BriefReply}
+use Rattle.sv_journal.specs.declared.entry.BriefReply.TheVariants as brief
 use Rattle.sv_journal.specs.History.{Authored, is_noted, client_of, accepted, actions_of, reported, result_at, commit_of, full_reply}
 use Rattle.sv_journal.specs.Answer.{Rules, is_bad_result, is_bad_done, commit_with, relay_of, reply_to_poll}
 use Rattle.sv_journal.proofs.Results.{some_good}
@@ -41,14 +41,14 @@ quiet-stands r rows ds e h quiet reply is = record {
 }
 
 -- A reply in full, by the actions that the history of what was agreed has.
-pub quiet-whole : (e : Entry) (h : List Entry) (w : Logged) → is_noted e.reply ≡ false →
+pub quiet-whole : (e : Entry) (h : List Entry) (w : BriefReply) → is_noted e.reply ≡ false →
     full_reply (accepted (record e { request = emptied e.request } ∷ agreed_history h)) w ≡ full_reply (accepted (e ∷ h)) w
 quiet-whole e h w quiet =
     ap (λ (g : List Entry). full_reply (accepted g) w) (sym (quiet-entry e h quiet)) ∙ ap (λ (A : List Authored). full_reply A w) (accepted-agreed (e ∷ h))
 
 -- ---- Polls
 
-pub poll-none : (r : Rules) (h : List Entry) (s : ℕ) → due_to h s ≡ [] → polled_after agreed r h s ≡ logged.Idle
+pub poll-none : (r : Rules) (h : List Entry) (s : ℕ) → due_to h s ≡ [] → polled_after agreed r h s ≡ brief.Idle
 poll-none r h s none = ap (reply_to_poll r (agreed_history h) s) none
 
 pub poll-some : (r : Rules) (h : List Entry) (s p : ℕ) (rest : List ℕ) → due_to h s ≡ p ∷ rest →
@@ -93,12 +93,12 @@ module _ (r : Rules) (h : List Entry) (s k : ℕ) (results : List Done1) (joined
 
   -- ---- A noted Done
 
-  pub noted-stands : (rows new : List RowView) (ds : List Dispute) (c : ℕ) → logged.Noted c ≡ witnessed_reply r h s (requests.Done results) →
-      ((p : ℕ) → agreed_commit (entry_of s (requests.Done results) (logged.Noted c) ∷ h) < p →
+  pub noted-stands : (rows new : List RowView) (ds : List Dispute) (c : ℕ) → brief.Noted c ≡ witnessed_reply r h s (requests.Done results) →
+      ((p : ℕ) → agreed_commit (entry_of s (requests.Done results) (brief.Noted c) ∷ h) < p →
       kept_at new p ≡ with_values k (reported p (counted_results (agreed_commit h) rows k results)) (kept_at rows p)) → KeepsBeside r rows ds h →
-      KeepsBeside r new (with_disputes (new_disputes rows k (counted_results (agreed_commit h) rows k results)) ds) (entry_of s (requests.Done results) (logged.Noted c) ∷ h)
+      KeepsBeside r new (with_disputes (new_disputes rows k (counted_results (agreed_commit h) rows k results)) ds) (entry_of s (requests.Done results) (brief.Noted c) ∷ h)
   noted-stands rows new ds c reply now is =
-      let e : Entry = entry_of s (requests.Done results) (logged.Noted c) in
+      let e : Entry = entry_of s (requests.Done results) (brief.Noted c) in
       record {
         legal = (reply, is.legal);
         reports = keeps-noted rows e h k results refl refl joined is.reports new now;
@@ -117,17 +117,17 @@ module _ (r : Rules) (h : List Entry) (s k : ℕ) (results : List Done1) (joined
   -- The history of what was agreed has of it the results that brought agreement.
   pub noted-entry : {S : ℕ → List ℕ} {N : ℕ → ℕ → List ℕ} (rows : List RowView) (v : QueueView) (c : ℕ) → KeepsReports rows h →
       QueueFits r.world (accepted (agreed_history h)) (result_at (agreed_history h)) S N v → v.commit ≡ agreed_commit h →
-      agreed_history (entry_of s (requests.Done results) (logged.Noted c) ∷ h)
-      ≡ entry_of s (requests.Done (agreed_results v rows (counted_results (agreed_commit h) rows k results))) (logged.Noted c) ∷ agreed_history h
+      agreed_history (entry_of s (requests.Done results) (brief.Noted c) ∷ h)
+      ≡ entry_of s (requests.Done (agreed_results v rows (counted_results (agreed_commit h) rows k results))) (brief.Noted c) ∷ agreed_history h
   noted-entry rows v c kept f at =
-      ap (λ (q : Request). entry_of s q (logged.Noted c) ∷ agreed_history h)
-      (results-with rows (entry_of s (requests.Done results) (logged.Noted c)) h k results refl refl joined kept v once (known v f at results (accepted-below results none-bad)))
+      ap (λ (q : Request). entry_of s q (brief.Noted c) ∷ agreed_history h)
+      (results-with rows (entry_of s (requests.Done results) (brief.Noted c)) h k results refl refl joined kept v once (known v f at results (accepted-below results none-bad)))
 
   -- So the commit that the core notes is the one that the server notes.
   pub noted-reply : {S : ℕ → List ℕ} {N : ℕ → ℕ → List ℕ} (rows : List RowView) (v : QueueView) → KeepsReports rows h →
       QueueFits r.world (accepted (agreed_history h)) (result_at (agreed_history h)) S N v → v.commit ≡ agreed_commit h →
-      logged.Noted (commit_with (agreed_history h) s (agreed_results v rows (counted_results (agreed_commit h) rows k results))) ≡ noted_after agreed h s (requests.Done results)
-  noted-reply rows v kept f at = sym (ap (λ (g : List Entry). logged.Noted (commit_of g)) (noted-entry rows v 0 kept f at))
+      brief.Noted (commit_with (agreed_history h) s (agreed_results v rows (counted_results (agreed_commit h) rows k results))) ≡ noted_after agreed h s (requests.Done results)
+  noted-reply rows v kept f at = sym (ap (λ (g : List Entry). brief.Noted (commit_of g)) (noted-entry rows v 0 kept f at))
 
   -- None of the results that bring agreement is bad.
   pub agreed-good : (rows : List RowView) (v : QueueView) → list_any (is_bad_result r (agreed_history h) s) (agreed_results v rows (counted_results (agreed_commit h) rows k results)) ≡ false

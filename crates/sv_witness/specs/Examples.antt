@@ -2,7 +2,7 @@
 use Rattle.std.specs.Prelude.{◌≡◌, ℕ, pos, List, [], ◌∷◌, map, reverse, None}
 use Rattle.sv_wire.specs.declared.message.Request.TheVariants as requests
 use Rattle.sv_journal.specs.declared.entry.Entry.{Entry}
-use Rattle.sv_journal.specs.declared.entry.Logged.TheVariants as logged
+use Rattle.sv_journal.specs.declared.entry.BriefReply.TheVariants as brief
 use Rattle.sv_journal.specs.Answer.{Rules}
 use Rattle.sv_journal.specs.Examples.{opened, act, join, done, observe, held, Row}
 use Rattle.sv_journal.specs.History.{entry_of}
@@ -26,96 +26,96 @@ dispute p first second = record { pos = p; first = first; second = second }
 -- Client 0 reports 7 where 1 is right. Its report alone installs nothing; once two others give 1, that is installed.
 abbrev pub liar_is_outvoted_rows : List Row
 liar_is_outvoted_rows =
-    (0, join 0 1 [], logged.Welcome 0 [])
-    ∷ (1, join 1 1 [], logged.Welcome 0 [])
-    ∷ (2, join 2 1 [], logged.Welcome 0 [])
-    ∷ (0, requests.Submit 1 (act (0 ∷ []) 1), logged.Relay 1 0 (held 0 0 ∷ []) (1 ∷ []))
-    ∷ (0, done ((1, 7 ∷ []) ∷ []), logged.Noted 0)
-    ∷ (1, requests.Poll, logged.Relay 0 0 (held 0 0 ∷ []) (1 ∷ []))
-    ∷ (1, done ((1, 1 ∷ []) ∷ []), logged.Noted 0)
-    ∷ (1, requests.Poll, logged.Idle)
-    ∷ (2, requests.Poll, logged.Relay 0 0 (held 0 0 ∷ []) (1 ∷ []))
-    ∷ (2, done ((1, 1 ∷ []) ∷ []), logged.Noted 1)
+    (0, join 0 1 [], brief.Welcome 0 [])
+    ∷ (1, join 1 1 [], brief.Welcome 0 [])
+    ∷ (2, join 2 1 [], brief.Welcome 0 [])
+    ∷ (0, requests.Submit 1 (act (0 ∷ []) 1), brief.Relay 1 0 (held 0 0 ∷ []) (1 ∷ []))
+    ∷ (0, done ((1, 7 ∷ []) ∷ []), brief.Noted 0)
+    ∷ (1, requests.Poll, brief.Relay 0 0 (held 0 0 ∷ []) (1 ∷ []))
+    ∷ (1, done ((1, 1 ∷ []) ∷ []), brief.Noted 0)
+    ∷ (1, requests.Poll, brief.Idle)
+    ∷ (2, requests.Poll, brief.Relay 0 0 (held 0 0 ∷ []) (1 ∷ []))
+    ∷ (2, done ((1, 1 ∷ []) ∷ []), brief.Noted 1)
     ∷ []
 
 -- One client gives one value in two of its sessions: that is one report. An honest one then gives another.
 abbrev pub client_counts_once_rows : List Row
 client_counts_once_rows =
-    (0, join 0 1 [], logged.Welcome 0 [])
-    ∷ (0, requests.Submit 1 (act (0 ∷ []) 1), logged.Relay 1 0 (held 0 0 ∷ []) (1 ∷ []))
-    ∷ (0, done ((1, 7 ∷ []) ∷ []), logged.Noted 0)
-    ∷ (1, join 0 2 [], logged.Welcome 0 [])
-    ∷ (1, requests.Poll, logged.Idle)
-    ∷ (1, requests.Submit 1 (act (0 ∷ []) 1), logged.Relay 1 0 (held 0 0 ∷ []) (1 ∷ []))
-    ∷ (1, done ((1, 7 ∷ []) ∷ []), logged.Noted 0)
+    (0, join 0 1 [], brief.Welcome 0 [])
+    ∷ (0, requests.Submit 1 (act (0 ∷ []) 1), brief.Relay 1 0 (held 0 0 ∷ []) (1 ∷ []))
+    ∷ (0, done ((1, 7 ∷ []) ∷ []), brief.Noted 0)
+    ∷ (1, join 0 2 [], brief.Welcome 0 [])
+    ∷ (1, requests.Poll, brief.Idle)
+    ∷ (1, requests.Submit 1 (act (0 ∷ []) 1), brief.Relay 1 0 (held 0 0 ∷ []) (1 ∷ []))
+    ∷ (1, done ((1, 7 ∷ []) ∷ []), brief.Noted 0)
     ∷ []
 
 -- An action that writes nothing is committed by its first report.
 abbrev pub look_needs_one_rows : List Row
 look_needs_one_rows =
-    (0, join 0 1 [], logged.Welcome 0 [])
-    ∷ (0, requests.Submit 1 (act (0 ∷ []) 0), logged.Relay 1 0 (held 0 0 ∷ []) (1 ∷ []))
-    ∷ (0, done ((1, []) ∷ []), logged.Noted 1)
+    (0, join 0 1 [], brief.Welcome 0 [])
+    ∷ (0, requests.Submit 1 (act (0 ∷ []) 0), brief.Relay 1 0 (held 0 0 ∷ []) (1 ∷ []))
+    ∷ (0, done ((1, []) ∷ []), brief.Noted 1)
     ∷ []
 
 -- The same as the program lets client 0 lie: it reports 2 where 1 is right.
 abbrev pub program_rows : List Row
 program_rows =
-    (0, join 0 1 [], logged.Welcome 0 [])
-    ∷ (1, join 1 1 [], logged.Welcome 0 [])
-    ∷ (2, join 2 1 [], logged.Welcome 0 [])
-    ∷ (0, requests.Submit 1 (act (0 ∷ []) 1), logged.Relay 1 0 (held 0 0 ∷ []) (1 ∷ []))
-    ∷ (1, requests.Poll, logged.Relay 0 0 (held 0 0 ∷ []) (1 ∷ []))
-    ∷ (2, requests.Poll, logged.Relay 0 0 (held 0 0 ∷ []) (1 ∷ []))
-    ∷ (0, done ((1, 2 ∷ []) ∷ []), logged.Noted 0)
-    ∷ (1, done ((1, 1 ∷ []) ∷ []), logged.Noted 0)
-    ∷ (2, done ((1, 1 ∷ []) ∷ []), logged.Noted 1)
+    (0, join 0 1 [], brief.Welcome 0 [])
+    ∷ (1, join 1 1 [], brief.Welcome 0 [])
+    ∷ (2, join 2 1 [], brief.Welcome 0 [])
+    ∷ (0, requests.Submit 1 (act (0 ∷ []) 1), brief.Relay 1 0 (held 0 0 ∷ []) (1 ∷ []))
+    ∷ (1, requests.Poll, brief.Relay 0 0 (held 0 0 ∷ []) (1 ∷ []))
+    ∷ (2, requests.Poll, brief.Relay 0 0 (held 0 0 ∷ []) (1 ∷ []))
+    ∷ (0, done ((1, 2 ∷ []) ∷ []), brief.Noted 0)
+    ∷ (1, done ((1, 1 ∷ []) ∷ []), brief.Noted 0)
+    ∷ (2, done ((1, 1 ∷ []) ∷ []), brief.Noted 1)
     ∷ []
 
 -- A position that is committed is beyond dispute: a later report of it does not count.
 abbrev pub late_report_rows : List Row
 late_report_rows =
-    (0, join 0 1 [], logged.Welcome 0 [])
-    ∷ (1, join 1 1 [], logged.Welcome 0 [])
-    ∷ (2, join 2 1 [], logged.Welcome 0 [])
-    ∷ (0, requests.Submit 1 (act (0 ∷ []) 1), logged.Relay 1 0 (held 0 0 ∷ []) (1 ∷ []))
-    ∷ (1, requests.Poll, logged.Relay 0 0 (held 0 0 ∷ []) (1 ∷ []))
-    ∷ (2, requests.Poll, logged.Relay 0 0 (held 0 0 ∷ []) (1 ∷ []))
-    ∷ (0, done ((1, 1 ∷ []) ∷ []), logged.Noted 0)
-    ∷ (1, done ((1, 1 ∷ []) ∷ []), logged.Noted 1)
-    ∷ (2, done ((1, 7 ∷ []) ∷ []), logged.Noted 1)
+    (0, join 0 1 [], brief.Welcome 0 [])
+    ∷ (1, join 1 1 [], brief.Welcome 0 [])
+    ∷ (2, join 2 1 [], brief.Welcome 0 [])
+    ∷ (0, requests.Submit 1 (act (0 ∷ []) 1), brief.Relay 1 0 (held 0 0 ∷ []) (1 ∷ []))
+    ∷ (1, requests.Poll, brief.Relay 0 0 (held 0 0 ∷ []) (1 ∷ []))
+    ∷ (2, requests.Poll, brief.Relay 0 0 (held 0 0 ∷ []) (1 ∷ []))
+    ∷ (0, done ((1, 1 ∷ []) ∷ []), brief.Noted 0)
+    ∷ (1, done ((1, 1 ∷ []) ∷ []), brief.Noted 1)
+    ∷ (2, done ((1, 7 ∷ []) ∷ []), brief.Noted 1)
     ∷ []
 
 -- A position whose result is agreed, but waits for one before it, is still open to dispute. Polls ask for the lowest position first.
 abbrev pub waiting_result_rows : List Row
 waiting_result_rows =
-    (0, join 0 1 [], logged.Welcome 0 [])
-    ∷ (1, join 1 1 [], logged.Welcome 0 [])
-    ∷ (2, join 2 1 [], logged.Welcome 0 [])
-    ∷ (0, requests.Submit 1 (act (0 ∷ []) 1), logged.Relay 1 0 (held 0 0 ∷ []) (1 ∷ []))
-    ∷ (0, requests.Submit 2 (act (1 ∷ []) 1), logged.Relay 2 0 (held 1 0 ∷ []) (2 ∷ []))
-    ∷ (1, requests.Poll, logged.Relay 0 0 (held 0 0 ∷ []) (1 ∷ []))
-    ∷ (1, requests.Poll, logged.Relay 0 0 (held 1 0 ∷ []) (2 ∷ []))
-    ∷ (2, requests.Poll, logged.Relay 0 0 (held 0 0 ∷ []) (1 ∷ []))
-    ∷ (2, requests.Poll, logged.Relay 0 0 (held 1 0 ∷ []) (2 ∷ []))
-    ∷ (0, done ((2, 5 ∷ []) ∷ []), logged.Noted 0)
-    ∷ (1, done ((2, 5 ∷ []) ∷ []), logged.Noted 0)
-    ∷ (2, done ((1, 1 ∷ []) ∷ (2, 7 ∷ []) ∷ []), logged.Noted 0)
-    ∷ (1, done ((1, 1 ∷ []) ∷ []), logged.Noted 2)
+    (0, join 0 1 [], brief.Welcome 0 [])
+    ∷ (1, join 1 1 [], brief.Welcome 0 [])
+    ∷ (2, join 2 1 [], brief.Welcome 0 [])
+    ∷ (0, requests.Submit 1 (act (0 ∷ []) 1), brief.Relay 1 0 (held 0 0 ∷ []) (1 ∷ []))
+    ∷ (0, requests.Submit 2 (act (1 ∷ []) 1), brief.Relay 2 0 (held 1 0 ∷ []) (2 ∷ []))
+    ∷ (1, requests.Poll, brief.Relay 0 0 (held 0 0 ∷ []) (1 ∷ []))
+    ∷ (1, requests.Poll, brief.Relay 0 0 (held 1 0 ∷ []) (2 ∷ []))
+    ∷ (2, requests.Poll, brief.Relay 0 0 (held 0 0 ∷ []) (1 ∷ []))
+    ∷ (2, requests.Poll, brief.Relay 0 0 (held 1 0 ∷ []) (2 ∷ []))
+    ∷ (0, done ((2, 5 ∷ []) ∷ []), brief.Noted 0)
+    ∷ (1, done ((2, 5 ∷ []) ∷ []), brief.Noted 0)
+    ∷ (2, done ((1, 1 ∷ []) ∷ (2, 7 ∷ []) ∷ []), brief.Noted 0)
+    ∷ (1, done ((1, 1 ∷ []) ∷ []), brief.Noted 2)
     ∷ []
 
 -- What was seen counts as sent: client 1 may report it, and no Poll of its session is sent it again. Its commit is that of what was agreed.
 abbrev pub observer_reports_rows : List Row
 observer_reports_rows =
-    (0, join 0 1 [], logged.Welcome 0 [])
-    ∷ (1, join 1 1 [], logged.Welcome 0 [])
-    ∷ (0, requests.Submit 1 (act (0 ∷ []) 1), logged.Relay 1 0 (held 0 0 ∷ []) (1 ∷ []))
-    ∷ (1, observe (0 ∷ []), logged.Seen 1 0 (held 0 0 ∷ []) (1 ∷ []))
-    ∷ (1, requests.Poll, logged.Idle)
-    ∷ (1, done ((1, 1 ∷ []) ∷ []), logged.Noted 0)
-    ∷ (1, observe (0 ∷ []), logged.Seen 1 0 [] [])
-    ∷ (0, done ((1, 1 ∷ []) ∷ []), logged.Noted 1)
-    ∷ (1, observe (0 ∷ []), logged.Seen 1 1 [] [])
+    (0, join 0 1 [], brief.Welcome 0 [])
+    ∷ (1, join 1 1 [], brief.Welcome 0 [])
+    ∷ (0, requests.Submit 1 (act (0 ∷ []) 1), brief.Relay 1 0 (held 0 0 ∷ []) (1 ∷ []))
+    ∷ (1, observe (0 ∷ []), brief.Seen 1 0 (held 0 0 ∷ []) (1 ∷ []))
+    ∷ (1, requests.Poll, brief.Idle)
+    ∷ (1, done ((1, 1 ∷ []) ∷ []), brief.Noted 0)
+    ∷ (1, observe (0 ∷ []), brief.Seen 1 0 [] [])
+    ∷ (0, done ((1, 1 ∷ []) ∷ []), brief.Noted 1)
+    ∷ (1, observe (0 ∷ []), brief.Seen 1 1 [] [])
     ∷ []
 
 abbrev pub rules : Rules

@@ -86,12 +86,12 @@ fn ask_line(
 
 fn note(journal: &mut Journal, asked: Asked, answer: Answer) -> Result<(), Fail> {
     let Asked { session, request } = asked;
-    let Answer { logged, reply } = answer;
+    let Answer { brief, reply } = answer;
     drop(reply);
     let entry = Line {
         session,
         request,
-        reply: logged,
+        reply: brief,
     };
     if let Err(error) = journal.reserve(1) {
         drop(entry);

@@ -2,7 +2,7 @@
 use std::alloc::{AllocError, Global};
 use std::test::Fail;
 use sv_journal::{
-    Entry, Journal, Logged, append_held, append_objects, append_value, print_journal,
+    Entry, Journal, BriefReply, append_held, append_objects, append_value, print_journal,
     relays_name_accepted,
 };
 use sv_lists::List;
@@ -47,16 +47,16 @@ fn submit(alloc: Global, seq: u32, object: u16) -> Result<Request, AllocError> {
     })
 }
 
-fn welcome(alloc: Global) -> Logged {
-    Logged::Welcome {
+fn welcome(alloc: Global) -> BriefReply {
+    BriefReply::Welcome {
         commit: 0,
         head: List::new(alloc),
     }
 }
 
 /// A relay without base values.
-fn relay(alloc: Global, seq: u32, positions: &[u32]) -> Result<Logged, AllocError> {
-    Ok(Logged::Relay {
+fn relay(alloc: Global, seq: u32, positions: &[u32]) -> Result<BriefReply, AllocError> {
+    Ok(BriefReply::Relay {
         seq,
         commit: 0,
         head: List::new(alloc),
@@ -65,7 +65,7 @@ fn relay(alloc: Global, seq: u32, positions: &[u32]) -> Result<Logged, AllocErro
 }
 
 // A tree that is let go at the end of its scope makes a long proof; a call that takes it makes none.
-fn add(journal: &mut Journal, session: u16, request: Request, reply: Logged) -> Result<(), Fail> {
+fn add(journal: &mut Journal, session: u16, request: Request, reply: BriefReply) -> Result<(), Fail> {
     let entry = Entry {
         session,
         request,
@@ -88,7 +88,7 @@ pub fn add_made(
     journal: &mut Journal,
     session: u16,
     request: Request,
-    reply: Result<Logged, AllocError>,
+    reply: Result<BriefReply, AllocError>,
 ) -> Result<(), Fail> {
     match reply {
         Ok(reply) => add(journal, session, request, reply),
@@ -148,7 +148,7 @@ fn has_room(journal: &mut Journal) -> Result<bool, AllocError> {
     journal.push(Entry {
         session: 7,
         request: Request::End,
-        reply: Logged::Bye,
+        reply: BriefReply::Bye,
     });
     Ok(journal.spare() == spare - 1 && journal.len() == 1 && journal.entry(0).session == 7)
 }
@@ -218,8 +218,8 @@ fn repeated_and_strange_relays_accept_nothing(rt: HostRuntime) -> Result<(), Fai
 }
 
 /// What was seen, with no base values.
-fn seen(alloc: Global, positions: &[u32]) -> Result<Logged, AllocError> {
-    Ok(Logged::Seen {
+fn seen(alloc: Global, positions: &[u32]) -> Result<BriefReply, AllocError> {
+    Ok(BriefReply::Seen {
         last: 1,
         commit: 0,
         head: List::new(alloc),
@@ -257,7 +257,7 @@ fn nothing_is_seen_that_was_not_accepted(rt: HostRuntime) -> Result<(), Fail> {
 fn add_two(alloc: Global, journal: &mut Journal) -> Result<(), Fail> {
     add_joined(alloc, journal, 3, 4)?;
     add_accepted(alloc, journal, 1, 30)?;
-    add(journal, 3, Request::Poll, Logged::Idle)?;
+    add(journal, 3, Request::Poll, BriefReply::Idle)?;
     add_accepted(alloc, journal, 2, 20)
 }
 

@@ -7,7 +7,7 @@ use super::scans::{
     written,
 };
 use std::alloc::{AllocError, Global};
-use sv_journal::{Entry, Logged};
+use sv_journal::{Entry, BriefReply};
 use sv_lists::List;
 use sv_wire::{Done1, ObjectValue, Request};
 use sv_world::{
@@ -44,7 +44,7 @@ pub fn reply_to(
     entries: &[Entry],
     session: u16,
     request: &Request,
-) -> Result<Logged, AllocError> {
+) -> Result<BriefReply, AllocError> {
     let told = outcomes(alloc, entries)?;
     let actions = accepted(alloc, entries, told.as_slice())?;
     let last = last(told.as_slice());
@@ -61,14 +61,14 @@ pub fn reply_to(
     .reply_to(request)
 }
 
-fn refused(code: u8, detail: u32) -> Result<Logged, AllocError> {
-    Ok(Logged::Refused { code, detail })
+fn refused(code: u8, detail: u32) -> Result<BriefReply, AllocError> {
+    Ok(BriefReply::Refused { code, detail })
 }
 
 impl<'a> Past<'a> {
-    fn reply_to(&self, request: &Request) -> Result<Logged, AllocError> {
+    fn reply_to(&self, request: &Request) -> Result<BriefReply, AllocError> {
         if let Request::End = request {
-            return Ok(Logged::Bye);
+            return Ok(BriefReply::Bye);
         }
         if is_over(self.entries, self.session) {
             return refused(4, 0);
@@ -92,7 +92,7 @@ impl<'a> Past<'a> {
         client: ClientId,
         life: u32,
         interest: &[ObjectId],
-    ) -> Result<Logged, AllocError> {
+    ) -> Result<BriefReply, AllocError> {
         let greatest = life_of(self.entries, client.0);
         let objects = self.rules.shape.objects;
         if client_of(self.entries, self.session).is_some() {
@@ -107,14 +107,14 @@ impl<'a> Past<'a> {
         {
             refused(8, 0)
         } else {
-            Ok(Logged::Welcome {
+            Ok(BriefReply::Welcome {
                 commit: self.commit,
                 head: self.held(interest)?,
             })
         }
     }
 
-    fn reply_to_member(&self, request: &Request) -> Result<Logged, AllocError> {
+    fn reply_to_member(&self, request: &Request) -> Result<BriefReply, AllocError> {
         let Some(client) = client_of(self.entries, self.session) else {
             return refused(2, 0);
         };
@@ -123,7 +123,7 @@ impl<'a> Past<'a> {
             Request::Done { results } => self.reply_to_done(results.as_slice()),
             Request::Poll => self.reply_to_poll(),
             Request::Observe { objects, .. } => self.reply_to_observe(objects.as_slice()),
-            _ => Ok(Logged::Bye),
+            _ => Ok(BriefReply::Bye),
         }
     }
 
@@ -144,7 +144,7 @@ impl<'a> Past<'a> {
         client: u16,
         seq: u32,
         action: &Action,
-    ) -> Result<Logged, AllocError> {
+    ) -> Result<BriefReply, AllocError> {
         let Some(kept) = self.kept(client, seq) else {
             return self.reply_to_new(client, seq, action);
         };
@@ -152,29 +152,29 @@ impl<'a> Past<'a> {
             return Ok(self.dropped_at(seq, kept.entry));
         }
         if kept.pos <= self.commit {
-            return Ok(Logged::Settled { seq, pos: kept.pos });
+            return Ok(BriefReply::Settled { seq, pos: kept.pos });
         }
         self.relay(self.actions, seq, kept.pos)
     }
 
     /// The same as an earlier reply.
-    fn dropped_at(&self, seq: u32, entry: usize) -> Logged {
+    fn dropped_at(&self, seq: u32, entry: usize) -> BriefReply {
         match self.entries.get(entry) {
             Some(
                 Entry {
-                    reply: Logged::Dropped { chain, far, .. },
+                    reply: BriefReply::Dropped { chain, far, .. },
                     ..
                 },
-            ) => Logged::Dropped {
+            ) => BriefReply::Dropped {
                 seq,
                 chain: *chain,
                 far: *far,
             },
-            _ => Logged::Idle,
+            _ => BriefReply::Idle,
         }
     }
 
-    fn reply_to_new(&self, client: u16, seq: u32, action: &Action) -> Result<Logged, AllocError> {
+    fn reply_to_new(&self, client: u16, seq: u32, action: &Action) -> Result<BriefReply, AllocError> {
         let next = next_seq(self.told, client);
         if seq != next {
             return refused(5, next);
@@ -185,7 +185,7 @@ impl<'a> Past<'a> {
         }
     }
 
-    fn reply_to_good(&self, seq: u32, action: &Action) -> Result<Logged, AllocError> {
+    fn reply_to_good(&self, seq: u32, action: &Action) -> Result<BriefReply, AllocError> {
         let pos = self.last.saturating_add(1);
         let mut actions = Vec::from_slice(self.alloc, self.actions)?;
         actions.push(action)?;
@@ -195,12 +195,12 @@ impl<'a> Past<'a> {
         if chain > u32::from(self.rules.bound)
             || self.rules.reach.is_some_and(|reach| far > reach)
         {
-            return Ok(Logged::Dropped { seq, chain, far });
+            return Ok(BriefReply::Dropped { seq, chain, far });
         }
         self.relay(actions.as_slice(), seq, pos)
     }
 
-    fn reply_to_done(&self, results: &[Done1]) -> Result<Logged, AllocError> {
+    fn reply_to_done(&self, results: &[Done1]) -> Result<BriefReply, AllocError> {
         let mut before = 0;
         let mut is_bad = results.is_empty() || results.len() > 33;
         for result in results {
@@ -210,7 +210,7 @@ impl<'a> Past<'a> {
         if is_bad {
             return refused(7, 0);
         }
-        Ok(Logged::Noted {
+        Ok(BriefReply::Noted {
             commit: commit_with(self.entries, self.last, results),
         })
     }
@@ -230,17 +230,17 @@ impl<'a> Past<'a> {
                     .any(|value| value.len() != attrs))
     }
 
-    fn reply_to_poll(&self) -> Result<Logged, AllocError> {
+    fn reply_to_poll(&self) -> Result<BriefReply, AllocError> {
         for pos in self.commit.saturating_add(1)..=self.last {
             if result_at(self.entries, pos).is_none() && self.is_abandoned(pos) {
                 return self.relay(self.actions, 0, pos);
             }
         }
-        Ok(Logged::Idle)
+        Ok(BriefReply::Idle)
     }
 
     /// The objects at the greatest position of which the session lacks few enough.
-    fn reply_to_observe(&self, objects: &[ObjectId]) -> Result<Logged, AllocError> {
+    fn reply_to_observe(&self, objects: &[ObjectId]) -> Result<BriefReply, AllocError> {
         let greatest = self.rules.shape.objects;
         if objects.is_empty()
             || objects.len() > 16
@@ -254,11 +254,11 @@ impl<'a> Past<'a> {
                 return Ok(seen);
             }
         }
-        Ok(Logged::Idle)
+        Ok(BriefReply::Idle)
     }
 
     /// What the session is shown at a position, where that is few enough: what an action would be sent that reads the objects behind it.
-    fn seen_at(&self, objects: &[ObjectId], last: u32) -> Result<Option<Logged>, AllocError> {
+    fn seen_at(&self, objects: &[ObjectId], last: u32) -> Result<Option<BriefReply>, AllocError> {
         let reading = Action {
             reads: Reads::from_slice(self.alloc, objects)?,
             mask: 0,
@@ -270,7 +270,7 @@ impl<'a> Past<'a> {
         seen
     }
 
-    fn seen_by(&self, reading: &Action, last: u32) -> Result<Option<Logged>, AllocError> {
+    fn seen_by(&self, reading: &Action, last: u32) -> Result<Option<BriefReply>, AllocError> {
         let mut actions = Vec::new(self.alloc);
         for action in self.actions.iter().take(last as usize) {
             actions.push(*action)?;
@@ -282,7 +282,7 @@ impl<'a> Past<'a> {
         if positions.len() > 33 {
             return Ok(None);
         }
-        Ok(Some(Logged::Seen {
+        Ok(Some(BriefReply::Seen {
             last,
             commit: self.commit,
             head: self.held(bases.as_slice())?,
@@ -323,10 +323,10 @@ impl<'a> Past<'a> {
     }
 
     /// The relay of a position to the session.
-    fn relay(&self, actions: &[&Action], seq: u32, pos: u32) -> Result<Logged, AllocError> {
+    fn relay(&self, actions: &[&Action], seq: u32, pos: u32) -> Result<BriefReply, AllocError> {
         let positions = self.lacking(actions, pos, pos)?;
         let objects = self.base_objects(actions, positions.as_slice())?;
-        Ok(Logged::Relay {
+        Ok(BriefReply::Relay {
             seq,
             commit: self.commit,
             head: self.held(objects.as_slice())?,

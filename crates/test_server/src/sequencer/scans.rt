@@ -2,7 +2,7 @@
 //!
 //! Positions count from 1, and an action at a position is the one before it in `actions`.
 use std::alloc::{AllocError, Global};
-use sv_journal::{Entry, Logged};
+use sv_journal::{Entry, BriefReply};
 use sv_lists::List;
 use sv_wire::{Done1, ObjectValue, Request};
 use sv_world::{Action, Value, is_in_mask};
@@ -15,8 +15,8 @@ pub struct Told {
     pub pos: u32,
 }
 
-pub fn is_welcome(reply: &Logged) -> bool {
-    matches!(reply, Logged::Welcome { .. })
+pub fn is_welcome(reply: &BriefReply) -> bool {
+    matches!(reply, BriefReply::Welcome { .. })
 }
 
 /// The client and the life of a Join.
@@ -27,10 +27,10 @@ fn joining(request: &Request) -> Option<(u16, u32)> {
     }
 }
 
-fn is_last(reply: &Logged) -> bool {
+fn is_last(reply: &BriefReply) -> bool {
     matches!(
         reply,
-        Logged::Bye | Logged::Refused { code: 1, .. } | Logged::Refused { code: 9, .. }
+        BriefReply::Bye | BriefReply::Refused { code: 1, .. } | BriefReply::Refused { code: 9, .. }
     )
 }
 
@@ -112,8 +112,8 @@ fn told_by(entries: &[Entry], at: usize, told: &[Told]) -> Option<Told> {
     };
     let client = client_of(entries.get(..at)?, entry.session)?;
     let pos = match &entry.reply {
-        Logged::Relay { .. } => last(told).saturating_add(1),
-        Logged::Dropped { .. } => 0,
+        BriefReply::Relay { .. } => last(told).saturating_add(1),
+        BriefReply::Dropped { .. } => 0,
         _ => return None,
     };
     if *seq != next_seq(told, client) {
@@ -199,15 +199,15 @@ pub fn last_writer(actions: &[&Action], object: u16, below: u32) -> u32 {
     0
 }
 
-fn positions_in(reply: &Logged) -> &[u32] {
+fn positions_in(reply: &BriefReply) -> &[u32] {
     match reply {
-        Logged::Relay { positions, .. } => positions.as_slice(),
-        Logged::Seen { positions, .. } => positions.as_slice(),
+        BriefReply::Relay { positions, .. } => positions.as_slice(),
+        BriefReply::Seen { positions, .. } => positions.as_slice(),
         _ => &[],
     }
 }
 
-pub fn names(reply: &Logged, pos: u32) -> bool {
+pub fn names(reply: &BriefReply, pos: u32) -> bool {
     positions_in(reply).iter().any(|named| *named == pos)
 }
 
@@ -216,11 +216,11 @@ pub fn is_sent(entries: &[Entry], session: u16, pos: u32) -> bool {
 }
 
 /// The commit of a reply whose head names an object.
-fn named_at(reply: &Logged, object: u16) -> Option<u32> {
+fn named_at(reply: &BriefReply, object: u16) -> Option<u32> {
     let (commit, head): (u32, &List<ObjectValue>) = match reply {
-        Logged::Welcome { commit, head } => (*commit, head),
-        Logged::Relay { commit, head, .. } => (*commit, head),
-        Logged::Seen { commit, head, .. } => (*commit, head),
+        BriefReply::Welcome { commit, head } => (*commit, head),
+        BriefReply::Relay { commit, head, .. } => (*commit, head),
+        BriefReply::Seen { commit, head, .. } => (*commit, head),
         _ => return None,
     };
     if head.as_slice().iter().any(|held| held.object.0 == object) {
@@ -272,7 +272,7 @@ pub fn reported(results: &[Done1], pos: u32) -> Option<&List<Value>> {
 /// The result of a position: what the first Done that names it, and was noted, reports.
 pub fn result_at(entries: &[Entry], pos: u32) -> Option<&List<Value>> {
     for entry in entries {
-        if let (Request::Done { results }, Logged::Noted { .. }) = (&entry.request, &entry.reply) {
+        if let (Request::Done { results }, BriefReply::Noted { .. }) = (&entry.request, &entry.reply) {
             if let Some(values) = reported(results.as_slice(), pos) {
                 return Some(values);
             }

@@ -10,7 +10,7 @@ use std::sync::Wait;
 use std::test::Fail;
 use std::thread;
 use std::thread::Threads;
-use sv_journal::{Entry, Logged};
+use sv_journal::{Entry, BriefReply};
 use sv_lists::List;
 use sv_lock::{Pass, SeqLock};
 use sv_sequencer::Sequencer;
@@ -79,8 +79,8 @@ fn is_visit(entries: &[Entry], session: u16) -> bool {
     let mut count = 0u32;
     for entry in entries.iter().filter(|entry| entry.session == session) {
         let is_right = match (&entry.request, &entry.reply) {
-            (Request::Join { .. }, Logged::Welcome { .. }) => count == 0,
-            (Request::Poll, Logged::Idle) => count > 0,
+            (Request::Join { .. }, BriefReply::Welcome { .. }) => count == 0,
+            (Request::Poll, BriefReply::Idle) => count > 0,
             _ => false,
         };
         if !is_right {

@@ -5,8 +5,8 @@ use Rattle.sv_world.specs.Control.{is_in, IsClosed}
 use Rattle.sv_world.proofs.Needs.{needed-closed_writer}
 use Rattle.sv_wire.specs.declared.message.ObjectValue.{ObjectValue}
 use Rattle.sv_wire.specs.declared.message.Reply.TheVariants as replies
-use Rattle.sv_journal.specs.declared.entry.Logged.{Logged}
-use Rattle.sv_journal.specs.declared.entry.Logged.TheVariants as logged
+use Rattle.sv_journal.specs.declared.entry.BriefReply.{BriefReply}
+use Rattle.sv_journal.specs.declared.entry.BriefReply.TheVariants as brief
 use Rattle.sv_journal.specs.History.{Authored, accepted, actions_of, result_at, commit_of, full_reply}
 use Rattle.sv_journal.specs.Sessions.{positions_in, sent_to}
 use Rattle.sv_journal.specs.Answer.{relay_of}
@@ -74,7 +74,7 @@ returns-clause-ok g c =
     let w = with_action v author seq (action_in q) in
     let Q = c.take_in.new.queue in
     let n = Q.commit in
-    let l = logged.Relay seq n x.head x.positions in
+    let l = brief.Relay seq n x.head x.positions in
     let sent = c.send-answer.ensures in
     let next = c.note.new.rows.items in
     let at = c.requires.1.0 in
@@ -89,14 +89,14 @@ returns-clause-ok g c =
     subst (λ (u : QueueView). All (IsUncommitted w) (lacking u slot (last_position u)) → All (IsUncommitted w) x.positions) pushed
     (λ all. subst (All (IsUncommitted w)) (sym c.in_ok-relayed.ensures.positions) all) (lacking-within w slot (last_position w) (pushed-last v author seq (action_in q))) in
     let said : l ≡ relay_of (core_rules a) h (actions_of h ++ action_in q ∷ []) s seq (suc (length (actions_of h))) =
-    ap (λ xs. logged.Relay seq n xs x.positions) c.in_ok-relayed.ensures.head
-    ∙ ap (logged.Relay seq n (held_in Q (base_objects Q slot (last_position Q)))) c.in_ok-relayed.ensures.positions
-    ∙ ap (λ (u : QueueView). logged.Relay seq u.commit (held_in u (base_objects u slot (last_position u))) (lacking u slot (last_position u))) pushed
+    ap (λ xs. brief.Relay seq n xs x.positions) c.in_ok-relayed.ensures.head
+    ∙ ap (brief.Relay seq n (held_in Q (base_objects Q slot (last_position Q)))) c.in_ok-relayed.ensures.positions
+    ∙ ap (λ (u : QueueView). brief.Relay seq u.commit (held_in u (base_objects u slot (last_position u))) (lacking u slot (last_position u))) pushed
     ∙ relay-new (core_rules a) h v w S N (authored_by m seq q) slot s seq (ap (sent_at h) at) (ap (named_at h) at) small k.commit refl refl refl early f fitted in
     let closed : IsClosed (actions_of h ++ action_in q ∷ []) (commit_of h) (sent_to h s) (λ p. is_in p x.positions) =
     subst (λ ps. IsClosed (actions_of h ++ action_in q ∷ []) (commit_of h) (sent_to h s) (λ p. is_in p ps)) (sym (ap positions_in said))
     (λ p o. needed-closed_writer (actions_of h ++ action_in q ∷ []) (commit_of h) (sent_to h s) (suc (length (actions_of h))) p o) in
-    let rows = subst (λ (o : Logged). AreAfter slot (entry_of s q o) a.sessions.items next) sent.logged (record { count = c.note.ensures.count; rows = c.note.ensures.rows }) in
+    let rows = subst (λ (o : BriefReply). AreAfter slot (entry_of s q o) a.sessions.items next) sent.brief (record { count = c.note.ensures.count; rows = c.note.ensures.rows }) in
     let items : x.items ≡ map (item_in w) x.positions =
     subst (λ (u : QueueView). x.items ≡ map (item_in u) x.positions) pushed
     (c.in_ok-relayed.ensures.items ∙ ap (map (item_in Q)) (sym c.in_ok-relayed.ensures.positions)) in
@@ -104,7 +104,7 @@ returns-clause-ok g c =
     subst (λ (A : List Authored). replies.Relay seq n x.sent_head x.items ≡ full_reply A l) (sym (accepted-next (entry_of s q l) h m seq refl c.requires.1.1.1.0))
     (relayed-whole a.opened.world (accepted h ++ authored_by m seq q ∷ []) (result_at h) S N w seq n x.head x.sent_head x.positions x.items fitted
     (c.in_ok-relayed.ensures.sent_head ∙ sym c.in_ok-relayed.ensures.head) items within) in
-    carried a _ h slot s q (decisions.Accept m seq) _ l refl refl rows sent.logged said
+    carried a _ h slot s q (decisions.Accept m seq) _ l refl refl rows sent.brief said
     (subst (λ (u : QueueView). Agrees (core_rules a) (entry_of s q l ∷ h) u next c.take_in.new.clients a.owed)
     (sym (sent.queue ∙ ap (λ (u : QueueView). given_all (marked_all u x.positions slot) x.head slot) pushed))
     (agree-accept (core_rules a) h v a.sessions.items next a.clients c.take_in.new.clients a.owed slot s q m seq n (suc (last_position v)) x.head x.positions

@@ -19,11 +19,11 @@ returns g c =
     let s = c.args.seat.session in
     let q = c.args.request.now in
     let d = c.args.decision in
-    let l = c.plain_answer-answer.result.logged in
+    let l = c.plain_answer-answer.result.brief in
     let k = c.requires.0 in
     let next = c.note.new.rows.items in
     let more = c.requires.1.1.0 in
-    let told = c.plain_answer-answer.ensures.logged (core_rules a) g.h s q in
+    let told = c.plain_answer-answer.ensures.brief (core_rules a) g.h s q in
     let quiet = subst (IsQuietEntry g.h s q) (sym told) (quiet-decided (core_rules a) g.h s q d c.requires.1.1.1.1 c.requires.1.1.1.0) in
     let rows : AreAfter slot (entry_of s q l) a.sessions.items next = record { count = c.note.ensures.count; rows = c.note.ensures.rows } in
     carried a _ g.h slot s q d _ l refl refl rows refl told

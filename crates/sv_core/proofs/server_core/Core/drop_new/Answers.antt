@@ -1,6 +1,6 @@
 -- What the check leaves to prove of `Core::drop_new`.
 use Rattle.std.proofs.Common.{refl, arith}
-use Rattle.sv_journal.specs.declared.entry.Logged.TheVariants as logged
+use Rattle.sv_journal.specs.declared.entry.BriefReply.TheVariants as brief
 use Rattle.sv_journal.specs.History.{Dropped}
 use Rattle.sv_core.specs.declared.decision.Decision.TheVariants as decisions
 use Rattle.sv_core.specs.Cores.{core_rules}
@@ -23,7 +23,7 @@ returns-clause-ok g c =
     let q = c.args.request.now in
     let k = c.args.id.client in
     let seq = c.args.id.seq in
-    let l = logged.Dropped seq c.args.found.count c.args.found.far in
+    let l = brief.Dropped seq c.args.found.count c.args.found.far in
     let rows : AreAfter slot (entry_of s q l) a.sessions.items c.note.new.rows.items = record { count = c.note.ensures.count; rows = c.note.ensures.rows } in
     carried a _ g.h slot s q (decisions.Drop k seq c.args.found.count c.args.found.far) _ l refl refl rows refl refl
     (agree-settled (core_rules a) g.h a.queue a.sessions.items c.note.new.rows.items a.clients c.add_outcome.new.self a.owed slot s q l k seq (Dropped c.args.found.count c.args.found.far)

@@ -1,7 +1,7 @@
 -- What the check leaves to prove of `Core::end`.
 use Rattle.std.proofs.Common.{◌≡◌, ◌≤◌, ◌-◌, ◌+◌, false, true, refl, sym, ◌∙◌, ap, arith}
 use Rattle.sv_wire.specs.declared.message.Request.TheVariants as requests
-use Rattle.sv_journal.specs.declared.entry.Logged.TheVariants as logged
+use Rattle.sv_journal.specs.declared.entry.BriefReply.TheVariants as brief
 use Rattle.sv_core.specs.Cores.{core_rules}
 use Rattle.sv_core.specs.Rows.{row_at, owes_end, count_rows}
 use Rattle.sv_journal.specs.History.{entry_of}
@@ -21,12 +21,12 @@ overflow_sub-self g c =
 
 pub returns-clause-seats : goal.returns-clause-seats
 returns-clause-seats g c = λ i.
-    seats-same c.args.seat.slot (entry_of c.args.seat.session requests.End logged.Bye) c.args.self.now.sessions.items c.note.new.rows.items
+    seats-same c.args.seat.slot (entry_of c.args.seat.session requests.End brief.Bye) c.args.self.now.sessions.items c.note.new.rows.items
     (record { count = c.note.ensures.count; rows = c.note.ensures.rows }) i
 
 pub returns-clause-count : goal.returns-clause-count
 returns-clause-count g c =
-    seated-same c.args.seat.slot (entry_of c.args.seat.session requests.End logged.Bye) c.args.self.now.sessions.items c.note.new.rows.items
+    seated-same c.args.seat.slot (entry_of c.args.seat.session requests.End brief.Bye) c.args.self.now.sessions.items c.note.new.rows.items
     (record { count = c.note.ensures.count; rows = c.note.ensures.rows })
 
 pub returns-clause-owed : goal.returns-clause-owed
@@ -34,9 +34,9 @@ returns-clause-owed g c =
     let a = c.args.self.now in
     let s = c.args.seat.session in
     let k = c.requires.0 in
-    let rows : AreAfter c.args.seat.slot (entry_of c.args.seat.session requests.End logged.Bye) a.sessions.items c.note.new.rows.items = record { count = c.note.ensures.count; rows = c.note.ensures.rows } in
+    let rows : AreAfter c.args.seat.slot (entry_of c.args.seat.session requests.End brief.Bye) a.sessions.items c.note.new.rows.items = record { count = c.note.ensures.count; rows = c.note.ensures.rows } in
     let first : (row_at a.sessions.items c.args.seat.slot).ended ≡ false = (k.session_rows c.args.seat.slot s c.requires.1.0).ended ∙ c.requires.1.1 in
-    let falls = owed-end c.args.seat.slot s (entry_of s requests.End logged.Bye) a.sessions.items c.note.new.rows.items rows refl c.requires.1.0 first in
+    let falls = owed-end c.args.seat.slot s (entry_of s requests.End brief.Bye) a.sessions.items c.note.new.rows.items rows refl c.requires.1.0 first in
     omega (arith, falls, k.ends)
 
 pub returns-clause-keeps : goal.returns-clause-keeps
@@ -46,8 +46,8 @@ returns-clause-keeps g c =
     let s = c.args.seat.session in
     let k = c.requires.0 in
     let next = c.note.new.rows.items in
-    let rows : AreAfter c.args.seat.slot (entry_of c.args.seat.session requests.End logged.Bye) a.sessions.items c.note.new.rows.items = record { count = c.note.ensures.count; rows = c.note.ensures.rows } in
+    let rows : AreAfter c.args.seat.slot (entry_of c.args.seat.session requests.End brief.Bye) a.sessions.items c.note.new.rows.items = record { count = c.note.ensures.count; rows = c.note.ensures.rows } in
     let first : (row_at a.sessions.items slot).ended ≡ false = (k.session_rows slot s c.requires.1.0).ended ∙ c.requires.1.1 in
-    let falls = owed-end slot s (entry_of s requests.End logged.Bye) a.sessions.items next rows refl c.requires.1.0 first in
-    agree-quiet (core_rules a) g.h a.queue a.sessions.items next a.clients a.owed (a.owed - 1) slot s requests.End logged.Bye k c.requires.1.0 (quiet-bye g.h s requests.End)
+    let falls = owed-end slot s (entry_of s requests.End brief.Bye) a.sessions.items next rows refl c.requires.1.0 first in
+    agree-quiet (core_rules a) g.h a.queue a.sessions.items next a.clients a.owed (a.owed - 1) slot s requests.End brief.Bye k c.requires.1.0 (quiet-bye g.h s requests.End)
     (λ ends. refl) rows (omega (arith, falls, k.ends))

@@ -2,7 +2,7 @@
 use Rattle.std.proofs.Common.{◌≡◌, ◌≤◌, ◌<◌, ◌∷◌, All, refl, sym, ◌∙◌, ap, subst, arith}
 use Rattle.sv_wire.specs.declared.message.Done1.{Done1}
 use Rattle.sv_wire.specs.declared.message.Request.TheVariants as requests
-use Rattle.sv_journal.specs.declared.entry.Logged.TheVariants as logged
+use Rattle.sv_journal.specs.declared.entry.BriefReply.TheVariants as brief
 use Rattle.sv_journal.specs.Answer.{commit_with}
 use Rattle.sv_queue.specs.Queue.{QueueView, last_position, ready_installed}
 use Rattle.sv_core.specs.declared.decision.Decision.TheVariants as decisions
@@ -53,9 +53,9 @@ returns-clause-ok g c =
     c.install.ensures.installed
     ∙ ap ready_installed (c.in_ok-take_reports.ensures.ok ∙ ap (with_reports v) c.reported_by.ensures) in
     let there : n ≡ (ready_installed (with_reports v ds)).commit = c.commit-commit.ensures ∙ ap (λ (w : QueueView). w.commit) queue in
-    let told = noted (core_rules a) h v S N slot (entry_of s (requests.Done ds) (logged.Noted 0)) 0 ds refl refl within k.commit named k.fits in
-    let said : logged.Noted n ≡ logged.Noted (commit_with h s ds) = ap logged.Noted (there ∙ told.1.0) in
-    carried a _ h slot s q decisions.Note _ (logged.Noted n) refl refl (record { count = c.note.ensures.count; rows = c.note.ensures.rows }) refl said
-    (subst (λ (w : QueueView). Agrees (core_rules a) (entry_of s q (logged.Noted n) ∷ h) w next a.clients a.owed) (sym queue)
+    let told = noted (core_rules a) h v S N slot (entry_of s (requests.Done ds) (brief.Noted 0)) 0 ds refl refl within k.commit named k.fits in
+    let said : brief.Noted n ≡ brief.Noted (commit_with h s ds) = ap brief.Noted (there ∙ told.1.0) in
+    carried a _ h slot s q decisions.Note _ (brief.Noted n) refl refl (record { count = c.note.ensures.count; rows = c.note.ensures.rows }) refl said
+    (subst (λ (w : QueueView). Agrees (core_rules a) (entry_of s q (brief.Noted n) ∷ h) w next a.clients a.owed) (sym queue)
     (agree-noted (core_rules a) h v a.sessions.items next a.clients a.owed slot s q n ds c.requires.1.1.0 within k at (record { count = c.note.ensures.count; rows = c.note.ensures.rows })))
     refl

@@ -3,7 +3,7 @@ use Rattle.std.proofs.Common.{◌≡◌, ℕ, true, false, List, sym, ◌∙◌,
 use Rattle.std.specs.List.{list_all}
 use Rattle.sv_world.specs.declared.world.Shape.{Shape}
 use Rattle.sv_world.specs.Faults.{may_be_observed}
-use Rattle.sv_journal.specs.declared.entry.Logged.{Logged}
+use Rattle.sv_journal.specs.declared.entry.BriefReply.{BriefReply}
 use Rattle.sv_journal.specs.History.{accepted, full_reply}
 use Rattle.sv_core.specs.Cores.{core_rules}
 use Rattle.sv_core.specs.Decisions.{observed_in}
@@ -22,7 +22,7 @@ returns-then-not-knows_them g c fit =
     let unknown : list_all (knows v slot) xs ≡ false =
     ap (λ (ys : List ℕ). list_all (knows v slot) ys) (sym c.observed_by-objects.ensures) ∙ sym c.if-not-knows_them.ensures in
     let may : may_be_observed v.shape.objects xs ≡ true = subst (λ (d : Shape). may_be_observed d.objects xs ≡ true) (sym k.fits.shape) c.in-See.ensures.holds.1 in
-    ap (λ (w : Logged). shows_nothing w) (sym c.in-See.ensures.reply)
+    ap (λ (w : BriefReply). shows_nothing w) (sym c.in-See.ensures.reply)
     ∙ unknown-shown (core_rules a) g.h v a.sessions.items a.clients a.owed slot c.args.seat.session xs k c.requires.1.0 fit may unknown
 
 pub returns : goal.returns
@@ -36,9 +36,9 @@ returns g c =
     let known : list_all (knows v slot) xs ≡ true =
     ap (λ (ys : List ℕ). list_all (knows v slot) ys) (sym c.observed_by-objects.ensures) ∙ sym c.if-not-knows_them.ensures in
     let may : may_be_observed v.shape.objects xs ≡ true = subst (λ (d : Shape). may_be_observed d.objects xs ≡ true) (sym k.fits.shape) c.in-See.ensures.holds.1 in (
-      ap (λ (w : Logged). shows_nothing w) (sym c.in-See.ensures.reply)
+      ap (λ (w : BriefReply). shows_nothing w) (sym c.in-See.ensures.reply)
           ∙ known-quiet (core_rules a) g.h v a.sessions.items a.clients a.owed slot s xs k c.requires.1.0 may known,
       c.nothing_seen.ensures
           ∙ known-whole (core_rules a) g.h v a.sessions.items a.clients a.owed slot s xs k c.requires.1.0 may known
-          ∙ ap (λ (w : Logged). full_reply (accepted g.h) w) c.in-See.ensures.reply,
+          ∙ ap (λ (w : BriefReply). full_reply (accepted g.h) w) c.in-See.ensures.reply,
     )

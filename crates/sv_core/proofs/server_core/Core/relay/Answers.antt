@@ -4,8 +4,8 @@ use Rattle.sv_world.specs.Control.{is_in, IsClosed}
 use Rattle.sv_world.proofs.Needs.{needed-closed_writer}
 use Rattle.sv_wire.specs.declared.message.ObjectValue.{ObjectValue}
 use Rattle.sv_wire.specs.declared.message.Reply.TheVariants as replies
-use Rattle.sv_journal.specs.declared.entry.Logged.{Logged}
-use Rattle.sv_journal.specs.declared.entry.Logged.TheVariants as logged
+use Rattle.sv_journal.specs.declared.entry.BriefReply.{BriefReply}
+use Rattle.sv_journal.specs.declared.entry.BriefReply.TheVariants as brief
 use Rattle.sv_journal.specs.History.{Authored, accepted, actions_of, result_at, commit_of, full_reply}
 use Rattle.sv_journal.specs.Sessions.{positions_in, sent_to}
 use Rattle.sv_journal.specs.Answer.{relay_of}
@@ -55,7 +55,7 @@ returns-clause-ok g c =
     let x = c.in_ok-relayed.relayed in
     let k = c.requires.0 in
     let f = k.fits in
-    let l = logged.Relay c.args.seq v.commit x.head x.positions in
+    let l = brief.Relay c.args.seq v.commit x.head x.positions in
     let sent = c.send-answer.ensures in
     let next = c.note.new.rows.items in
     let at = c.requires.1.0 in
@@ -67,19 +67,19 @@ returns-clause-ok g c =
     let most : c.args.pos ≤ last_position v = omega (arith, c.requires.1.1.1.1.1, f.last) in
     let within = subst (All (IsUncommitted v)) (sym c.in_ok-relayed.ensures.positions) (lacking-within v slot c.args.pos (above, most)) in
     let said : l ≡ relay_of (core_rules a) h (actions_of h) s c.args.seq c.args.pos =
-    ap (λ xs. logged.Relay c.args.seq v.commit xs x.positions) c.in_ok-relayed.ensures.head
-    ∙ ap (logged.Relay c.args.seq v.commit (held_in v (base_objects v slot c.args.pos))) c.in_ok-relayed.ensures.positions
+    ap (λ xs. brief.Relay c.args.seq v.commit xs x.positions) c.in_ok-relayed.ensures.head
+    ∙ ap (brief.Relay c.args.seq v.commit (held_in v (base_objects v slot c.args.pos))) c.in_ok-relayed.ensures.positions
     ∙ relay-is (core_rules a) h v S N slot s c.args.seq c.args.pos (ap (sent_at h) at) (ap (named_at h) at) small k.commit above c.requires.1.1.1.1.1 early f in
     let closed : IsClosed (actions_of h) (commit_of h) (sent_to h s) (λ p. is_in p x.positions) =
     subst (λ ps. IsClosed (actions_of h) (commit_of h) (sent_to h s) (λ p. is_in p ps)) (sym (ap positions_in said))
     (λ p o. needed-closed_writer (actions_of h) (commit_of h) (sent_to h s) c.args.pos p o) in
-    let rows = subst (λ (m : Logged). AreAfter slot (entry_of s q m) a.sessions.items next) sent.logged (record { count = c.note.ensures.count; rows = c.note.ensures.rows }) in
+    let rows = subst (λ (m : BriefReply). AreAfter slot (entry_of s q m) a.sessions.items next) sent.brief (record { count = c.note.ensures.count; rows = c.note.ensures.rows }) in
     let whole : replies.Relay c.args.seq v.commit x.sent_head x.items ≡ full_reply (accepted (entry_of s q l ∷ h)) l =
     subst (λ (A : List Authored). replies.Relay c.args.seq v.commit x.sent_head x.items ≡ full_reply A l) (sym (accepted-old (entry_of s q l) h c.requires.1.1.1.0))
     (relayed-whole a.opened.world (accepted h) (result_at h) S N v c.args.seq v.commit x.head x.sent_head x.positions x.items f
     (c.in_ok-relayed.ensures.sent_head ∙ sym c.in_ok-relayed.ensures.head)
     (c.in_ok-relayed.ensures.items ∙ ap (map (item_in v)) (sym c.in_ok-relayed.ensures.positions)) within) in
-    carried a _ h slot s q (decisions.Relay c.args.seq c.args.pos) _ l refl refl rows sent.logged said
+    carried a _ h slot s q (decisions.Relay c.args.seq c.args.pos) _ l refl refl rows sent.brief said
     (subst (λ (w : QueueView). Agrees (core_rules a) (entry_of s q l ∷ h) w next a.clients a.owed) (sym sent.queue)
     (agree-sent (core_rules a) h v a.sessions.items next a.clients a.owed slot s q l x.head x.positions (relay-sends c.args.seq v.commit x.head x.positions) k at
     c.requires.1.1.1.0 c.requires.1.1.0 rows within closed))

@@ -7,8 +7,8 @@ use Rattle.sv_world.specs.declared.world.Shape.{Shape}
 use Rattle.sv_world.proofs.Seeing.{see-closed}
 use Rattle.sv_wire.specs.declared.message.ObjectValue.{ObjectValue}
 use Rattle.sv_wire.specs.declared.message.Reply.TheVariants as replies
-use Rattle.sv_journal.specs.declared.entry.Logged.{Logged}
-use Rattle.sv_journal.specs.declared.entry.Logged.TheVariants as logged
+use Rattle.sv_journal.specs.declared.entry.BriefReply.{BriefReply}
+use Rattle.sv_journal.specs.declared.entry.BriefReply.TheVariants as brief
 use Rattle.sv_journal.specs.History.{Authored, accepted, actions_of, result_at, commit_of, full_reply}
 use Rattle.sv_journal.specs.Sessions.{positions_in, sent_to}
 use Rattle.sv_journal.specs.Answer.{seen_at}
@@ -76,7 +76,7 @@ returns-clause-ok g c =
     let k = c.requires.0 in
     let f = k.fits in
     let asked : numbers_of c.observed_by.result.now ≡ xs = c.observed_by.ensures in
-    let l = logged.Seen x.last v.commit x.relayed.head x.relayed.positions in
+    let l = brief.Seen x.last v.commit x.relayed.head x.relayed.positions in
     let sent = c.send-answer.ensures in
     let next = c.note.new.rows.items in
     let at = c.requires.1.0 in
@@ -87,20 +87,20 @@ returns-clause-ok g c =
     let within = subst (All (IsUncommitted v)) (sym found.positions) (seen-within v slot (numbers_of c.observed_by.result.now)) in
     let cut = greatest_cut (actions_of h) (commit_of h) (sent_to h s) xs in
     let said : l ≡ seen_at (core_rules a) h s xs cut =
-    ap (λ n. logged.Seen n v.commit x.relayed.head x.relayed.positions) found.last
-    ∙ ap (λ os. logged.Seen (latest_cut v slot (numbers_of c.observed_by.result.now)) v.commit os x.relayed.positions) found.head
-    ∙ ap (logged.Seen (latest_cut v slot (numbers_of c.observed_by.result.now)) v.commit (held_in v (seen_bases v slot (numbers_of c.observed_by.result.now)))) found.positions
-    ∙ ap (λ ys. logged.Seen (latest_cut v slot ys) v.commit (held_in v (seen_bases v slot ys)) (seen_positions v slot ys)) asked
+    ap (λ n. brief.Seen n v.commit x.relayed.head x.relayed.positions) found.last
+    ∙ ap (λ os. brief.Seen (latest_cut v slot (numbers_of c.observed_by.result.now)) v.commit os x.relayed.positions) found.head
+    ∙ ap (brief.Seen (latest_cut v slot (numbers_of c.observed_by.result.now)) v.commit (held_in v (seen_bases v slot (numbers_of c.observed_by.result.now)))) found.positions
+    ∙ ap (λ ys. brief.Seen (latest_cut v slot ys) v.commit (held_in v (seen_bases v slot ys)) (seen_positions v slot ys)) asked
     ∙ seen-is (core_rules a) h v S N slot s xs (ap (sent_at h) at) (ap (named_at h) at) small k.commit early f in
     let closed : IsClosed (actions_of h) (commit_of h) (sent_to h s) (λ p. is_in p x.relayed.positions) =
     subst (λ ps. IsClosed (actions_of h) (commit_of h) (sent_to h s) (λ p. is_in p ps)) (sym (ap positions_in said))
     (λ p o. see-closed (actions_of h) (commit_of h) (sent_to h s) xs cut p o (cut-within h s xs)) in
-    let rows = subst (λ (m : Logged). AreAfter slot (entry_of s q m) a.sessions.items next) sent.logged (record { count = c.note.ensures.count; rows = c.note.ensures.rows }) in
+    let rows = subst (λ (m : BriefReply). AreAfter slot (entry_of s q m) a.sessions.items next) sent.brief (record { count = c.note.ensures.count; rows = c.note.ensures.rows }) in
     let whole : replies.Seen x.last v.commit x.relayed.sent_head x.relayed.items ≡ full_reply (accepted (entry_of s q l ∷ h)) l =
     subst (λ (A : List Authored). replies.Seen x.last v.commit x.relayed.sent_head x.relayed.items ≡ full_reply A l) (sym (accepted-old (entry_of s q l) h c.requires.1.1.1.0))
     (seen-whole a.opened.world (accepted h) (result_at h) S N v x.last v.commit x.relayed.head x.relayed.sent_head x.relayed.positions x.relayed.items f
     (found.sent_head ∙ sym found.head) (found.items ∙ ap (map (item_in v)) (sym found.positions)) within) in
-    carried a _ h slot s q decisions.See _ l refl refl rows sent.logged said
+    carried a _ h slot s q decisions.See _ l refl refl rows sent.brief said
     (subst (λ (w : QueueView). Agrees (core_rules a) (entry_of s q l ∷ h) w next a.clients a.owed) (sym sent.queue)
     (agree-sent (core_rules a) h v a.sessions.items next a.clients a.owed slot s q l x.relayed.head x.relayed.positions
     (seen-sends x.last v.commit x.relayed.head x.relayed.positions) k at c.requires.1.1.1.0 c.requires.1.1.0 rows within closed))

@@ -2,7 +2,7 @@
 use Rattle.std.proofs.Common.{◌≡◌, ◌<◌, ℕ, List, ◌∷◌, All, refl, sym, ◌∙◌, ap, subst, arith}
 use Rattle.sv_wire.specs.declared.message.ObjectValue.{ObjectValue}
 use Rattle.sv_wire.specs.declared.message.Reply.TheVariants as replies
-use Rattle.sv_journal.specs.declared.entry.Logged.TheVariants as logged
+use Rattle.sv_journal.specs.declared.entry.BriefReply.TheVariants as brief
 use Rattle.sv_journal.specs.History.{accepted, commit_of}
 use Rattle.sv_journal.specs.Answer.{committed_held}
 use Rattle.sv_queue.specs.Queue.{QueueView}
@@ -50,13 +50,13 @@ returns-clause-ok g c =
     let head = c.in_ok-head.head in
     let k = c.requires.0 in
     let next = c.note.new.rows.items in
-    let rows : AreAfter slot (entry_of s q (logged.Welcome n head)) a.sessions.items next = record { count = c.note.ensures.count; rows = c.note.ensures.rows } in
-    let said : logged.Welcome n head ≡ logged.Welcome (commit_of h) (committed_held (core_rules a) h (interest_in q)) =
-    ap (λ m. logged.Welcome m head) (c.commit-commit.ensures ∙ k.commit)
-    ∙ ap (logged.Welcome (commit_of h)) (c.in_ok-head.ensures ∙ ap (held_in v) c.interest_of.ensures
+    let rows : AreAfter slot (entry_of s q (brief.Welcome n head)) a.sessions.items next = record { count = c.note.ensures.count; rows = c.note.ensures.rows } in
+    let said : brief.Welcome n head ≡ brief.Welcome (commit_of h) (committed_held (core_rules a) h (interest_in q)) =
+    ap (λ m. brief.Welcome m head) (c.commit-commit.ensures ∙ k.commit)
+    ∙ ap (brief.Welcome (commit_of h)) (c.in_ok-head.ensures ∙ ap (held_in v) c.interest_of.ensures
     ∙ held-is (core_rules a) h v (interest_in q) (committed-is (core_rules a) h (accepted h) (sent_seats h a.sessions.items) (named_seats h a.sessions.items) v k.commit k.fits)) in
-    carried a _ h slot s q (decisions.Welcome c.args.client c.args.life) _ (logged.Welcome n head) refl refl rows refl said
-    (subst (λ (w : QueueView). Agrees (core_rules a) (entry_of s q (logged.Welcome n head) ∷ h) w next c.join.new.self a.owed)
+    carried a _ h slot s q (decisions.Welcome c.args.client c.args.life) _ (brief.Welcome n head) refl refl rows refl said
+    (subst (λ (w : QueueView). Agrees (core_rules a) (entry_of s q (brief.Welcome n head) ∷ h) w next c.join.new.self a.owed)
     (sym (c.give_all.ensures ∙ ap (λ xs. given_all v xs slot) c.as_slice-2.ensures))
     (agree-welcome (core_rules a) h v a.sessions.items next a.clients c.join.new.self a.owed slot s q c.args.client c.args.life n head c.commit-commit.ensures k c.requires.1.0
     c.requires.1.1.1 c.requires.1.1.0 rows c.in_ok-join.ensures.ok))

@@ -51,4 +51,4 @@ returns-clause-ok g c =
     stepped-unused l g.g.h c.requires.0 mid core seat c.args.session c.bye.result
     (subst (λ (w : Stewardship). WasSeated l.core mid (heeded w g.g.h) seat) c.requires.1.0 c.in_ok-seat.ensures.ok)
     (subst (λ (w : Stewardship). Left mid core w g.g.h seat) c.requires.1.0 c.leave.ensures)
-    c.in_ok-seat.ensures.number c.requires.1.1.0 c.requires.1.1.1.0 c.bye.ensures.logged c.bye.ensures.reply
+    c.in_ok-seat.ensures.number c.requires.1.1.0 c.requires.1.1.1.0 c.bye.ensures.brief c.bye.ensures.reply

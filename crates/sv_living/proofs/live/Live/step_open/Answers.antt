@@ -18,7 +18,7 @@ returns-in-End-clause-ok g c =
     subst (λ (q : Request). Moved l (record l { core = core; table = c.remove.new.self }) g.g.h seat.session q c.bye.result) (sym c.in-End.is)
     (subst (λ (table : List Seat). Moved l (record l { core = core; table = table }) g.g.h seat.session requests.End c.bye.result) (sym c.remove.ensures)
     (stepped-end l g.g.h c.requires.0 core seat c.bye.result (subst (λ (w : Stewardship). Left l.core core w g.g.h seat) c.requires.1.0 c.leave.ensures)
-    c.requires.1.1.0 c.requires.1.1.1 c.bye.ensures.logged c.bye.ensures.reply))
+    c.requires.1.1.0 c.requires.1.1.1 c.bye.ensures.brief c.bye.ensures.reply))
 
 pub returns : goal.returns
 returns g c =
