@@ -4,7 +4,7 @@ ghost use Rattle.sv_client.specs.Past.{event_after};
 ghost use Rattle.sv_client.specs.Seen.{only_joins};
 
 use crate::deed::Deed;
-use http_server::Log;
+use http_server::Log as GhostLog;
 use std::fmt::{Debug, Error, Formatter, Write};
 use std::marker::Model;
 use std::snapshot::Snapshot;
@@ -14,7 +14,7 @@ use std::snapshot::Snapshot;
 #[derive(Drop)]
 pub(crate) struct Past {
     before: Snapshot<u32>,
-    log: Log<Deed, ()>,
+    log: GhostLog<Deed, ()>,
 }
 
 impl Model for Past {
@@ -40,7 +40,7 @@ impl Past {
     {
         Past {
             before: Snapshot::of(&before),
-            log: Log::new(),
+            log: GhostLog::new(),
         }
     }
 

@@ -2,7 +2,7 @@
 ghost use Rattle.std.specs.Prelude.{◌≡◌, [], ◌∷◌};
 ghost use Rattle.sv_journal.specs.History.{entry_of};
 
-use http_server::Log;
+use http_server::Log as GhostLog;
 use std::marker::Model;
 use sv_journal::BriefReply;
 use sv_wire::Request;
@@ -10,8 +10,8 @@ use sv_wire::Request;
 /// All that was asked and replied. It takes no memory: contracts see it as the entries, the latest first.
 #[derive(Drop)]
 pub struct WorldPast {
-    asked: Log<u64, Request>,
-    replied: Log<u64, BriefReply>,
+    asked: GhostLog<u64, Request>,
+    replied: GhostLog<u64, BriefReply>,
 }
 
 impl Model for WorldPast {
@@ -36,8 +36,8 @@ impl WorldPast {
         ensures { result ≡ [] }
     {
         WorldPast {
-            asked: Log::new(),
-            replied: Log::new(),
+            asked: GhostLog::new(),
+            replied: GhostLog::new(),
         }
     }
 

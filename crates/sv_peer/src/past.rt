@@ -1,14 +1,14 @@
 //! Histories that only contracts know. They take no memory.
 ghost use Rattle.std.specs.Prelude.{◌≡◌, [], ◌∷◌, ◌++◌, take};
 
-use http_server::Log;
+use http_server::Log as GhostLog;
 use std::marker::Model;
 use sv_wire::Reply;
 
 /// The replies that a connection was told. Contracts see them in order.
 #[derive(Drop)]
 pub struct ToldReplies {
-    log: Log<Reply, ()>,
+    log: GhostLog<Reply, ()>,
 }
 
 impl Model for ToldReplies {
@@ -30,7 +30,7 @@ impl ToldReplies {
     pub fn new() -> ToldReplies
         ensures { result ≡ [] }
     {
-        ToldReplies { log: Log::new() }
+        ToldReplies { log: GhostLog::new() }
     }
 
     pub fn add(&mut self, reply: &Reply)
@@ -43,7 +43,7 @@ impl ToldReplies {
 /// The bytes that were sent. Contracts see them in order.
 #[derive(Drop)]
 pub struct SentBytes {
-    log: Log<Vec<u8>, usize>,
+    log: GhostLog<Vec<u8>, usize>,
 }
 
 impl Model for SentBytes {
@@ -60,7 +60,7 @@ impl SentBytes {
     pub fn new() -> SentBytes
         ensures { result ≡ [] }
     {
-        SentBytes { log: Log::new() }
+        SentBytes { log: GhostLog::new() }
     }
 
     /// So many of these bytes were sent.

@@ -8,7 +8,7 @@ ghost use Rattle.sv_pilot.specs.Hearing.{HearsSome, IsUpToDate};
 ghost use Rattle.sv_pilot.specs.Calls.{all_unseen, Tells};
 ghost use Rattle.sv_world.specs.declared.world.ObjectId.{ObjectId};
 
-use http_server::Log;
+use http_server::Log as GhostLog;
 use std::alloc::{AllocError, Global};
 use std::marker::Model;
 use std::snapshot::Snapshot;
@@ -41,7 +41,7 @@ pub(crate) struct Audience<L: Listener> {
     alloc: Global,
     listener: L,
     seen: Vec<Seen>,
-    calls: Log<Call, ()>,
+    calls: GhostLog<Call, ()>,
 }
 
 impl<L: Listener> Model for Audience<L> {
@@ -95,7 +95,7 @@ impl<L: Listener> Audience<L> {
             alloc,
             listener,
             seen,
-            calls: Log::new(),
+            calls: GhostLog::new(),
         })
     }
 
