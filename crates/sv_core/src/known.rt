@@ -7,7 +7,7 @@ ghost use Rattle.sv_queue.specs.Queue.{last_position};
 ghost use Rattle.sv_core.specs.Relays.{knows};
 
 use std::sync::ledger::Ledger;
-use sv_queue::{Queue, Steps};
+use sv_queue::{Queue, LookUps};
 use sv_world::ObjectId;
 
 /// Whether the session of a slot knows what each of these objects is at the last position. It takes no memory.
@@ -15,7 +15,7 @@ pub fn knows_all<L: Ledger>(
     queue: &Queue,
     slot: u16,
     objects: &[ObjectId],
-    steps: &mut Steps<L>,
+    look_ups: &mut LookUps<L>,
 ) -> bool
     requires objects { All (λ (o : ObjectId). o.0 < queue.now.shape.objects) objects.now }
     requires room { last_position queue.now < 2 ^ 32 - 1 }
@@ -24,18 +24,18 @@ pub fn knows_all<L: Ledger>(
     let [first, rest @ ..] = objects else {
         return true;
     };
-    knows(queue, slot, *first, steps) && knows_all(queue, slot, rest, steps)
+    knows(queue, slot, *first, look_ups) && knows_all(queue, slot, rest, look_ups)
 }
 
-fn knows<L: Ledger>(queue: &Queue, slot: u16, object: ObjectId, steps: &mut Steps<L>) -> bool
+fn knows<L: Ledger>(queue: &Queue, slot: u16, object: ObjectId, look_ups: &mut LookUps<L>) -> bool
     requires object { object.0 < queue.now.shape.objects }
     requires room { last_position queue.now < 2 ^ 32 - 1 }
     ensures { result ≡ knows queue.now slot object.0 }
 {
-    let writer = queue.last_writer(object, queue.last() + 1, steps);
+    let writer = queue.last_writer(object, queue.last() + 1, look_ups);
     if writer == 0 {
         queue.is_given(object, slot)
     } else {
-        queue.is_marked(writer, slot, steps)
+        queue.is_marked(writer, slot, look_ups)
     }
 }

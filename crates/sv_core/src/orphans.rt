@@ -11,7 +11,7 @@ use crate::sessions::SessionRow;
 use std::alloc::{AllocError, Global};
 use std::marker::Brand;
 use std::sync::ledger::{Blank, Ledger};
-use sv_queue::{Queue, Slots, Steps};
+use sv_queue::{Queue, Slots, LookUps};
 
 /// The lowest uncommitted position without a result of which each session that it was sent to is over.
 ///
@@ -56,10 +56,10 @@ fn search<L: Ledger>(
     requires live { IfSome live.now (HasLive sessions.now) }
     ensures { MatchOption result (orphans_in queue.now sessions.now ≡ []) (λ p. (rest : List ℕ) × (orphans_in queue.now sessions.now ≡ p ∷ rest)) }
 {
-    let mut steps = Steps::<L>::new(blank);
+    let mut look_ups = LookUps::<L>::new(blank);
     for before in queue.commit()..queue.last() {
         let pos = before + 1;
-        if is_orphan(queue, sessions, live, pos, &mut steps) {
+        if is_orphan(queue, sessions, live, pos, &mut look_ups) {
             return Some(pos);
         }
     }
@@ -71,14 +71,14 @@ fn is_orphan<L: Ledger>(
     sessions: &[SessionRow],
     live: &Option<Slots>,
     pos: u32,
-    steps: &mut Steps<L>,
+    look_ups: &mut LookUps<L>,
 ) -> bool
     requires pos { IsUncommitted queue.now pos }
     requires few { length sessions.now ≤ most_open }
     requires live { IfSome live.now (HasLive sessions.now) }
     ensures { result ≡ is_orphan_in queue.now sessions.now pos }
 {
-    !queue.has_result(pos, steps) && is_abandoned(queue, sessions, live, pos, steps)
+    !queue.has_result(pos, look_ups) && is_abandoned(queue, sessions, live, pos, look_ups)
 }
 
 /// Whether each session that a position was sent to is over.
@@ -87,7 +87,7 @@ fn is_abandoned<L: Ledger>(
     sessions: &[SessionRow],
     live: &Option<Slots>,
     pos: u32,
-    steps: &mut Steps<L>,
+    look_ups: &mut LookUps<L>,
 ) -> bool
     requires pos { IsUncommitted queue.now pos }
     requires few { length sessions.now ≤ most_open }
@@ -95,8 +95,8 @@ fn is_abandoned<L: Ledger>(
     ensures { result ≡ is_abandoned_in queue.now sessions.now pos }
 {
     match live {
-        Some(live) => !queue.is_marked_for_any(pos, live, steps),
-        None => is_sent_to_none(queue, sessions, pos, steps),
+        Some(live) => !queue.is_marked_for_any(pos, live, look_ups),
+        None => is_sent_to_none(queue, sessions, pos, look_ups),
     }
 }
 
@@ -105,14 +105,14 @@ fn is_sent_to_none<L: Ledger>(
     queue: &Queue,
     sessions: &[SessionRow],
     pos: u32,
-    steps: &mut Steps<L>,
+    look_ups: &mut LookUps<L>,
 ) -> bool
     requires pos { IsUncommitted queue.now pos }
     requires few { length sessions.now ≤ most_open }
     ensures { result ≡ is_abandoned_in queue.now sessions.now pos }
 {
     for slot in 0..sessions.len() {
-        if is_live_at(sessions, slot) && queue.is_marked(pos, slot as u16, steps) {
+        if is_live_at(sessions, slot) && queue.is_marked(pos, slot as u16, look_ups) {
             return false;
         }
     }

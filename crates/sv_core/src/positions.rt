@@ -12,7 +12,7 @@ use crate::seats::Seat;
 use crate::server_core::Core;
 use std::marker::Brand;
 use std::sync::ledger::{Blank, Ledger};
-use sv_queue::{Queue, Steps};
+use sv_queue::{Queue, LookUps};
 
 impl Core {
     /// The last accepted position.
@@ -56,6 +56,6 @@ fn is_marked<L: Ledger>(queue: &Queue, pos: u32, slot: u16, blank: Blank) -> boo
     requires pos { IsUncommitted queue.now pos }
     ensures { result ≡ is_in pos (sent_positions queue.now slot) }
 {
-    let mut steps = Steps::<L>::new(blank);
-    queue.is_marked(pos, slot, &mut steps)
+    let mut look_ups = LookUps::<L>::new(blank);
+    queue.is_marked(pos, slot, &mut look_ups)
 }

@@ -14,7 +14,7 @@ use std::marker::Brand;
 use std::sync::ledger::{Blank, Ledger};
 use sv_influence::{closure, cut};
 use sv_lists::List;
-use sv_queue::{Queue, Steps};
+use sv_queue::{Queue, LookUps};
 use sv_wire::{Item, ObjectValue, copy_head};
 use sv_world::{ObjectId, copy_action, copy_value};
 
@@ -81,9 +81,9 @@ fn counted<L: Ledger>(
     ensures sent_head { IfOk result (λ r. r.sent_head ≡ held_in queue.now (base_objects queue.now slot pos)) }
     ensures items { IfOk result (λ r. r.items ≡ map (item_in queue.now) (lacking queue.now slot pos)) }
 {
-    let mut steps = Steps::<L>::new(blank);
-    let found = closure(alloc, queue, slot, pos, &mut steps)?;
-    relayed_of(alloc, queue, found.items, found.head.as_slice(), &mut steps)
+    let mut look_ups = LookUps::<L>::new(blank);
+    let found = closure(alloc, queue, slot, pos, &mut look_ups)?;
+    relayed_of(alloc, queue, found.items, found.head.as_slice(), &mut look_ups)
 }
 
 /// What a session may see of objects, at the greatest cut. Where it knows them all it sees nothing at the last position, and no memory is taken.
@@ -124,16 +124,16 @@ fn seen_counted<L: Ledger>(
     ensures sent_head { IfOk result (λ r. r.relayed.sent_head ≡ held_in queue.now (seen_bases queue.now slot (numbers_of objects.now))) }
     ensures items { IfOk result (λ r. r.relayed.items ≡ map (item_in queue.now) (seen_positions queue.now slot (numbers_of objects.now))) }
 {
-    let mut steps = Steps::<L>::new(blank);
-    if knows_all(queue, slot, objects, &mut steps) {
+    let mut look_ups = LookUps::<L>::new(blank);
+    if knows_all(queue, slot, objects, &mut look_ups) {
         return Ok(Seen {
             last: queue.last(),
             relayed: Relayed::nothing(alloc),
         });
     }
-    let found = cut(alloc, queue, slot, objects, &mut steps)?;
+    let found = cut(alloc, queue, slot, objects, &mut look_ups)?;
     let last = found.last;
-    let relayed = relayed_of(alloc, queue, found.items, found.head.as_slice(), &mut steps)?;
+    let relayed = relayed_of(alloc, queue, found.items, found.head.as_slice(), &mut look_ups)?;
     Ok(Seen { last, relayed })
 }
 
@@ -144,7 +144,7 @@ fn relayed_of<L: Ledger>(
     queue: &Queue,
     positions: List<u32>,
     objects: &[ObjectId],
-    steps: &mut Steps<L>,
+    look_ups: &mut LookUps<L>,
 ) -> Result<Relayed, AllocError>
     requires positions { All (λ p. IsUncommitted queue.now p) positions }
     requires objects { All (λ (o : ObjectId). o.0 < queue.now.shape.objects) objects.now }
@@ -154,7 +154,7 @@ fn relayed_of<L: Ledger>(
     ensures items { IfOk result (λ r. r.items ≡ map (item_in queue.now) positions) }
 {
     let head = base_values(alloc, queue, objects)?;
-    let items = items_of(alloc, queue, positions.as_slice(), steps)?;
+    let items = items_of(alloc, queue, positions.as_slice(), look_ups)?;
     let sent_head = copy_head(alloc, head.as_slice())?;
     Ok(Relayed {
         head,
@@ -191,14 +191,14 @@ fn items_of<L: Ledger>(
     alloc: Global,
     queue: &Queue,
     positions: &[u32],
-    steps: &mut Steps<L>,
+    look_ups: &mut LookUps<L>,
 ) -> Result<List<Item>, AllocError>
     requires { All (λ p. IsUncommitted queue.now p) positions.now }
     ensures { IfOk result (λ items. items ≡ map (item_in queue.now) positions.now) }
 {
     let mut items = Vec::with_capacity(alloc, positions.len())?;
     for pos in positions {
-        items.push(item_of(alloc, queue, *pos, steps)?)?;
+        items.push(item_of(alloc, queue, *pos, look_ups)?)?;
     }
     Ok(List::from_vec(items))
 }
@@ -207,12 +207,12 @@ fn item_of<L: Ledger>(
     alloc: Global,
     queue: &Queue,
     pos: u32,
-    steps: &mut Steps<L>,
+    look_ups: &mut LookUps<L>,
 ) -> Result<Item, AllocError>
     requires { IsUncommitted queue.now pos }
     ensures { IfOk result (λ item. item ≡ item_in queue.now pos) }
 {
-    let entry = queue.entry(pos, steps);
+    let entry = queue.entry(pos, look_ups);
     let action = copy_action(alloc, entry.action)?;
     Ok(Item {
         pos,

@@ -13,7 +13,7 @@ use std::alloc::{AllocError, Global};
 use std::marker::Brand;
 use std::sync::ledger::{Blank, Ledger};
 use sv_lists::List;
-use sv_queue::{Queue, Steps};
+use sv_queue::{Queue, LookUps};
 use sv_wire::{Done1, copy_result};
 use sv_world::{Action, MOST_ITEMS, Value, is_in_mask};
 
@@ -50,20 +50,20 @@ fn is_any_bad<L: Ledger>(queue: &Queue, slot: u16, results: &[Done1], blank: Bla
     requires some { 0 < blank.parts }
     ensures { result ≡ list_any (is_bad_report queue.now slot) results.now }
 {
-    let mut steps = Steps::<L>::new(blank);
-    is_one_bad(queue, slot, results, &mut steps)
+    let mut look_ups = LookUps::<L>::new(blank);
+    is_one_bad(queue, slot, results, &mut look_ups)
 }
 
-fn is_one_bad<L: Ledger>(queue: &Queue, slot: u16, results: &[Done1], steps: &mut Steps<L>) -> bool
+fn is_one_bad<L: Ledger>(queue: &Queue, slot: u16, results: &[Done1], look_ups: &mut LookUps<L>) -> bool
     ensures { result ≡ list_any (is_bad_report queue.now slot) results.now }
 {
     let [first, rest @ ..] = results else {
         return false;
     };
-    is_bad(queue, slot, first, steps) || is_one_bad(queue, slot, rest, steps)
+    is_bad(queue, slot, first, look_ups) || is_one_bad(queue, slot, rest, look_ups)
 }
 
-fn is_bad<L: Ledger>(queue: &Queue, slot: u16, found: &Done1, steps: &mut Steps<L>) -> bool
+fn is_bad<L: Ledger>(queue: &Queue, slot: u16, found: &Done1, look_ups: &mut LookUps<L>) -> bool
     ensures { result ≡ is_bad_report queue.now slot found.now }
 {
     if found.pos == 0 || found.pos > queue.last() {
@@ -72,11 +72,11 @@ fn is_bad<L: Ledger>(queue: &Queue, slot: u16, found: &Done1, steps: &mut Steps<
     if found.pos <= queue.commit() {
         return false;
     }
-    if !queue.is_marked(found.pos, slot, steps) {
+    if !queue.is_marked(found.pos, slot, look_ups) {
         return true;
     }
     let shape = queue.shape();
-    let entry = queue.entry(found.pos, steps);
+    let entry = queue.entry(found.pos, look_ups);
     found.values.len() != count_written(entry.action)
         || !have_attrs(found.values.as_slice(), shape.attrs)
 }
@@ -158,8 +158,8 @@ pub fn is_missing<L: Ledger>(queue: &Queue, pos: u32, blank: Blank) -> bool
     if pos <= queue.commit() {
         return false;
     }
-    let mut steps = Steps::<L>::new(blank);
-    !queue.has_result(pos, &mut steps)
+    let mut look_ups = LookUps::<L>::new(blank);
+    !queue.has_result(pos, &mut look_ups)
 }
 
 /// Keeps reported results in the queue, where their positions are not committed and have none yet.

@@ -28,7 +28,7 @@ use std::marker::Brand;
 use std::sync::ledger::{Blank, Ledger};
 use sv_journal::BriefReply;
 use sv_lists::List;
-use sv_queue::{Queue, Steps};
+use sv_queue::{Queue, LookUps};
 use sv_wire::{Reply, Request};
 use sv_world::ObjectId;
 
@@ -93,8 +93,8 @@ fn knows_them<L: Ledger>(queue: &Queue, slot: u16, objects: &[ObjectId], blank: 
     requires room { last_position queue.now < 2 ^ 32 - 1 }
     ensures { result ≡ list_all (knows queue.now slot) (numbers_of objects.now) }
 {
-    let mut steps = Steps::<L>::new(blank);
-    knows_all(queue, slot, objects, &mut steps)
+    let mut look_ups = LookUps::<L>::new(blank);
+    knows_all(queue, slot, objects, &mut look_ups)
 }
 
 /// What is answered that shows nothing.

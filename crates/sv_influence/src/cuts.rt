@@ -12,7 +12,7 @@ use crate::answers::ConsistentCut;
 use crate::lacking::{Found, Missing, listed};
 use std::alloc::{AllocError, Global};
 use std::sync::ledger::Ledger;
-use sv_queue::{Queue, Steps};
+use sv_queue::{Queue, LookUps};
 use sv_world::{MOST_ITEMS, MOST_OBJECTS, ObjectId};
 
 /// The greatest cut that the session of a slot can be shown of objects, and what it lacks of them there.
@@ -24,7 +24,7 @@ pub fn cut<L: Ledger>(
     queue: &Queue,
     slot: u16,
     objects: &[ObjectId],
-    steps: &mut Steps<L>,
+    look_ups: &mut LookUps<L>,
 ) -> Result<ConsistentCut, AllocError>
     requires objects { may_be_observed queue.now.shape.objects (numbers_of objects.now) ≡ true }
     requires marks { MarksAreClosed queue.now slot }
@@ -32,14 +32,14 @@ pub fn cut<L: Ledger>(
     ensures last { IfOk result (λ c. c.last ≡ latest_cut queue.now slot (numbers_of objects.now)) }
     ensures items { IfOk result (λ c. c.items ≡ lacking_to_see queue.now slot (numbers_of objects.now) (latest_cut queue.now slot (numbers_of objects.now))) }
     ensures head { IfOk result (λ c. numbers_of c.head ≡ bases_to_see queue.now slot (numbers_of objects.now) (latest_cut queue.now slot (numbers_of objects.now))) }
-    ensures ticks { (b : ℕ) → last_position queue.now - queue.now.commit ≤ 2 ^ b → steps.new ≤ steps.old + most_to_see * (b + 2) }
+    ensures ticks { (b : ℕ) → last_position queue.now - queue.now.commit ≤ 2 ^ b → look_ups.new ≤ look_ups.old + most_to_see * (b + 2) }
 {
     let last = queue.last();
-    if let Some(found) = see(alloc, queue, slot, objects, last, steps)? {
+    if let Some(found) = see(alloc, queue, slot, objects, last, look_ups)? {
         return cut_at(alloc, queue, last, found);
     }
-    let last = greatest_seen(alloc, queue, slot, objects, steps)?;
-    match see(alloc, queue, slot, objects, last, steps)? {
+    let last = greatest_seen(alloc, queue, slot, objects, look_ups)?;
+    match see(alloc, queue, slot, objects, last, look_ups)? {
         Some(found) => cut_at(alloc, queue, last, found),
         None => unreachable!(),
     }
@@ -73,20 +73,20 @@ fn greatest_seen<L: Ledger>(
     queue: &Queue,
     slot: u16,
     objects: &[ObjectId],
-    steps: &mut Steps<L>,
+    look_ups: &mut LookUps<L>,
 ) -> Result<u32, AllocError>
     requires objects { may_be_observed queue.now.shape.objects (numbers_of objects.now) ≡ true }
     requires marks { MarksAreClosed queue.now slot }
     requires room { last_position queue.now < 2 ^ 32 - 1 }
     requires many { most_items < length (lacking_to_see queue.now slot (numbers_of objects.now) (last_position queue.now)) }
     ensures greatest { IfOk result (λ n. n ≡ latest_cut queue.now slot (numbers_of objects.now)) }
-    ensures ticks { (b : ℕ) → last_position queue.now - queue.now.commit ≤ 2 ^ b → steps.new ≤ steps.old + most_to_see * b }
+    ensures ticks { (b : ℕ) → last_position queue.now - queue.now.commit ≤ 2 ^ b → look_ups.new ≤ look_ups.old + most_to_see * b }
 {
     let mut few = queue.commit();
     let mut many = queue.last();
     while many - few > 1 {
         let middle = few + (many - few) / 2;
-        if lacks_few(alloc, queue, slot, objects, middle, steps)? {
+        if lacks_few(alloc, queue, slot, objects, middle, look_ups)? {
             few = middle;
         } else {
             many = middle;
@@ -101,15 +101,15 @@ fn lacks_few<L: Ledger>(
     slot: u16,
     objects: &[ObjectId],
     pos: u32,
-    steps: &mut Steps<L>,
+    look_ups: &mut LookUps<L>,
 ) -> Result<bool, AllocError>
     requires objects { may_be_observed queue.now.shape.objects (numbers_of objects.now) ≡ true }
     requires pos { (queue.now.commit ≤ pos) × (pos ≤ last_position queue.now) }
     requires room { last_position queue.now < 2 ^ 32 - 1 }
     ensures few { IfOk result (λ b. b ≡ nat_le (length (lacking_to_see queue.now slot (numbers_of objects.now) pos)) most_items) }
-    ensures ticks { steps.new ≤ steps.old + most_to_see }
+    ensures ticks { look_ups.new ≤ look_ups.old + most_to_see }
 {
-    let found = see(alloc, queue, slot, objects, pos, steps)?;
+    let found = see(alloc, queue, slot, objects, pos, look_ups)?;
     Ok(found.is_some())
 }
 
@@ -121,7 +121,7 @@ fn see<L: Ledger>(
     slot: u16,
     objects: &[ObjectId],
     pos: u32,
-    steps: &mut Steps<L>,
+    look_ups: &mut LookUps<L>,
 ) -> Result<Option<Found>, AllocError>
     requires objects { may_be_observed queue.now.shape.objects (numbers_of objects.now) ≡ true }
     requires pos { (queue.now.commit ≤ pos) × (pos ≤ last_position queue.now) }
@@ -130,17 +130,17 @@ fn see<L: Ledger>(
     ensures bases { IfOk result (λ o. IfSome o (λ f. (x : ℕ) → is_in x f.bases ≡ is_in x (bases_to_see queue.now slot (numbers_of objects.now) pos))) }
     ensures few { IfOk result (λ o. IfSome o (λ f. length (lacking_to_see queue.now slot (numbers_of objects.now) pos) ≤ most_items)) }
     ensures many { IfOk result (λ o. IfNone o (most_items < length (lacking_to_see queue.now slot (numbers_of objects.now) pos))) }
-    ensures ticks { steps.new ≤ steps.old + most_to_see }
+    ensures ticks { look_ups.new ≤ look_ups.old + most_to_see }
 {
     let mut missing = Missing::new(alloc);
-    missing.read_below(queue, slot, objects, pos + 1, steps)?;
+    missing.read_below(queue, slot, objects, pos + 1, look_ups)?;
     let mut items = Vec::with_capacity(alloc, missing.room())?;
     while let Some(greatest) = missing.wanted.pop() {
         if items.len() == MOST_ITEMS {
             return Ok(None);
         }
         items.push(greatest)?;
-        missing.expand(queue, slot, greatest, steps)?;
+        missing.expand(queue, slot, greatest, look_ups)?;
     }
     items.reverse();
     let Missing { bases, .. } = missing;

@@ -10,7 +10,7 @@ use crate::objects::ObjectSet;
 use crate::wanted::{Full, Wanted};
 use std::marker::Brand;
 use std::sync::ledger::{Blank, Ledger};
-use sv_queue::{Queue, Steps};
+use sv_queue::{Queue, LookUps};
 use sv_world::{Action, MOST_OBJECTS, ObjectId, Point};
 
 /// How many uncommitted actions a new action depends on, directly or through others, and how far away they were made.
@@ -40,17 +40,17 @@ fn by_sources<L: Ledger>(queue: &Queue, action: &Action, blank: Blank) -> Result
     ensures count { IfOk result (λ c. c.count ≡ chain_length (queue_actions queue.now) queue.now.commit action.now) }
     ensures far { IfOk result (λ c. c.far ≡ influence_distance (queue_actions queue.now) queue.now.commit action.now) }
 {
-    let mut steps = Steps::<L>::new(blank);
+    let mut look_ups = LookUps::<L>::new(blank);
     let mut wanted = Wanted::new();
     let next = queue.last() + 1;
-    want_writers(queue, action, next, &mut wanted, &mut steps)?;
+    want_writers(queue, action, next, &mut wanted, &mut look_ups)?;
     let mut count = 0;
     let mut far = 0;
     while let Some(pos) = wanted.pop() {
-        let taken = queue.entry(pos, &mut steps);
+        let taken = queue.entry(pos, &mut look_ups);
         count += 1;
         far = distance(action.origin, taken.action.origin).max(far);
-        want_sources(queue, pos, taken.action, &mut wanted, &mut steps)?;
+        want_sources(queue, pos, taken.action, &mut wanted, &mut look_ups)?;
     }
     Ok(Chain { count, far })
 }
@@ -61,13 +61,13 @@ fn want_writers<L: Ledger>(
     action: &Action,
     pos: u32,
     wanted: &mut Wanted,
-    steps: &mut Steps<L>,
+    look_ups: &mut LookUps<L>,
 ) -> Result<(), Full>
     requires { All (λ x. x < queue.now.shape.objects) (read_set action.now) }
     ensures { OnOk result ((j : ℕ) → is_in j wanted.new ≡ is_in j (writers_of (queue_actions queue.now) pos (read_set action.now) ++ wanted.old)) }
 {
     for object in action.reads.as_slice() {
-        let writer = queue.last_writer(*object, pos, steps);
+        let writer = queue.last_writer(*object, pos, look_ups);
         wanted.add_writer(writer)?;
     }
     Ok(())
@@ -79,14 +79,14 @@ fn want_sources<L: Ledger>(
     pos: u32,
     action: &Action,
     wanted: &mut Wanted,
-    steps: &mut Steps<L>,
+    look_ups: &mut LookUps<L>,
 ) -> Result<(), Full>
     requires pos { IsUncommitted queue.now pos }
     requires placed { action.now ≡ action_at (queue_actions queue.now) pos }
     ensures { OnOk result ((j : ℕ) → is_in j wanted.new ≡ is_in j (writers_of (queue_actions queue.now) pos (read_set action.now) ++ wanted.old)) }
 {
     for slot in 0..action.reads.len() {
-        let writer = queue.source(pos, slot, steps);
+        let writer = queue.source(pos, slot, look_ups);
         wanted.add_writer(writer)?;
     }
     Ok(())
@@ -102,7 +102,7 @@ fn walk_down<L: Ledger>(queue: &Queue, action: &Action, blank: Blank) -> Chain
     ensures count { result.count ≡ chain_length (queue_actions queue.now) queue.now.commit action.now }
     ensures far { result.far ≡ influence_distance (queue_actions queue.now) queue.now.commit action.now }
 {
-    let mut steps = Steps::<L>::new(blank);
+    let mut look_ups = LookUps::<L>::new(blank);
     let shape = queue.shape();
     prove!(shape.objects <= MOST_OBJECTS);
     let mut objects = ObjectSet::new();
@@ -110,14 +110,14 @@ fn walk_down<L: Ledger>(queue: &Queue, action: &Action, blank: Blank) -> Chain
     let mut count = 0;
     let mut far = 0;
     let mut pos = queue.last();
-    let mut bottom = below_writers(queue, action, pos, &mut steps);
+    let mut bottom = below_writers(queue, action, pos, &mut look_ups);
     while pos > bottom {
-        let entry = queue.entry(pos, &mut steps);
+        let entry = queue.entry(pos, &mut look_ups);
         if objects.meets_writes(entry.action) {
             count += 1;
             far = distance(action.origin, entry.action.origin).max(far);
             objects.add_reads(entry.action);
-            bottom = below_writers(queue, entry.action, bottom, &mut steps);
+            bottom = below_writers(queue, entry.action, bottom, &mut look_ups);
         }
         pos -= 1;
     }
@@ -125,7 +125,7 @@ fn walk_down<L: Ledger>(queue: &Queue, action: &Action, blank: Blank) -> Chain
 }
 
 /// The bound, lowered until at and below it nothing writes what an action reads.
-fn below_writers<L: Ledger>(queue: &Queue, action: &Action, bound: u32, steps: &mut Steps<L>) -> u32
+fn below_writers<L: Ledger>(queue: &Queue, action: &Action, bound: u32, look_ups: &mut LookUps<L>) -> u32
     requires reads { All (λ x. x < queue.now.shape.objects) (read_set action.now) }
     requires bound { queue.now.commit ≤ bound }
     ensures uncommitted { queue.now.commit ≤ result }
@@ -134,19 +134,19 @@ fn below_writers<L: Ledger>(queue: &Queue, action: &Action, bound: u32, steps: &
 {
     let mut below = bound;
     for object in action.reads.as_slice() {
-        below = below_writer(queue, *object, below, steps);
+        below = below_writer(queue, *object, below, look_ups);
     }
     below
 }
 
-fn below_writer<L: Ledger>(queue: &Queue, object: ObjectId, bound: u32, steps: &mut Steps<L>) -> u32
+fn below_writer<L: Ledger>(queue: &Queue, object: ObjectId, bound: u32, look_ups: &mut LookUps<L>) -> u32
     requires object { object.0 < queue.now.shape.objects }
     requires bound { queue.now.commit ≤ bound }
     ensures uncommitted { queue.now.commit ≤ result }
     ensures bound { result ≤ bound }
     ensures unwritten { (p : ℕ) → p ≤ result → is_in object.0 (write_set (action_at (queue_actions queue.now) p)) ≡ false }
 {
-    match queue.first_writer(object, steps) {
+    match queue.first_writer(object, look_ups) {
         Some(first) => bound.min(first - 1),
         None => bound,
     }

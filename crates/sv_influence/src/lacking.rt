@@ -14,7 +14,7 @@ use crate::numbers::Numbers;
 use std::alloc::{AllocError, Global};
 use std::sync::ledger::Ledger;
 use sv_lists::List;
-use sv_queue::{Queue, Steps};
+use sv_queue::{Queue, LookUps};
 use sv_world::{MOST_ITEMS, MOST_OBJECTS, ObjectId};
 
 /// What a relay of an uncommitted position has for the session of a slot: the positions that the session lacks, and the objects whose committed
@@ -28,27 +28,27 @@ pub fn closure<L: Ledger>(
     queue: &Queue,
     slot: u16,
     pos: u32,
-    steps: &mut Steps<L>,
+    look_ups: &mut LookUps<L>,
 ) -> Result<Closure, AllocError>
     requires { IsUncommitted queue.now pos }
     ensures items { IfOk result (λ c. c.items ≡ lacking queue.now slot pos) }
     ensures head { IfOk result (λ c. map (λ (o : ObjectId). o.0) c.head ≡ base_objects queue.now slot pos) }
-    ensures ticks { steps.new ≤ steps.old + most_look_ups * length (lacking queue.now slot pos) + 1 }
+    ensures ticks { look_ups.new ≤ look_ups.old + most_look_ups * length (lacking queue.now slot pos) + 1 }
 {
-    let found = expand_all(alloc, queue, slot, pos, steps)?;
+    let found = expand_all(alloc, queue, slot, pos, look_ups)?;
     let shape = queue.shape();
     prove!(shape.objects <= MOST_OBJECTS);
     listed(alloc, found)
 }
 
 /// The position itself, where the session lacks it.
-fn first_wanted<L: Ledger>(queue: &Queue, slot: u16, pos: u32, steps: &mut Steps<L>) -> Option<u32>
+fn first_wanted<L: Ledger>(queue: &Queue, slot: u16, pos: u32, look_ups: &mut LookUps<L>) -> Option<u32>
     requires { IsUncommitted queue.now pos }
     ensures within { (j : ℕ) → is_in j (option_to_list result) ≡ true → (queue.now.commit < j) × (j ≤ pos) }
     ensures whole { wanted_up_to (queue_actions queue.now) queue.now.commit (sent_positions queue.now slot) pos (option_to_list result) ≡ lacking queue.now slot pos }
-    ensures ticks { steps.new ≡ steps.old + 1 }
+    ensures ticks { look_ups.new ≡ look_ups.old + 1 }
 {
-    if queue.is_marked(pos, slot, steps) {
+    if queue.is_marked(pos, slot, look_ups) {
         None
     } else {
         Some(pos)
@@ -86,20 +86,20 @@ fn expand_all<L: Ledger>(
     queue: &Queue,
     slot: u16,
     pos: u32,
-    steps: &mut Steps<L>,
+    look_ups: &mut LookUps<L>,
 ) -> Result<Found, AllocError>
     requires { IsUncommitted queue.now pos }
     ensures items { IfOk result (λ f. f.items.items ≡ lacking queue.now slot pos) }
     ensures bases { IfOk result (λ f. (x : ℕ) → is_in x f.bases ≡ is_in x (base_objects queue.now slot pos)) }
-    ensures ticks { steps.new ≤ steps.old + most_look_ups * length (lacking queue.now slot pos) + 1 }
+    ensures ticks { look_ups.new ≤ look_ups.old + most_look_ups * length (lacking queue.now slot pos) + 1 }
 {
-    let first = first_wanted(queue, slot, pos, steps);
+    let first = first_wanted(queue, slot, pos, look_ups);
     let mut items = Vec::with_capacity(alloc, MOST_ITEMS)?;
     let mut missing = Missing::new(alloc);
     let mut next = first;
     while let Some(greatest) = next {
         items.push(greatest)?;
-        missing.expand(queue, slot, greatest, steps)?;
+        missing.expand(queue, slot, greatest, look_ups)?;
         next = missing.wanted.pop();
     }
     items.reverse();
@@ -151,22 +151,22 @@ impl Missing {
         queue: &Queue,
         slot: u16,
         pos: u32,
-        steps: &mut Steps<L>,
+        look_ups: &mut LookUps<L>,
     ) -> Result<(), AllocError>
         requires { IsUncommitted queue.now pos }
         ensures wanted { OnOk result ((j : ℕ) → is_in j self.new.wanted ≡ is_in j (lacking_writers queue.now slot pos (reads_at queue.now pos) ++ self.old.wanted)) }
         ensures bases { OnOk result ((x : ℕ) → is_in x self.new.bases ≡ is_in x (committed_reads queue.now slot pos (reads_at queue.now pos) ++ self.old.bases)) }
         ensures low { All (λ x. x < queue.now.shape.objects) (reads_at queue.now pos) }
-        ensures ticks { steps.new ≤ steps.old + most_look_ups }
+        ensures ticks { look_ups.new ≤ look_ups.old + most_look_ups }
     {
-        let entry = queue.entry(pos, steps);
+        let entry = queue.entry(pos, look_ups);
         for (place, object) in entry.action.reads.as_slice().iter().enumerate() {
             let read = ReadPlace {
                 pos,
                 place,
                 object: *object,
             };
-            self.look_up(queue, slot, read, steps)?;
+            self.look_up(queue, slot, read, look_ups)?;
         }
         Ok(())
     }
@@ -178,17 +178,17 @@ impl Missing {
         slot: u16,
         objects: &[ObjectId],
         pos: u32,
-        steps: &mut Steps<L>,
+        look_ups: &mut LookUps<L>,
     ) -> Result<(), AllocError>
         requires objects { All (λ x. x < queue.now.shape.objects) (numbers_of objects.now) }
         requires pos { pos ≤ last_position queue.now + 1 }
         ensures wanted { OnOk result ((j : ℕ) → is_in j self.new.wanted ≡ is_in j (lacking_writers queue.now slot pos (numbers_of objects.now) ++ self.old.wanted)) }
         ensures bases { OnOk result ((x : ℕ) → is_in x self.new.bases ≡ is_in x (committed_reads queue.now slot pos (numbers_of objects.now) ++ self.old.bases)) }
-        ensures ticks { steps.new ≤ steps.old + 2 * length objects.now }
+        ensures ticks { look_ups.new ≤ look_ups.old + 2 * length objects.now }
     {
         for object in objects {
-            let writer = queue.last_writer(*object, pos, steps);
-            self.add_writer(queue, slot, *object, writer, steps)?;
+            let writer = queue.last_writer(*object, pos, look_ups);
+            self.add_writer(queue, slot, *object, writer, look_ups)?;
         }
         Ok(())
     }
@@ -198,7 +198,7 @@ impl Missing {
         queue: &Queue,
         slot: u16,
         read: ReadPlace,
-        steps: &mut Steps<L>,
+        look_ups: &mut LookUps<L>,
     ) -> Result<(), AllocError>
         requires pos { IsUncommitted queue.now read.pos }
         requires object { read.object.0 < queue.now.shape.objects }
@@ -206,10 +206,10 @@ impl Missing {
         requires read { slice_index_or (reads_at queue.now read.pos) read.place 0 ≡ read.object.0 }
         ensures wanted { OnOk result ((j : ℕ) → is_in j self.new.wanted ≡ is_in j (lacking_writers queue.now slot read.pos (read.object.0 ∷ []) ++ self.old.wanted)) }
         ensures bases { OnOk result ((x : ℕ) → is_in x self.new.bases ≡ is_in x (committed_reads queue.now slot read.pos (read.object.0 ∷ []) ++ self.old.bases)) }
-        ensures ticks { steps.new ≤ steps.old + 2 }
+        ensures ticks { look_ups.new ≤ look_ups.old + 2 }
     {
-        let writer = queue.source(read.pos, read.place, steps);
-        self.add_writer(queue, slot, read.object, writer, steps)
+        let writer = queue.source(read.pos, read.place, look_ups);
+        self.add_writer(queue, slot, read.object, writer, look_ups)
     }
 
     /// Where the last writer of an object that is read is committed the object is needed, unless it was given; where it is not, the writer is,
@@ -221,19 +221,19 @@ impl Missing {
         slot: u16,
         object: ObjectId,
         writer: u32,
-        steps: &mut Steps<L>,
+        look_ups: &mut LookUps<L>,
     ) -> Result<(), AllocError>
         requires object { object.0 < queue.now.shape.objects }
         requires writer { writer ≢ 0 → IsUncommitted queue.now writer }
         ensures wanted { OnOk result ((j : ℕ) → is_in j self.new.wanted ≡ is_in j (lacking_of queue.now slot (writer ∷ []) ++ self.old.wanted)) }
         ensures bases { OnOk result ((x : ℕ) → is_in x self.new.bases ≡ is_in x (base_of queue.now slot writer object.0 ++ self.old.bases)) }
-        ensures ticks { steps.new ≤ steps.old + 1 }
+        ensures ticks { look_ups.new ≤ look_ups.old + 1 }
     {
         if writer == 0 {
             if !queue.is_given(object, slot) {
                 self.bases.insert(u32::from(object.0))?;
             }
-        } else if !queue.is_marked(writer, slot, steps) {
+        } else if !queue.is_marked(writer, slot, look_ups) {
             self.wanted.insert(writer)?;
         }
         Ok(())

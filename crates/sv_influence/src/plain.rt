@@ -13,7 +13,7 @@ use crate::objects::ObjectSet;
 use std::alloc::{AllocError, Global};
 use std::sync::ledger::Ledger;
 use sv_lists::List;
-use sv_queue::{Queue, Steps};
+use sv_queue::{Queue, LookUps};
 use sv_world::{MOST_OBJECTS, ObjectId};
 
 /// The same as [`closure`](crate::closure), by a walk over the queue from the position downwards with the set of the objects that are
@@ -25,12 +25,12 @@ pub fn plain_closure<L: Ledger>(
     queue: &Queue,
     slot: u16,
     pos: u32,
-    steps: &mut Steps<L>,
+    look_ups: &mut LookUps<L>,
 ) -> Result<Closure, AllocError>
     requires { IsUncommitted queue.now pos }
     ensures items { IfOk result (λ c. c.items ≡ lacking queue.now slot pos) }
     ensures head { IfOk result (λ c. map (λ (o : ObjectId). o.0) c.head ≡ base_objects queue.now slot pos) }
-    ensures ticks { steps.new ≤ steps.old + 3 * (pos - queue.now.commit) }
+    ensures ticks { look_ups.new ≤ look_ups.old + 3 * (pos - queue.now.commit) }
 {
     let commit = queue.commit();
     let items = Vec::new(alloc);
@@ -38,8 +38,8 @@ pub fn plain_closure<L: Ledger>(
     let mut walk = Walk { items, objects };
     let mut at = pos;
     while at > commit {
-        if is_wanted(queue, pos, at, &walk.objects, steps) {
-            walk.visit(queue, slot, at, steps)?;
+        if is_wanted(queue, pos, at, &walk.objects, look_ups) {
+            walk.visit(queue, slot, at, look_ups)?;
         }
         at -= 1;
     }
@@ -59,15 +59,15 @@ fn is_wanted<L: Ledger>(
     pos: u32,
     at: u32,
     objects: &ObjectSet,
-    steps: &mut Steps<L>,
+    look_ups: &mut LookUps<L>,
 ) -> bool
     requires { IsUncommitted queue.now at }
     ensures wanted { result ≡ (nat_eq at pos || list_any (λ x. has_object objects.now.words x) (write_set (action_at (queue_actions queue.now) at))) }
-    ensures ticks { steps.new ≡ steps.old + 1 }
+    ensures ticks { look_ups.new ≡ look_ups.old + 1 }
 {
     let shape = queue.shape();
     prove!(shape.objects <= MOST_OBJECTS);
-    let entry = queue.entry(at, steps);
+    let entry = queue.entry(at, look_ups);
     at == pos || objects.meets_writes(entry.action)
 }
 
@@ -85,17 +85,17 @@ impl Walk {
         queue: &Queue,
         slot: u16,
         at: u32,
-        steps: &mut Steps<L>,
+        look_ups: &mut LookUps<L>,
     ) -> Result<(), AllocError>
         requires at { IsUncommitted queue.now at }
         ensures items { OnOk result (self.new.items.items ≡ (if is_in at (sent_positions queue.now slot) then self.old.items.items else self.old.items.items ++ at ∷ [])) }
         ensures objects { OnOk result ((x : ℕ) → has_object self.new.objects.words x ≡ (if is_in at (sent_positions queue.now slot) then has_object self.old.objects.words x && not (is_in x (write_set (action_at (queue_actions queue.now) at))) else is_in x (read_set (action_at (queue_actions queue.now) at)) || has_object self.old.objects.words x)) }
-        ensures ticks { steps.new ≡ steps.old + 2 }
+        ensures ticks { look_ups.new ≡ look_ups.old + 2 }
     {
         let shape = queue.shape();
         prove!(shape.objects <= MOST_OBJECTS);
-        let entry = queue.entry(at, steps);
-        if queue.is_marked(at, slot, steps) {
+        let entry = queue.entry(at, look_ups);
+        if queue.is_marked(at, slot, look_ups) {
             self.objects.remove_writes(entry.action);
         } else {
             self.items.push(at)?;

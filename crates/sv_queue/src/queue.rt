@@ -12,7 +12,7 @@ ghost use Rattle.sv_world.specs.Worlds.{IsGoodShape, IsGoodWorld, HaveAttrs};
 use crate::rooms::{BLOCK, forget_given, forget_marks, make_given_room, make_marks_room};
 use crate::slots::Slots;
 use crate::sources::Sources;
-use crate::steps::Steps;
+use crate::look_ups::LookUps;
 use crate::waiting::WaitingAction;
 use crate::writers::Writers;
 use crate::written::{give_written, no_rows, put_values, tell_blocks};
@@ -138,12 +138,12 @@ impl Queue {
     }
 
     /// The last writer of an object below a position where it is above the commit, else 0. One look-up.
-    pub fn last_writer<L: Ledger>(&self, object: ObjectId, below: u32, steps: &mut Steps<L>) -> u32
+    pub fn last_writer<L: Ledger>(&self, object: ObjectId, below: u32, look_ups: &mut LookUps<L>) -> u32
         requires { object.0 < self.now.shape.objects }
         ensures writer { result ≡ last_writer (queue_actions self.now) object.0 below }
-        ensures ticks { steps.new ≡ steps.old + 1 }
+        ensures ticks { look_ups.new ≡ look_ups.old + 1 }
     {
-        steps.tick();
+        look_ups.tick();
         self.writer_below(object, below)
     }
 
@@ -155,14 +155,14 @@ impl Queue {
     }
 
     /// The first uncommitted writer of an object. One look-up.
-    pub fn first_writer<L: Ledger>(&self, object: ObjectId, steps: &mut Steps<L>) -> Option<u32>
+    pub fn first_writer<L: Ledger>(&self, object: ObjectId, look_ups: &mut LookUps<L>) -> Option<u32>
         requires { object.0 < self.now.shape.objects }
         ensures writer { IfSome result (λ pos. IsFirstWriter (queue_actions self.now) object.0 pos) }
         ensures uncommitted { IfSome result (λ pos. self.now.commit < pos) }
         ensures none { IfNone result (IsUnwritten (queue_actions self.now) object.0) }
-        ensures ticks { steps.new ≡ steps.old + 1 }
+        ensures ticks { look_ups.new ≡ look_ups.old + 1 }
     {
-        steps.tick();
+        look_ups.tick();
         self.writers.first(object)
     }
 
@@ -170,13 +170,13 @@ impl Queue {
     /// look-up.
     ///
     /// It is the answer of `last_writer`, without a search.
-    pub fn source<L: Ledger>(&self, pos: u32, place: usize, steps: &mut Steps<L>) -> u32
+    pub fn source<L: Ledger>(&self, pos: u32, place: usize, look_ups: &mut LookUps<L>) -> u32
         requires pos { IsUncommitted self.now pos }
         requires place { place < length (action_at (queue_actions self.now) pos).reads }
         ensures writer { result ≡ last_writer (queue_actions self.now) (slice_index_or (read_set (action_at (queue_actions self.now) pos)) place 0) pos }
-        ensures ticks { steps.new ≡ steps.old + 1 }
+        ensures ticks { look_ups.new ≡ look_ups.old + 1 }
     {
-        steps.tick();
+        look_ups.tick();
         let entry = (pos - self.commit - 1) as usize;
         let sources = &self.sources[entry];
         let source = sources.get(place);
@@ -197,13 +197,13 @@ impl Queue {
     }
 
     /// Whether an uncommitted position was sent to a slot. One look-up.
-    pub fn is_marked<L: Ledger>(&self, pos: u32, slot: u16, steps: &mut Steps<L>) -> bool
+    pub fn is_marked<L: Ledger>(&self, pos: u32, slot: u16, look_ups: &mut LookUps<L>) -> bool
         requires { IsUncommitted self.now pos }
         ensures marked { result ≡ is_in pos (sent_positions self.now slot) }
         ensures in_marks { result ≡ is_in slot (entry_at self.now pos).marks }
-        ensures ticks { steps.new ≡ steps.old + 1 }
+        ensures ticks { look_ups.new ≡ look_ups.old + 1 }
     {
-        steps.tick();
+        look_ups.tick();
         let place = (pos - self.commit - 1) as usize;
         let entry = &self.entries[place];
         entry.marks.has(slot)
@@ -214,21 +214,21 @@ impl Queue {
         &self,
         pos: u32,
         slots: &Slots,
-        steps: &mut Steps<L>,
+        look_ups: &mut LookUps<L>,
     ) -> bool
         requires { IsUncommitted self.now pos }
         ensures marked { result ≡ list_any (λ s. is_in pos (sent_positions self.now s)) slots.now.slots }
         ensures in_marks { result ≡ list_any (λ s. is_in s (entry_at self.now pos).marks) slots.now.slots }
-        ensures ticks { steps.new ≡ steps.old + 1 }
+        ensures ticks { look_ups.new ≡ look_ups.old + 1 }
     {
-        steps.tick();
+        look_ups.tick();
         let place = (pos - self.commit - 1) as usize;
         let entry = &self.entries[place];
         slots.meets(&entry.marks)
     }
 
     /// What stands at an uncommitted position. One look-up.
-    pub fn entry<L: Ledger>(&self, pos: u32, steps: &mut Steps<L>) -> QueueEntry<'_>
+    pub fn entry<L: Ledger>(&self, pos: u32, look_ups: &mut LookUps<L>) -> QueueEntry<'_>
         requires { IsUncommitted self.now pos }
         ensures author { result.author ≡ (entry_at self.now pos).author }
         ensures seq { result.seq ≡ (entry_at self.now pos).seq }
@@ -236,9 +236,9 @@ impl Queue {
         ensures has_result { result.has_result ≡ is_some (entry_at self.now pos).result }
         ensures placed { result.action.now ≡ action_at (queue_actions self.now) pos }
         ensures good { IsGoodAction self.now.shape result.action.now }
-        ensures ticks { steps.new ≡ steps.old + 1 }
+        ensures ticks { look_ups.new ≡ look_ups.old + 1 }
     {
-        steps.tick();
+        look_ups.tick();
         let place = (pos - self.commit - 1) as usize;
         let entry = &self.entries[place];
         QueueEntry {
@@ -250,12 +250,12 @@ impl Queue {
     }
 
     /// Whether an uncommitted position has a result. One look-up.
-    pub fn has_result<L: Ledger>(&self, pos: u32, steps: &mut Steps<L>) -> bool
+    pub fn has_result<L: Ledger>(&self, pos: u32, look_ups: &mut LookUps<L>) -> bool
         requires { IsUncommitted self.now pos }
         ensures value { result ≡ is_some (entry_at self.now pos).result }
-        ensures ticks { steps.new ≡ steps.old + 1 }
+        ensures ticks { look_ups.new ≡ look_ups.old + 1 }
     {
-        let entry = self.entry(pos, steps);
+        let entry = self.entry(pos, look_ups);
         entry.has_result
     }
 

@@ -8,7 +8,7 @@ use std::marker::Brand;
 use std::sync::ledger::{Blank, Ledger};
 use sv_influence::{Chain, Closure, chain, closure};
 use sv_lists::List;
-use sv_queue::{Queue, Slots, Steps};
+use sv_queue::{Queue, Slots, LookUps};
 use sv_world::{Action, ClientId, MOST_OPEN, ObjectId, check_action};
 
 /// What changes a queue. A push answers the position, an install the count, and the others answer 0.
@@ -164,12 +164,12 @@ pub fn finish<L: Ledger>(
     queue: &mut Queue,
     pos: u32,
     number: i64,
-    steps: &mut Steps<L>,
+    look_ups: &mut LookUps<L>,
 ) -> Result<(), AllocError> {
     if pos <= queue.commit() || queue.last() < pos || queue.shape().attrs != 1 {
         return Ok(());
     }
-    let entry = queue.entry(pos, steps);
+    let entry = queue.entry(pos, look_ups);
     if entry.has_result || entry.action.reads.len() != 1 || entry.action.mask != 1 {
         return Ok(());
     }
@@ -189,26 +189,26 @@ fn number(queue: &Queue, object: u16) -> u32 {
     }
 }
 
-fn last_writer<L: Ledger>(queue: &Queue, object: u16, below: u32, steps: &mut Steps<L>) -> u32 {
+fn last_writer<L: Ledger>(queue: &Queue, object: u16, below: u32, look_ups: &mut LookUps<L>) -> u32 {
     if object >= queue.shape().objects {
         return u32::MAX;
     }
-    queue.last_writer(ObjectId(object), below, steps)
+    queue.last_writer(ObjectId(object), below, look_ups)
 }
 
-fn source<L: Ledger>(queue: &Queue, pos: u32, slot: usize, steps: &mut Steps<L>) -> u32 {
+fn source<L: Ledger>(queue: &Queue, pos: u32, slot: usize, look_ups: &mut LookUps<L>) -> u32 {
     if pos <= queue.commit() || queue.last() < pos {
         return u32::MAX;
     }
-    let entry = queue.entry(pos, steps);
+    let entry = queue.entry(pos, look_ups);
     if entry.action.reads.len() <= slot {
         return u32::MAX;
     }
-    queue.source(pos, slot, steps)
+    queue.source(pos, slot, look_ups)
 }
 
-fn is_marked<L: Ledger>(queue: &Queue, pos: u32, session: u16, steps: &mut Steps<L>) -> bool {
-    queue.commit() < pos && pos <= queue.last() && queue.is_marked(pos, session, steps)
+fn is_marked<L: Ledger>(queue: &Queue, pos: u32, session: u16, look_ups: &mut LookUps<L>) -> bool {
+    queue.commit() < pos && pos <= queue.last() && queue.is_marked(pos, session, look_ups)
 }
 
 /// These slots as a set, those that may be.
@@ -227,13 +227,13 @@ fn is_marked_for_any<L: Ledger>(
     queue: &Queue,
     pos: u32,
     slots: &[u16],
-    steps: &mut Steps<L>,
+    look_ups: &mut LookUps<L>,
 ) -> Result<bool, AllocError> {
     if pos <= queue.commit() || queue.last() < pos {
         return Ok(false);
     }
     let set = set_of(alloc, slots)?;
-    let is_marked = queue.is_marked_for_any(pos, &set, steps);
+    let is_marked = queue.is_marked_for_any(pos, &set, look_ups);
     drop(set);
     Ok(is_marked)
 }
@@ -247,10 +247,10 @@ fn lacking<L: Ledger>(
     queue: &Queue,
     session: u16,
     pos: u32,
-    steps: &mut Steps<L>,
+    look_ups: &mut LookUps<L>,
 ) -> Result<Closure, AllocError> {
     if queue.commit() < pos && pos <= queue.last() {
-        return closure(alloc, queue, session, pos, steps);
+        return closure(alloc, queue, session, pos, look_ups);
     }
     Ok(Closure {
         items: List::new(alloc),
@@ -305,7 +305,7 @@ fn does<L: Ledger>(
     alloc: Global,
     queue: &mut Queue,
     change: Change,
-    steps: &mut Steps<L>,
+    look_ups: &mut LookUps<L>,
 ) -> Result<u32, AllocError> {
     match change {
         Change::Push(object) => return push_single(alloc, queue, object),
@@ -323,7 +323,7 @@ fn does<L: Ledger>(
         Change::Give(object, session) => give(queue, object, session),
         Change::MakeRoom(slots) => make_room(queue, slots)?,
         Change::Forget(slot) => queue.forget(slot),
-        Change::Finish(pos, number) => finish(alloc, queue, pos, number, steps)?,
+        Change::Finish(pos, number) => finish(alloc, queue, pos, number, look_ups)?,
     }
     Ok(0)
 }
@@ -332,23 +332,23 @@ fn answers<L: Ledger>(
     alloc: Global,
     queue: &Queue,
     ask: Ask,
-    steps: &mut Steps<L>,
+    look_ups: &mut LookUps<L>,
 ) -> Result<u32, AllocError> {
     Ok(match ask {
         Ask::Last => queue.last(),
         Ask::Number(object) => number(queue, object),
-        Ask::Writer(object, below) => last_writer(queue, object, below, steps),
-        Ask::Source(pos, slot) => source(queue, pos, slot, steps),
-        Ask::IsMarked(pos, session) => u32::from(is_marked(queue, pos, session, steps)),
+        Ask::Writer(object, below) => last_writer(queue, object, below, look_ups),
+        Ask::Source(pos, slot) => source(queue, pos, slot, look_ups),
+        Ask::IsMarked(pos, session) => u32::from(is_marked(queue, pos, session, look_ups)),
         Ask::IsMarkedForAny(pos, slots) => {
-            u32::from(is_marked_for_any(alloc, queue, pos, slots, steps)?)
+            u32::from(is_marked_for_any(alloc, queue, pos, slots, look_ups)?)
         }
         Ask::IsGiven(object, session) => u32::from(is_given(queue, object, session)),
         Ask::Lacks(session, pos, items, head) => {
-            u32::from(has_just(lacking(alloc, queue, session, pos, steps)?, items, head))
+            u32::from(has_just(lacking(alloc, queue, session, pos, look_ups)?, items, head))
         }
         Ask::Shows(session, objects, items, head) => {
-            shown(alloc, queue, session, objects, (items, head), steps)?
+            shown(alloc, queue, session, objects, (items, head), look_ups)?
         }
         Ask::Chain(objects, at) => chain_at(alloc, queue, objects, at)?.count,
         Ask::Far(objects, at) => chain_at(alloc, queue, objects, at)?.far,
@@ -362,12 +362,12 @@ fn told_by<L: Ledger>(
     alloc: Global,
     queue: &mut Queue,
     rows: &[Row],
-    steps: &mut Steps<L>,
+    look_ups: &mut LookUps<L>,
 ) -> Result<usize, AllocError> {
     for (at, row) in rows.iter().enumerate() {
         let (told, due) = match *row {
-            Row::Do(change, due) => (does(alloc, queue, change, steps)?, due),
-            Row::Asks(ask, due) => (answers(alloc, queue, ask, steps)?, due),
+            Row::Do(change, due) => (does(alloc, queue, change, look_ups)?, due),
+            Row::Asks(ask, due) => (answers(alloc, queue, ask, look_ups)?, due),
         };
         if told != due {
             return Ok(at);
@@ -388,9 +388,9 @@ fn told<L: Ledger>(
     requires parts { blank.parts ≡ L.parts }
     requires one { 0 < blank.parts }
 {
-    let mut steps = Steps::<L>::new(blank);
+    let mut look_ups = LookUps::<L>::new(blank);
     let mut queue = Queue::new(alloc, world(alloc, objects)?)?;
-    let count = told_by(alloc, &mut queue, rows, &mut steps);
+    let count = told_by(alloc, &mut queue, rows, &mut look_ups);
     drop(queue);
     count
 }

@@ -8,7 +8,7 @@ use std::marker::Brand;
 use std::sync::ledger::{Blank, Ledger};
 use std::test::Fail;
 use sv_influence::{closure, plain_closure};
-use sv_queue::{Queue, Steps};
+use sv_queue::{Queue, LookUps};
 
 /// The next number of a fixed sequence.
 pub fn draw(seed: &mut u64) -> u64 {
@@ -39,13 +39,13 @@ fn add_singles<L: Ledger>(
     alloc: Global,
     queue: &mut Queue,
     seed: &mut u64,
-    steps: &mut Steps<L>,
+    look_ups: &mut LookUps<L>,
 ) -> Result<(), AllocError> {
     for pos in 1..5u32 {
         push_single(alloc, queue, (draw(seed) % 8) as u16)?;
         if draw(seed) % 2 == 0 {
             mark(queue, pos, (draw(seed) % 2) as u16);
-            finish(alloc, queue, pos, 7, steps)?;
+            finish(alloc, queue, pos, 7, look_ups)?;
         }
     }
     Ok(())
@@ -72,9 +72,9 @@ fn fill<L: Ledger>(
     queue: &mut Queue,
     number: u32,
     seed: &mut u64,
-    steps: &mut Steps<L>,
+    look_ups: &mut LookUps<L>,
 ) -> Result<(), AllocError> {
-    add_singles(alloc, queue, seed, steps)?;
+    add_singles(alloc, queue, seed, look_ups)?;
     queue.install();
     for at in 0..16u32 {
         let shape = shape_of(number, at, seed);
@@ -89,13 +89,13 @@ fn agree_at<L: Ledger>(
     queue: &Queue,
     session: u16,
     pos: u32,
-    steps: &mut Steps<L>,
+    look_ups: &mut LookUps<L>,
 ) -> Result<bool, AllocError> {
     if pos <= queue.commit() || queue.last() < pos {
         return Ok(true);
     }
-    let fast = closure(alloc, queue, session, pos, steps)?;
-    let plain = plain_closure(alloc, queue, session, pos, steps)?;
+    let fast = closure(alloc, queue, session, pos, look_ups)?;
+    let plain = plain_closure(alloc, queue, session, pos, look_ups)?;
     Ok(has(&plain, fast.items.as_slice(), fast.head.as_slice()))
 }
 
@@ -103,11 +103,11 @@ fn agree_at<L: Ledger>(
 fn agree<L: Ledger>(
     alloc: Global,
     queue: &Queue,
-    steps: &mut Steps<L>,
+    look_ups: &mut LookUps<L>,
 ) -> Result<bool, AllocError> {
     for before in queue.commit()..queue.last() {
         for session in 0..2u16 {
-            if !agree_at(alloc, queue, session, before + 1, steps)? {
+            if !agree_at(alloc, queue, session, before + 1, look_ups)? {
                 return Ok(false);
             }
         }
@@ -121,10 +121,10 @@ fn compared_in<L: Ledger>(
     queue: &mut Queue,
     number: u32,
     seed: &mut u64,
-    steps: &mut Steps<L>,
+    look_ups: &mut LookUps<L>,
 ) -> Result<Option<u32>, AllocError> {
-    fill(alloc, queue, number, seed, steps)?;
-    let is_same = agree(alloc, queue, steps)?;
+    fill(alloc, queue, number, seed, look_ups)?;
+    let is_same = agree(alloc, queue, look_ups)?;
     Ok(is_same.then_some(queue.last() - queue.commit()))
 }
 
@@ -133,10 +133,10 @@ fn compared_queue<L: Ledger>(
     alloc: Global,
     number: u32,
     seed: &mut u64,
-    steps: &mut Steps<L>,
+    look_ups: &mut LookUps<L>,
 ) -> Result<Option<u32>, AllocError> {
     let mut queue = Queue::new(alloc, world(alloc, 8)?)?;
-    let count = compared_in(alloc, &mut queue, number, seed, steps);
+    let count = compared_in(alloc, &mut queue, number, seed, look_ups);
     drop(queue);
     count
 }
@@ -147,11 +147,11 @@ fn compared<L: Ledger>(alloc: Global, blank: Blank) -> Result<(u32, u64), AllocE
     requires parts { blank.parts ≡ L.parts }
     requires some { 0 < blank.parts }
 {
-    let mut steps = Steps::<L>::new(blank);
+    let mut look_ups = LookUps::<L>::new(blank);
     let mut seed = 1;
     let mut positions = 0u64;
     for number in 0..1000u32 {
-        let Some(count) = compared_queue(alloc, number, &mut seed, &mut steps)? else {
+        let Some(count) = compared_queue(alloc, number, &mut seed, &mut look_ups)? else {
             return Ok((number, positions));
         };
         positions = positions.wrapping_add(u64::from(count));

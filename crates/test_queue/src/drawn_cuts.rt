@@ -11,7 +11,7 @@ use std::sync::ledger::{Blank, Ledger};
 use std::test::Fail;
 use sv_influence::{Closure, ConsistentCut, closure, plain_closure};
 use sv_lists::List;
-use sv_queue::{Queue, Steps};
+use sv_queue::{Queue, LookUps};
 use sv_world::ObjectId;
 
 /// Sends a session what it lacks of a position, so that its marks stay closed.
@@ -20,12 +20,12 @@ fn send<L: Ledger>(
     queue: &mut Queue,
     session: u16,
     pos: u32,
-    steps: &mut Steps<L>,
+    look_ups: &mut LookUps<L>,
 ) -> Result<(), AllocError> {
     if pos <= queue.commit() || queue.last() < pos {
         return Ok(());
     }
-    let relay = closure(alloc, queue, session, pos, steps)?;
+    let relay = closure(alloc, queue, session, pos, look_ups)?;
     for item in relay.items.as_slice() {
         mark(queue, *item, session);
     }
@@ -38,13 +38,13 @@ fn fill<L: Ledger>(
     queue: &mut Queue,
     number: u32,
     seed: &mut u64,
-    steps: &mut Steps<L>,
+    look_ups: &mut LookUps<L>,
 ) -> Result<(), AllocError> {
     for at in 0..60u32 {
         let shape = shape_of(number, at, seed);
         let pos = push_at(alloc, queue, shape, (0, 0))?;
         if draw(seed) % 16 == 0 {
-            send(alloc, queue, (draw(seed) % 2) as u16, pos, steps)?;
+            send(alloc, queue, (draw(seed) % 2) as u16, pos, look_ups)?;
         }
         give(queue, (draw(seed) % 64) as u16, (draw(seed) % 2) as u16);
     }
@@ -57,13 +57,13 @@ fn plain<L: Ledger>(
     queue: &mut Queue,
     session: u16,
     objects: u64,
-    steps: &mut Steps<L>,
+    look_ups: &mut LookUps<L>,
 ) -> Result<Option<Closure>, AllocError> {
     let pos = push_at(alloc, queue, (objects, 0), (0, 0))?;
     if pos <= queue.commit() || queue.last() < pos {
         return Ok(None);
     }
-    let closure = plain_closure(alloc, queue, session, pos, steps);
+    let closure = plain_closure(alloc, queue, session, pos, look_ups);
     pop(queue);
     Ok(Some(closure?))
 }
@@ -75,9 +75,9 @@ fn is_plain<L: Ledger>(
     session: u16,
     objects: u64,
     cut: &ConsistentCut,
-    steps: &mut Steps<L>,
+    look_ups: &mut LookUps<L>,
 ) -> Result<bool, AllocError> {
-    let Some(plain) = plain(alloc, queue, session, objects, steps)? else {
+    let Some(plain) = plain(alloc, queue, session, objects, look_ups)? else {
         return Ok(false);
     };
     let items = plain.items.as_slice();
@@ -94,9 +94,9 @@ fn is_too_much<L: Ledger>(
     queue: &mut Queue,
     session: u16,
     objects: u64,
-    steps: &mut Steps<L>,
+    look_ups: &mut LookUps<L>,
 ) -> Result<bool, AllocError> {
-    let Some(plain) = plain(alloc, queue, session, objects, steps)? else {
+    let Some(plain) = plain(alloc, queue, session, objects, look_ups)? else {
         return Ok(false);
     };
     Ok(plain.items.as_slice().len() > 34)
@@ -110,19 +110,19 @@ fn agrees<L: Ledger>(
     session: u16,
     objects: u64,
     cut: &ConsistentCut,
-    steps: &mut Steps<L>,
+    look_ups: &mut LookUps<L>,
 ) -> Result<bool, AllocError> {
     let above = queue.last().saturating_sub(cut.last);
     for _ in 1..above {
         pop(queue);
     }
     if above > 0 {
-        if !is_too_much(alloc, queue, session, objects, steps)? {
+        if !is_too_much(alloc, queue, session, objects, look_ups)? {
             return Ok(false);
         }
         pop(queue);
     }
-    is_plain(alloc, queue, session, objects, cut, steps)
+    is_plain(alloc, queue, session, objects, cut, look_ups)
 }
 
 /// The objects of a set of bits.
@@ -142,17 +142,17 @@ fn compared_in<L: Ledger>(
     queue: &mut Queue,
     number: u32,
     seed: &mut u64,
-    steps: &mut Steps<L>,
+    look_ups: &mut LookUps<L>,
 ) -> Result<Option<u32>, AllocError> {
-    fill(alloc, queue, number, seed, steps)?;
+    fill(alloc, queue, number, seed, look_ups)?;
     let session = (draw(seed) % 3) as u16;
     let bits = draw(seed) % 255 + 1;
     let objects = objects_of(alloc, bits)?;
-    let Some(cut) = cut_of(alloc, queue, session, objects.as_slice(), steps)? else {
+    let Some(cut) = cut_of(alloc, queue, session, objects.as_slice(), look_ups)? else {
         return Ok(None);
     };
     let older = queue.last().saturating_sub(cut.last);
-    let is_same = agrees(alloc, queue, session, bits, &cut, steps)?;
+    let is_same = agrees(alloc, queue, session, bits, &cut, look_ups)?;
     Ok(is_same.then_some(older))
 }
 
@@ -161,10 +161,10 @@ fn compared_queue<L: Ledger>(
     alloc: Global,
     number: u32,
     seed: &mut u64,
-    steps: &mut Steps<L>,
+    look_ups: &mut LookUps<L>,
 ) -> Result<Option<u32>, AllocError> {
     let mut queue = Queue::new(alloc, world(alloc, 8)?)?;
-    let older = compared_in(alloc, &mut queue, number, seed, steps);
+    let older = compared_in(alloc, &mut queue, number, seed, look_ups);
     drop(queue);
     older
 }
@@ -175,11 +175,11 @@ fn compared<L: Ledger>(alloc: Global, blank: Blank) -> Result<(u32, u32), AllocE
     requires parts { blank.parts ≡ L.parts }
     requires some { 0 < blank.parts }
 {
-    let mut steps = Steps::<L>::new(blank);
+    let mut look_ups = LookUps::<L>::new(blank);
     let mut seed = 1;
     let mut older = 0u32;
     for number in 0..400u32 {
-        match compared_queue(alloc, number, &mut seed, &mut steps)? {
+        match compared_queue(alloc, number, &mut seed, &mut look_ups)? {
             Some(0) => {}
             Some(_) => older = older.wrapping_add(1),
             None => return Ok((number, older)),

@@ -48,7 +48,7 @@ loop-many-preserved g c =
       passes = i.passes;
       fails = fails;
       ticks = λ b h. (let t = i.ticks b h in
-          half-ticks (c.loop-many.many - c.loop-many.few) (c.loop-many.few + half - c.loop-many.few) c.loop-many.steps c.lacks_few.new.steps t.0 (c.args.steps.now + most_to_see * b) more (omega arith) t.1.0
+          half-ticks (c.loop-many.many - c.loop-many.few) (c.loop-many.few + half - c.loop-many.few) c.loop-many.look_ups c.lacks_few.new.look_ups t.0 (c.args.look_ups.now + most_to_see * b) more (omega arith) t.1.0
           c.in_ok-lacks_few.ensures.ticks t.1.1);
     }
 
@@ -69,7 +69,7 @@ loop-many-preserved-then-branch g c =
       passes = passes;
       fails = i.fails;
       ticks = λ b h. (let t = i.ticks b h in
-          half-ticks (c.loop-many.many - c.loop-many.few) (c.loop-many.many - (c.loop-many.few + half)) c.loop-many.steps c.lacks_few.new.steps t.0 (c.args.steps.now + most_to_see * b) more (omega arith) t.1.0
+          half-ticks (c.loop-many.many - c.loop-many.few) (c.loop-many.many - (c.loop-many.few + half)) c.loop-many.look_ups c.lacks_few.new.look_ups t.0 (c.args.look_ups.now + most_to_see * b) more (omega arith) t.1.0
           c.in_ok-lacks_few.ensures.ticks t.1.1);
     }
 

@@ -14,7 +14,7 @@ invariant-loop-many g l = record {
   high : l.many ≤ last_position l.queue;
   passes : length (lacking_to_see l.queue l.slot (numbers_of l.objects) l.few) ≤ most_items;
   fails : most_items < length (lacking_to_see l.queue l.slot (numbers_of l.objects) l.many);
-  ticks : (b : ℕ) → last_position l.queue - l.queue.commit ≤ 2 ^ b → (t : ℕ) × ((l.many - l.few ≤ 2 ^ t) × (l.steps + most_to_see * t ≤ l.fn.steps + most_to_see * b));
+  ticks : (b : ℕ) → last_position l.queue - l.queue.commit ≤ 2 ^ b → (t : ℕ) × ((l.many - l.few ≤ 2 ^ t) × (l.look_ups + most_to_see * t ≤ l.fn.look_ups + most_to_see * b));
 }
 
 abbrev pub decreases-loop-many : goal.decreases-loop-many

@@ -15,7 +15,7 @@ invariant-loop-greatest g l = record {
   whole : wanted_up_to (queue_actions l.queue) l.queue.commit (sent_positions l.queue l.slot) l.pos l.missing.wanted ++ reverse l.items.items ≡ lacking_to_see l.queue l.slot (numbers_of l.objects) l.pos;
   bases : AreSeenBases l.queue l.slot (numbers_of l.objects) l.pos l.items.items l.missing.bases;
   few : length l.items.items ≤ most_items;
-  ticks : l.steps ≤ l.fn.steps + 2 * length l.objects + most_look_ups * length l.items.items;
+  ticks : l.look_ups ≤ l.fn.look_ups + 2 * length l.objects + most_look_ups * length l.items.items;
 }
 
 abbrev pub decreases-loop-greatest : goal.decreases-loop-greatest

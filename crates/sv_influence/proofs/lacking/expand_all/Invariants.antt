@@ -16,7 +16,7 @@ invariant-loop-next g l = record {
   last : IfNone l.next (l.missing.wanted ≡ []);
   whole : wanted_up_to (queue_actions l.queue) l.queue.commit (sent_positions l.queue l.slot) l.pos (l.missing.wanted ++ option_to_list l.next) ++ reverse l.items.items ≡ lacking l.queue l.slot l.pos;
   bases : AreBases l.queue.shape.objects (queue_actions l.queue) l.queue.commit (given_objects l.queue l.slot) l.items.items l.missing.bases;
-  ticks : l.steps ≤ l.fn.steps + 1 + most_look_ups * length l.items.items;
+  ticks : l.look_ups ≤ l.fn.look_ups + 1 + most_look_ups * length l.items.items;
 }
 
 abbrev pub decreases-loop-next : goal.decreases-loop-next

@@ -60,8 +60,8 @@ loop-at-preserved g c =
             ∙ (passed v s pos at f c.loop-at.walk.items.items low high c.loop-at.invariant.objects (sym c.is_wanted.ensures.wanted ∙ w.if-is_wanted.false) c.loop-at.invariant.items).1 x)
       ];
       ticks = (let was = c.loop-at.invariant.ticks in let one = c.is_wanted.ensures.ticks in elim c.if-is_wanted.branch [
-        | then-is_wanted+in_ok-visit w ↦ (let two = w.visit.ensures.ticks in let is = w.steps-is in omega arith)
-        | else-is_wanted w ↦ (let is = w.steps-is in omega arith)
+        | then-is_wanted+in_ok-visit w ↦ (let two = w.visit.ensures.ticks in let is = w.look_ups-is in omega arith)
+        | else-is_wanted w ↦ (let is = w.look_ups-is in omega arith)
       ]);
     }
 

@@ -13,7 +13,7 @@ invariant-loop-at g l = record {
   high : l.at ≤ l.pos;
   items : l.walk.items.items ≡ reverse (above l.at (lacking l.queue l.slot l.pos));
   objects : AreToBeHad l.queue l.slot l.pos l.at (has_object l.walk.objects.words);
-  ticks : l.steps + 3 * l.at ≤ l.fn.steps + 3 * l.pos;
+  ticks : l.look_ups + 3 * l.at ≤ l.fn.look_ups + 3 * l.pos;
 }
 
 abbrev pub decreases-loop-at : goal.decreases-loop-at

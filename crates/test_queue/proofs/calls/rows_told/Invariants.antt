@@ -1,4 +1,4 @@
--- The steps are counted under the name and the parts of the blank.
+-- The look-ups are counted under the name and the parts of the blank.
 use Rattle.test_queue.proofs.calls.rows_told.Given as goal
 
 abbrev pub ghosts-told : goal.ghosts-told

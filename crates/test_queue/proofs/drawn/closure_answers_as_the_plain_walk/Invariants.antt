@@ -1,4 +1,4 @@
--- The steps are counted under the name and the parts of the blank.
+-- The look-ups are counted under the name and the parts of the blank.
 use Rattle.test_queue.proofs.drawn.closure_answers_as_the_plain_walk.Given as goal
 
 abbrev pub ghosts-compared : goal.ghosts-compared

@@ -12,5 +12,5 @@ invariant-loop-place g l = record {
   good : IsGoodAction l.queue.shape (action_at (queue_actions l.queue) l.pos);
   wanted : (j : ℕ) → is_in j (lacking_writers l.queue l.slot l.pos (drop l.place (reads_at l.queue l.pos)) ++ l.self.wanted) ≡ is_in j (lacking_writers l.queue l.slot l.pos (reads_at l.queue l.pos) ++ l.fn.self.wanted);
   bases : (x : ℕ) → is_in x (committed_reads l.queue l.slot l.pos (drop l.place (reads_at l.queue l.pos)) ++ l.self.bases) ≡ is_in x (committed_reads l.queue l.slot l.pos (reads_at l.queue l.pos) ++ l.fn.self.bases);
-  ticks : l.steps ≤ l.fn.steps + 1 + 2 * l.place;
+  ticks : l.look_ups ≤ l.fn.look_ups + 1 + 2 * l.place;
 }

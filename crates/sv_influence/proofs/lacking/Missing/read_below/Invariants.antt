@@ -9,5 +9,5 @@ abbrev pub invariant-loop-object : goal.invariant-loop-object
 invariant-loop-object g l = record {
   wanted : (j : ℕ) → is_in j (lacking_writers l.queue l.slot l.pos (drop l.object-index (numbers_of l.objects)) ++ l.self.wanted) ≡ is_in j (lacking_writers l.queue l.slot l.pos (numbers_of l.objects) ++ l.fn.self.wanted);
   bases : (x : ℕ) → is_in x (committed_reads l.queue l.slot l.pos (drop l.object-index (numbers_of l.objects)) ++ l.self.bases) ≡ is_in x (committed_reads l.queue l.slot l.pos (numbers_of l.objects) ++ l.fn.self.bases);
-  ticks : l.steps ≤ l.fn.steps + 2 * l.object-index;
+  ticks : l.look_ups ≤ l.fn.look_ups + 2 * l.object-index;
 }

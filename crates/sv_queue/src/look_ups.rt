@@ -6,12 +6,12 @@ use std::sync::ledger::{Blank, Book, Ledger, Share};
 
 /// How many look-ups were made. It takes no bytes, and only `tick` changes it.
 #[derive(Drop)]
-pub struct Steps<L: Ledger> {
+pub struct LookUps<L: Ledger> {
     book: Book<L>,
     share: Share<L>,
 }
 
-impl<L: Ledger> Model for Steps<L> {
+impl<L: Ledger> Model for LookUps<L> {
     ghost use Rattle.std.specs.Prelude.{ℕ, ◌<◌};
 
     ghost Value = { ℕ };
@@ -21,16 +21,16 @@ impl<L: Ledger> Model for Steps<L> {
     ghost invariant = { λ s. 0 < s.share.parts };
 }
 
-impl<L: Ledger> Steps<L> {
+impl<L: Ledger> LookUps<L> {
     /// None yet. A caller that counts nothing passes `Blank::new(1)`.
-    pub fn new(blank: Blank) -> Steps<L>
+    pub fn new(blank: Blank) -> LookUps<L>
         requires name { blank.name ≡ L.name }
         requires parts { blank.parts ≡ L.parts }
         requires some { 0 < blank.parts }
         ensures { result ≡ 0 }
     {
         let (book, share) = blank.open::<L>();
-        Steps { book, share }
+        LookUps { book, share }
     }
 
     /// Counts one look-up.
