@@ -7,7 +7,7 @@ use Rattle.std.proofs.lemmas.List.{length-append}
 use Rattle.sv_world.specs.declared.action.Action.{Action}
 use Rattle.sv_world.specs.Control.{chain_length, needed_for}
 use Rattle.sv_world.proofs.Influences.{needed-chain}
-use Rattle.sv_wire.specs.declared.message.ObjectValue.{ObjectValue as Sent}
+use Rattle.sv_wire.specs.declared.message.ObjectValue.{ObjectValue}
 use Rattle.sv_journal.specs.declared.entry.Entry.{Entry}
 use Rattle.sv_journal.specs.declared.entry.BriefReply.{BriefReply}
 use Rattle.sv_journal.specs.declared.entry.BriefReply.TheVariants as brief
@@ -98,7 +98,7 @@ pub earlier-inner : (e d : Entry) (h g : List Entry) → IsEarlier (e ∷ h) (d 
 earlier-inner e d h g same = same
 earlier-inner e d h g (after c b) = earlier-rest h e g b
 
-relay-small : (K : Keeping) (keeps : IsKeeping K) (r : Rules) (e : Entry) (h : List Entry) (commit : ℕ) (head : List Sent) (positions : List ℕ) → LegalFor K r (e ∷ h) → IsLegalRelay K r e h commit head positions → length positions ≤ r.bound + 1
+relay-small : (K : Keeping) (keeps : IsKeeping K) (r : Rules) (e : Entry) (h : List Entry) (commit : ℕ) (head : List ObjectValue) (positions : List ℕ) → LegalFor K r (e ∷ h) → IsLegalRelay K r e h commit head positions → length positions ≤ r.bound + 1
 relay-small K keeps r e h commit head positions l t =
     let above : commit_of (K.kept h) < t.target = t.above in
     let a = accepted-at K keeps r (e ∷ h) l t.target (omega arith) t.accepted_to in

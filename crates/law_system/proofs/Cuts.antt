@@ -8,7 +8,7 @@ use Rattle.sv_world.proofs.Members.{is_in-head, is_in-tail}
 use Rattle.sv_world.proofs.Writers.{last_writer-writes}
 use Rattle.sv_eval.specs.Serial.{serial_world}
 use Rattle.sv_versions.specs.Held.{Held, read_below}
-use Rattle.sv_wire.specs.declared.message.ObjectValue.{ObjectValue as Sent}
+use Rattle.sv_wire.specs.declared.message.ObjectValue.{ObjectValue}
 use Rattle.sv_journal.specs.declared.entry.Entry.{Entry}
 use Rattle.sv_journal.specs.declared.entry.BriefReply.TheVariants as brief
 use Rattle.sv_journal.specs.History.{Authored, accepted, actions_of, item_at, full_reply}
@@ -68,7 +68,7 @@ module _ (K : Keeping) (keeps : IsKeeping K) (r : Rules) (H : List Entry) (count
   -- Where a client has got all replies of a session before what is seen, and takes this, it reads each of the objects behind the position as it is in
   -- the serial world there.
   pub seen-whole : (e : Entry) (g : List Entry) → IsEarlier (e ∷ g) H → (t : List Event) → ((o : ℕ) → IsFront (got t o) (replies_in A H o)) →
-      got t e.session ≡ replies_in A g e.session → (last commit : ℕ) (head : List Sent) (positions : List ℕ) → e.reply ≡ brief.Seen last commit head positions →
+      got t e.session ≡ replies_in A g e.session → (last commit : ℕ) (head : List ObjectValue) (positions : List ℕ) → e.reply ≡ brief.Seen last commit head positions →
       (seen : IsLegalSeen K r e g last commit head positions) → (x : ℕ) → is_in x (numbers_of seen.objects) ≡ true →
       read_below (with_reply (held_of t) (full_reply A (brief.Seen last commit head positions))) x (suc last) ≡ Some (slice_index_or (serial_world r.world.values (actions_of H) last) x [])
   seen-whole e g b t fronts all_got last commit head positions is seen x m =

@@ -6,7 +6,7 @@ use Rattle.std.proofs.lemmas.List.{length-append}
 use Rattle.std.proofs.lemmas.Option.{none-some}
 use Rattle.sv_world.specs.declared.world.ClientId.{ClientId}
 use Rattle.sv_world.specs.declared.world.ObjectId.{ObjectId}
-use Rattle.sv_wire.specs.declared.message.ObjectValue.{ObjectValue as Sent}
+use Rattle.sv_wire.specs.declared.message.ObjectValue.{ObjectValue}
 use Rattle.sv_wire.specs.declared.message.Request.{Request}
 use Rattle.sv_wire.specs.declared.message.Request.TheVariants as requests
 use Rattle.sv_wire.specs.declared.message.Reply.{Reply}
@@ -132,7 +132,7 @@ life-grows h whole (after {g} e b) k =
 pub record IsWelcome (e : Entry) (client : ClientId) (life : ℕ) : Type 0 where
   pub interest : List ObjectId
   pub commit : ℕ
-  pub head : List Sent
+  pub head : List ObjectValue
   pub request : e.request ≡ requests.Join client life interest
   pub reply : e.reply ≡ brief.Welcome commit head
 

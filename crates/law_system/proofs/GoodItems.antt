@@ -13,7 +13,7 @@ use Rattle.sv_world.specs.declared.world.ObjectId.{ObjectId}
 use Rattle.sv_world.proofs.Bases.{head_for-iff}
 use Rattle.sv_world.proofs.Good.{none_of_good}
 use Rattle.sv_world.proofs.Members.{is_in-head, is_in-tail}
-use Rattle.sv_wire.specs.declared.message.ObjectValue.{ObjectValue as Sent}
+use Rattle.sv_wire.specs.declared.message.ObjectValue.{ObjectValue}
 use Rattle.sv_wire.specs.declared.message.Item.{Item}
 use Rattle.sv_wire.specs.declared.message.Request.{Request}
 use Rattle.sv_wire.specs.declared.message.Request.TheVariants as requests
@@ -131,7 +131,7 @@ module _ (truthful : Truthful) where
   good-heads : (xs : List ℕ) → ((x : ℕ) → is_in x xs ≡ true → x < r.world.shape.objects) → is_bad_head r.world.shape (committed_held r (K.kept g) xs) ≡ false
   good-heads = good-head K keeps r H count legal serial (worlds-shaped truthful) g earlier
 
-  relay-head : (commit : ℕ) (head : List Sent) (positions : List ℕ) → IsLegalRelay K r e g commit head positions → is_bad_head r.world.shape head ≡ false
+  relay-head : (commit : ℕ) (head : List ObjectValue) (positions : List ℕ) → IsLegalRelay K r e g commit head positions → is_bad_head r.world.shape head ≡ false
   relay-head commit head positions t =
       let acts = actions_of (e ∷ g) in
       let given = already_given r.world.shape.objects (K.kept g) e.session in
@@ -139,7 +139,7 @@ module _ (truthful : Truthful) where
       ap (is_bad_head r.world.shape) t.head_is
       ∙ good-heads xs (λ x m. ((head_for-iff r.world.shape.objects acts (commit_of (K.kept g)) (sent_to g e.session) given t.target x).0 m).0)
 
-  welcome-head : (commit : ℕ) (head : List Sent) → IsWelcomeReply K r g e.session e.request commit head → e.reply ≡ brief.Welcome commit head → is_bad_head r.world.shape head ≡ false
+  welcome-head : (commit : ℕ) (head : List ObjectValue) → IsWelcomeReply K r g e.session e.request commit head → e.reply ≡ brief.Welcome commit head → is_bad_head r.world.shape head ≡ false
   welcome-head commit head t is =
       let w = join-welcomed awaited t.client t.life t.interest t.request in
       let xs = map (λ (o : ObjectId). o.0) L.interest in
@@ -147,7 +147,7 @@ module _ (truthful : Truthful) where
       ∙ good-heads xs (λ x m. each-is_in (λ (y : ℕ). y < r.world.shape.objects) xs
       (objects-below r.world.shape.objects L.interest (recursion_from_All (λ (o : ObjectId). o.0 < r.world.shape.objects) L.interest this_one.trace.interest.objects)) x m)
 
-  seen-head : (last commit : ℕ) (head : List Sent) (positions : List ℕ) → IsLegalSeen K r e g last commit head positions → is_bad_head r.world.shape head ≡ false
+  seen-head : (last commit : ℕ) (head : List ObjectValue) (positions : List ℕ) → IsLegalSeen K r e g last commit head positions → is_bad_head r.world.shape head ≡ false
   seen-head last commit head positions t =
       let acts = with_reading (actions_of (e ∷ g)) last (numbers_of t.objects) in
       let given = already_given r.world.shape.objects (K.kept g) e.session in
@@ -156,7 +156,7 @@ module _ (truthful : Truthful) where
       ap (is_bad_head r.world.shape) t.head_is
       ∙ good-heads xs (λ x m. ((head_for-iff r.world.shape.objects acts (commit_of (K.kept g)) sent given (suc last) x).0 m).0)
 
-  seen-good : (last commit : ℕ) (head : List Sent) (positions : List ℕ) → e.reply ≡ brief.Seen last commit head positions →
+  seen-good : (last commit : ℕ) (head : List ObjectValue) (positions : List ℕ) → e.reply ≡ brief.Seen last commit head positions →
       has_bad_item who (pending_of whole) e.request (full_reply A (brief.Seen last commit head positions)) ≡ false
   seen-good last commit head positions is =
       let reply = brief.Seen last commit head positions in
@@ -166,7 +166,7 @@ module _ (truthful : Truthful) where
       (seen-head last commit head positions (legal-seen K keeps r e g last commit head positions legal_here is))
       (good-items K keeps r H legal positions (λ j m. (low.1 j m, (let within : j ≤ length (accepted (e ∷ g)) = positions-within K keeps r e g legal_here reply is j m in omega arith))))
 
-  relay-fits : (seq commit : ℕ) (head : List Sent) (positions : List ℕ) → e.reply ≡ brief.Relay seq commit head positions →
+  relay-fits : (seq commit : ℕ) (head : List ObjectValue) (positions : List ℕ) → e.reply ≡ brief.Relay seq commit head positions →
       is_good_relay who (pending_of whole) e.request seq (map (item_at A) positions) ≡ true
   relay-fits seq commit head positions is =
       let t : IsRelayReply K r g e.session e.request commit head positions = tells (brief.Relay seq commit head positions) is in
@@ -190,7 +190,7 @@ module _ (truthful : Truthful) where
             (submit-ends awaited seq commit head positions is t n a z.1.1.0 (pending_of whole) front.0 front.1)))
       ]
 
-  relay-good : (seq commit : ℕ) (head : List Sent) (positions : List ℕ) → e.reply ≡ brief.Relay seq commit head positions →
+  relay-good : (seq commit : ℕ) (head : List ObjectValue) (positions : List ℕ) → e.reply ≡ brief.Relay seq commit head positions →
       has_bad_item who (pending_of whole) e.request (full_reply A (brief.Relay seq commit head positions)) ≡ false
   relay-good seq commit head positions is =
       let items = map (item_at A) positions in

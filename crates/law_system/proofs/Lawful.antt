@@ -16,7 +16,7 @@ use Rattle.sv_world.proofs.Writers.{last_writer-same}
 use Rattle.sv_world.proofs.Needs.{needed-sent, needed-bounds}
 use Rattle.sv_world.proofs.Seeing.{see-bounds}
 use Rattle.sv_eval.specs.Serial.{put_all, serial_world}
-use Rattle.sv_wire.specs.declared.message.ObjectValue.{ObjectValue as Sent}
+use Rattle.sv_wire.specs.declared.message.ObjectValue.{ObjectValue}
 use Rattle.sv_wire.specs.declared.message.Request.TheVariants as requests
 use Rattle.sv_journal.specs.declared.entry.Entry.{Entry}
 use Rattle.sv_journal.specs.declared.entry.BriefReply.{BriefReply}
@@ -85,14 +85,14 @@ told-named (e ∷ h) s x = named-by e.reply e.session (length (accepted (e ∷ h
 -- ---- Accepted actions with one more entry
 
 -- After a relay the actions are those before with the new one.
-pub relayed-actions : (e : Entry) (h : List Entry) (seq commit : ℕ) (head : List Sent) (positions : List ℕ) → e.reply ≡ brief.Relay seq commit head positions →
+pub relayed-actions : (e : Entry) (h : List Entry) (seq commit : ℕ) (head : List ObjectValue) (positions : List ℕ) → e.reply ≡ brief.Relay seq commit head positions →
     actions_of (e ∷ h) ≡ actions_of h ++ new_of h e.session e.request
 relayed-actions e h seq commit head positions is =
     ap (λ (reply : BriefReply). actions_of (record { session = e.session; request = e.request; reply = reply } ∷ h)) is
     ∙ map-append (λ (a : Authored). a.action) (accepted h) _
 
 -- What a legal relay is, among the actions after it.
-pub record IsLegalRelay (K : Keeping) (r : Rules) (e : Entry) (h : List Entry) (commit : ℕ) (head : List Sent) (positions : List ℕ) : Type 0 where
+pub record IsLegalRelay (K : Keeping) (r : Rules) (e : Entry) (h : List Entry) (commit : ℕ) (head : List ObjectValue) (positions : List ℕ) : Type 0 where
   pub target : ℕ
   pub above : commit_of (K.kept h) < target
   pub accepted_to : target ≤ length (accepted (e ∷ h))
@@ -100,7 +100,7 @@ pub record IsLegalRelay (K : Keeping) (r : Rules) (e : Entry) (h : List Entry) (
   pub positions_are : positions ≡ needed_for (actions_of (e ∷ h)) (commit_of (K.kept h)) (sent_to h e.session) target
   pub head_is : head ≡ committed_held r (K.kept h) (head_for r.world.shape.objects (actions_of (e ∷ h)) (commit_of (K.kept h)) (sent_to h e.session) (already_given r.world.shape.objects (K.kept h) e.session) target)
 
-pub legal-relay : (K : Keeping) (keeps : IsKeeping K) (r : Rules) (e : Entry) (h : List Entry) (seq commit : ℕ) (head : List Sent) (positions : List ℕ) → LegalFor K r (e ∷ h) →
+pub legal-relay : (K : Keeping) (keeps : IsKeeping K) (r : Rules) (e : Entry) (h : List Entry) (seq commit : ℕ) (head : List ObjectValue) (positions : List ℕ) → LegalFor K r (e ∷ h) →
     e.reply ≡ brief.Relay seq commit head positions → IsLegalRelay K r e h commit head positions
 legal-relay K keeps r e h seq commit head positions l is =
     let t : IsRelayReply K r h e.session e.request commit head positions = subst (λ (reply : BriefReply). TellsFor K r h e.session e.request reply) is (served-tells K keeps r e h l) in
@@ -115,13 +115,13 @@ legal-relay K keeps r e h seq commit head positions l is =
     }
 
 -- What is seen changes no actions.
-seen-actions : (e : Entry) (h : List Entry) (last commit : ℕ) (head : List Sent) (positions : List ℕ) → e.reply ≡ brief.Seen last commit head positions → actions_of (e ∷ h) ≡ actions_of h
+seen-actions : (e : Entry) (h : List Entry) (last commit : ℕ) (head : List ObjectValue) (positions : List ℕ) → e.reply ≡ brief.Seen last commit head positions → actions_of (e ∷ h) ≡ actions_of h
 seen-actions e h last commit head positions is =
     ap (λ (reply : BriefReply). actions_of (record { session = e.session; request = e.request; reply = reply } ∷ h)) is
     ∙ ap (map (λ (a : Authored). a.action)) (append-nil (accepted h))
 
 -- What is seen in a legal history, among the actions after it.
-pub record IsLegalSeen (K : Keeping) (r : Rules) (e : Entry) (h : List Entry) (last commit : ℕ) (head : List Sent) (positions : List ℕ) : Type 0 where
+pub record IsLegalSeen (K : Keeping) (r : Rules) (e : Entry) (h : List Entry) (last commit : ℕ) (head : List ObjectValue) (positions : List ℕ) : Type 0 where
   pub objects : List ObjectId
   pub wait : ℕ
   pub request : e.request ≡ requests.Observe objects wait
@@ -133,7 +133,7 @@ pub record IsLegalSeen (K : Keeping) (r : Rules) (e : Entry) (h : List Entry) (l
   pub positions_are : positions ≡ needed_to_see (actions_of (e ∷ h)) (commit_of (K.kept h)) (sent_to h e.session) (numbers_of objects) last
   pub head_is : head ≡ committed_held r (K.kept h) (head_to_see r.world.shape.objects (actions_of (e ∷ h)) (commit_of (K.kept h)) (sent_to h e.session) (already_given r.world.shape.objects (K.kept h) e.session) (numbers_of objects) last)
 
-pub legal-seen : (K : Keeping) (keeps : IsKeeping K) (r : Rules) (e : Entry) (h : List Entry) (last commit : ℕ) (head : List Sent) (positions : List ℕ) → LegalFor K r (e ∷ h) →
+pub legal-seen : (K : Keeping) (keeps : IsKeeping K) (r : Rules) (e : Entry) (h : List Entry) (last commit : ℕ) (head : List ObjectValue) (positions : List ℕ) → LegalFor K r (e ∷ h) →
     e.reply ≡ brief.Seen last commit head positions → IsLegalSeen K r e h last commit head positions
 legal-seen K keeps r e h last commit head positions l is =
     let t : IsSeenReply K r h e.session e.request last commit head positions = subst (λ (reply : BriefReply). TellsFor K r h e.session e.request reply) is (served-tells K keeps r e h l) in
@@ -237,11 +237,11 @@ module _ (K : Keeping) (keeps : IsKeeping K) (r : Rules) (H : List Entry) where
     heads-serial h b serial xs,
   )
 
-  head-serial : (h : List Entry) → IsEarlier h H → ResultsAreSerial opening acts (K.kept h) → (commit : ℕ) (head : List Sent) (xs : List ℕ) → commit ≡ commit_of (K.kept h) →
+  head-serial : (h : List Entry) → IsEarlier h H → ResultsAreSerial opening acts (K.kept h) → (commit : ℕ) (head : List ObjectValue) (xs : List ℕ) → commit ≡ commit_of (K.kept h) →
       head ≡ committed_held r (K.kept h) xs → AreSerial opening acts (head_held commit head)
   head-serial h b serial commit head xs c e =
       subst (λ (n : ℕ). AreSerial opening acts (head_held n head)) (sym c)
-      (subst (λ (vs : List Sent). AreSerial opening acts (head_held (commit_of (K.kept h)) vs)) (sym e) (heads-serial h b serial xs))
+      (subst (λ (vs : List ObjectValue). AreSerial opening acts (head_held (commit_of (K.kept h)) vs)) (sym e) (heads-serial h b serial xs))
 
   -- ---- Known values
 
@@ -273,10 +273,10 @@ module _ (K : Keeping) (keeps : IsKeeping K) (r : Rules) (H : List Entry) where
       let p = actions-earlier h H b in
       ap (take (length (accepted h))) p.1 ∙ take_at (actions_of h) p.0 (length (accepted h)) (actions-count h)
 
-  abbrev pub delivery_at : Entry → List Entry → ℕ → List Sent → List ℕ → Delivery
+  abbrev pub delivery_at : Entry → List Entry → ℕ → List ObjectValue → List ℕ → Delivery
   delivery_at e h commit head positions = record { session = e.session; count = length (accepted (e ∷ h)); commit = commit; head = head; positions = positions }
 
-  relay-lawful : (e : Entry) (h : List Entry) (commit : ℕ) (head : List Sent) (positions : List ℕ) → IsEarlier (e ∷ h) H → LegalFor K r h → ResultsAreSerial opening acts (K.kept h) →
+  relay-lawful : (e : Entry) (h : List Entry) (commit : ℕ) (head : List ObjectValue) (positions : List ℕ) → IsEarlier (e ∷ h) H → LegalFor K r h → ResultsAreSerial opening acts (K.kept h) →
       IsLegalRelay K r e h commit head positions → IsLawful r.world.shape.objects opening acts (deliveries_of h) (delivery_at e h commit head positions)
   relay-lawful e h commit head positions b l serial t =
       let earlier : IsEarlier h H = earlier-rest h e H b in
@@ -314,12 +314,12 @@ module _ (K : Keeping) (keeps : IsKeeping K) (r : Rules) (H : List Entry) where
       }
 
   -- What is seen in a legal history shows its objects.
-  pub record IsShownAt (e : Entry) (h : List Entry) (last commit : ℕ) (head : List Sent) (positions : List ℕ) (xs : List ℕ) : Type 0 where
+  pub record IsShownAt (e : Entry) (h : List Entry) (last commit : ℕ) (head : List ObjectValue) (positions : List ℕ) (xs : List ℕ) : Type 0 where
     pub shown : IsShown r.world.shape.objects acts (deliveries_of h) (delivery_at e h commit head positions)
     pub objects : shown.seen ≡ xs
     pub position : shown.last ≡ last
 
-  pub seen-shown : (e : Entry) (h : List Entry) (last commit : ℕ) (head : List Sent) (positions : List ℕ) → IsEarlier (e ∷ h) H → LegalFor K r h →
+  pub seen-shown : (e : Entry) (h : List Entry) (last commit : ℕ) (head : List ObjectValue) (positions : List ℕ) → IsEarlier (e ∷ h) H → LegalFor K r h →
       (t : IsLegalSeen K r e h last commit head positions) → IsShownAt e h last commit head positions (numbers_of t.objects)
   seen-shown e h last commit head positions b l t =
       let earlier : IsEarlier h H = earlier-rest h e H b in
@@ -350,7 +350,7 @@ module _ (K : Keeping) (keeps : IsKeeping K) (r : Rules) (H : List Entry) where
         position = refl;
       }
 
-  pub seen-lawful : (e : Entry) (h : List Entry) (last commit : ℕ) (head : List Sent) (positions : List ℕ) → IsEarlier (e ∷ h) H → LegalFor K r h → ResultsAreSerial opening acts (K.kept h) →
+  pub seen-lawful : (e : Entry) (h : List Entry) (last commit : ℕ) (head : List ObjectValue) (positions : List ℕ) → IsEarlier (e ∷ h) H → LegalFor K r h → ResultsAreSerial opening acts (K.kept h) →
       IsLegalSeen K r e h last commit head positions → IsLawful r.world.shape.objects opening acts (deliveries_of h) (delivery_at e h commit head positions)
   seen-lawful e h last commit head positions b l serial t =
       let earlier : IsEarlier h H = earlier-rest h e H b in
@@ -368,7 +368,7 @@ module _ (K : Keeping) (keeps : IsKeeping K) (r : Rules) (H : List Entry) where
         serial = head-serial h earlier serial commit head bases c t.head_is;
       }
 
-  welcome-lawful : (e : Entry) (h : List Entry) (commit : ℕ) (head : List Sent) → IsEarlier (e ∷ h) H → ResultsAreSerial opening acts (K.kept h) →
+  welcome-lawful : (e : Entry) (h : List Entry) (commit : ℕ) (head : List ObjectValue) → IsEarlier (e ∷ h) H → ResultsAreSerial opening acts (K.kept h) →
       IsWelcomeReply K r h e.session e.request commit head → IsLawful r.world.shape.objects opening acts (deliveries_of h) (delivery_at e h commit head [])
   welcome-lawful e h commit head b serial t =
       let earlier : IsEarlier h H = earlier-rest h e H b in

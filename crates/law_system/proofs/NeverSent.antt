@@ -7,7 +7,7 @@ use Rattle.sv_world.specs.declared.action.Action.{Action}
 use Rattle.sv_world.specs.Control.{is_in}
 use Rattle.sv_world.proofs.Members.{is_in-append_cases}
 use Rattle.sv_world.proofs.Needs.{needed-bounds}
-use Rattle.sv_wire.specs.declared.message.ObjectValue.{ObjectValue as Sent}
+use Rattle.sv_wire.specs.declared.message.ObjectValue.{ObjectValue}
 use Rattle.sv_wire.specs.declared.message.Request.{Request}
 use Rattle.sv_wire.specs.declared.message.Request.TheVariants as requests
 use Rattle.sv_journal.specs.declared.entry.Entry.{Entry}
@@ -138,8 +138,8 @@ positions-ascend g k n p m q x y l =
 
 -- A reply that sends a position is a relay, or what is seen.
 abbrev Sends : BriefReply → Type 0
-Sends reply = ((seq : ℕ) × ((commit : ℕ) × ((head : List Sent) × ((positions : List ℕ) × (reply ≡ brief.Relay seq commit head positions)))))
-    ⊎ ((last : ℕ) × ((commit : ℕ) × ((head : List Sent) × ((positions : List ℕ) × (reply ≡ brief.Seen last commit head positions)))))
+Sends reply = ((seq : ℕ) × ((commit : ℕ) × ((head : List ObjectValue) × ((positions : List ℕ) × (reply ≡ brief.Relay seq commit head positions)))))
+    ⊎ ((last : ℕ) × ((commit : ℕ) × ((head : List ObjectValue) × ((positions : List ℕ) × (reply ≡ brief.Seen last commit head positions)))))
 
 sends : (reply : BriefReply) (p : ℕ) → is_in p (positions_in reply) ≡ true → Sends reply
 sends (brief.Relay seq commit head positions) p m = inl (seq, (commit, (head, (positions, refl))))
@@ -236,7 +236,7 @@ module _ (awaited : Awaited) where
           subst (λ (z : BriefReply). TellsFor K r w.before w.entry.session w.entry.request z) is
           (served-tells K keeps r w.entry w.before (earlier-served K r (w.entry ∷ w.before) H sent-there legal))
 
-      not-relayed : (seq commit : ℕ) (head : List Sent) (positions : List ℕ) → w.entry.reply ≡ brief.Relay seq commit head positions → ⊥
+      not-relayed : (seq commit : ℕ) (head : List ObjectValue) (positions : List ℕ) → w.entry.reply ≡ brief.Relay seq commit head positions → ⊥
       not-relayed seq commit head positions is =
           let t : IsRelayReply K r w.before w.entry.session w.entry.request commit head positions = told_there (brief.Relay seq commit head positions) is in
           let own : t.client ≡ k = session-client owner s has_s w.before (earlier-rest w.before w.entry H sent-there) t.client (subst (λ (o : ℕ). client_of w.before o ≡ Some t.client) w.session t.joined) in
@@ -259,7 +259,7 @@ module _ (awaited : Awaited) where
                 ]) low
           ]
 
-      not-seen : (last commit : ℕ) (head : List Sent) (positions : List ℕ) → w.entry.reply ≡ brief.Seen last commit head positions → ⊥
+      not-seen : (last commit : ℕ) (head : List ObjectValue) (positions : List ℕ) → w.entry.reply ≡ brief.Seen last commit head positions → ⊥
       not-seen last commit head positions is =
           let t : IsSeenReply K r w.before w.entry.session w.entry.request last commit head positions = told_there (brief.Seen last commit head positions) is in
           not-looked w.entry w.before w.there (of-from w.entry s w.session (ap is_end t.request)) (requests.Observe t.objects t.wait) t.request refl refl

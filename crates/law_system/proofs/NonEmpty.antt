@@ -3,7 +3,7 @@ use Rattle.std.proofs.Common.{◌≡◌, ℕ, suc, ◌<◌, ◌≤◌, true, fal
 use Rattle.std.proofs.lemmas.Bool.{false_from_ne_true}
 use Rattle.sv_world.specs.Control.{is_in}
 use Rattle.sv_world.proofs.Needs.{needed-ends}
-use Rattle.sv_wire.specs.declared.message.ObjectValue.{ObjectValue as Sent}
+use Rattle.sv_wire.specs.declared.message.ObjectValue.{ObjectValue}
 use Rattle.sv_wire.specs.declared.message.Item.{Item}
 use Rattle.sv_wire.specs.declared.message.Reply.{Reply}
 use Rattle.sv_wire.specs.declared.message.Reply.TheVariants as replies
@@ -42,7 +42,7 @@ module _ (awaited : Awaited) where
   earlier : IsEarlier g H
   earlier = earlier-rest g e H b
 
-  unsent : (commit : ℕ) (head : List Sent) (positions : List ℕ) → (t : IsRelayReply K r g e.session e.request commit head positions) → is_in t.target (sent_to g s) ≡ true → ⊥
+  unsent : (commit : ℕ) (head : List ObjectValue) (positions : List ℕ) → (t : IsRelayReply K r g e.session e.request commit head positions) → is_in t.target (sent_to g s) ≡ true → ⊥
   unsent commit head positions t m =
       let session : e.session ≡ s = (of-parts e s mine).0 in
       let own : t.client ≡ L.client.0 = session-client owner s (has awaited) g earlier t.client (subst (λ (o : ℕ). client_of g o ≡ Some t.client) session t.joined) in
@@ -63,7 +63,7 @@ module _ (awaited : Awaited) where
         ]
       ]
 
-  pub positions-some : (seq commit : ℕ) (head : List Sent) (positions : List ℕ) → e.reply ≡ brief.Relay seq commit head positions → positions ≡ [] → ⊥
+  pub positions-some : (seq commit : ℕ) (head : List ObjectValue) (positions : List ℕ) → e.reply ≡ brief.Relay seq commit head positions → positions ≡ [] → ⊥
   positions-some seq commit head positions is none =
       let session : e.session ≡ s = (of-parts e s mine).0 in
       let t : IsRelayReply K r g e.session e.request commit head positions = subst (λ (y : BriefReply). TellsFor K r g e.session e.request y) is (served-tells K keeps r e g (earlier-served K r (e ∷ g) H b legal)) in
@@ -72,8 +72,8 @@ module _ (awaited : Awaited) where
       let ends = needed-ends (actions_of g ++ new_of g e.session e.request) (commit_of (K.kept g)) (sent_to g e.session) t.target (omega arith) free in
       not-nil ends.0 t.target positions (t.positions_are ∙ ends.1) none
 
-relay-brief : (A : List Authored) (reply : BriefReply) (seq commit : ℕ) (head : List Sent) (items : List Item) → replies.Relay seq commit head items ≡ full_reply A reply → items ≡ [] →
-    (n : ℕ) × ((c : ℕ) × ((vs : List Sent) × ((ks : List ℕ) × ((reply ≡ brief.Relay n c vs ks) × (ks ≡ [])))))
+relay-brief : (A : List Authored) (reply : BriefReply) (seq commit : ℕ) (head : List ObjectValue) (items : List Item) → replies.Relay seq commit head items ≡ full_reply A reply → items ≡ [] →
+    (n : ℕ) × ((c : ℕ) × ((vs : List ObjectValue) × ((ks : List ℕ) × ((reply ≡ brief.Relay n c vs ks) × (ks ≡ [])))))
 relay-brief A (brief.Relay n c vs ks) seq commit head items e none = (n, (c, (vs, (ks, (refl, nothing ks (sym (ap items_in e) ∙ none))))))
   where
     items_in : Reply → List Item
@@ -93,7 +93,7 @@ relay-brief A brief.Idle seq commit head items e none = cc
 relay-brief A (brief.Refused code detail) seq commit head items e none = cc
 relay-brief A brief.Bye seq commit head items e none = cc
 
-pub served-never_empty : (K : Keeping) (r : Rules) (h : List Entry) (L : Trace) (served : IsServed K r h L) (owns : OwnsSessions h L) (s seq commit : ℕ) (head : List Sent) (items : List Item) →
+pub served-never_empty : (K : Keeping) (r : Rules) (h : List Entry) (L : Trace) (served : IsServed K r h L) (owns : OwnsSessions h L) (s seq commit : ℕ) (head : List ObjectValue) (items : List Item) →
     current_session (reverse L.events) ≡ Some s → KeepsLimits r h L s →
     slice_get (replies_in (accepted h) h s) (length (got (reverse L.events) s)) ≡ Some (replies.Relay seq commit head items) → items ≡ [] → ⊥
 served-never_empty K r h L served owns s seq commit head items current limits is none =
@@ -112,7 +112,7 @@ served-never_empty K r h L served owns s seq commit head items current limits is
     } in
     positions-some awaited y.0 y.1.0 y.1.1.0 y.1.1.1.0 y.1.1.1.1.0 y.1.1.1.1.1
 
-pub never-empty : (r : Rules) (h : List Entry) (Ls : List Trace) (i : ℕ) (L : Trace) (s seq commit : ℕ) (head : List Sent) (items : List Item) → Legal r h → Fits r.world.shape h Ls →
+pub never-empty : (r : Rules) (h : List Entry) (Ls : List Trace) (i : ℕ) (L : Trace) (s seq commit : ℕ) (head : List ObjectValue) (items : List Item) → Legal r h → Fits r.world.shape h Ls →
     slice_get Ls i ≡ Some L → current_session (reverse L.events) ≡ Some s → KeepsLimits r h L s →
     slice_get (replies_in (accepted h) h s) (length (got (reverse L.events) s)) ≡ Some (replies.Relay seq commit head items) → items ≡ [] → ⊥
 never-empty r h Ls i L s seq commit head items legal fits member =

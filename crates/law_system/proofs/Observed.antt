@@ -9,7 +9,7 @@ use Rattle.sv_world.specs.declared.action.Action.{Action}
 use Rattle.sv_world.specs.declared.world.ObjectId.{ObjectId}
 use Rattle.sv_eval.specs.Serial.{serial_world}
 use Rattle.sv_versions.specs.Held.{read_below}
-use Rattle.sv_wire.specs.declared.message.ObjectValue.{ObjectValue as Sent}
+use Rattle.sv_wire.specs.declared.message.ObjectValue.{ObjectValue}
 use Rattle.sv_wire.specs.declared.message.Item.{Item}
 use Rattle.sv_wire.specs.declared.message.Request.{Request}
 use Rattle.sv_wire.specs.declared.message.Request.TheVariants as requests
@@ -44,7 +44,7 @@ use Rattle.law_system.proofs.Lawful.{legal-seen}
 use Rattle.law_system.proofs.Cuts.{seen-whole}
 
 -- Only an Observe is answered Seen.
-observe-only : (q : Request) (last commit : ℕ) (head : List Sent) (items : List Item) → allows q (replies.Seen last commit head items) ≡ true →
+observe-only : (q : Request) (last commit : ℕ) (head : List ObjectValue) (items : List Item) → allows q (replies.Seen last commit head items) ≡ true →
     (objects : List ObjectId) × ((wait : ℕ) × (q ≡ requests.Observe objects wait))
 observe-only (requests.Observe objects wait) last commit head items a = (objects, (wait, refl))
 observe-only (requests.Join client life interest) last commit head items a = absurd (true≢false (sym a))
@@ -56,13 +56,13 @@ observe-only requests.Bad last commit head items a = absurd (true≢false (sym a
 observe-only requests.End last commit head items a = absurd (true≢false (sym a))
 
 -- A reply that is sent as a Seen is one in the journal.
-abbrev IsSeenBrief : List Authored → BriefReply → ℕ → ℕ → List Sent → List Item → Type 0
+abbrev IsSeenBrief : List Authored → BriefReply → ℕ → ℕ → List ObjectValue → List Item → Type 0
 IsSeenBrief A reply last commit head items = (positions : List ℕ) × ((reply ≡ brief.Seen last commit head positions) × (items ≡ map (item_at A) positions))
 
-seen-brief : (A : List Authored) (reply : BriefReply) (last commit : ℕ) (head : List Sent) (items : List Item) → replies.Seen last commit head items ≡ full_reply A reply →
+seen-brief : (A : List Authored) (reply : BriefReply) (last commit : ℕ) (head : List ObjectValue) (items : List Item) → replies.Seen last commit head items ≡ full_reply A reply →
     IsSeenBrief A reply last commit head items
 seen-brief A (brief.Seen n c vs ks) last commit head items e =
-    (ks, (ap (λ (m : ℕ). brief.Seen m c vs ks) (sym (ap seen_last e)) ∙ ap (λ (m : ℕ). brief.Seen last m vs ks) (sym (ap seen_commit e)) ∙ ap (λ (ws : List Sent). brief.Seen last commit ws ks) (sym (ap seen_head e)), ap seen_items e))
+    (ks, (ap (λ (m : ℕ). brief.Seen m c vs ks) (sym (ap seen_last e)) ∙ ap (λ (m : ℕ). brief.Seen last m vs ks) (sym (ap seen_commit e)) ∙ ap (λ (ws : List ObjectValue). brief.Seen last commit ws ks) (sym (ap seen_head e)), ap seen_items e))
   where
     seen_last : Reply → ℕ
     seen_last (replies.Seen last commit head items) = last
@@ -72,7 +72,7 @@ seen-brief A (brief.Seen n c vs ks) last commit head items e =
     seen_commit (replies.Seen last commit head items) = commit
     seen_commit _ = 0
 
-    seen_head : Reply → List Sent
+    seen_head : Reply → List ObjectValue
     seen_head (replies.Seen last commit head items) = head
     seen_head _ = []
 

@@ -7,7 +7,7 @@ use Rattle.std.proofs.lemmas.Option.{none-some, same_Some, slice_get_within}
 use Rattle.sv_world.specs.declared.world.ClientId.{ClientId}
 use Rattle.sv_world.specs.declared.world.ObjectId.{ObjectId}
 use Rattle.sv_world.specs.declared.world.Shape.{Shape}
-use Rattle.sv_wire.specs.declared.message.ObjectValue.{ObjectValue as Sent}
+use Rattle.sv_wire.specs.declared.message.ObjectValue.{ObjectValue}
 use Rattle.sv_wire.specs.declared.message.Request.{Request}
 use Rattle.sv_wire.specs.declared.message.Request.TheVariants as requests
 use Rattle.sv_wire.specs.declared.message.Reply.{Reply}
@@ -47,7 +47,7 @@ joining-of requests.Leave k e = absurd (none-some k e)
 joining-of requests.Bad k e = absurd (none-some k e)
 joining-of requests.End k e = absurd (none-some k e)
 
-pub welcome-of : (reply : BriefReply) → is_welcome reply ≡ true → (commit : ℕ) × ((head : List Sent) × (reply ≡ brief.Welcome commit head))
+pub welcome-of : (reply : BriefReply) → is_welcome reply ≡ true → (commit : ℕ) × ((head : List ObjectValue) × (reply ≡ brief.Welcome commit head))
 welcome-of (brief.Welcome commit head) e = (commit, (head, refl))
 welcome-of (brief.Relay seq commit head positions) e = absurd (true≢false (sym e))
 welcome-of (brief.Dropped seq chain far) e = absurd (true≢false (sym e))

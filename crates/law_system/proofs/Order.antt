@@ -11,7 +11,7 @@ use Rattle.sv_wire.specs.declared.message.Request.{Request}
 use Rattle.sv_wire.specs.declared.message.Request.TheVariants as requests
 use Rattle.sv_wire.specs.declared.message.Reply.{Reply}
 use Rattle.sv_wire.specs.declared.message.Reply.TheVariants as replies
-use Rattle.sv_wire.specs.declared.message.ObjectValue.{ObjectValue as Sent}
+use Rattle.sv_wire.specs.declared.message.ObjectValue.{ObjectValue}
 use Rattle.sv_journal.specs.declared.entry.Entry.{Entry}
 use Rattle.sv_journal.specs.declared.entry.BriefReply.{BriefReply}
 use Rattle.sv_journal.specs.declared.entry.BriefReply.TheVariants as brief
@@ -48,7 +48,7 @@ first_session (e ∷ h) = e.session
 
 -- Only a Welcome may answer a Join.
 welcome-brief : (A : List Authored) (q : Request) (client : ClientId) (life : ℕ) (interest : List ObjectId) → q ≡ requests.Join client life interest →
-    (reply : BriefReply) → allows q (full_reply A reply) ≡ true → (commit : ℕ) × ((head : List Sent) × (reply ≡ brief.Welcome commit head))
+    (reply : BriefReply) → allows q (full_reply A reply) ≡ true → (commit : ℕ) × ((head : List ObjectValue) × (reply ≡ brief.Welcome commit head))
 welcome-brief A q client life interest e (brief.Welcome commit head) a = (commit, (head, refl))
 welcome-brief A q client life interest e (brief.Relay seq commit head positions) a =
     absurd (true≢false (sym a ∙ ap (λ (p : Request). allows p (full_reply A (brief.Relay seq commit head positions))) e))

@@ -5,7 +5,7 @@ use Rattle.sv_world.specs.Control.{is_in, blank}
 use Rattle.sv_world.specs.declared.action.Action.{Action}
 use Rattle.sv_world.proofs.Needs.{needed-sent, needed-ends}
 use Rattle.sv_pending.specs.Pending.{PendingAction}
-use Rattle.sv_wire.specs.declared.message.ObjectValue.{ObjectValue as Sent}
+use Rattle.sv_wire.specs.declared.message.ObjectValue.{ObjectValue}
 use Rattle.sv_wire.specs.declared.message.Request.TheVariants as requests
 use Rattle.sv_journal.specs.declared.entry.Entry.{Entry}
 use Rattle.sv_journal.specs.declared.entry.BriefReply.TheVariants as brief
@@ -135,7 +135,7 @@ module _ (awaited : Awaited) where
       ∙ ap (λ (y : Action). record { client = k; seq = n; action = y }) action
 
   -- The position that a relay to a Submit is of has the submitted action as this client's own.
-  target-own : (commit : ℕ) (head : List Sent) (positions : List ℕ) → (t : IsRelayReply K r g e.session e.request commit head positions) → is_relay e.reply ≡ true → (n : ℕ) (a : Action) →
+  target-own : (commit : ℕ) (head : List ObjectValue) (positions : List ℕ) → (t : IsRelayReply K r g e.session e.request commit head positions) → is_relay e.reply ≡ true → (n : ℕ) (a : Action) →
       e.request ≡ requests.Submit n a → authored_at A t.target ≡ record { client = k; seq = n; action = a }
   target-own commit head positions t y n a is =
       let session : e.session ≡ s = (of-parts e s mine).0 in
@@ -156,7 +156,7 @@ module _ (awaited : Awaited) where
       ]
 
   -- The positions of a relay that is the next reply end with the one that it is of.
-  pub positions-end : (seq commit : ℕ) (head : List Sent) (positions : List ℕ) → e.reply ≡ brief.Relay seq commit head positions →
+  pub positions-end : (seq commit : ℕ) (head : List ObjectValue) (positions : List ℕ) → e.reply ≡ brief.Relay seq commit head positions →
       (t : IsRelayReply K r g e.session e.request commit head positions) → (xs : List ℕ) × (positions ≡ xs ++ t.target ∷ [])
   positions-end seq commit head positions is t =
       let acts = actions_of g ++ new_of g e.session e.request in
@@ -169,7 +169,7 @@ module _ (awaited : Awaited) where
       (ends.0, t.positions_are ∙ ends.1)
 
   -- So its items end with the front pending action.
-  pub submit-ends : (seq commit : ℕ) (head : List Sent) (positions : List ℕ) → e.reply ≡ brief.Relay seq commit head positions →
+  pub submit-ends : (seq commit : ℕ) (head : List ObjectValue) (positions : List ℕ) → e.reply ≡ brief.Relay seq commit head positions →
       IsRelayReply K r g e.session e.request commit head positions → (n : ℕ) (a : Action) → e.request ≡ requests.Submit n a → (ps : List PendingAction) (ks : List Numbered) → keys ps ≡ (n, a) ∷ ks →
       ends_with_front who ps (map (item_at A) positions) ≡ true
   submit-ends seq commit head positions is t n a request ps ks front =

@@ -6,7 +6,7 @@ use Rattle.sv_world.specs.declared.action.Action.{Action}
 use Rattle.sv_world.specs.Control.{is_in, below, action_at, last_writer, needed_for, head_for, needed_to_see, head_to_see}
 use Rattle.sv_world.specs.Faults.{may_be_observed}
 use Rattle.sv_world.specs.Sets.{write_set}
-use Rattle.sv_wire.specs.declared.message.ObjectValue.{ObjectValue as Sent}
+use Rattle.sv_wire.specs.declared.message.ObjectValue.{ObjectValue}
 use Rattle.sv_wire.specs.declared.message.Item.{Item}
 use Rattle.sv_wire.specs.declared.message.Reply.{Reply}
 use Rattle.sv_wire.specs.declared.message.Reply.TheVariants as replies
@@ -21,7 +21,7 @@ pub record Delivery : Type 0 where
   pub session : ℕ
   pub count : ℕ
   pub commit : ℕ
-  pub head : List Sent
+  pub head : List ObjectValue
   pub positions : List ℕ
 
 -- Deliveries stand with the latest first. The positions that a session was told.
@@ -29,8 +29,8 @@ abbrev pub told_positions : List Delivery → ℕ → List ℕ
 told_positions [] s = []
 told_positions (d ∷ ds) s = if d.session == s then told_positions ds s ++ d.positions else told_positions ds s
 
-abbrev pub head_objects : List Sent → List ℕ
-head_objects head = map (λ (v : Sent). v.object.0) head
+abbrev pub head_objects : List ObjectValue → List ℕ
+head_objects head = map (λ (v : ObjectValue). v.object.0) head
 
 -- The commits at which a session was told a value of an object.
 abbrev pub told_commits : List Delivery → ℕ → ℕ → List ℕ
@@ -83,7 +83,7 @@ AreLawful objects opening A (d ∷ ds) = IsLawful objects opening A ds d × AreL
 -- A head at a commit, with whole items.
 pub record Telling : Type 0 where
   pub commit : ℕ
-  pub head : List Sent
+  pub head : List ObjectValue
   pub items : List Item
 
 -- The tellings of a session's deliveries, in order, where the accepted actions are A.

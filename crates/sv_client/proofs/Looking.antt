@@ -12,7 +12,7 @@ use Rattle.sv_world.proofs.Good.{good_of_none}
 use Rattle.sv_pending.specs.Made.{ReadsWithin}
 use Rattle.sv_pending.specs.Pending.{PendingAction}
 use Rattle.sv_pending.proofs.Places.{reads_within}
-use Rattle.sv_wire.specs.declared.message.ObjectValue.{ObjectValue as Sent}
+use Rattle.sv_wire.specs.declared.message.ObjectValue.{ObjectValue}
 use Rattle.sv_wire.specs.declared.message.Item.{Item}
 use Rattle.sv_wire.specs.declared.message.Reply.{Reply}
 use Rattle.sv_wire.specs.declared.message.Reply.TheVariants as replies
@@ -111,12 +111,12 @@ neither : (a b : Bool) → (a || b) ≡ false → (a ≡ false) × (b ≡ false)
 neither true b e = cc
 neither false b e = (refl, e)
 
-head_within : (shape : Shape) (head : List Sent) → is_bad_head shape head ≡ false → IsHeadWithin shape.objects head
-head_within shape [] e = All-nil (λ (h : Sent). h.object.0 < shape.objects)
+head_within : (shape : Shape) (head : List ObjectValue) → is_bad_head shape head ≡ false → IsHeadWithin shape.objects head
+head_within shape [] e = All-nil (λ (h : ObjectValue). h.object.0 < shape.objects)
 head_within shape (h ∷ head) e =
     let f = neither (nat_le shape.objects h.object.0 || not (eqb (length h.value) shape.attrs)) (is_bad_head shape head) e in
     let g = neither (nat_le shape.objects h.object.0) (not (eqb (length h.value) shape.attrs)) f.0 in
-    All-cons (λ (h : Sent). h.object.0 < shape.objects) h head (leb-false shape.objects h.object.0 g.0) (head_within shape head f.1)
+    All-cons (λ (h : ObjectValue). h.object.0 < shape.objects) h head (leb-false shape.objects h.object.0 g.0) (head_within shape head f.1)
 
 pub none_is : (o : Option BadAction) → not (is_none o) ≡ false → o ≡ None
 none_is None e = refl
@@ -155,7 +155,7 @@ items_above commit told [] l e b = All-nil (λ (j : Item). told < j.pos)
 items_above commit told (i ∷ items) l e b = ascending_above told i items (omega (arith, l, leb-false i.pos commit b)) e
 
 no_head : (n : ℕ) → IsHeadWithin n []
-no_head n = All-nil (λ (h : Sent). h.object.0 < n)
+no_head n = All-nil (λ (h : ObjectValue). h.object.0 < n)
 
 no_reads : (n : ℕ) → ItemsReadWithin n []
 no_reads n = All-nil (λ (i : Item). ReadsWithin n i.action)
@@ -164,7 +164,7 @@ none_above : (n : ℕ) → ItemsAreAbove n []
 none_above n = All-nil (λ (j : Item). n < j.pos)
 
 -- The head and the items are in order, and none of the items stands at or below what was told.
-ordered_above : (c told : ℕ) (h : List Sent) (is : List Item) → (not (head_ascends h) || not (items_ascend is) || begins_by c is || nat_lt c told) ≡ false → (told ≤ c) × ItemsAreAbove told is
+ordered_above : (c told : ℕ) (h : List ObjectValue) (is : List Item) → (not (head_ascends h) || not (items_ascend is) || begins_by c is || nat_lt c told) ≡ false → (told ≤ c) × ItemsAreAbove told is
 ordered_above c told h is o =
     let u = neither (not (head_ascends h) || not (items_ascend is) || begins_by c is) (nat_lt c told) o in
     let v = neither (not (head_ascends h) || not (items_ascend is)) (begins_by c is) u.0 in

@@ -16,7 +16,7 @@ abbrev pub who_is : Inside → Identity
 who_is c = record { client = c.id; interest = c.interest; shape = c.shape }
 
 abbrev pub client_seen : Inside → ClientView
-client_seen c = record { who = who_is c; events = c.past; kept = c.versions.held }
+client_seen c = record { who = who_is c; events = c.past; store = c.versions.held }
 
 -- The pruned store stands for all that was held: each reading above what was told finds the same, and each of the latest value.
 pub record StandsFor (who : Identity) (t : List Event) (store : Store) : Type 0 where

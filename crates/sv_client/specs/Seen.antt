@@ -19,11 +19,11 @@ use Rattle.sv_client.specs.Taking.{Identity, Fault, Unasked, WrongKind, BadOrder
 pub record ClientView : Type 0 where
   pub who : Identity
   pub events : List Event
-  pub kept : List Held
+  pub store : List Held
 
 -- A client that did nothing yet.
 abbrev pub new_client : ClientId → Shape → List ObjectId → ClientView
-new_client id shape interest = record { who = record { client = id; interest = interest; shape = shape }; events = []; kept = [] }
+new_client id shape interest = record { who = record { client = id; interest = interest; shape = shape }; events = []; store = [] }
 
 -- So many sessions were begun, and nothing else was done.
 abbrev pub only_joins : ℕ → List Event
@@ -32,7 +32,7 @@ only_joins (suc n) = events.Join n ∷ only_joins n
 
 -- A client that began so many sessions, and did nothing else.
 abbrev pub begun_client : ClientId → Shape → List ObjectId → ℕ → ClientView
-begun_client id shape interest sessions = record { who = record { client = id; interest = interest; shape = shape }; events = only_joins sessions; kept = [] }
+begun_client id shape interest sessions = record { who = record { client = id; interest = interest; shape = shape }; events = only_joins sessions; store = [] }
 
 -- With one more event, and the same values held.
 abbrev pub with_event : ClientView → Event → ClientView

@@ -2,7 +2,7 @@
 ghost use Rattle.std.specs.Prelude.{◌≡◌, ◌==◌, ◌≤◌, ℕ, List, ◌++◌, Option, Some, option_copied, option_to_list, IfOk, IfErr, OnOk, OnErr, if◌then◌else◌};
 ghost use Rattle.sv_world.specs.Limits.{most_positions};
 ghost use Rattle.sv_world.specs.Sets.{numbers_of};
-ghost use Rattle.sv_versions.specs.Held.{Held as Kept, AnswersAbove};
+ghost use Rattle.sv_versions.specs.Held.{Held, AnswersAbove};
 ghost use Rattle.sv_versions.specs.Undone.{undone};
 ghost use Rattle.sv_pending.specs.Pending.{redone};
 ghost use Rattle.sv_wire.specs.declared.message.Reply.TheVariants as replies;
@@ -124,7 +124,7 @@ fn evaluate(
     requires reads { ItemsReadWithin versions.old.shape.objects brought.now.items.now }
     ensures shape { versions.new.shape ≡ versions.old.shape }
     ensures undone { undone undo.new versions.new.held ≡ undone undo.old versions.old.held }
-    ensures evaluated { (told : ℕ) (all : List Kept) → AnswersAbove told versions.old.held all → ItemsAreAbove told brought.now.items.now → AreBrought told (all ++ head_held brought.now.commit brought.now.head.now) brought.now.items.now result versions.new.held }
+    ensures evaluated { (told : ℕ) (all : List Held) → AnswersAbove told versions.old.held all → ItemsAreAbove told brought.now.items.now → AreBrought told (all ++ head_held brought.now.commit brought.now.head.now) brought.now.items.now result versions.new.held }
 {
     hold_head(versions, undo, brought.commit, brought.head)?;
     let mut results = Vec::with_capacity(versions.alloc(), brought.items.len())?;
@@ -145,7 +145,7 @@ fn apply_relay(
     ensures versions { versions.new.shape ≡ versions.old.shape }
     ensures undone { undone undo.new versions.new.held ≡ undone undo.old versions.old.held }
     ensures shape { pending.new.shape ≡ pending.old.shape }
-    ensures applied { (told : ℕ) (all : List Kept) → AnswersAbove told versions.old.held all → ItemsAreAbove told relay.now.items.now → (kind : Option Awaited) → IsApplied told all kind (replies.Relay seq relay.now.commit relay.now.head.now relay.now.items.now) pending.old.items result versions.new.held pending.new.items }
+    ensures applied { (told : ℕ) (all : List Held) → AnswersAbove told versions.old.held all → ItemsAreAbove told relay.now.items.now → (kind : Option Awaited) → IsApplied told all kind (replies.Relay seq relay.now.commit relay.now.head.now relay.now.items.now) pending.old.items result versions.new.held pending.new.items }
     ensures err { OnErr result (pending.new ≡ pending.old) }
 {
     let results = evaluate(versions, undo, relay)?;
@@ -217,7 +217,7 @@ fn apply_seen(
     ensures versions { versions.new.shape ≡ versions.old.shape }
     ensures undone { undone undo.new versions.new.held ≡ undone undo.old versions.old.held }
     ensures shape { pending.new.shape ≡ pending.old.shape }
-    ensures applied { (told : ℕ) (all : List Kept) → AnswersAbove told versions.old.held all → ItemsAreAbove told seen.now.items.now → told ≤ last → IsApplied told all (Some awaited.now) (replies.Seen last seen.now.commit seen.now.head.now seen.now.items.now) pending.old.items result versions.new.held pending.new.items }
+    ensures applied { (told : ℕ) (all : List Held) → AnswersAbove told versions.old.held all → ItemsAreAbove told seen.now.items.now → told ≤ last → IsApplied told all (Some awaited.now) (replies.Seen last seen.now.commit seen.now.head.now seen.now.items.now) pending.old.items result versions.new.held pending.new.items }
     ensures err { OnErr result (pending.new ≡ pending.old) }
 {
     let results = evaluate(versions, undo, seen)?;
@@ -235,7 +235,7 @@ fn apply_welcome(
     requires { IsHeadWithin versions.old.shape.objects head.now }
     ensures versions { versions.new.shape ≡ versions.old.shape }
     ensures undone { undone undo.new versions.new.held ≡ undone undo.old versions.old.held }
-    ensures applied { (told : ℕ) (all : List Kept) (kind : Option Awaited) (pending : _) → AnswersAbove told versions.old.held all → IsApplied told all kind (replies.Welcome commit head.now) pending result versions.new.held pending }
+    ensures applied { (told : ℕ) (all : List Held) (kind : Option Awaited) (pending : _) → AnswersAbove told versions.old.held all → IsApplied told all kind (replies.Welcome commit head.now) pending result versions.new.held pending }
 {
     hold_head(versions, undo, commit, head)?;
     Ok(None)
@@ -269,7 +269,7 @@ fn apply(
     ensures versions { versions.new.shape ≡ versions.old.shape }
     ensures undone { undone undo.new versions.new.held ≡ undone undo.old versions.old.held }
     ensures shape { pending.new.shape ≡ pending.old.shape }
-    ensures applied { (all : List Kept) → AnswersAbove told versions.old.held all → IsApplied told all (Some awaited.now) reply.now pending.old.items result versions.new.held pending.new.items }
+    ensures applied { (all : List Held) → AnswersAbove told versions.old.held all → IsApplied told all (Some awaited.now) reply.now pending.old.items result versions.new.held pending.new.items }
     ensures err { OnErr result (pending.new ≡ pending.old) }
 {
     match reply {
@@ -322,7 +322,7 @@ pub(crate) fn try_apply(
     requires fits { IsFitting versions.old.shape.objects told reply.now }
     ensures versions { versions.new.shape ≡ versions.old.shape }
     ensures shape { pending.new.shape ≡ pending.old.shape }
-    ensures applied { (all : List Kept) → AnswersAbove told versions.old.held all → IsApplied told all (Some awaited.now) reply.now pending.old.items result versions.new.held pending.new.items }
+    ensures applied { (all : List Held) → AnswersAbove told versions.old.held all → IsApplied told all (Some awaited.now) reply.now pending.old.items result versions.new.held pending.new.items }
     ensures undone { OnErr result (versions.new ≡ versions.old) }
     ensures err { OnErr result (pending.new ≡ pending.old) }
 {

@@ -158,7 +158,7 @@ impl Client {
 
     /// How many values of an object are held at or below the greatest commit told.
     pub fn old_versions(&self, object: ObjectId) -> u32
-        ensures exact { result ≡ count_up_to self.now.kept object.0 (told self.now.events) }
+        ensures exact { result ≡ count_up_to self.now.store object.0 (told self.now.events) }
         ensures few { result ≤ 1 }
     {
         self.lean.old_versions(object)
@@ -272,8 +272,8 @@ impl Client {
         ensures fault { IfErr result (IsTakeFault self.old.who self.old.events reply) }
         ensures who { OnOk result (self.new.who ≡ self.old.who) }
         ensures got { OnOk result (self.new.events ≡ got_now self.old.events reply ∷ self.old.events) }
-        ensures kept { OnOk result (AnswersAbove (told self.new.events) self.new.kept (held_of self.new.events)) }
-        ensures few { OnOk result ((x : ℕ) → count_up_to self.new.kept x (told self.new.events) ≤ 1) }
+        ensures kept { OnOk result (AnswersAbove (told self.new.events) self.new.store (held_of self.new.events)) }
+        ensures few { OnOk result ((x : ℕ) → count_up_to self.new.store x (told self.new.events) ≤ 1) }
         ensures err { OnErr result (self.new ≡ self.old) }
     {
         let session = self.lean.latest_session() as u16;

@@ -1,7 +1,7 @@
 //! Evaluating the items of a relay, each on the values that the earlier ones left.
 ghost use Rattle.std.specs.Prelude.{◌≡◌, ◌++◌, ◌<◌, ℕ, List, [], option_map, unwrap_or, IfOk, OnOk};
 ghost use Rattle.sv_world.specs.Sets.{numbers_of};
-ghost use Rattle.sv_versions.specs.Held.{Held as Kept, AnswersAbove, read_below};
+ghost use Rattle.sv_versions.specs.Held.{Held, AnswersAbove, read_below};
 ghost use Rattle.sv_versions.specs.Undone.{undone};
 ghost use Rattle.sv_pending.specs.Made.{ReadsWithin};
 ghost use Rattle.sv_client.specs.Traces.{head_held, held_at};
@@ -26,7 +26,7 @@ pub(crate) fn hold_head(
     requires { IsHeadWithin versions.old.shape.objects head.now }
     ensures shape { versions.new.shape ≡ versions.old.shape }
     ensures undone { undone undo.new versions.new.held ≡ undone undo.old versions.old.held }
-    ensures held { OnOk result ((told : ℕ) (all : List Kept) → AnswersAbove told versions.old.held all → AnswersAbove told versions.new.held (all ++ head_held commit head.now)) }
+    ensures held { OnOk result ((told : ℕ) (all : List Held) → AnswersAbove told versions.old.held all → AnswersAbove told versions.new.held (all ++ head_held commit head.now)) }
 {
     let [held, rest @ ..] = head else {
         return Ok(());
@@ -47,7 +47,7 @@ fn hold_values(
     requires { AreWithin versions.old.shape.objects objects.now }
     ensures shape { versions.new.shape ≡ versions.old.shape }
     ensures undone { undone undo.new versions.new.held ≡ undone undo.old versions.old.held }
-    ensures held { OnOk result ((told : ℕ) (all : List Kept) → AnswersAbove told versions.old.held all → AnswersAbove told versions.new.held (all ++ held_at pos (numbers_of objects.now) values.now)) }
+    ensures held { OnOk result ((told : ℕ) (all : List Held) → AnswersAbove told versions.old.held all → AnswersAbove told versions.new.held (all ++ held_at pos (numbers_of objects.now) values.now)) }
 {
     let [object, other_objects @ ..] = objects else {
         return Ok(());
@@ -109,7 +109,7 @@ fn evaluate_item(
     requires { ReadsWithin versions.old.shape.objects item.now.action }
     ensures shape { versions.new.shape ≡ versions.old.shape }
     ensures undone { undone undo.new versions.new.held ≡ undone undo.old versions.old.held }
-    ensures evaluated { (told : ℕ) (all : List Kept) → AnswersAbove told versions.old.held all → told < item.now.pos → IsEvaluated told all item.now result versions.new.held }
+    ensures evaluated { (told : ℕ) (all : List Held) → AnswersAbove told versions.old.held all → told < item.now.pos → IsEvaluated told all item.now result versions.new.held }
 {
     let reads = item.action.reads.as_slice();
     if let Some(object) = first_unheld(versions, item.pos, reads) {
@@ -142,7 +142,7 @@ pub(crate) fn evaluate_items(
     requires { ItemsReadWithin versions.old.shape.objects items.now }
     ensures shape { versions.new.shape ≡ versions.old.shape }
     ensures undone { undone undo.new versions.new.held ≡ undone undo.old versions.old.held }
-    ensures evaluated { (told : ℕ) (all : List Kept) → AnswersAbove told versions.old.held all → ItemsAreAbove told items.now → AreEvaluated told all items.now results.old.items results.new.items result versions.new.held }
+    ensures evaluated { (told : ℕ) (all : List Held) → AnswersAbove told versions.old.held all → ItemsAreAbove told items.now → AreEvaluated told all items.now results.old.items results.new.items result versions.new.held }
 {
     let [item, rest @ ..] = items else {
         return Ok(());

@@ -224,7 +224,7 @@ impl LeanClient {
 
     /// How many values of an object are held at or below the greatest commit told.
     pub fn old_versions(&self, object: ObjectId) -> u32
-        ensures exact { result ≡ count_up_to self.now.kept object.0 (told self.now.events) }
+        ensures exact { result ≡ count_up_to self.now.store object.0 (told self.now.events) }
         ensures few { result ≤ 1 }
     {
         if object.0 < self.shape.objects {
@@ -400,8 +400,8 @@ impl LeanClient {
         ensures fault { IfErr result (IsTakeFault self.old.who self.old.events reply.now) }
         ensures who { OnOk result (self.new.who ≡ self.old.who) }
         ensures got { OnOk result (self.new.events ≡ got_now self.old.events reply.now ∷ self.old.events) }
-        ensures kept { OnOk result (AnswersAbove (told self.new.events) self.new.kept (held_of self.new.events)) }
-        ensures few { OnOk result ((x : ℕ) → count_up_to self.new.kept x (told self.new.events) ≤ 1) }
+        ensures kept { OnOk result (AnswersAbove (told self.new.events) self.new.store (held_of self.new.events)) }
+        ensures few { OnOk result ((x : ℕ) → count_up_to self.new.store x (told self.new.events) ≤ 1) }
         ensures err { OnErr result (self.new ≡ self.old) }
     {
         self.look_at(reply)?;
@@ -454,7 +454,7 @@ impl LeanClient {
     /// A law: each event of its trace is one that may come after those before it.
     pub fn in_turn(&self)
         ensures turn { AreInTurn self.now.who 0 self.now.events }
-        ensures kept { AnswersAbove (told self.now.events) self.now.kept (held_of self.now.events) }
+        ensures kept { AnswersAbove (told self.now.events) self.now.store (held_of self.now.events) }
     {
         let _told = self.told;
     }

@@ -5,7 +5,7 @@ use Rattle.std.proofs.lemmas.Bool.{and_parts, leb-false, lt-leb, ltb-true, or_pa
 use Rattle.std.proofs.lemmas.List.Elements.{All-from_recursion, All-nil}
 use Rattle.sv_world.specs.Faults.{is_ascending}
 use Rattle.sv_world.specs.Limits.{most_positions}
-use Rattle.sv_wire.specs.declared.message.ObjectValue.{ObjectValue as Sent}
+use Rattle.sv_wire.specs.declared.message.ObjectValue.{ObjectValue}
 use Rattle.sv_wire.specs.declared.message.Item.{Item}
 use Rattle.sv_wire.specs.declared.message.Reply.{Reply}
 use Rattle.sv_wire.specs.declared.message.Reply.TheVariants as replies
@@ -47,11 +47,11 @@ record IsInOrder (bound commit : ℕ) (items : List Item) : Type 0 where
   ascending : is_ascending (map (λ (i : Item). i.pos) items) ≡ true
   begins : begins_by commit items ≡ false
 
-by_tests : (bound commit : ℕ) (head : List Sent) (items : List Item) (cut : Bool) →
-    (not (is_ascending (map (λ (v : Sent). v.object.0) head)) || not (is_ascending (map (λ (i : Item). i.pos) items)) || begins_by commit items || nat_lt commit bound || cut) ≡ false →
+by_tests : (bound commit : ℕ) (head : List ObjectValue) (items : List Item) (cut : Bool) →
+    (not (is_ascending (map (λ (v : ObjectValue). v.object.0) head)) || not (is_ascending (map (λ (i : Item). i.pos) items)) || begins_by commit items || nat_lt commit bound || cut) ≡ false →
     IsInOrder bound commit items × (cut ≡ false)
 by_tests bound commit head items cut o =
-    let ascends = not (is_ascending (map (λ (v : Sent). v.object.0) head)) in
+    let ascends = not (is_ascending (map (λ (v : ObjectValue). v.object.0) head)) in
     let places = not (is_ascending (map (λ (i : Item). i.pos) items)) in
     let w = or_parts (ascends || places || begins_by commit items || nat_lt commit bound) cut o in
     let u = or_parts (ascends || places || begins_by commit items) (nat_lt commit bound) w.0 in

@@ -9,7 +9,7 @@ use crate::place::{at_place, refuse};
 use crate::{ReadFault, ScenarioCause};
 use serde_json::Value;
 use std::alloc::Global;
-use sv_world::Value as ObjectValue;
+use sv_world::Value as WorldValue;
 
 #[tactic(auto, unfolding(crate::specs::Numbers::whole_number))]
 fn whole_number(alloc: Global, value: &Value) -> Result<i128, ReadFault>
@@ -87,11 +87,11 @@ fn attributes(alloc: Global, values: &[Value]) -> Result<Vec<i64>, ReadFault>
 }
 
 #[tactic(auto, unfolding(crate::specs::Numbers::value_of))]
-fn value_of(alloc: Global, attrs: u32, value: &Value) -> Result<ObjectValue, ReadFault>
+fn value_of(alloc: Global, attrs: u32, value: &Value) -> Result<WorldValue, ReadFault>
     ensures { Gives (λ v. v) result (value_of attrs (view value.now)) }
 {
     let numbers = list_within(alloc, attrs as usize, attrs as usize, value)?;
-    Ok(ObjectValue::from_vec(attributes(alloc, numbers)?))
+    Ok(WorldValue::from_vec(attributes(alloc, numbers)?))
 }
 
 /// The values of these objects, each of so many numbers.
@@ -99,7 +99,7 @@ pub fn each_value(
     alloc: Global,
     attrs: u32,
     values: &[Value],
-) -> Result<Vec<ObjectValue>, ReadFault>
+) -> Result<Vec<WorldValue>, ReadFault>
     ensures reads { Gives (λ v. v.items) result (each (value_of attrs) [] (items_view values.now)) }
     ensures count { IfOk result (λ v. vec_len v ≡ length values.now) }
 {
@@ -120,7 +120,7 @@ pub(crate) fn values_of(
     most: u16,
     attrs: u32,
     value: &Value,
-) -> Result<Vec<ObjectValue>, ReadFault>
+) -> Result<Vec<WorldValue>, ReadFault>
     ensures reads { Gives (λ v. v.items) result (values_of most attrs (view value.now)) }
     ensures count { IfOk result (λ v. vec_len v ≤ most) }
 {

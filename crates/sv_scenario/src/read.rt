@@ -24,7 +24,7 @@ use serde_json::Value;
 use std::alloc::Global;
 use sv_lists::List;
 use sv_world::{
-    MOST_ATTRS, MOST_BOUND, MOST_REACH, MOST_SCENARIO_OBJECTS, Shape, Value as ObjectValue, World,
+    MOST_ATTRS, MOST_BOUND, MOST_REACH, MOST_SCENARIO_OBJECTS, Shape, Value as WorldValue, World,
 };
 
 /// The bytes that a file may have.
@@ -50,7 +50,7 @@ fn values_in(
     most: u16,
     attrs: u32,
     value: &Value,
-) -> Result<Vec<ObjectValue>, ReadFault>
+) -> Result<Vec<WorldValue>, ReadFault>
     ensures reads { Gives (λ v. v.items) result (value_at (codes "objects") (values_of most attrs) (view value.now)) }
     ensures count { IfOk result (λ v. vec_len v ≤ most) }
 {

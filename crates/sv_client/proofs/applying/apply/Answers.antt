@@ -1,6 +1,6 @@
 -- What is proved by hand of `apply`.
 use Rattle.std.proofs.Common.{List, Some, sym, subst}
-use Rattle.sv_wire.specs.declared.message.ObjectValue.{ObjectValue as Sent}
+use Rattle.sv_wire.specs.declared.message.ObjectValue.{ObjectValue}
 use Rattle.sv_wire.specs.declared.message.Item.{Item}
 use Rattle.sv_wire.specs.declared.message.Reply.{Reply}
 use Rattle.sv_wire.specs.declared.message.Reply.TheVariants as replies
@@ -20,7 +20,7 @@ returns-in-Relay-clause-applied c = λ all a.
     let above = subst (ItemsAreAbove told) (sym c.as_slice-in-Relay-2.ensures) (subst (λ (x : Reply). ItemsAreAbove told (items_of x)) c.in-Relay.is c.requires.fits.above) in
     let raw = c.apply_relay.ensures.applied told all a above kind in
     let one = subst (λ (is : List Item). IsApplied told all kind (replies.Relay c.in-Relay.seq c.in-Relay.commit c.as_slice-in-Relay.result.now is) before r kept after) c.as_slice-in-Relay-2.ensures raw in
-    let two = subst (λ (h : List Sent). IsApplied told all kind (replies.Relay c.in-Relay.seq c.in-Relay.commit h c.in-Relay.items) before r kept after) c.as_slice-in-Relay.ensures one in
+    let two = subst (λ (h : List ObjectValue). IsApplied told all kind (replies.Relay c.in-Relay.seq c.in-Relay.commit h c.in-Relay.items) before r kept after) c.as_slice-in-Relay.ensures one in
     subst (λ (x : Reply). IsApplied told all kind x before r kept after) (sym c.in-Relay.is) two
 
 pub returns-in-Seen-clause-applied : goal.returns-in-Seen-clause-applied
@@ -35,7 +35,7 @@ returns-in-Seen-clause-applied c = λ all a.
     let cut = subst (IsCutAbove told) c.in-Seen.is c.requires.fits.cut in
     let raw = c.apply_seen.ensures.applied told all a above cut.0 in
     let one = subst (λ (is : List Item). IsApplied told all kind (replies.Seen c.in-Seen.last c.in-Seen.commit c.as_slice-in-Seen.result.now is) before r kept after) c.as_slice-in-Seen-2.ensures raw in
-    let two = subst (λ (h : List Sent). IsApplied told all kind (replies.Seen c.in-Seen.last c.in-Seen.commit h c.in-Seen.items) before r kept after) c.as_slice-in-Seen.ensures one in
+    let two = subst (λ (h : List ObjectValue). IsApplied told all kind (replies.Seen c.in-Seen.last c.in-Seen.commit h c.in-Seen.items) before r kept after) c.as_slice-in-Seen.ensures one in
     subst (λ (x : Reply). IsApplied told all kind x before r kept after) (sym c.in-Seen.is) two
 
 pub returns-in-Dropped-clause-applied : goal.returns-in-Dropped-clause-applied

@@ -11,4 +11,4 @@ pub returns-clause-turn : goal.returns-clause-turn
 returns-clause-turn c = subst (λ (v : ClientView). AreInTurn v.who 0 v.events) c.self.view_is c.self.invariant.turn
 
 pub returns-clause-kept : goal.returns-clause-kept
-returns-clause-kept c = subst (λ (v : ClientView). AnswersAbove (told v.events) v.kept (held_of v.events)) c.self.view_is c.self.invariant.held.answers
+returns-clause-kept c = subst (λ (v : ClientView). AnswersAbove (told v.events) v.store (held_of v.events)) c.self.view_is c.self.invariant.held.answers

@@ -10,5 +10,5 @@ use Rattle.sv_client.proofs.lean.LeanClient.old_versions.Goals as goal
 pub returns-else-object-self-clause-exact : goal.returns-else-object-self-clause-exact
 returns-else-object-self-clause-exact c =
     let t = c.self.inside.past in
-    subst (λ (v : ClientView). 0 ≡ count_up_to v.kept c.args.object.0 (told v.events)) c.self.view_is
+    subst (λ (v : ClientView). 0 ≡ count_up_to v.store c.args.object.0 (told v.events)) c.self.view_is
     (sym (none_old (who_is c.self.inside) 0 t c.self.inside.versions.held (told t) c.self.invariant.turn c.self.invariant.held.answers c.args.object.0 (told t) (omega arith)))
