@@ -6,7 +6,7 @@ use sv_world::ObjectId;
 #[derive(Debug, Drop)]
 pub struct Closure {
     /// The positions of its actions, ascending.
-    pub items: List<u32>,
+    pub positions: List<u32>,
     /// The objects of its base values, ascending.
     pub head: List<ObjectId>,
 }
@@ -17,7 +17,7 @@ pub struct ConsistentCut {
     /// The position.
     pub last: u32,
     /// The positions of the actions that the session lacks, ascending.
-    pub items: List<u32>,
+    pub positions: List<u32>,
     /// The objects of the base values, ascending.
     pub head: List<ObjectId>,
 }

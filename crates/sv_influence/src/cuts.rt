@@ -30,7 +30,7 @@ pub fn cut<L: Ledger>(
     requires marks { MarksAreClosed queue.now slot }
     requires room { last_position queue.now < 2 ^ 32 - 1 }
     ensures last { IfOk result (λ c. c.last ≡ latest_cut queue.now slot (numbers_of objects.now)) }
-    ensures items { IfOk result (λ c. c.items ≡ lacking_to_see queue.now slot (numbers_of objects.now) (latest_cut queue.now slot (numbers_of objects.now))) }
+    ensures positions { IfOk result (λ c. c.positions ≡ lacking_to_see queue.now slot (numbers_of objects.now) (latest_cut queue.now slot (numbers_of objects.now))) }
     ensures head { IfOk result (λ c. numbers_of c.head ≡ bases_to_see queue.now slot (numbers_of objects.now) (latest_cut queue.now slot (numbers_of objects.now))) }
     ensures ticks { (b : ℕ) → last_position queue.now - queue.now.commit ≤ 2 ^ b → look_ups.new ≤ look_ups.old + most_to_see * (b + 2) }
 {
@@ -53,7 +53,7 @@ fn cut_at(
 ) -> Result<ConsistentCut, AllocError>
     requires { All (λ x. x < queue.now.shape.objects) found.bases }
     ensures last { IfOk result (λ c. c.last ≡ last) }
-    ensures items { IfOk result (λ c. c.items ≡ found.items.items) }
+    ensures positions { IfOk result (λ c. c.positions ≡ found.positions.items) }
     ensures head { IfOk result (λ c. numbers_of c.head ≡ found.bases) }
     ensures ascending { is_ascending found.bases ≡ true }
 {
@@ -62,7 +62,7 @@ fn cut_at(
     let closure = listed(alloc, found)?;
     Ok(ConsistentCut {
         last,
-        items: closure.items,
+        positions: closure.positions,
         head: closure.head,
     })
 }
@@ -126,7 +126,7 @@ fn see<L: Ledger>(
     requires objects { may_be_observed queue.now.shape.objects (numbers_of objects.now) ≡ true }
     requires pos { (queue.now.commit ≤ pos) × (pos ≤ last_position queue.now) }
     requires room { last_position queue.now < 2 ^ 32 - 1 }
-    ensures items { IfOk result (λ o. IfSome o (λ f. f.items.items ≡ lacking_to_see queue.now slot (numbers_of objects.now) pos)) }
+    ensures positions { IfOk result (λ o. IfSome o (λ f. f.positions.items ≡ lacking_to_see queue.now slot (numbers_of objects.now) pos)) }
     ensures bases { IfOk result (λ o. IfSome o (λ f. (x : ℕ) → is_in x f.bases ≡ is_in x (bases_to_see queue.now slot (numbers_of objects.now) pos))) }
     ensures few { IfOk result (λ o. IfSome o (λ f. length (lacking_to_see queue.now slot (numbers_of objects.now) pos) ≤ most_items)) }
     ensures many { IfOk result (λ o. IfNone o (most_items < length (lacking_to_see queue.now slot (numbers_of objects.now) pos))) }
@@ -134,15 +134,15 @@ fn see<L: Ledger>(
 {
     let mut missing = Missing::new(alloc);
     missing.read_below(queue, slot, objects, pos + 1, look_ups)?;
-    let mut items = Vec::with_capacity(alloc, missing.room())?;
+    let mut positions = Vec::with_capacity(alloc, missing.room())?;
     while let Some(greatest) = missing.wanted.pop() {
-        if items.len() == MOST_ITEMS {
+        if positions.len() == MOST_ITEMS {
             return Ok(None);
         }
-        items.push(greatest)?;
+        positions.push(greatest)?;
         missing.expand(queue, slot, greatest, look_ups)?;
     }
-    items.reverse();
+    positions.reverse();
     let Missing { bases, .. } = missing;
-    Ok(Some(Found { items, bases }))
+    Ok(Some(Found { positions, bases }))
 }

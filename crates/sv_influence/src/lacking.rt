@@ -31,7 +31,7 @@ pub fn closure<L: Ledger>(
     look_ups: &mut LookUps<L>,
 ) -> Result<Closure, AllocError>
     requires { IsUncommitted queue.now pos }
-    ensures items { IfOk result (λ c. c.items ≡ lacking queue.now slot pos) }
+    ensures positions { IfOk result (λ c. c.positions ≡ lacking queue.now slot pos) }
     ensures head { IfOk result (λ c. map (λ (o : ObjectId). o.0) c.head ≡ base_objects queue.now slot pos) }
     ensures ticks { look_ups.new ≤ look_ups.old + most_look_ups * length (lacking queue.now slot pos) + 1 }
 {
@@ -58,7 +58,7 @@ fn first_wanted<L: Ledger>(queue: &Queue, slot: u16, pos: u32, look_ups: &mut Lo
 /// The positions that were wanted, and the objects that these read as committed; both ascending.
 #[derive(Drop)]
 pub struct Found {
-    pub items: Vec<u32>,
+    pub positions: Vec<u32>,
     pub bases: Numbers,
 }
 
@@ -66,14 +66,14 @@ pub struct Found {
 #[inline(always)]
 pub fn listed(alloc: Global, found: Found) -> Result<Closure, AllocError>
     requires { All (λ x. x < 65536) found.bases }
-    ensures items { IfOk result (λ c. c.items ≡ found.items.items) }
+    ensures positions { IfOk result (λ c. c.positions ≡ found.positions.items) }
     ensures head { IfOk result (λ c. map (λ (o : ObjectId). o.0) c.head ≡ found.bases) }
     ensures ascending { is_ascending found.bases ≡ true }
 {
-    let Found { items, bases } = found;
+    let Found { positions, bases } = found;
     let head = objects_of(alloc, bases.as_slice())?;
     Ok(Closure {
-        items: List::from_vec(items),
+        positions: List::from_vec(positions),
         head,
     })
 }
@@ -89,22 +89,22 @@ fn expand_all<L: Ledger>(
     look_ups: &mut LookUps<L>,
 ) -> Result<Found, AllocError>
     requires { IsUncommitted queue.now pos }
-    ensures items { IfOk result (λ f. f.items.items ≡ lacking queue.now slot pos) }
+    ensures positions { IfOk result (λ f. f.positions.items ≡ lacking queue.now slot pos) }
     ensures bases { IfOk result (λ f. (x : ℕ) → is_in x f.bases ≡ is_in x (base_objects queue.now slot pos)) }
     ensures ticks { look_ups.new ≤ look_ups.old + most_look_ups * length (lacking queue.now slot pos) + 1 }
 {
     let first = first_wanted(queue, slot, pos, look_ups);
-    let mut items = Vec::with_capacity(alloc, MOST_ITEMS)?;
+    let mut positions = Vec::with_capacity(alloc, MOST_ITEMS)?;
     let mut missing = Missing::new(alloc);
     let mut next = first;
     while let Some(greatest) = next {
-        items.push(greatest)?;
+        positions.push(greatest)?;
         missing.expand(queue, slot, greatest, look_ups)?;
         next = missing.wanted.pop();
     }
-    items.reverse();
+    positions.reverse();
     let Missing { bases, .. } = missing;
-    Ok(Found { items, bases })
+    Ok(Found { positions, bases })
 }
 
 /// The positions that are wanted and not looked at yet, and the objects that are read as committed.

@@ -28,14 +28,14 @@ pub fn plain_closure<L: Ledger>(
     look_ups: &mut LookUps<L>,
 ) -> Result<Closure, AllocError>
     requires { IsUncommitted queue.now pos }
-    ensures items { IfOk result (λ c. c.items ≡ lacking queue.now slot pos) }
+    ensures positions { IfOk result (λ c. c.positions ≡ lacking queue.now slot pos) }
     ensures head { IfOk result (λ c. map (λ (o : ObjectId). o.0) c.head ≡ base_objects queue.now slot pos) }
     ensures ticks { look_ups.new ≤ look_ups.old + 3 * (pos - queue.now.commit) }
 {
     let commit = queue.commit();
-    let items = Vec::new(alloc);
+    let positions = Vec::new(alloc);
     let objects = ObjectSet::new();
-    let mut walk = Walk { items, objects };
+    let mut walk = Walk { positions, objects };
     let mut at = pos;
     while at > commit {
         if is_wanted(queue, pos, at, &walk.objects, look_ups) {
@@ -43,12 +43,12 @@ pub fn plain_closure<L: Ledger>(
         }
         at -= 1;
     }
-    let Walk { items, objects } = walk;
-    let mut items = items;
-    items.reverse();
+    let Walk { positions, objects } = walk;
+    let mut positions = positions;
+    positions.reverse();
     let head = bases_among(alloc, queue, slot, &objects)?;
     Ok(Closure {
-        items: List::from_vec(items),
+        positions: List::from_vec(positions),
         head,
     })
 }
@@ -71,10 +71,10 @@ fn is_wanted<L: Ledger>(
     at == pos || objects.meets_writes(entry.action)
 }
 
-/// The items that were found, the latest first, and the objects that are still to be had.
+/// The positions that were found, the latest first, and the objects that are still to be had.
 #[derive(Drop)]
 struct Walk {
-    items: Vec<u32>,
+    positions: Vec<u32>,
     objects: ObjectSet,
 }
 
@@ -88,7 +88,7 @@ impl Walk {
         look_ups: &mut LookUps<L>,
     ) -> Result<(), AllocError>
         requires at { IsUncommitted queue.now at }
-        ensures items { OnOk result (self.new.items.items ≡ (if is_in at (sent_positions queue.now slot) then self.old.items.items else self.old.items.items ++ at ∷ [])) }
+        ensures positions { OnOk result (self.new.positions.items ≡ (if is_in at (sent_positions queue.now slot) then self.old.positions.items else self.old.positions.items ++ at ∷ [])) }
         ensures objects { OnOk result ((x : ℕ) → has_object self.new.objects.words x ≡ (if is_in at (sent_positions queue.now slot) then has_object self.old.objects.words x && not (is_in x (write_set (action_at (queue_actions queue.now) at))) else is_in x (read_set (action_at (queue_actions queue.now) at)) || has_object self.old.objects.words x)) }
         ensures ticks { look_ups.new ≡ look_ups.old + 2 }
     {
@@ -98,7 +98,7 @@ impl Walk {
         if queue.is_marked(at, slot, look_ups) {
             self.objects.remove_writes(entry.action);
         } else {
-            self.items.push(at)?;
+            self.positions.push(at)?;
             self.objects.add_reads(entry.action);
         }
         Ok(())

@@ -253,14 +253,14 @@ fn lacking<L: Ledger>(
         return closure(alloc, queue, session, pos, look_ups);
     }
     Ok(Closure {
-        items: List::new(alloc),
+        positions: List::new(alloc),
         head: List::new(alloc),
     })
 }
 
 /// Whether a closure has just these positions and objects.
 pub fn has(closure: &Closure, items: &[u32], head: &[ObjectId]) -> bool {
-    closure.items.as_slice() == items && closure.head.as_slice() == head
+    closure.positions.as_slice() == items && closure.head.as_slice() == head
 }
 
 /// The same of a closure that is let go.

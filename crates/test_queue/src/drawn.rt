@@ -96,7 +96,7 @@ fn agree_at<L: Ledger>(
     }
     let fast = closure(alloc, queue, session, pos, look_ups)?;
     let plain = plain_closure(alloc, queue, session, pos, look_ups)?;
-    Ok(has(&plain, fast.items.as_slice(), fast.head.as_slice()))
+    Ok(has(&plain, fast.positions.as_slice(), fast.head.as_slice()))
 }
 
 /// Whether the two programs answer the same of each position for two sessions.

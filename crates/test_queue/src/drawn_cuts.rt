@@ -26,7 +26,7 @@ fn send<L: Ledger>(
         return Ok(());
     }
     let relay = closure(alloc, queue, session, pos, look_ups)?;
-    for item in relay.items.as_slice() {
+    for item in relay.positions.as_slice() {
         mark(queue, *item, session);
     }
     Ok(())
@@ -80,9 +80,9 @@ fn is_plain<L: Ledger>(
     let Some(plain) = plain(alloc, queue, session, objects, look_ups)? else {
         return Ok(false);
     };
-    let items = plain.items.as_slice();
+    let items = plain.positions.as_slice();
     let is_so = match items.split_last() {
-        Some((_, items)) => items == cut.items.as_slice() && items.len() <= 33,
+        Some((_, items)) => items == cut.positions.as_slice() && items.len() <= 33,
         None => false,
     };
     Ok(is_so && plain.head.as_slice() == cut.head.as_slice())
@@ -99,7 +99,7 @@ fn is_too_much<L: Ledger>(
     let Some(plain) = plain(alloc, queue, session, objects, look_ups)? else {
         return Ok(false);
     };
-    Ok(plain.items.as_slice().len() > 34)
+    Ok(plain.positions.as_slice().len() > 34)
 }
 
 /// Whether the cut is that of the plain walk at its position, and the plain walk has too much at the next one, if there is one. The later

@@ -85,7 +85,7 @@ pub fn shown<L: Ledger>(
     let Some(cut) = cut_of(alloc, queue, session, objects, look_ups)? else {
         return Ok(u32::MAX);
     };
-    if cut.items.as_slice() == due.0 && cut.head.as_slice() == due.1 {
+    if cut.positions.as_slice() == due.0 && cut.head.as_slice() == due.1 {
         return Ok(cut.last);
     }
     Ok(u32::MAX)

@@ -7,7 +7,7 @@ use Rattle.sv_core.proofs.relays.counted.Goals as goal
 
 pub relayed_of-requires-clause-positions : goal.relayed_of-requires-clause-positions
 relayed_of-requires-clause-positions g c =
-    subst (All (IsUncommitted c.args.queue.now)) (sym c.in_ok-found.ensures.items) (lacking-within c.args.queue.now c.args.slot c.args.pos c.requires.pos)
+    subst (All (IsUncommitted c.args.queue.now)) (sym c.in_ok-found.ensures.positions) (lacking-within c.args.queue.now c.args.slot c.args.pos c.requires.pos)
 
 pub relayed_of-requires-clause-objects : goal.relayed_of-requires-clause-objects
 relayed_of-requires-clause-objects g c =

@@ -37,7 +37,7 @@ returns-then-knows_all-clause-items g c =
 
 pub relayed_of-requires-clause-positions : goal.relayed_of-requires-clause-positions
 relayed_of-requires-clause-positions g c =
-    subst (All (IsUncommitted c.args.queue.now)) (sym c.in_ok-found.ensures.items) (seen-within c.args.queue.now c.args.slot (numbers_of c.args.objects.now))
+    subst (All (IsUncommitted c.args.queue.now)) (sym c.in_ok-found.ensures.positions) (seen-within c.args.queue.now c.args.slot (numbers_of c.args.objects.now))
 
 pub relayed_of-requires-clause-objects : goal.relayed_of-requires-clause-objects
 relayed_of-requires-clause-objects g c =

@@ -18,13 +18,13 @@ returns-in-Some-clause-last g c =
     let e = see-last c.args.queue.now c.args.slot c.last-last.result (numbers_of c.args.objects.now) c.last-last.ensures (rw c.in-Some.is at c.in_ok-found.ensures.few) in
     subst (λ (n : ℕ). IfOk c.cut_at.result (λ (r : ConsistentCut). r.last ≡ n)) e c.cut_at.ensures.last
 
-pub returns-in-Some-clause-items : goal.returns-in-Some-clause-items
-returns-in-Some-clause-items g c =
+pub returns-in-Some-clause-positions : goal.returns-in-Some-clause-positions
+returns-in-Some-clause-positions g c =
     let v = c.args.queue.now in
     let xs = numbers_of c.args.objects.now in
     let e = see-last v c.args.slot c.last-last.result xs c.last-last.ensures (rw c.in-Some.is at c.in_ok-found.ensures.few) in
-    let items = rw c.in-Some.is at c.in_ok-found.ensures.items in
-    subst (λ (ks : List ℕ). IfOk c.cut_at.result (λ (r : ConsistentCut). r.items ≡ ks)) (items ∙ ap (lacking_to_see v c.args.slot xs) e) c.cut_at.ensures.items
+    let positions = rw c.in-Some.is at c.in_ok-found.ensures.positions in
+    subst (λ (ks : List ℕ). IfOk c.cut_at.result (λ (r : ConsistentCut). r.positions ≡ ks)) (positions ∙ ap (lacking_to_see v c.args.slot xs) e) c.cut_at.ensures.positions
 
 pub returns-in-Some-clause-head : goal.returns-in-Some-clause-head
 returns-in-Some-clause-head g c =

@@ -21,11 +21,11 @@ loop-next-init g c =
       within = λ j m. c.first_wanted-first.ensures.within j (subst (λ (xs : List ℕ). is_in j xs ≡ true) first m);
       ascending = subst (λ (xs : List ℕ). is_ascending xs ≡ true) (sym first) (option-ascending start);
       last = option-none start (c.new-missing.result.wanted ≡ []) c.new-missing.ensures.wanted;
-      whole = ap (λ (xs : List ℕ). W xs ++ reverse c.in_ok-items.items.items) first
-          ∙ ap (λ (ys : List ℕ). W (option_to_list start) ++ reverse ys) c.in_ok-items.ensures.items
+      whole = ap (λ (xs : List ℕ). W xs ++ reverse c.in_ok-positions.positions.items) first
+          ∙ ap (λ (ys : List ℕ). W (option_to_list start) ++ reverse ys) c.in_ok-positions.ensures.items
           ∙ append-nil (W (option_to_list start))
           ∙ c.first_wanted-first.ensures.whole;
-      bases = subst (λ (xs : List ℕ). AreBases v.shape.objects (queue_actions v) v.commit (given_objects v c.args.slot) xs c.new-missing.result.bases) (sym c.in_ok-items.ensures.items)
+      bases = subst (λ (xs : List ℕ). AreBases v.shape.objects (queue_actions v) v.commit (given_objects v c.args.slot) xs c.new-missing.result.bases) (sym c.in_ok-positions.ensures.items)
           (subst (λ (xs : List ℕ). AreBases v.shape.objects (queue_actions v) v.commit (given_objects v c.args.slot) [] xs) (sym c.new-missing.ensures.bases)
           (bases-none v.shape.objects (queue_actions v) v.commit (given_objects v c.args.slot)));
       ticks = (let t = c.first_wanted-first.ensures.ticks in omega arith);
@@ -34,7 +34,7 @@ loop-next-init g c =
 pub returns-in_err-push-clause-ticks : goal.returns-in_err-push-clause-ticks
 returns-in_err-push-clause-ticks g c =
     let is = ap (λ (o : Option ℕ). c.loop-next.missing.wanted ++ option_to_list o) c.in-Some.is in
-    let room = next-room c.args.queue.now c.args.slot c.args.pos c.in-Some.greatest (lacking c.args.queue.now c.args.slot c.args.pos) (c.loop-next.missing.wanted ++ option_to_list c.loop-next.next) c.loop-next.missing.wanted c.loop-next.items.items
+    let room = next-room c.args.queue.now c.args.slot c.args.pos c.in-Some.greatest (lacking c.args.queue.now c.args.slot c.args.pos) (c.loop-next.missing.wanted ++ option_to_list c.loop-next.next) c.loop-next.missing.wanted c.loop-next.positions.items
     c.loop-next.invariant.within c.loop-next.invariant.ascending is c.loop-next.invariant.whole in
     let u = c.loop-next.invariant.ticks in
     omega arith
@@ -50,9 +50,9 @@ expand-requires g c =
 pub loop-next-smaller : goal.loop-next-smaller
 loop-next-smaller g c =
     let is = ap (λ (o : Option ℕ). c.loop-next.missing.wanted ++ option_to_list o) c.in-Some.is in
-    let room = next-room c.args.queue.now c.args.slot c.args.pos c.in-Some.greatest (lacking c.args.queue.now c.args.slot c.args.pos) (c.loop-next.missing.wanted ++ option_to_list c.loop-next.next) c.loop-next.missing.wanted c.loop-next.items.items
+    let room = next-room c.args.queue.now c.args.slot c.args.pos c.in-Some.greatest (lacking c.args.queue.now c.args.slot c.args.pos) (c.loop-next.missing.wanted ++ option_to_list c.loop-next.next) c.loop-next.missing.wanted c.loop-next.positions.items
     c.loop-next.invariant.within c.loop-next.invariant.ascending is c.loop-next.invariant.whole in
-    let l : length c.push.new.self.items ≡ length c.loop-next.items.items + 1 = ap length c.in_ok-push.ensures.items ∙ length-append c.loop-next.items.items (c.in-Some.greatest ∷ []) in
+    let l : length c.push.new.self.items ≡ length c.loop-next.positions.items + 1 = ap length c.in_ok-push.ensures.items ∙ length-append c.loop-next.positions.items (c.in-Some.greatest ∷ []) in
     omega arith
 
 pub loop-next-preserved : goal.loop-next-preserved
@@ -63,10 +63,10 @@ loop-next-preserved g c =
     let wanted = c.loop-next.missing.wanted ++ option_to_list c.loop-next.next in
     let is : wanted ≡ c.loop-next.missing.wanted ++ next ∷ [] = ap (λ (o : Option ℕ). c.loop-next.missing.wanted ++ option_to_list o) c.in-Some.is in
     let left : c.expand.new.self.wanted ≡ c.pop-next.new.self ++ option_to_list c.pop-next.result = c.pop-next.ensures.greatest in
-    let l : length (c.loop-next.items.items ++ next ∷ []) ≡ length c.loop-next.items.items + 1 = length-append c.loop-next.items.items (next ∷ []) in
+    let l : length (c.loop-next.positions.items ++ next ∷ []) ≡ length c.loop-next.positions.items + 1 = length-append c.loop-next.positions.items (next ∷ []) in
     let t = c.in_ok-expand.ensures.ticks in
     let u = c.loop-next.invariant.ticks in
-    let pushed : c.push.new.self.items ≡ c.loop-next.items.items ++ next ∷ [] = c.in_ok-push.ensures.items in
+    let pushed : c.push.new.self.items ≡ c.loop-next.positions.items ++ next ∷ [] = c.in_ok-push.ensures.items in
     record {
       within = subst (λ (xs : List ℕ). (j : ℕ) → is_in j xs ≡ true → (v.commit < j) × (j ≤ c.args.pos)) left
           (next-within v slot c.args.pos next wanted c.loop-next.missing.wanted c.expand.new.self.wanted c.loop-next.invariant.within is c.in_ok-expand.ensures.wanted);
@@ -75,41 +75,41 @@ loop-next-preserved g c =
       whole =
           ap (λ (xs : List ℕ). wanted_up_to (queue_actions v) v.commit (sent_positions v slot) c.args.pos xs ++ reverse c.push.new.self.items) (sym left)
           ∙ ap (λ (xs : List ℕ). wanted_up_to (queue_actions v) v.commit (sent_positions v slot) c.args.pos c.expand.new.self.wanted ++ reverse xs) pushed
-          ∙ next-whole v slot c.args.pos next (lacking v slot c.args.pos) wanted c.loop-next.missing.wanted c.expand.new.self.wanted c.loop-next.items.items c.loop-next.invariant.within
+          ∙ next-whole v slot c.args.pos next (lacking v slot c.args.pos) wanted c.loop-next.missing.wanted c.expand.new.self.wanted c.loop-next.positions.items c.loop-next.invariant.within
           c.loop-next.invariant.ascending is c.in_ok-expand.ensures.wanted c.loop-next.invariant.whole;
       bases =
           subst (λ (xs : List ℕ). AreBases v.shape.objects (queue_actions v) v.commit (given_objects v slot) xs c.expand.new.self.bases) (sym pushed)
-          (bases-push v.shape.objects (queue_actions v) v.commit (given_objects v slot) c.loop-next.items.items c.loop-next.missing.bases c.expand.new.self.bases next
+          (bases-push v.shape.objects (queue_actions v) v.commit (given_objects v slot) c.loop-next.positions.items c.loop-next.missing.bases c.expand.new.self.bases next
           (members-all (λ x. x < v.shape.objects) (reads_at v next) c.in_ok-expand.ensures.low)
           (λ x. c.in_ok-expand.ensures.bases x ∙ is_in-swap x (committed_reads v slot next (reads_at v next)) c.loop-next.missing.bases)
           c.loop-next.invariant.bases);
-      ticks = (let k : length c.push.new.self.items ≡ length c.loop-next.items.items + 1 = ap length pushed ∙ l in omega arith);
+      ticks = (let k : length c.push.new.self.items ≡ length c.loop-next.positions.items + 1 = ap length pushed ∙ l in omega arith);
     }
 
 pub returns-in_err-expand-clause-ticks : goal.returns-in_err-expand-clause-ticks
 returns-in_err-expand-clause-ticks g c =
     let is = ap (λ (o : Option ℕ). c.loop-next.missing.wanted ++ option_to_list o) c.in-Some.is in
-    let room = next-room c.args.queue.now c.args.slot c.args.pos c.in-Some.greatest (lacking c.args.queue.now c.args.slot c.args.pos) (c.loop-next.missing.wanted ++ option_to_list c.loop-next.next) c.loop-next.missing.wanted c.loop-next.items.items
+    let room = next-room c.args.queue.now c.args.slot c.args.pos c.in-Some.greatest (lacking c.args.queue.now c.args.slot c.args.pos) (c.loop-next.missing.wanted ++ option_to_list c.loop-next.next) c.loop-next.missing.wanted c.loop-next.positions.items
     c.loop-next.invariant.within c.loop-next.invariant.ascending is c.loop-next.invariant.whole in
     let t = c.in_err-expand.ensures.ticks in
     let u = c.loop-next.invariant.ticks in
     omega arith
 
-pub returns-clause-items : goal.returns-clause-items
-returns-clause-items g c =
+pub returns-clause-positions : goal.returns-clause-positions
+returns-clause-positions g c =
     c.reverse.ensures.items
-    ∙ all-taken c.args.queue.now c.args.slot c.args.pos (lacking c.args.queue.now c.args.slot c.args.pos) c.loop-next.missing.wanted c.loop-next.items.items c.loop-next.next c.in_default.is c.loop-next.invariant.last c.loop-next.invariant.whole
+    ∙ all-taken c.args.queue.now c.args.slot c.args.pos (lacking c.args.queue.now c.args.slot c.args.pos) c.loop-next.missing.wanted c.loop-next.positions.items c.loop-next.next c.in_default.is c.loop-next.invariant.last c.loop-next.invariant.whole
 
 pub returns-clause-bases : goal.returns-clause-bases
 returns-clause-bases g c =
     let v = c.args.queue.now in
-    bases-all v.shape.objects (queue_actions v) v.commit (sent_positions v c.args.slot) (given_objects v c.args.slot) c.loop-next.items.items c.loop-next.missing.bases c.args.pos
+    bases-all v.shape.objects (queue_actions v) v.commit (sent_positions v c.args.slot) (given_objects v c.args.slot) c.loop-next.positions.items c.loop-next.missing.bases c.args.pos
     c.loop-next.invariant.bases
-    (all-taken v c.args.slot c.args.pos (lacking v c.args.slot c.args.pos) c.loop-next.missing.wanted c.loop-next.items.items c.loop-next.next c.in_default.is c.loop-next.invariant.last c.loop-next.invariant.whole)
+    (all-taken v c.args.slot c.args.pos (lacking v c.args.slot c.args.pos) c.loop-next.missing.wanted c.loop-next.positions.items c.loop-next.next c.in_default.is c.loop-next.invariant.last c.loop-next.invariant.whole)
 
 pub returns-clause-ticks : goal.returns-clause-ticks
 returns-clause-ticks g c =
-    let all = all-taken c.args.queue.now c.args.slot c.args.pos (lacking c.args.queue.now c.args.slot c.args.pos) c.loop-next.missing.wanted c.loop-next.items.items c.loop-next.next c.in_default.is c.loop-next.invariant.last c.loop-next.invariant.whole in
-    let l : length c.loop-next.items.items ≡ length (lacking c.args.queue.now c.args.slot c.args.pos) = sym (length-reverse c.loop-next.items.items) ∙ ap length all in
+    let all = all-taken c.args.queue.now c.args.slot c.args.pos (lacking c.args.queue.now c.args.slot c.args.pos) c.loop-next.missing.wanted c.loop-next.positions.items c.loop-next.next c.in_default.is c.loop-next.invariant.last c.loop-next.invariant.whole in
+    let l : length c.loop-next.positions.items ≡ length (lacking c.args.queue.now c.args.slot c.args.pos) = sym (length-reverse c.loop-next.positions.items) ∙ ap length all in
     let u = c.loop-next.invariant.ticks in
     omega arith

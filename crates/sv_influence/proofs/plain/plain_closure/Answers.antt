@@ -21,7 +21,7 @@ loop-at-init g c =
       commit = e;
       low = omega arith;
       high = omega arith;
-      items = c.new-items.ensures.items ∙ sym (ap reverse none);
+      positions = c.new-positions.ensures.items ∙ sym (ap reverse none);
       objects = λ x. c.new-objects.ensures x ∙ sym (ap (λ (ks : List ℕ). reads_committed (queue_actions v) c.args.pos x ks) none);
       ticks = omega arith;
     }
@@ -41,23 +41,23 @@ loop-at-preserved g c =
       commit = e;
       low = omega arith;
       high = omega arith;
-      items = elim c.if-is_wanted.branch [
+      positions = elim c.if-is_wanted.branch [
         | then-is_wanted+in_ok-visit w ↦
-            ap (λ (u : Walk). u.items.items) w.walk-is
-            ∙ (visited v s pos at f (has_object w.visit.new.self.objects.words) c.loop-at.walk.items.items w.visit.new.self.items.items low high c.loop-at.invariant.objects
-            (sym c.is_wanted.ensures.wanted ∙ w.if-is_wanted.true) w.in_ok-visit.ensures.items w.in_ok-visit.ensures.objects c.loop-at.invariant.items).0
+            ap (λ (u : Walk). u.positions.items) w.walk-is
+            ∙ (visited v s pos at f (has_object w.visit.new.self.objects.words) c.loop-at.walk.positions.items w.visit.new.self.positions.items low high c.loop-at.invariant.objects
+            (sym c.is_wanted.ensures.wanted ∙ w.if-is_wanted.true) w.in_ok-visit.ensures.positions w.in_ok-visit.ensures.objects c.loop-at.invariant.positions).0
         | else-is_wanted w ↦
-            ap (λ (u : Walk). u.items.items) w.walk-is
-            ∙ (passed v s pos at f c.loop-at.walk.items.items low high c.loop-at.invariant.objects (sym c.is_wanted.ensures.wanted ∙ w.if-is_wanted.false) c.loop-at.invariant.items).0
+            ap (λ (u : Walk). u.positions.items) w.walk-is
+            ∙ (passed v s pos at f c.loop-at.walk.positions.items low high c.loop-at.invariant.objects (sym c.is_wanted.ensures.wanted ∙ w.if-is_wanted.false) c.loop-at.invariant.positions).0
       ];
       objects = elim c.if-is_wanted.branch [
         | then-is_wanted+in_ok-visit w ↦ (λ x.
             ap (λ (u : Walk). has_object u.objects.words x) w.walk-is
-            ∙ (visited v s pos at f (has_object w.visit.new.self.objects.words) c.loop-at.walk.items.items w.visit.new.self.items.items low high c.loop-at.invariant.objects
-            (sym c.is_wanted.ensures.wanted ∙ w.if-is_wanted.true) w.in_ok-visit.ensures.items w.in_ok-visit.ensures.objects c.loop-at.invariant.items).1 x)
+            ∙ (visited v s pos at f (has_object w.visit.new.self.objects.words) c.loop-at.walk.positions.items w.visit.new.self.positions.items low high c.loop-at.invariant.objects
+            (sym c.is_wanted.ensures.wanted ∙ w.if-is_wanted.true) w.in_ok-visit.ensures.positions w.in_ok-visit.ensures.objects c.loop-at.invariant.positions).1 x)
         | else-is_wanted w ↦ (λ x.
             ap (λ (u : Walk). has_object u.objects.words x) w.walk-is
-            ∙ (passed v s pos at f c.loop-at.walk.items.items low high c.loop-at.invariant.objects (sym c.is_wanted.ensures.wanted ∙ w.if-is_wanted.false) c.loop-at.invariant.items).1 x)
+            ∙ (passed v s pos at f c.loop-at.walk.positions.items low high c.loop-at.invariant.objects (sym c.is_wanted.ensures.wanted ∙ w.if-is_wanted.false) c.loop-at.invariant.positions).1 x)
       ];
       ticks = (let was = c.loop-at.invariant.ticks in let one = c.is_wanted.ensures.ticks in elim c.if-is_wanted.branch [
         | then-is_wanted+in_ok-visit w ↦ (let two = w.visit.ensures.ticks in let is = w.look_ups-is in omega arith)
@@ -65,8 +65,8 @@ loop-at-preserved g c =
       ]);
     }
 
-pub returns-clause-items : goal.returns-clause-items
-returns-clause-items g c =
+pub returns-clause-positions : goal.returns-clause-positions
+returns-clause-positions g c =
     let v = c.args.queue.now in
     let N = lacking v c.args.slot c.args.pos in
     let e = c.loop-at.invariant.commit in
@@ -74,7 +74,7 @@ returns-clause-items g c =
     let t = c.loop-at-test.false in
     let low : v.commit < c.args.pos = c.requires.0 in
     let here : c.loop-at.at ≡ v.commit = omega arith in
-    c.from_vec.ensures ∙ c.reverse.ensures.items ∙ ap reverse c.loop-at.invariant.items ∙ reverse-reverse (above c.loop-at.at N)
+    c.from_vec.ensures ∙ c.reverse.ensures.items ∙ ap reverse c.loop-at.invariant.positions ∙ reverse-reverse (above c.loop-at.at N)
     ∙ ap (λ (n : ℕ). above n N) here ∙ items-had v c.args.slot c.args.pos low
 
 pub returns-clause-head : goal.returns-clause-head

@@ -11,7 +11,7 @@ invariant-loop-at g l = record {
   commit : l.commit ≡ l.queue.commit;
   low : l.commit ≤ l.at;
   high : l.at ≤ l.pos;
-  items : l.walk.items.items ≡ reverse (above l.at (lacking l.queue l.slot l.pos));
+  positions : l.walk.positions.items ≡ reverse (above l.at (lacking l.queue l.slot l.pos));
   objects : AreToBeHad l.queue l.slot l.pos l.at (has_object l.walk.objects.words);
   ticks : l.look_ups + 3 * l.at ≤ l.fn.look_ups + 3 * l.pos;
 }
