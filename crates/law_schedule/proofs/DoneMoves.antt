@@ -17,7 +17,7 @@ use Rattle.sv_script.proofs.Counts.{one_if}
 use Rattle.law_system.proofs.Aligned.{aligned}
 use Rattle.law_system.proofs.Clients.{proper-events}
 use Rattle.law_system.proofs.Pendings.{key_of, keys, submits}
-use Rattle.law_schedule.specs.Players.{Player, does, if_free, is_calm, is_settled, last_steps, next_step, player_turn}
+use Rattle.law_schedule.specs.Players.{Player, does, if_free, is_calm, nothing_outstanding, last_steps, player_after, player_turn}
 use Rattle.law_schedule.proofs.DoneTakes.{IsOpen}
 use Rattle.law_schedule.proofs.DoneShut.{turn-joins, turn-steps}
 
@@ -52,7 +52,7 @@ pub data HasMoved (p q : Player) : Type 0 where
   shut : q.closed ≡ true → HasMoved p q
   cut : to_go q < to_go p → must_join q.events ≡ true → HasMoved p q
   moved : to_go q < to_go p → (s : ℕ) → IsOpen q s → HasMoved p q
-  waits : q ≡ p → is_settled p ≡ false → (s : ℕ) → IsOpen p s → HasMoved p q
+  waits : q ≡ p → nothing_outstanding p ≡ false → (s : ℕ) → IsOpen p s → HasMoved p q
 
 -- What is left before a step is done.
 abbrev IsAt : Player → Step → List Step → Type 0
@@ -78,29 +78,29 @@ moved-by p s step ss e o left joined inside current =
 
 -- ---- Where nothing is outstanding
 
-pub settled-none : (p : Player) → is_settled p ≡ true → outstanding p.who p.events ≡ []
+pub settled-none : (p : Player) → nothing_outstanding p ≡ true → outstanding p.who p.events ≡ []
 settled-none p e = nil_from_length (outstanding p.who p.events) (eqb-true (length (outstanding p.who p.events)) 0 e)
 
-calm-settled : (p : Player) → is_settled p ≡ true → is_calm p ≡ true
+calm-settled : (p : Player) → nothing_outstanding p ≡ true → is_calm p ≡ true
 calm-settled p e = let none = ap length (settled-none p e) in lt-ltb (length (outstanding p.who p.events)) 16 (omega (arith, none))
 
 -- Nothing is pending then.
-room-settled : (p : Player) (s : ℕ) → AreProper p.who p.first p.events → IsOpen p s → is_settled p ≡ true → nat_lt (length (pending_of p.events)) 8 ≡ true
+room-settled : (p : Player) (s : ℕ) → AreProper p.who p.first p.events → IsOpen p s → nothing_outstanding p ≡ true → nat_lt (length (pending_of p.events)) 8 ≡ true
 room-settled p s proper o e =
     let none : keys (pending_of p.events) ≡ [] = sym (aligned p.who p.events (proper-events p.who p.first p.events proper) s o.current) ∙ ap submits (sym (outstanding_in p.who p.events s o.current) ∙ settled-none p e) in
     let count = ap length none in
     let same = length-map (pending_of p.events) key_of in
     lt-ltb (length (pending_of p.events)) 8 (omega (arith, count, same))
 
-free-or_waits : (p : Player) (s : ℕ) → IsOpen p s → (may : Bool) (e : Event) (left : List Step) → (is_settled p ≡ true → may ≡ true) → HasMoved p (does p e left) → HasMoved p (if_free p may e left)
+free-or_waits : (p : Player) (s : ℕ) → IsOpen p s → (may : Bool) (e : Event) (left : List Step) → (nothing_outstanding p ≡ true → may ≡ true) → HasMoved p (does p e left) → HasMoved p (if_free p may e left)
 free-or_waits p s o true e left f m = m
-free-or_waits p s o false e left f m = elim (cases_Bool (is_settled p)) [ inl x ↦ absurd (true≢false (sym (f x))) | inr x ↦ waits refl x s o ]
+free-or_waits p s o false e left f m = elim (cases_Bool (nothing_outstanding p)) [ inl x ↦ absurd (true≢false (sym (f x))) | inr x ↦ waits refl x s o ]
 
-settled-or_waits : (p q : Player) (s : ℕ) → IsOpen p s → HasMoved p q → HasMoved p (if is_settled p then q else p)
+settled-or_waits : (p q : Player) (s : ℕ) → IsOpen p s → HasMoved p q → HasMoved p (if nothing_outstanding p then q else p)
 settled-or_waits p q s o m =
-    elim (cases_Bool (is_settled p)) [
-      | inl x ↦ subst (HasMoved p) (sym (cond-true (is_settled p) q p x)) m
-      | inr x ↦ waits (cond-false (is_settled p) q p x) x s o
+    elim (cases_Bool (nothing_outstanding p)) [
+      | inl x ↦ subst (HasMoved p) (sym (cond-true (nothing_outstanding p) q p x)) m
+      | inr x ↦ waits (cond-false (nothing_outstanding p) q p x) x s o
     ]
 
 last-moves : (p : Player) (s : ℕ) → IsOpen p s → p.left ≡ [] → HasMoved p (if in_session p.events then does p events.Leave [] else record p { closed = true })
@@ -118,14 +118,14 @@ last-moves p s o left =
 last-turn : (p : Player) (s : ℕ) → IsOpen p s → p.left ≡ [] → HasMoved p (last_steps p)
 last-turn p s o left =
     let q : Player = if in_session p.events then does p events.Leave [] else record p { closed = true } in
-    elim (cases_Bool (is_settled p)) [
+    elim (cases_Bool (nothing_outstanding p)) [
       | inl x ↦ subst (HasMoved p) (sym (ap (λ (b : Bool). if not b then p else q) x)) (last-moves p s o left)
       | inr x ↦ waits (ap (λ (b : Bool). if not b then p else q) x) x s o
     ]
 
 -- ---- A client's turn
 
-step-moves : (p : Player) (s : ℕ) → AreProper p.who p.first p.events → IsOpen p s → (left : List Step) → p.left ≡ left → HasMoved p (next_step p left)
+step-moves : (p : Player) (s : ℕ) → AreProper p.who p.first p.events → IsOpen p s → (left : List Step) → p.left ≡ left → HasMoved p (player_after p left)
 step-moves p s proper o [] e = last-turn p s o e
 step-moves p s proper o (steps.Act action ∷ ss) e =
     free-or_waits p s o (nat_lt (length (pending_of p.events)) 8 && is_calm p) (events.Make action) ss
@@ -159,4 +159,4 @@ IsReady p = (must_join p.events ≡ true) ⊎ ((s : ℕ) × (IsOpen p s × (is_w
 pub turn-moves : (p : Player) → AreProper p.who p.first p.events → p.closed ≡ false → IsReady p → HasMoved p (player_turn p)
 turn-moves p proper c (inl m) = join-moves p c m
 turn-moves p proper c (inr x) =
-    subst (HasMoved p) (sym (turn-steps p c x.1.0.joined ∙ cond-true (is_welcomed p.events) (next_step p p.left) p x.1.1)) (step-moves p x.0 proper x.1.0 p.left refl)
+    subst (HasMoved p) (sym (turn-steps p c x.1.0.joined ∙ cond-true (is_welcomed p.events) (player_after p p.left) p x.1.1)) (step-moves p x.0 proper x.1.0 p.left refl)

@@ -14,7 +14,7 @@ use Rattle.sv_scenario.specs.Limits.{IsGoodScenario, IsGoodTurn}
 use Rattle.sv_scenario.specs.Sessions.{cuts_in, session_count}
 use Rattle.sv_script.specs.Following.{must_join, is_welcomed}
 use Rattle.law_system.proofs.Places.{map_at, unmap_at}
-use Rattle.law_schedule.specs.Players.{Player, is_settled, has_closed, player_turn, take_turn, take_turns, repeated}
+use Rattle.law_schedule.specs.Players.{Player, nothing_outstanding, has_closed, player_turn, take_turn, take_turns, repeated}
 use Rattle.law_schedule.specs.Serving.{Run, Server, turn_served, turns_served, after_clients, after_served, after_takes, round_served}
 use Rattle.law_schedule.specs.Served.{IsSoundOver}
 use Rattle.law_schedule.specs.Sound.{ArePassed, none, sync}
@@ -81,7 +81,7 @@ module _ (server : Server) (scenario : Scenario) (good : IsGoodScenario scenario
 
 -- Twice what is left to do, and one more where something is outstanding.
 abbrev pub weight : Player → ℕ
-weight p = 2 * to_go p + one_if (not (is_settled p))
+weight p = 2 * to_go p + one_if (not (nothing_outstanding p))
 
 passed-less : (ss left : List Step) → ArePassed ss left → (length left ≤ length ss) × (cuts_in left ≤ cuts_in ss)
 passed-less ss left (none) = (omega arith, omega arith)
@@ -97,7 +97,7 @@ weight-most server scenario good run sound i p at =
     let sessions = good.sessions in
     let join = one-most (must_join p.events) in
     let last = last-most (must_join p.events) (in_session p.events) in
-    let waits = one-most (not (is_settled p)) in
+    let waits = one-most (not (nothing_outstanding p)) in
     elim f.left [
       | inl e ↦
           (let a = ap (λ (ss : List Step). length ss) e in
@@ -150,8 +150,8 @@ waited-go s p q o w =
     ap to_go w.same ∙ omega (arith, j, l)
 
 -- Nothing is outstanding any more where only Dones were.
-waited-settled : (s : ℕ) (p q : Player) → HasWaited s p q → AreDones (outstanding p.who p.events) → is_settled q ≡ true
-waited-settled s p q w a = ap is_settled w.same ∙ ap (λ (os : List _). length os == 0) (w.settled a)
+waited-settled : (s : ℕ) (p q : Player) → HasWaited s p q → AreDones (outstanding p.who p.events) → nothing_outstanding q ≡ true
+waited-settled s p q w a = ap nothing_outstanding w.same ∙ ap (λ (os : List _). length os == 0) (w.settled a)
 
 module _ (server : Server) (scenario : Scenario) (good : IsGoodScenario scenario) (honest : NextRepliesAreTaken server scenario) (stay : StaySound server scenario) (run : Run) (g : IsGoing server scenario run)
     (i : ℕ) (p : Player) (at : slice_get run.players i ≡ Some p) where
@@ -187,12 +187,12 @@ module _ (server : Server) (scenario : Scenario) (good : IsGoodScenario scenario
   IsLess = ((take_turns h turn).closed ≡ true) ⊎ (weight (take_turns h turn) < weight p)
 
   less-by : (q : Player) → to_go q < to_go p → weight q < weight p
-  less-by q l = let one = one-most (not (is_settled q)) in omega (arith, l, one)
+  less-by q l = let one = one-most (not (nothing_outstanding q)) in omega (arith, l, one)
 
   less-moved : (q : Player) → to_go turn < to_go p → to_go q ≡ to_go turn → weight q < weight p
   less-moved q l e = less-by q (omega (arith, l, e))
 
-  less-waited : (s : ℕ) → IsOpen turn s → turn ≡ p → is_settled p ≡ false → AreDones (outstanding p.who p.events) → weight (take_turns h turn) < weight p
+  less-waited : (s : ℕ) → IsOpen turn s → turn ≡ p → nothing_outstanding p ≡ false → AreDones (outstanding p.who p.events) → weight (take_turns h turn) < weight p
   less-waited s o e unsettled dones =
       let w = waited s o in
       let same = waited-go s turn (take_turns h turn) o w ∙ ap to_go e in

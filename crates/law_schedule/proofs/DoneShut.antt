@@ -14,7 +14,7 @@ use Rattle.sv_scenario.specs.declared.scenario.Step.TheVariants as steps
 use Rattle.sv_script.specs.Following.{must_join, is_welcomed}
 use Rattle.law_system.specs.Fits.{is_join_of}
 use Rattle.law_system.proofs.Joined.{joined-low}
-use Rattle.law_schedule.specs.Players.{Player, does, is_settled, next_step, player_turn, open_session, takes_if, takes, take_in, take_turn, take_turns, has_closed, at_player}
+use Rattle.law_schedule.specs.Players.{Player, does, nothing_outstanding, player_after, player_turn, open_session, takes_if, takes, take_in, take_turn, take_turns, has_closed, at_player}
 use Rattle.law_schedule.proofs.DoneLists.{any-mapped, any-at}
 use Rattle.law_schedule.proofs.DoneDue.{EndsAreDue}
 use Rattle.law_schedule.proofs.DoneTakes.{takes-none}
@@ -49,9 +49,9 @@ near-if true p q o a c = a
 near-if false p q o a c = c
 
 -- The next step of a client in a session opens none.
-near-step : (p : Player) → p.closed ≡ false → must_join p.events ≡ false → (left : List Step) → IsNear p (next_step p left)
+near-step : (p : Player) → p.closed ≡ false → must_join p.events ≡ false → (left : List Step) → IsNear p (player_after p left)
 near-step p c m [] =
-    near-if (not (is_settled p)) p p (if in_session p.events then does p events.Leave [] else record p { closed = true }) (near-same p)
+    near-if (not (nothing_outstanding p)) p p (if in_session p.events then does p events.Leave [] else record p { closed = true }) (near-same p)
     (near-if (in_session p.events) p (does p events.Leave []) (record p { closed = true })
     (record { joined = λ s h. h; opened = inr (open-is (does p events.Leave []) c refl ∙ sym (open-is p c m)) })
     (record { joined = λ s h. h; opened = inl refl }))
@@ -61,7 +61,7 @@ near-step p c m (steps.Poll ∷ ss) =
     near-if _ p (does p events.Poll ss) p (record { joined = λ s h. h; opened = inr (open-is (does p events.Poll ss) c refl ∙ sym (open-is p c m)) }) (near-same p)
 near-step p c m (steps.Observe objects ∷ ss) =
     near-if _ p (does p (events.Observe objects 0) ss) p (record { joined = λ s h. h; opened = inr (open-is (does p (events.Observe objects 0) ss) c refl ∙ sym (open-is p c m)) }) (near-same p)
-near-step p c m (steps.Sync ∷ ss) = near-if (is_settled p) p (record p { left = ss }) p (record { joined = λ s h. h; opened = inr refl }) (near-same p)
+near-step p c m (steps.Sync ∷ ss) = near-if (nothing_outstanding p) p (record p { left = ss }) p (record { joined = λ s h. h; opened = inr refl }) (near-same p)
 near-step p c m (steps.Show objects ∷ ss) = record { joined = λ s h. h; opened = inr (open-is (does p (events.Show objects) ss) c refl ∙ sym (open-is p c m)) }
 near-step p c m (steps.Cut ∷ ss) = record { joined = λ s h. h; opened = inl (open-none (does p events.Cut ss) refl) }
 near-step p c m (steps.Quit ∷ ss) = record { joined = λ s h. h; opened = inl refl }
@@ -109,19 +109,19 @@ shut-take h p s c = near-shut p (take_turn h p) s (near-take h p) c
 pub turn-closed : (p : Player) → p.closed ≡ true → player_turn p ≡ p
 turn-closed p c =
     ap (λ (b : Bool). if b then p
-    else if must_join p.events then does p (events.Join (p.first + joins p.events)) p.left else if is_welcomed p.events then next_step p p.left else p) c
+    else if must_join p.events then does p (events.Join (p.first + joins p.events)) p.left else if is_welcomed p.events then player_after p p.left else p) c
 
 pub turn-joins : (p : Player) → p.closed ≡ false → must_join p.events ≡ true → player_turn p ≡ does p (events.Join (p.first + joins p.events)) p.left
 turn-joins p c m =
     ap (λ (b : Bool). if b then p
-    else if must_join p.events then does p (events.Join (p.first + joins p.events)) p.left else if is_welcomed p.events then next_step p p.left else p) c
-    ∙ ap (λ (b : Bool). if b then does p (events.Join (p.first + joins p.events)) p.left else if is_welcomed p.events then next_step p p.left else p) m
+    else if must_join p.events then does p (events.Join (p.first + joins p.events)) p.left else if is_welcomed p.events then player_after p p.left else p) c
+    ∙ ap (λ (b : Bool). if b then does p (events.Join (p.first + joins p.events)) p.left else if is_welcomed p.events then player_after p p.left else p) m
 
-pub turn-steps : (p : Player) → p.closed ≡ false → must_join p.events ≡ false → player_turn p ≡ (if is_welcomed p.events then next_step p p.left else p)
+pub turn-steps : (p : Player) → p.closed ≡ false → must_join p.events ≡ false → player_turn p ≡ (if is_welcomed p.events then player_after p p.left else p)
 turn-steps p c m =
     ap (λ (b : Bool). if b then p
-    else if must_join p.events then does p (events.Join (p.first + joins p.events)) p.left else if is_welcomed p.events then next_step p p.left else p) c
-    ∙ ap (λ (b : Bool). if b then does p (events.Join (p.first + joins p.events)) p.left else if is_welcomed p.events then next_step p p.left else p) m
+    else if must_join p.events then does p (events.Join (p.first + joins p.events)) p.left else if is_welcomed p.events then player_after p p.left else p) c
+    ∙ ap (λ (b : Bool). if b then does p (events.Join (p.first + joins p.events)) p.left else if is_welcomed p.events then player_after p p.left else p) m
 
 shut-joined : (p : Player) (s : ℕ) → AreProper p.who p.first p.events → has_closed s p ≡ true → has_closed s (does p (events.Join (p.first + joins p.events)) p.left) ≡ true
 shut-joined p s proper h =
@@ -143,8 +143,8 @@ shut-turn p s proper h =
       | inr c ↦ elim (cases_Bool (must_join p.events)) [
         | inl m ↦ ap (has_closed s) (turn-joins p c m) ∙ shut-joined p s proper h
         | inr m ↦ ap (has_closed s) (turn-steps p c m)
-            ∙ near-shut p (if is_welcomed p.events then next_step p p.left else p) s
-            (near-if (is_welcomed p.events) p (next_step p p.left) p (near-step p c m p.left) (near-same p)) h
+            ∙ near-shut p (if is_welcomed p.events then player_after p p.left else p) s
+            (near-if (is_welcomed p.events) p (player_after p p.left) p (near-step p c m p.left) (near-same p)) h
       ]
     ]
 

@@ -21,7 +21,7 @@ use Rattle.sv_script.specs.Following.{must_join, is_welcomed}
 use Rattle.sv_script.proofs.Counts.{events-few, one_if}
 use Rattle.sv_script.proofs.Places.{joined_once}
 use Rattle.sv_script.proofs.Begun.{joins-counted}
-use Rattle.law_schedule.specs.Players.{Player, is_calm, is_settled, player_turn, take_turn}
+use Rattle.law_schedule.specs.Players.{Player, is_calm, nothing_outstanding, player_turn, take_turn}
 use Rattle.law_schedule.specs.Serving.{Run, Server}
 use Rattle.law_schedule.specs.Sound.{IsPlaying, ArePlaying, has_joined}
 use Rattle.law_schedule.specs.Served.{IsSoundOver}
@@ -100,7 +100,7 @@ module _ (server : Server) (shape : Shape) (sessions : ℕ) (h : List Entry) (p 
     pub call-observe : (objects : List ObjectId) (ss : List Step) → p.left ≡ steps.Observe objects ∷ ss → is_calm p ≡ true → MayObserve p.who p.events objects
     call-observe = may-observe server shape h a.number a.first a.plan p a.playing a.fitting a.good o m v
 
-    pub call-leave : is_settled p ≡ true → in_session p.events ≡ true → MayLeave p.who p.events
+    pub call-leave : nothing_outstanding p ≡ true → in_session p.events ≡ true → MayLeave p.who p.events
     call-leave = may-leave server shape h a.number a.first a.plan p a.playing a.fitting a.good o m v
 
   -- ---- The player after its turn

@@ -28,11 +28,11 @@ use Rattle.sv_scenario.specs.declared.scenario.Step.{Step}
 use Rattle.sv_scenario.specs.declared.scenario.Step.TheVariants as steps
 use Rattle.sv_scenario.specs.Limits.{IsGoodPlan, IsGoodStep}
 use Rattle.sv_scenario.specs.Sessions.{sessions_of_plan}
-use Rattle.sv_script.specs.Following.{DoesStep, MayCome, must_join, is_welcomed, is_finished, after_syncs, passed_syncs, unsynced, event_of}
+use Rattle.sv_script.specs.Following.{DoesStep, FollowsNext, must_join, is_welcomed, is_finished, after_syncs, passed_syncs, unsynced, event_of}
 use Rattle.law_system.specs.Fronts.{IsFront}
 use Rattle.law_system.specs.Fits.{is_join_of, requests_in, replies_in, IsEndLast}
 use Rattle.law_system.proofs.Fronts.{front-append, get-push_cases}
-use Rattle.law_schedule.specs.Players.{Player, does, is_calm, is_settled, last_steps, next_step, player_turn, open_session, takes_if, takes, take_in, take_turn, take_turns, repeated}
+use Rattle.law_schedule.specs.Players.{Player, does, is_calm, nothing_outstanding, last_steps, player_after, player_turn, open_session, takes_if, takes, take_in, take_turn, take_turns, repeated}
 use Rattle.law_schedule.specs.Serving.{Server}
 use Rattle.law_schedule.specs.Sound.{ArePassed, none, sync, IsPlaying, has_joined}
 use Rattle.law_schedule.specs.Served.{AreHeard}
@@ -131,7 +131,7 @@ module _ (server : Server) (shape : Shape) (h : List Entry) (k s : ℕ) (plan : 
   pub stays : Kept p
   stays = record { playing = w; fitting = fit; more = λ n j. j }
 
-  plays-next : (e : Event) (l : List Step) (c : Bool) → MayCome p.who p.events w.before e l → (c ≡ true → is_finished (e ∷ p.events) ≡ true) →
+  plays-next : (e : Event) (l : List Step) (c : Bool) → FollowsNext p.who p.events w.before e l → (c ≡ true → is_finished (e ∷ p.events) ≡ true) →
       ((t : List Event) → e ∷ p.events ≡ events.Quit ∷ t → c ≡ true) → IsPlaying shape k s plan (next p e l c)
   plays-next e l c m closed quit = record {
     who = w.who;
@@ -284,7 +284,7 @@ module _ (server : Server) (shape : Shape) (h : List Entry) (k s : ℕ) (plan : 
     }
 
     -- An event that does a step, and closes no link.
-    stepped : (e : Event) (ss : List Step) → MayCome p.who p.events w.before e ss → MayFollow p.who p.first p.events e → ((n : ℕ) → is_join_of n e ≡ false) →
+    stepped : (e : Event) (ss : List Step) → FollowsNext p.who p.events w.before e ss → MayFollow p.who p.first p.events e → ((n : ℕ) → is_join_of n e ≡ false) →
         ((n : ℕ) → got (e ∷ p.events) n ≡ got p.events n) → ends_with_quit (e ∷ p.events) ≡ false → Kept (does p e ss)
     stepped e ss c f j g q = record {
       playing = plays-next e ss p.closed c (λ x. absurd (true≢false (sym x ∙ o))) (λ t x. absurd (true≢false (sym (ap ends_with_quit x) ∙ q)));
@@ -324,10 +324,10 @@ module _ (server : Server) (shape : Shape) (h : List Entry) (k s : ℕ) (plan : 
     may-observe objects ss l t =
         record { joined = still-in (steps.Observe objects) ss m l; good = good-objects objects ss l; calm = ltb-true (length (outstanding p.who p.events)) 16 t }
 
-    settled-nil : is_settled p ≡ true → outstanding p.who p.events ≡ []
+    settled-nil : nothing_outstanding p ≡ true → outstanding p.who p.events ≡ []
     settled-nil t = nil_from_length (outstanding p.who p.events) (eqb-true (length (outstanding p.who p.events)) 0 t)
 
-    pub may-leave : is_settled p ≡ true → in_session p.events ≡ true → MayLeave p.who p.events
+    pub may-leave : nothing_outstanding p ≡ true → in_session p.events ≡ true → MayLeave p.who p.events
     may-leave t i = record { joined = i; settled = settled-nil t }
 
     making : (action : Action) (ss : List Step) → p.left ≡ steps.Act action ∷ ss → (nat_lt (length (pending_of p.events)) 8 && is_calm p) ≡ true → Kept (does p (events.Make action) ss)
@@ -348,7 +348,7 @@ module _ (server : Server) (shape : Shape) (h : List Entry) (k s : ℕ) (plan : 
       more = more-next events.Quit ss true;
     }
 
-    passing : (ss : List Step) → p.left ≡ steps.Sync ∷ ss → is_settled p ≡ true → Kept (record p { left = ss })
+    passing : (ss : List Step) → p.left ≡ steps.Sync ∷ ss → nothing_outstanding p ≡ true → Kept (record p { left = ss })
     passing ss l t = record {
       playing = record {
         who = w.who;
@@ -370,7 +370,7 @@ module _ (server : Server) (shape : Shape) (h : List Entry) (k s : ℕ) (plan : 
           | inr x ↦ passed-more ss w.before (subst (ArePassed w.before) l x.1)
         ]
 
-    leaving : p.left ≡ [] → is_settled p ≡ true → in_session p.events ≡ true → Kept (does p events.Leave [])
+    leaving : p.left ≡ [] → nothing_outstanding p ≡ true → in_session p.events ≡ true → Kept (does p events.Leave [])
     leaving l t i =
         stepped events.Leave []
         (record {
@@ -384,13 +384,13 @@ module _ (server : Server) (shape : Shape) (h : List Entry) (k s : ℕ) (plan : 
         (may-leave t i)
         (λ n. refl) (λ n. refl) refl
 
-    ended-now : is_settled p ≡ true → in_session p.events ≡ false → is_finished p.events ≡ true
+    ended-now : nothing_outstanding p ≡ true → in_session p.events ≡ false → is_finished p.events ≡ true
     ended-now t i = elim (left-or_finished p.who p.first plan.steps p.events w.before fit.proper w.follows i m) [
       | inl e ↦ (let none : requests.Leave ∷ [] ≡ [] = sym e ∙ settled-nil t in cc)
       | inr e ↦ e
     ]
 
-    closing : is_settled p ≡ true → in_session p.events ≡ false → Kept (record p { closed = true })
+    closing : nothing_outstanding p ≡ true → in_session p.events ≡ false → Kept (record p { closed = true })
     closing t i = record {
       playing = record {
         who = w.who;
@@ -408,17 +408,17 @@ module _ (server : Server) (shape : Shape) (h : List Entry) (k s : ℕ) (plan : 
 
     last-kept : p.left ≡ [] → Kept (last_steps p)
     last-kept l =
-        cond_both (not (is_settled p)) p (if in_session p.events then does p events.Leave [] else record p { closed = true }) Kept (λ _. stays)
-        (λ t. let settled : is_settled p ≡ true = not-false (is_settled p) t in
+        cond_both (not (nothing_outstanding p)) p (if in_session p.events then does p events.Leave [] else record p { closed = true }) Kept (λ _. stays)
+        (λ t. let settled : nothing_outstanding p ≡ true = not-false (nothing_outstanding p) t in
         cond_both (in_session p.events) (does p events.Leave []) (record p { closed = true }) Kept (leaving l settled) (closing settled))
 
-    next-kept : (left : List Step) → p.left ≡ left → Kept (next_step p left)
+    next-kept : (left : List Step) → p.left ≡ left → Kept (player_after p left)
     next-kept [] l = last-kept l
     next-kept (steps.Act action ∷ ss) l =
         cond_both (nat_lt (length (pending_of p.events)) 8 && is_calm p) (does p (events.Make action) ss) p Kept (making action ss l) (λ _. stays)
     next-kept (steps.Poll ∷ ss) l = cond_both (is_calm p) (does p events.Poll ss) p Kept (polling ss l) (λ _. stays)
     next-kept (steps.Observe objects ∷ ss) l = cond_both (is_calm p) (does p (events.Observe objects 0) ss) p Kept (observing objects ss l) (λ _. stays)
-    next-kept (steps.Sync ∷ ss) l = cond_both (is_settled p) (record p { left = ss }) p Kept (passing ss l) (λ _. stays)
+    next-kept (steps.Sync ∷ ss) l = cond_both (nothing_outstanding p) (record p { left = ss }) p Kept (passing ss l) (λ _. stays)
     next-kept (steps.Show objects ∷ ss) l =
         stepped (events.Show objects) ss (does-step (events.Show objects) (steps.Show objects) ss l refl refl) tt (λ n. refl) (λ n. refl) refl
     next-kept (steps.Cut ∷ ss) l = stepped events.Cut ss (does-step events.Cut steps.Cut ss l refl refl) tt (λ n. refl) (λ n. refl) refl
@@ -474,10 +474,10 @@ module _ (server : Server) (shape : Shape) (h : List Entry) (k s : ℕ) (plan : 
   pub turn-kept : IsGoodPlan shape plan → sessions_of_plan plan ≤ 64 → ((n : ℕ) → s ≤ n → n < s + sessions_of_plan plan → has_joined p n ≡ false → IsUnused h n) →
       Kept (player_turn p)
   turn-kept good few free =
-      cond_both p.closed p (if must_join p.events then does p (events.Join new_session) p.left else if is_welcomed p.events then next_step p p.left else p) Kept (λ _. stays)
-      (λ o. cond_both (must_join p.events) (does p (events.Join new_session) p.left) (if is_welcomed p.events then next_step p p.left else p) Kept
+      cond_both p.closed p (if must_join p.events then does p (events.Join new_session) p.left else if is_welcomed p.events then player_after p p.left else p) Kept (λ _. stays)
+      (λ o. cond_both (must_join p.events) (does p (events.Join new_session) p.left) (if is_welcomed p.events then player_after p p.left else p) Kept
       (λ m. joining o m few (free new_session (omega (arith, w.first)) (omega (arith, w.first, joins-few m)) not-begun))
-      (λ m. cond_both (is_welcomed p.events) (next_step p p.left) p Kept (λ v. next-kept good o m v p.left refl) (λ _. stays)))
+      (λ m. cond_both (is_welcomed p.events) (player_after p p.left) p Kept (λ v. next-kept good o m v p.left refl) (λ _. stays)))
 
 module _ (server : Server) (shape : Shape) (h : List Entry) (k s : ℕ) (plan : Plan) where
   pub kept-then : (p q r : Player) → IsKept server shape h k s plan p q → IsKept server shape h k s plan q r → IsKept server shape h k s plan p r

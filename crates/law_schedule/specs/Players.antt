@@ -40,31 +40,31 @@ if_free p may e left = if may then does p e left else p
 abbrev pub is_calm : Player → Bool
 is_calm p = nat_lt (length (outstanding p.who p.events)) most_outstanding
 
-abbrev pub is_settled : Player → Bool
-is_settled p = length (outstanding p.who p.events) == 0
+abbrev pub nothing_outstanding : Player → Bool
+nothing_outstanding p = length (outstanding p.who p.events) == 0
 
 -- Once all steps are done the client leaves, and closes when it has its Bye; each when nothing is outstanding.
 abbrev pub last_steps : Player → Player
-last_steps p = if not (is_settled p) then p
+last_steps p = if not (nothing_outstanding p) then p
     else if in_session p.events then does p events.Leave []
     else record p { closed = true }
 
 -- The next step of a client in a session that has its Welcome. A step that can't be done yet waits.
-abbrev pub next_step : Player → List Step → Player
-next_step p [] = last_steps p
-next_step p (steps.Act action ∷ ss) = if_free p (nat_lt (length (pending_of p.events)) most_pending && is_calm p) (events.Make action) ss
-next_step p (steps.Poll ∷ ss) = if_free p (is_calm p) events.Poll ss
-next_step p (steps.Observe objects ∷ ss) = if_free p (is_calm p) (events.Observe objects 0) ss
-next_step p (steps.Sync ∷ ss) = if is_settled p then record p { left = ss } else p
-next_step p (steps.Show objects ∷ ss) = does p (events.Show objects) ss
-next_step p (steps.Cut ∷ ss) = does p events.Cut ss
-next_step p (steps.Quit ∷ ss) = record (does p events.Quit ss) { closed = true }
+abbrev pub player_after : Player → List Step → Player
+player_after p [] = last_steps p
+player_after p (steps.Act action ∷ ss) = if_free p (nat_lt (length (pending_of p.events)) most_pending && is_calm p) (events.Make action) ss
+player_after p (steps.Poll ∷ ss) = if_free p (is_calm p) events.Poll ss
+player_after p (steps.Observe objects ∷ ss) = if_free p (is_calm p) (events.Observe objects 0) ss
+player_after p (steps.Sync ∷ ss) = if nothing_outstanding p then record p { left = ss } else p
+player_after p (steps.Show objects ∷ ss) = does p (events.Show objects) ss
+player_after p (steps.Cut ∷ ss) = does p events.Cut ss
+player_after p (steps.Quit ∷ ss) = record (does p events.Quit ss) { closed = true }
 
 -- A client's turn: it joins its first or next session, or does its next step, if it can.
 abbrev pub player_turn : Player → Player
 player_turn p = if p.closed then p
     else if must_join p.events then does p (events.Join (p.first + joins p.events)) p.left
-    else if is_welcomed p.events then next_step p p.left
+    else if is_welcomed p.events then player_after p p.left
     else p
 
 -- ---- Taking a reply

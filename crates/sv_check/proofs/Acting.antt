@@ -22,7 +22,7 @@ use Rattle.sv_report.specs.Again.{MayDo, IsPlace, behind_next, place_after}
 use Rattle.sv_report.proofs.Seeking.{next_place}
 use Rattle.sv_scenario.specs.declared.scenario.Step.{Step}
 use Rattle.sv_script.specs.Laws.{is_got}
-use Rattle.sv_script.specs.Following.{FollowsTo, MayCome, must_join, is_welcomed, is_finished}
+use Rattle.sv_script.specs.Following.{FollowsTo, FollowsNext, must_join, is_welcomed, is_finished}
 use Rattle.law_system.specs.Fits.{is_join_of, replies_in}
 use Rattle.law_system.specs.Fronts.{IsFront}
 use Rattle.law_system.specs.Outcomes.{is_quit}
@@ -331,7 +331,7 @@ other_stands entries first who t e place o p h =
 
 -- It does the event, with these steps left.
 pub did : (entries : List Entry) (a b : Actor) (e : Event) → IsActing entries a → must_join a.client.events ≡ false → is_finished a.client.events ≡ false →
-    is_other e ≡ true → MayDo a.client.who a.client.events e → (left : Ref (List Step)) → MayCome a.client.who a.client.events a.left.now e left.now → DidEvent e a b →
+    is_other e ≡ true → MayDo a.client.who a.client.events e → (left : Ref (List Step)) → FollowsNext a.client.who a.client.events a.left.now e left.now → DidEvent e a b →
     IsActing entries (record b { left = left })
 did entries a b e g m n o may left comes d =
     let is = other_is a.first a.client.events e o in

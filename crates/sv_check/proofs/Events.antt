@@ -11,7 +11,7 @@ use Rattle.sv_client.specs.Traces.{is_join, joins, current_session, got}
 use Rattle.sv_client.specs.Taking.{Identity, outstanding}
 use Rattle.sv_client.specs.Proper.{MayFollow}
 use Rattle.sv_scenario.specs.declared.scenario.Step.{Step}
-use Rattle.sv_script.specs.Following.{MayCome, DoesStep, LeavesSession, must_join, is_finished, passed_syncs, event_of}
+use Rattle.sv_script.specs.Following.{FollowsNext, DoesStep, LeavesSession, must_join, is_finished, passed_syncs, event_of}
 use Rattle.sv_script.specs.Laws.{is_got}
 use Rattle.sv_report.specs.Report.{event_text}
 use Rattle.sv_check.specs.Next.{GetsNextReply, ComesNext}
@@ -55,7 +55,7 @@ module _ (who : Identity) (first : ℕ) (R : ℕ → List Reply) (t : List Event
   abbrev Next : Event → List Step → Type 0
   Next e left = ComesNext who first R t before e left
 
-  pub joined_at : (e : Event) (left : List Step) → MayCome who t before e left → is_join e ≡ must_join t
+  pub joined_at : (e : Event) (left : List Step) → FollowsNext who t before e left → is_join e ≡ must_join t
   joined_at (events.Join s) left m = sym m.needed
   joined_at (events.Got s reply) left m = sym m.joined
   joined_at events.Leave left m = sym m.joined
@@ -66,7 +66,7 @@ module _ (who : Identity) (first : ℕ) (R : ℕ → List Reply) (t : List Event
   joined_at events.Quit left m = sym m.joined
   joined_at (events.Show objects) left m = sym m.joined
 
-  pub here_at : (e : Event) (left : List Step) → MayCome who t before e left → is_finished t ≡ false
+  pub here_at : (e : Event) (left : List Step) → FollowsNext who t before e left → is_finished t ≡ false
   here_at (events.Join s) left m = not_finished t m.needed
   here_at (events.Got s reply) left m = m.here
   here_at events.Leave left m = m.here
@@ -110,7 +110,7 @@ module _ (who : Identity) (first : ℕ) (R : ℕ → List Reply) (t : List Event
   leave_is events.Quit l = absurd (true≢false (sym l))
   leave_is (events.Show objects) l = absurd (true≢false (sym l))
 
-  step_is : (e : Event) (left : List Step) → is_join e ≡ false → is_got e ≡ false → is_leave e ≡ false → MayCome who t before e left → DoesStep who t before e left
+  step_is : (e : Event) (left : List Step) → is_join e ≡ false → is_got e ≡ false → is_leave e ≡ false → FollowsNext who t before e left → DoesStep who t before e left
   step_is (events.Make action) left j g l m = m
   step_is events.Poll left j g l m = m
   step_is (events.Observe objects wait) left j g l m = m
@@ -145,11 +145,11 @@ module _ (who : Identity) (first : ℕ) (R : ℕ → List Reply) (t : List Event
       let none : passed_syncs (outstanding who t) before ≡ [] = ap (λ (os : List Request). passed_syncs os before) l.settled ∙ l.done in
       none_first d.step more (sym none ∙ d.next)
 
-  leaves_at : (e : Event) (left : List Step) → is_leave e ≡ true → MayCome who t before e left → LeavesSession who t before left
-  leaves_at e left l m = subst (λ (d : Event). MayCome who t before d left) (leave_is e l) m
+  leaves_at : (e : Event) (left : List Step) → is_leave e ≡ true → FollowsNext who t before e left → LeavesSession who t before left
+  leaves_at e left l m = subst (λ (d : Event). FollowsNext who t before d left) (leave_is e l) m
 
   same_others_done : (e f : Event) (left more : List Step) → is_join e ≡ false → is_join f ≡ false → is_got e ≡ false → is_got f ≡ false →
-      MayCome who t before e left → MayCome who t before f more → e ≡ f
+      FollowsNext who t before e left → FollowsNext who t before f more → e ≡ f
   same_others_done e f left more i j g h m n = go (is_leave e) (is_leave f) refl refl
     where
       go : (a b : Bool) → is_leave e ≡ a → is_leave f ≡ b → e ≡ f
@@ -159,7 +159,7 @@ module _ (who : Identity) (first : ℕ) (R : ℕ → List Reply) (t : List Event
       go false false k l = (same_steps e f left more (step_is e left i g k m) (step_is f more j h l n)).0
 
   -- An event leaves the same steps.
-  pub same_left : (e : Event) (left more : List Step) → MayCome who t before e left → MayCome who t before e more → left ≡ more
+  pub same_left : (e : Event) (left more : List Step) → FollowsNext who t before e left → FollowsNext who t before e more → left ≡ more
   same_left (events.Join s) left more m n = m.same ∙ sym n.same
   same_left (events.Got s reply) left more m n = m.same ∙ sym n.same
   same_left events.Leave left more m n = m.same ∙ sym n.same

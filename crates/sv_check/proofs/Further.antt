@@ -6,7 +6,7 @@ use Rattle.sv_journal.specs.declared.entry.Entry.{Entry}
 use Rattle.sv_client.specs.declared.trace.Event.{Event}
 use Rattle.sv_client.specs.Taking.{Identity}
 use Rattle.sv_scenario.specs.declared.scenario.Step.{Step}
-use Rattle.sv_script.specs.Following.{MayCome, is_finished}
+use Rattle.sv_script.specs.Following.{FollowsNext, is_finished}
 use Rattle.sv_report.specs.Report.{event_text}
 use Rattle.sv_report.specs.Again.{lines_after}
 use Rattle.sv_report.proofs.Lines.{first_back}
@@ -113,7 +113,7 @@ module _ (who : Identity) (first : ℕ) (R : ℕ → List Reply) where
         let is : e ≡ f = event_tells who first R t before entries e f p.0 q.0 (10 ∷ (xs ++ x)) (10 ∷ (ys ++ y)) p.1.0 q.1.0
         (sym (line_first (event_text entries t e) xs x) ∙ same ∙ line_first (event_text entries t f) ys y) in
         let back : f ≡ e = sym is in
-        let steps : q.0 ≡ p.0 = same_left who first R t before e q.0 p.0 (subst (λ (d : Event). MayCome who t before d q.0) back q.1.0.comes) p.1.0.comes in
+        let steps : q.0 ≡ p.0 = same_left who first R t before e q.0 p.0 (subst (λ (d : Event). FollowsNext who t before d q.0) back q.1.0.comes) p.1.0.comes in
         let next : ComeTo who first R (e ∷ t) p.0 fs last =
         subst (λ (ss : List Step). ComeTo who first R (e ∷ t) ss fs last) steps (subst (λ (d : Event). ComeTo who first R (d ∷ t) q.0 fs last) back q.1.1) in
         let turned : (line e ++ xs) ++ x ≡ (line e ++ lines_after entries (e ∷ t) fs) ++ y =

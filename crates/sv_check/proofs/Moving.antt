@@ -11,26 +11,26 @@ use Rattle.sv_client.specs.Proper.{MayLeave}
 use Rattle.sv_report.specs.Again.{MayDo}
 use Rattle.sv_scenario.specs.declared.scenario.Step.{Step}
 use Rattle.sv_scenario.specs.declared.scenario.Step.TheVariants as steps
-use Rattle.sv_script.specs.Following.{MayCome, DoesStep, passed_syncs, unsynced, event_of, must_join, is_welcomed, is_finished}
+use Rattle.sv_script.specs.Following.{FollowsNext, DoesStep, passed_syncs, unsynced, event_of, must_join, is_welcomed, is_finished}
 use Rattle.sv_script.specs.Next.{may_ask, can_do, can_do_first}
 use Rattle.sv_check.specs.Acting.{IsNextEvent, NoNextEvent, NotNow, is_other}
 use Rattle.sv_check.proofs.Events.{none_first, same_first}
 
 comes : (who : Identity) (t : List Event) (before : List Step) (step : Step) (left : List Step) (e : Event) → must_join t ≡ false → is_welcomed t ≡ true → is_finished t ≡ false →
-    unsynced who t before ≡ step ∷ left → event_of step ≡ Some e → MayCome who t before e left
+    unsynced who t before ≡ step ∷ left → event_of step ≡ Some e → FollowsNext who t before e left
 comes who t before (steps.Act action) left e j w h n v =
-    subst (λ (x : Event). MayCome who t before x left) (same_Some _ _ v) (record { joined = j; welcomed = w; here = h; step = steps.Act action; next = n; event = refl })
+    subst (λ (x : Event). FollowsNext who t before x left) (same_Some _ _ v) (record { joined = j; welcomed = w; here = h; step = steps.Act action; next = n; event = refl })
 comes who t before steps.Poll left e j w h n v =
-    subst (λ (x : Event). MayCome who t before x left) (same_Some _ _ v) (record { joined = j; welcomed = w; here = h; step = steps.Poll; next = n; event = refl })
+    subst (λ (x : Event). FollowsNext who t before x left) (same_Some _ _ v) (record { joined = j; welcomed = w; here = h; step = steps.Poll; next = n; event = refl })
 comes who t before (steps.Observe objects) left e j w h n v =
-    subst (λ (x : Event). MayCome who t before x left) (same_Some _ _ v) (record { joined = j; welcomed = w; here = h; step = steps.Observe objects; next = n; event = refl })
+    subst (λ (x : Event). FollowsNext who t before x left) (same_Some _ _ v) (record { joined = j; welcomed = w; here = h; step = steps.Observe objects; next = n; event = refl })
 comes who t before steps.Sync left e j w h n v = cc
 comes who t before (steps.Show objects) left e j w h n v =
-    subst (λ (x : Event). MayCome who t before x left) (same_Some _ _ v) (record { joined = j; welcomed = w; here = h; step = steps.Show objects; next = n; event = refl })
+    subst (λ (x : Event). FollowsNext who t before x left) (same_Some _ _ v) (record { joined = j; welcomed = w; here = h; step = steps.Show objects; next = n; event = refl })
 comes who t before steps.Cut left e j w h n v =
-    subst (λ (x : Event). MayCome who t before x left) (same_Some _ _ v) (record { joined = j; welcomed = w; here = h; step = steps.Cut; next = n; event = refl })
+    subst (λ (x : Event). FollowsNext who t before x left) (same_Some _ _ v) (record { joined = j; welcomed = w; here = h; step = steps.Cut; next = n; event = refl })
 comes who t before steps.Quit left e j w h n v =
-    subst (λ (x : Event). MayCome who t before x left) (same_Some _ _ v) (record { joined = j; welcomed = w; here = h; step = steps.Quit; next = n; event = refl })
+    subst (λ (x : Event). FollowsNext who t before x left) (same_Some _ _ v) (record { joined = j; welcomed = w; here = h; step = steps.Quit; next = n; event = refl })
 
 other : (step : Step) (e : Event) → event_of step ≡ Some e → is_other e ≡ true
 other (steps.Act action) e v = ap is_other (sym (same_Some _ _ v))

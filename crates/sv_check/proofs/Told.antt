@@ -11,7 +11,7 @@ use Rattle.sv_client.specs.Traces.{got}
 use Rattle.sv_client.specs.Taking.{Identity}
 use Rattle.sv_client.specs.Proper.{AreProper, MayFollow}
 use Rattle.sv_scenario.specs.declared.scenario.Step.{Step}
-use Rattle.sv_script.specs.Following.{FollowsTo, MayCome, is_finished}
+use Rattle.sv_script.specs.Following.{FollowsTo, FollowsNext, is_finished}
 use Rattle.law_system.specs.Fits.{is_join_of}
 use Rattle.law_system.specs.Fronts.{IsFront}
 use Rattle.law_system.proofs.Fronts.{front-all, front-append, front-then, get-last}
@@ -52,7 +52,7 @@ module _ (who : Identity) (first : ℕ) (R : ℕ → List Reply) (entries : List
       let is : e ≡ f = event_tells who first R t before entries e f p.0 q.0 (10 ∷ (xs ++ x)) (10 ∷ (ys ++ y)) p.1.0 q.1.0
       (sym (line_first (event_text entries t e) xs x) ∙ same ∙ line_first (event_text entries t f) ys y) in
       let back : f ≡ e = sym is in
-      let steps : q.0 ≡ p.0 = same_left who first R t before e q.0 p.0 (subst (λ (d : Event). MayCome who t before d q.0) back q.1.0.comes) p.1.0.comes in
+      let steps : q.0 ≡ p.0 = same_left who first R t before e q.0 p.0 (subst (λ (d : Event). FollowsNext who t before d q.0) back q.1.0.comes) p.1.0.comes in
       let after : AreNext who first R (e ∷ t) p.0 fs =
       subst (λ (ss : List Step). AreNext who first R (e ∷ t) ss fs) steps (subst (λ (d : Event). AreNext who first R (d ∷ t) q.0 fs) back q.1.1) in
       let turned : (line e ++ xs) ++ x ≡ (line e ++ lines_after entries (e ∷ t) fs) ++ y =

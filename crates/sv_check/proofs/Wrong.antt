@@ -12,7 +12,7 @@ use Rattle.sv_client.specs.Taking.{Identity, first_fault_of_reply}
 use Rattle.sv_client.specs.Proper.{MayFollow}
 use Rattle.sv_client.proofs.Shifts.{Up, up_joins, up_outstanding}
 use Rattle.sv_scenario.specs.declared.scenario.Step.{Step}
-use Rattle.sv_script.specs.Following.{MayCome, DoesStep, must_join, is_welcomed, passed_syncs}
+use Rattle.sv_script.specs.Following.{FollowsNext, DoesStep, must_join, is_welcomed, passed_syncs}
 use Rattle.sv_script.specs.Laws.{is_got}
 use Rattle.sv_script.proofs.Shifted.{up_finished, up_must_join, up_welcomed}
 use Rattle.sv_report.specs.Report.{event_text}
@@ -35,7 +35,7 @@ module _ (first : ℕ) where
     event = d.event;
   }
 
-  down_come : (who : Identity) (t : List Event) (before : List Step) (e : Event) (left : List Step) → MayCome who (Up first t) before e left → MayCome who t before e left
+  down_come : (who : Identity) (t : List Event) (before : List Step) (e : Event) (left : List Step) → FollowsNext who (Up first t) before e left → FollowsNext who t before e left
   down_come who t before (events.Join s) left m = record { needed = sym (up_must_join first t) ∙ m.needed; same = m.same }
   down_come who t before (events.Got s reply) left m = record { joined = sym (up_must_join first t) ∙ m.joined; here = sym (up_finished first t) ∙ m.here; same = m.same }
   down_come who t before events.Leave left m = record {
@@ -89,7 +89,7 @@ other_gets R t events.Quit o = tt
 other_gets R t (events.Show objects) o = tt
 
 -- A step, or the Leave, comes in a session that has its Welcome.
-other_welcomed : (who : Identity) (t : List Event) (before : List Step) (e : Event) (left : List Step) → is_other e ≡ true → MayCome who t before e left → is_welcomed t ≡ true
+other_welcomed : (who : Identity) (t : List Event) (before : List Step) (e : Event) (left : List Step) → is_other e ≡ true → FollowsNext who t before e left → is_welcomed t ≡ true
 other_welcomed who t before (events.Join s) left o m = absurd (true≢false (sym o))
 other_welcomed who t before (events.Got s reply) left o m = absurd (true≢false (sym o))
 other_welcomed who t before (events.Make a) left o m = m.welcomed

@@ -19,7 +19,7 @@ use Rattle.sv_client.specs.Seen.{with_event, newly_asked}
 use Rattle.sv_report.specs.Again.{MayDo, IsPlace, behind_next, all_raised}
 use Rattle.sv_report.specs.Report.{entry_number}
 use Rattle.sv_scenario.specs.declared.scenario.Step.{Step}
-use Rattle.sv_script.specs.Following.{FollowsTo, MayCome, event_of, must_join, is_bye, is_welcomed, is_finished}
+use Rattle.sv_script.specs.Following.{FollowsTo, FollowsNext, event_of, must_join, is_bye, is_welcomed, is_finished}
 use Rattle.law_system.specs.Fits.{is_join_of, requests_in, replies_in, IsEndLast}
 use Rattle.law_system.specs.Fronts.{IsFront}
 use Rattle.law_system.specs.Outcomes.{is_quit}
@@ -100,7 +100,7 @@ is_other _ = true
 pub record IsNextEvent (who : Identity) (t : List Event) (before : List Step) (e : Event) (left : List Step) : Type 0 where
   pub other : is_other e ≡ true
   pub may : MayDo who t e
-  pub comes : MayCome who t before e left
+  pub comes : FollowsNext who t before e left
 
 -- No such event may be done next.
 abbrev pub NoNextEvent : Identity → List Event → List Step → Type 0

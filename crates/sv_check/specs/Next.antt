@@ -11,7 +11,7 @@ use Rattle.sv_client.specs.Traces.{got}
 use Rattle.sv_client.specs.Taking.{Identity}
 use Rattle.sv_client.specs.Proper.{AreProper, MayFollow}
 use Rattle.sv_scenario.specs.declared.scenario.Step.{Step}
-use Rattle.sv_script.specs.Following.{FollowsTo, MayCome}
+use Rattle.sv_script.specs.Following.{FollowsTo, FollowsNext}
 use Rattle.law_system.specs.Fits.{is_join_of, replies_in}
 use Rattle.law_system.specs.Fronts.{IsFront}
 use Rattle.sv_report.specs.Report.{event_text}
@@ -28,7 +28,7 @@ GetsNextReply R t e = Unit {0}
 -- An event that comes next in some trace, with the steps that are left before and after it.
 pub record ComesNext (who : Identity) (first : ℕ) (R : ℕ → List Reply) (t : List Event) (before : List Step) (e : Event) (left : List Step) : Type 0 where
   pub follows : MayFollow who first t e
-  pub comes : MayCome who t before e left
+  pub comes : FollowsNext who t before e left
   pub gets : GetsNextReply R t e
 
 -- In each session that was begun, the first of its replies were got.

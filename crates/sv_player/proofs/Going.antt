@@ -18,7 +18,7 @@ use Rattle.sv_scenario.specs.declared.scenario.Step.{Step}
 use Rattle.sv_scenario.specs.declared.scenario.Step.TheVariants as steps
 use Rattle.sv_scenario.specs.Limits.{IsGoodStep}
 use Rattle.sv_scenario.specs.Sessions.{cuts_in}
-use Rattle.sv_script.specs.Following.{DoesStep, MayCome, FollowsTo, must_join, passed_syncs, unsynced, event_of, is_bye}
+use Rattle.sv_script.specs.Following.{DoesStep, FollowsNext, FollowsTo, must_join, passed_syncs, unsynced, event_of, is_bye}
 use Rattle.sv_script.proofs.Counts.{events-few}
 use Rattle.sv_script.proofs.Beginnings.{all-passed, all-step, passed-less, step-less}
 use Rattle.sv_script.proofs.Ends.{passed-none}
@@ -46,7 +46,7 @@ by_step who script t before e left d b m j n =
       sessions = omega (arith, b.sessions, j, cuts-done who t before e left d, ap one_more_if n, ap one_more_if d.joined);
     }
 
-pub budget_on : (who : Identity) (script : List Step) (t : List Event) (before : List Step) (e : Event) (left : List Step) → MayCome who t before e left → IsBudget who script t before →
+pub budget_on : (who : Identity) (script : List Step) (t : List Event) (before : List Step) (e : Event) (left : List Step) → FollowsNext who t before e left → IsBudget who script t before →
     IsBudget who script (e ∷ t) left
 budget_on who script t before (events.Join s) left c b =
     record {
@@ -98,7 +98,7 @@ awaited_as who w script s t u a b c g =
 pub awaited_on : (p : Player) (e : Event) → IsGoing p → IsAwaited p.client.who p.client.events p.left.now e → GetsAreAwaited p.client.who p.script.now (e ∷ p.client.events)
 awaited_on p e g awaited = (record { left = p.left.now; follows = g.follows; awaited = awaited }, g.awaited)
 
-pub going_on : (p q : Player) (e : Event) (left : List Step) → IsGoing p → MayFollow p.client.who 0 p.client.events e → MayCome p.client.who p.client.events p.left.now e left →
+pub going_on : (p q : Player) (e : Event) (left : List Step) → IsGoing p → MayFollow p.client.who 0 p.client.events e → FollowsNext p.client.who p.client.events p.left.now e left →
     IsAwaited p.client.who p.client.events p.left.now e → Did e left p q → IsGoing q
 going_on p q e left g may come awaited d =
     record {

@@ -19,7 +19,7 @@ use Rattle.sv_scenario.specs.declared.scenario.Step.{Step}
 use Rattle.sv_scenario.specs.declared.scenario.Step.TheVariants as steps
 use Rattle.sv_script.specs.Laws.{is_got}
 use Rattle.sv_exchange.specs.Outgoing.{KeepsBack}
-use Rattle.sv_script.specs.Following.{MayCome, must_join, is_welcomed, is_finished, unsynced, is_bye}
+use Rattle.sv_script.specs.Following.{FollowsNext, must_join, is_welcomed, is_finished, unsynced, is_bye}
 use Rattle.sv_script.proofs.Shifted.{bye_finishes}
 use Rattle.sv_player.specs.declared.buffers.Buffers.{Buffers}
 use Rattle.sv_player.specs.declared.outcome.SessionEnd.{SessionEnd}
@@ -92,7 +92,7 @@ all_sent who t s end reader outbox l none = sym (append-nil end.sent) ∙ ap (λ
 
 -- With all sent, an event that asks nothing ends it.
 ends_by : (s : ℕ) (ending : SessionEnd) (e : Event) (left : List Step) (p q : Player) (b : Buffers) (end : Told) → IsAt s p b end → b.outbox ≡ [] → MayFollow p.client.who 0 p.client.events e →
-    MayCome p.client.who p.client.events p.left.now e left → IsAwaited p.client.who p.client.events p.left.now e → IsOf s p.client.events e →
+    FollowsNext p.client.who p.client.events p.left.now e left → IsAwaited p.client.who p.client.events p.left.now e → IsOf s p.client.events e →
     current_session (e ∷ p.client.events) ≡ current_session p.client.events → asked p.client.who.client p.client.who.interest (e ∷ p.client.events) s ≡ asked p.client.who.client p.client.who.interest p.client.events s → got (e ∷ p.client.events) s ≡ got p.client.events s →
     HasEnded ending (e ∷ p.client.events) s → Did e left p q → Ended s p q end ending
 ends_by s ending e left p q b end at none may come awaited of same asks gets how did =

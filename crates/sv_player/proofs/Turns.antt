@@ -18,7 +18,7 @@ use Rattle.sv_client.specs.Seen.{newly_asked}
 use Rattle.sv_client.proofs.Sessions.{no_got, no_asked, not_current, current_below}
 use Rattle.sv_scenario.specs.declared.scenario.Step.{Step}
 use Rattle.sv_scenario.specs.declared.scenario.Step.TheVariants as steps
-use Rattle.sv_script.specs.Following.{MayCome, must_join, is_finished, unsynced, after_syncs}
+use Rattle.sv_script.specs.Following.{FollowsNext, must_join, is_finished, unsynced, after_syncs}
 use Rattle.sv_player.specs.Stops.{is_cut}
 use Rattle.sv_player.specs.declared.buffers.Buffers.{Buffers}
 use Rattle.sv_player.specs.declared.outcome.PlayerCause.{PlayerCause}
@@ -84,7 +84,7 @@ begun_idle who t s received p c l = absurd (let below = current_below who 0 t p 
 
 pub record IsDue (s : ℕ) (e : Event) (left : List Step) (p : Player) : Type 0 where
   pub may : MayFollow p.client.who 0 p.client.events e
-  pub come : MayCome p.client.who p.client.events p.left.now e left
+  pub come : FollowsNext p.client.who p.client.events p.left.now e left
   pub awaited : IsAwaited p.client.who p.client.events p.left.now e
   pub of_it : IsOf s p.client.events e
   pub current : current_session (e ∷ p.client.events) ≡ Some s
@@ -203,7 +203,7 @@ did_nothing e p q same = rw same (record { who = refl; script = refl; first = re
 
 -- An event of the session that is under way.
 pub due_in : (s : ℕ) (e : Event) (left : List Step) (p : Player) → current_session p.client.events ≡ Some s → is_cut p.client.events s ≡ false → MayFollow p.client.who 0 p.client.events e →
-    MayCome p.client.who p.client.events p.left.now e left → IsAwaited p.client.who p.client.events p.left.now e → IsOf s p.client.events e →
+    FollowsNext p.client.who p.client.events p.left.now e left → IsAwaited p.client.who p.client.events p.left.now e → IsOf s p.client.events e →
     current_session (e ∷ p.client.events) ≡ current_session p.client.events → is_cut (e ∷ p.client.events) s ≡ is_cut p.client.events s → is_finished (e ∷ p.client.events) ≡ false → got (e ∷ p.client.events) s ≡ got p.client.events s → IsDue s e left p
 due_in s e left p cur uncut may come awaited of same cuts goes gets =
     record { may = may; come = come; awaited = awaited; of_it = of; current = same ∙ cur; open_is = cuts ∙ uncut; goes_on = goes; gets = gets }

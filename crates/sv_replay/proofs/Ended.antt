@@ -17,7 +17,7 @@ use Rattle.law_schedule.specs.Schedule.{rules_of, plain_server, scheduled_run}
 use Rattle.law_schedule.specs.Records.{IsReplay}
 use Rattle.sv_replay.specs.declared.schedule.ServedRun.{ServedRun}
 use Rattle.sv_replay.specs.Serving.{ServerView}
-use Rattle.sv_replay.specs.Machine.{Stage, run_of, Became}
+use Rattle.sv_replay.specs.Machine.{RunSoFar, run_of, Became}
 
 pub if_ok : {A E : Type 0} (r : Result A E) (P Q : A → Type 0) → ((x : A) → P x → Q x) → IfOk r P → IfOk r Q
 if_ok (Ok x) P Q f p = f x p
@@ -26,7 +26,7 @@ if_ok (Err e) P Q f p = tt
 -- ---- Over a server
 
 -- The machine's run is that of its server.
-pub ran : (n : ℕ) (scenario : Scenario) (o t w : Stage) → o.scenario ≡ scenario → run_of o ≡ opening_run scenario →
+pub ran : (n : ℕ) (scenario : Scenario) (o t w : RunSoFar) → o.scenario ≡ scenario → run_of o ≡ opening_run scenario →
     Became o t (turns_served o.serves.server (run_of o) o.scenario.schedule) → Became t w (repeated n (round_served t.serves.server (session_count t.scenario)) (run_of t)) →
     run_of w ≡ repeated n (round_served o.serves.server (session_count scenario)) (turns_served o.serves.server (opening_run scenario) scenario.schedule)
 ran n scenario o t w same opening turns rounds =
@@ -37,10 +37,10 @@ ran n scenario o t w same opening turns rounds =
     (turns.run_is ∙ ap (λ (s : Scenario). turns_served server (run_of o) s.schedule) same ∙ ap (λ (run : Run). turns_served server run scenario.schedule) opening)
 
 -- It has the same server, which was opened with the scenario's rules.
-pub still_serves : (scenario : Scenario) (o t w : Stage) {run next : Run} → Became o t run → Became t w next → w.serves.server ≡ o.serves.server
+pub still_serves : (scenario : Scenario) (o t w : RunSoFar) {run next : Run} → Became o t run → Became t w next → w.serves.server ≡ o.serves.server
 still_serves scenario o t w turns rounds = rounds.server ∙ turns.server
 
-pub still_opened : (scenario : Scenario) (o t w : Stage) {run next : Run} → o.scenario ≡ scenario → Became o t run → Became t w next → w.serves.rules ≡ rules_of scenario
+pub still_opened : (scenario : Scenario) (o t w : RunSoFar) {run next : Run} → o.scenario ≡ scenario → Became o t run → Became t w next → w.serves.rules ≡ rules_of scenario
 still_opened scenario o t w same turns rounds = rounds.machine.rules ∙ ap rules_of (rounds.scenario ∙ turns.scenario ∙ same)
 
 -- What is left is seen as its machine's server was.

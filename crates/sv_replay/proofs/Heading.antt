@@ -16,19 +16,19 @@ use Rattle.law_schedule.specs.Done.{IsRunDone}
 use Rattle.law_schedule.proofs.DoneStill.{round-still}
 use Rattle.law_schedule.proofs.DoneLists.{repeated-still}
 use Rattle.sv_replay.specs.declared.playing.Playing.{Playing}
-use Rattle.sv_replay.specs.Machine.{player_of, Stage, run_of, IsMachine, Became, Heads, after_session, after_take}
+use Rattle.sv_replay.specs.Machine.{player_of, RunSoFar, run_of, IsMachine, Became, Heads, after_session, after_take}
 use Rattle.sv_replay.proofs.Turns.{turned_from, turned-next, turned-all}
 use Rattle.sv_replay.proofs.Machines.{clients_are}
 use Rattle.sv_replay.proofs.Working.{serve_again, serve_still, take_again, take_still}
 
-pub heads_start : (m : Stage) (left : Run → Run) (goal : Run) → IsMachine m → left (run_of m) ≡ goal → Heads m m left goal
+pub heads_start : (m : RunSoFar) (left : Run → Run) (goal : Run) → IsMachine m → left (run_of m) ≡ goal → Heads m m left goal
 heads_start m left goal is e = record { scenario = refl; server = refl; machine = is; arrives = e }
 
-pub heads_next : (start now after : Stage) (left rest : Run → Run) (goal next : Run) → Heads start now left goal → Became now after next → rest next ≡ left (run_of now) → Heads start after rest goal
+pub heads_next : (start now after : RunSoFar) (left rest : Run → Run) (goal next : Run) → Heads start now left goal → Became now after next → rest next ≡ left (run_of now) → Heads start after rest goal
 heads_next start now after left rest goal next h b e =
     record { scenario = b.scenario ∙ h.scenario; server = b.server ∙ h.server; machine = b.machine; arrives = ap rest b.run_is ∙ e ∙ h.arrives }
 
-pub heads_end : (start now : Stage) (left : Run → Run) (goal : Run) → Heads start now left goal → left (run_of now) ≡ run_of now → Became start now goal
+pub heads_end : (start now : RunSoFar) (left : Run → Run) (goal : Run) → Heads start now left goal → left (run_of now) ≡ run_of now → Became start now goal
 heads_end start now left goal h e = record { scenario = h.scenario; server = h.server; machine = h.machine; run_is = sym e ∙ h.arrives }
 
 -- ---- Sessions in order
@@ -67,7 +67,7 @@ below_next (suc n) k l = elim (cases_Bool (eqb k n)) [
 -- ---- Phases
 
 -- How many players there are.
-pub players_are : (m : Stage) → IsMachine m → length (run_of m).players ≡ length m.scenario.clients
+pub players_are : (m : RunSoFar) → IsMachine m → length (run_of m).players ≡ length m.scenario.clients
 players_are m is = length-map m.players player_of ∙ sym (clients_are m is)
 
 pub clients_next : (f : Player → Player) (run : Run) (k : ℕ) → record run { players = turned_from (k + 1) f (at_player run.players k f) } ≡ record run { players = turned_from k f run.players }
@@ -78,7 +78,7 @@ clients_next f run k =
 pub clients_all : (f : Player → Player) (run : Run) (k : ℕ) → length run.players ≤ k → record run { players = turned_from k f run.players } ≡ run
 clients_all f run k l = ap (λ (ps : List Player). record run { players = ps }) (turned-all f run.players k l)
 
-pub same_clients : (start now : Stage) (left : Run → Run) (goal : Run) → Heads start now left goal → length now.scenario.clients ≡ length start.scenario.clients
+pub same_clients : (start now : RunSoFar) (left : Run → Run) (goal : Run) → Heads start now left goal → length now.scenario.clients ≡ length start.scenario.clients
 same_clients start now left goal h = ap (λ (x : Scenario). length x.clients) h.scenario
 
 one_fewer : (n i : ℕ) → i < n → suc (n - (i + 1)) ≡ n - i
@@ -89,7 +89,7 @@ none_left n i l = omega arith
 
 -- ---- All turns of a session, and all takes of a client
 
-pub served_next : (start now after : Stage) (s : ℕ) (goal : Run) → Heads start now (after_session start.serves.server s) goal →
+pub served_next : (start now after : RunSoFar) (s : ℕ) (goal : Run) → Heads start now (after_session start.serves.server s) goal →
     Became now after (turn_served now.serves.server (run_of now) (turns.Session s)) → Heads start after (after_session start.serves.server s) goal
 served_next start now after s goal h b =
     let server = start.serves.server in
@@ -98,7 +98,7 @@ served_next start now after s goal h b =
     (ap (λ (x : Server). after_session server s (record run { history = session_served x run.players run.history s })) h.server
     ∙ serve_again server (subst KeepsSound h.server h.machine.playable.keeps) s run)
 
-pub served_end : (start now after : Stage) (s : ℕ) (goal : Run) → Heads start now (after_session start.serves.server s) goal →
+pub served_end : (start now after : RunSoFar) (s : ℕ) (goal : Run) → Heads start now (after_session start.serves.server s) goal →
     Became now after (turn_served now.serves.server (run_of now) (turns.Session s)) → run_of after ≡ run_of now → Became start after goal
 served_end start now after s goal h b still =
     let server = start.serves.server in
@@ -107,11 +107,11 @@ served_end start now after s goal h b still =
     ap (λ (x : Server). record run { history = session_served x run.players run.history s }) (sym h.server) ∙ sym b.run_is ∙ still in
     heads_end start after (after_session server s) goal (served_next start now after s goal h b) (ap (after_session server s) still ∙ serve_still server s run same ∙ sym still)
 
-pub taken_next : (start now after : Stage) (k : ℕ) (goal : Run) → Heads start now (after_take k) goal →
+pub taken_next : (start now after : RunSoFar) (k : ℕ) (goal : Run) → Heads start now (after_take k) goal →
     Became now after (turn_served now.serves.server (run_of now) (turns.Take k)) → Heads start after (after_take k) goal
 taken_next start now after k goal h b = heads_next start now after (after_take k) (after_take k) goal _ h b (take_again k (run_of now))
 
-pub taken_end : (start now after : Stage) (k : ℕ) (goal : Run) → Heads start now (after_take k) goal →
+pub taken_end : (start now after : RunSoFar) (k : ℕ) (goal : Run) → Heads start now (after_take k) goal →
     Became now after (turn_served now.serves.server (run_of now) (turns.Take k)) → run_of after ≡ run_of now → Became start after goal
 taken_end start now after k goal h b still =
     heads_end start after (after_take k) goal (taken_next start now after k goal h b)
@@ -130,7 +130,7 @@ sessions_end server run n k l = ap (λ (ss : List ℕ). record run { history = s
 
 -- ---- Rounds
 
-pub round_became : (m a b w : Stage) → Became m a (after_clients (run_of m)) → Became a b (after_served a.serves.server (session_count a.scenario) (run_of a)) → Became b w (after_takes (run_of b)) →
+pub round_became : (m a b w : RunSoFar) → Became m a (after_clients (run_of m)) → Became a b (after_served a.serves.server (session_count a.scenario) (run_of a)) → Became b w (after_takes (run_of b)) →
     Became m w (round_served m.serves.server (session_count m.scenario) (run_of m))
 round_became m a b w x y z = record {
   scenario = z.scenario ∙ y.scenario ∙ x.scenario;
@@ -151,7 +151,7 @@ module _ (server : Server) (sessions : ℕ) (run : Run) (n : ℕ) where
   rounds_start = let all : n - 0 ≡ n = omega arith in ap (λ (k : ℕ). repeated k (round_served server sessions) run) all
 
 -- After one more round it is still on its way.
-pub rounds_more : (start now after : Stage) (n i : ℕ) (goal : Run) → i < n → Heads start now (λ (run : Run). repeated (n - i) (round_served start.serves.server (session_count start.scenario)) run) goal →
+pub rounds_more : (start now after : RunSoFar) (n i : ℕ) (goal : Run) → i < n → Heads start now (λ (run : Run). repeated (n - i) (round_served start.serves.server (session_count start.scenario)) run) goal →
     Became now after (round_served now.serves.server (session_count now.scenario) (run_of now)) →
     Heads start after (λ (run : Run). repeated (n - (i + 1)) (round_served start.serves.server (session_count start.scenario)) run) goal
 rounds_more start now after n i goal l h b =
@@ -168,7 +168,7 @@ all_closed [] h = λ k d l. absurd (omega arith)
 all_closed (p ∷ ps) h = All-cons (λ (q : Player). q.closed ≡ true) (player_of p) (map player_of ps) (h 0 p (omega arith)) (all_closed ps (λ k d l. h (suc k) d (omega arith)))
 
 -- Once all is done, rounds change nothing.
-pub done_became : (start now : Stage) (n : ℕ) (goal : Run) → Heads start now (λ (run : Run). repeated n (round_served start.serves.server (session_count start.scenario)) run) goal →
+pub done_became : (start now : RunSoFar) (n : ℕ) (goal : Run) → Heads start now (λ (run : Run). repeated n (round_served start.serves.server (session_count start.scenario)) run) goal →
     IsRunDone now.scenario (run_of now) → Became start now goal
 done_became start now n goal h done =
     let f = round_served start.serves.server (session_count start.scenario) in

@@ -34,7 +34,7 @@ use Rattle.law_system.proofs.Places.{map_at}
 use Rattle.sv_replay.specs.Players.{session_of, IsFit, IsChannel, taken_from}
 use Rattle.sv_replay.specs.Serving.{ServerView, HadTurn, next_history, next_channel}
 use Rattle.sv_replay.specs.Playable.{IsPlayable}
-use Rattle.sv_replay.specs.Machine.{player_of, AreFlags, MovedPlayer, Stage, run_of, IsMachine, Became}
+use Rattle.sv_replay.specs.Machine.{player_of, AreFlags, MovedPlayer, RunSoFar, run_of, IsMachine, Became}
 use Rattle.sv_replay.proofs.Apart.{OthersSilent, sound_silent, got_by_one}
 use Rattle.sv_replay.proofs.Doing.{session_current}
 use Rattle.sv_replay.proofs.Moving.{take_shut, take_between, take_linked}
@@ -70,7 +70,7 @@ same_count shape k s (plan ∷ plans) [] a = absurd a
 same_count shape k s (plan ∷ plans) (p ∷ ps) a = ap suc (same_count shape (suc k) (s + sessions_of_plan plan) plans ps a.1)
 
 -- There is a client for each plan.
-pub clients_are : (m : Stage) → IsMachine m → length m.scenario.clients ≡ length m.players
+pub clients_are : (m : RunSoFar) → IsMachine m → length m.scenario.clients ≡ length m.players
 clients_are m is = same_count m.scenario.world.shape 0 0 m.scenario.clients (run_of m).players is.sound.players ∙ length-map m.players player_of
 
 -- ---- Lists
@@ -105,16 +105,16 @@ silent_unset n k [] q h = tt
 silent_unset n zero (p ∷ ps) q h = h
 silent_unset n (suc k) (p ∷ ps) q h = (h.0, silent_unset n k ps q h.1)
 
-pub flags_at : (m : Stage) → IsMachine m → (k : ℕ) (p : Playing) → slice_get m.players k ≡ Some p → AreFlags p
+pub flags_at : (m : RunSoFar) → IsMachine m → (k : ℕ) (p : Playing) → slice_get m.players k ≡ Some p → AreFlags p
 flags_at m is k p at = each-at AreFlags m.players k p (recursion_from_All AreFlags m.players is.flags) at
 
 -- ---- The same scenario and server
 
-playable_after : (m w : Stage) → m.serves.server ≡ w.serves.server → m.scenario ≡ w.scenario → IsPlayable m.scenario m.serves.server → IsPlayable w.scenario w.serves.server
+playable_after : (m w : RunSoFar) → m.serves.server ≡ w.serves.server → m.scenario ≡ w.scenario → IsPlayable m.scenario m.serves.server → IsPlayable w.scenario w.serves.server
 playable_after m w server scenario may =
     subst (λ (x : Scenario). IsPlayable x w.serves.server) scenario (subst (IsPlayable m.scenario) server may)
 
-sound_after : (m w : Stage) (run : Run) → m.serves.server ≡ w.serves.server → m.scenario ≡ w.scenario → run_of w ≡ run → IsSoundOver m.serves.server m.scenario run →
+sound_after : (m w : RunSoFar) (run : Run) → m.serves.server ≡ w.serves.server → m.scenario ≡ w.scenario → run_of w ≡ run → IsSoundOver m.serves.server m.scenario run →
     IsSoundOver w.serves.server w.scenario (run_of w)
 sound_after m w run server scenario is sound =
     subst (λ (x : Scenario). IsSoundOver w.serves.server x (run_of w)) scenario
@@ -122,7 +122,7 @@ sound_after m w run server scenario is sound =
 
 -- ---- A client's turn, of either kind
 
-module _ (m w : Stage) (k : ℕ) (p q : Playing) (d : ExchangeView) (is : IsMachine m) (at : slice_get m.players k ≡ Some p) where
+module _ (m w : RunSoFar) (k : ℕ) (p q : Playing) (d : ExchangeView) (is : IsMachine m) (at : slice_get m.players k ≡ Some p) where
   abbrev n : ℕ
   n = session_of (player_of p)
 
@@ -199,7 +199,7 @@ module _ (m w : Stage) (k : ℕ) (p q : Playing) (d : ExchangeView) (is : IsMach
 
 -- ---- A session's turn
 
-module _ (m w : Stage) (s : ℕ) (d : ExchangeView) (is : IsMachine m) (l : s < session_count m.scenario) where
+module _ (m w : RunSoFar) (s : ℕ) (d : ExchangeView) (is : IsMachine m) (l : s < session_count m.scenario) where
   abbrev own : ExchangeView
   own = get_or m.channels s new_exchange
 
@@ -255,7 +255,7 @@ module _ (m w : Stage) (s : ℕ) (d : ExchangeView) (is : IsMachine m) (l : s < 
 
 -- ---- The player that has its turn
 
-module _ (m : Stage) (k : ℕ) (p : Playing) (is : IsMachine m) (l : k < length m.scenario.clients) (read : p ≡ get_or m.players k p) where
+module _ (m : RunSoFar) (k : ℕ) (p : Playing) (is : IsMachine m) (l : k < length m.scenario.clients) (read : p ≡ get_or m.players k p) where
   pub player_read : slice_get m.players k ≡ Some p
   player_read = read_at m.players k p (omega (arith, clients_are m is)) read
 
@@ -279,7 +279,7 @@ pub open_between : (p : Player) → p.closed ≡ false → must_join p.events �
 open_between p l j = rw (l, j) refl
 
 -- What waits first over a player's connection is the next reply of its session that it did not take.
-module _ (m : Stage) (k : ℕ) (p : Player) (is : IsMachine m) (at : slice_get (run_of m).players k ≡ Some p) (linked : p.closed ≡ false) (joined : must_join p.events ≡ false) where
+module _ (m : RunSoFar) (k : ℕ) (p : Player) (is : IsMachine m) (at : slice_get (run_of m).players k ≡ Some p) (linked : p.closed ≡ false) (joined : must_join p.events ≡ false) where
   abbrev place_of : ℕ
   place_of = session_of p
 
@@ -313,7 +313,7 @@ module _ (m : Stage) (k : ℕ) (p : Player) (is : IsMachine m) (at : slice_get (
   pub open_here : open_session p ≡ Some place_of
   open_here = open-is p linked joined ∙ current_here
 
-pub taken_is : (m : Stage) (k : ℕ) (p : Player) → IsMachine m → slice_get (run_of m).players k ≡ Some p →
+pub taken_is : (m : RunSoFar) (k : ℕ) (p : Player) → IsMachine m → slice_get (run_of m).players k ≡ Some p →
     taken_from (get_or m.channels (session_of p) new_exchange).replies p ≡ take_turn (run_of m).history p
 taken_is m k p is at = elim (cases_Bool p.closed) [
   | inl shut ↦ take_shut p _ shut ∙ sym (ap (take_in (run_of m).history p) (open-closed p shut))
@@ -326,7 +326,7 @@ taken_is m k p is at = elim (cases_Bool p.closed) [
 ]
 
 -- Each player's first session is one of 64.
-pub firsts_few : (m : Stage) → IsMachine m → All (λ (p : Playing). p.first < 64) m.players
+pub firsts_few : (m : RunSoFar) → IsMachine m → All (λ (p : Playing). p.first < 64) m.players
 firsts_few m is = λ k d l.
     let p = get_or m.players k d in
     let at = map_at player_of m.players k p (get_at m.players k d l) in

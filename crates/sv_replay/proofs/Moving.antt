@@ -27,7 +27,7 @@ use Rattle.sv_scenario.specs.declared.scenario.Step.TheVariants as steps
 use Rattle.sv_script.specs.Laws.{is_got}
 use Rattle.sv_script.specs.Following.{must_join, is_welcomed}
 use Rattle.law_system.specs.Outcomes.{is_quit}
-use Rattle.law_schedule.specs.Players.{Player, player_turn, next_step, last_steps, if_free, is_calm, is_settled, does, takes, takes_if}
+use Rattle.law_schedule.specs.Players.{Player, player_turn, player_after, last_steps, if_free, is_calm, nothing_outstanding, does, takes, takes_if}
 use Rattle.law_schedule.proofs.DoneShut.{turn-joins}
 use Rattle.sv_replay.specs.declared.playing.Playing.{Playing}
 use Rattle.sv_exchange.specs.View.{ExchangeView, TakesReply}
@@ -87,7 +87,7 @@ still_moved p c flags = record {
 pub turn_waits : (p : Player) → p.closed ≡ false → must_join p.events ≡ false → is_welcomed p.events ≡ false → player_turn p ≡ p
 turn_waits p c m w = rw (c, m, w) refl
 
-pub turn_steps : (p : Player) → p.closed ≡ false → must_join p.events ≡ false → is_welcomed p.events ≡ true → player_turn p ≡ next_step p p.left
+pub turn_steps : (p : Player) → p.closed ≡ false → must_join p.events ≡ false → is_welcomed p.events ≡ true → player_turn p ≡ player_after p p.left
 turn_steps p c m w = rw (c, m, w) refl
 
 pub joins_player : (p : Playing) → p.closed ≡ false → must_join p.client.events ≡ true →
@@ -133,34 +133,34 @@ if_may p may e rest t = rw t refl
 if_not : (p : Player) (may : Bool) (e : Event) (rest : List Step) → may ≡ false → if_free p may e rest ≡ p
 if_not p may e rest f = rw f refl
 
-pub acts : (p : Player) (a : Action) (rest : List Step) → length (pending_of p.events) < 8 → is_calm p ≡ true → next_step p (steps.Act a ∷ rest) ≡ does p (events.Make a) rest
+pub acts : (p : Player) (a : Action) (rest : List Step) → length (pending_of p.events) < 8 → is_calm p ≡ true → player_after p (steps.Act a ∷ rest) ≡ does p (events.Make a) rest
 acts p a rest l c = if_may p (nat_lt (length (pending_of p.events)) 8 && is_calm p) (events.Make a) rest (and_from (nat_lt (length (pending_of p.events)) 8) (is_calm p) (lt-ltb _ 8 l) c)
 
-pub waits_full : (p : Player) (a : Action) (rest : List Step) → 8 ≤ length (pending_of p.events) → next_step p (steps.Act a ∷ rest) ≡ p
+pub waits_full : (p : Player) (a : Action) (rest : List Step) → 8 ≤ length (pending_of p.events) → player_after p (steps.Act a ∷ rest) ≡ p
 waits_full p a rest l = if_not p (nat_lt (length (pending_of p.events)) 8 && is_calm p) (events.Make a) rest (ap (λ b. b && is_calm p) (le-ltb _ 8 l))
 
-pub waits_busy : (p : Player) (a : Action) (rest : List Step) → is_calm p ≡ false → next_step p (steps.Act a ∷ rest) ≡ p
+pub waits_busy : (p : Player) (a : Action) (rest : List Step) → is_calm p ≡ false → player_after p (steps.Act a ∷ rest) ≡ p
 waits_busy p a rest c = if_not p (nat_lt (length (pending_of p.events)) 8 && is_calm p) (events.Make a) rest (and_right (nat_lt (length (pending_of p.events)) 8) (is_calm p) c)
 
-pub polls : (p : Player) (rest : List Step) → is_calm p ≡ true → next_step p (steps.Poll ∷ rest) ≡ does p events.Poll rest
+pub polls : (p : Player) (rest : List Step) → is_calm p ≡ true → player_after p (steps.Poll ∷ rest) ≡ does p events.Poll rest
 polls p rest c = if_may p (is_calm p) events.Poll rest c
 
-pub waits_poll : (p : Player) (rest : List Step) → is_calm p ≡ false → next_step p (steps.Poll ∷ rest) ≡ p
+pub waits_poll : (p : Player) (rest : List Step) → is_calm p ≡ false → player_after p (steps.Poll ∷ rest) ≡ p
 waits_poll p rest c = if_not p (is_calm p) events.Poll rest c
 
-pub observes : (p : Player) (objects : List ObjectId) (rest : List Step) → is_calm p ≡ true → next_step p (steps.Observe objects ∷ rest) ≡ does p (events.Observe objects 0) rest
+pub observes : (p : Player) (objects : List ObjectId) (rest : List Step) → is_calm p ≡ true → player_after p (steps.Observe objects ∷ rest) ≡ does p (events.Observe objects 0) rest
 observes p objects rest c = if_may p (is_calm p) (events.Observe objects 0) rest c
 
-pub waits_observe : (p : Player) (objects : List ObjectId) (rest : List Step) → is_calm p ≡ false → next_step p (steps.Observe objects ∷ rest) ≡ p
+pub waits_observe : (p : Player) (objects : List ObjectId) (rest : List Step) → is_calm p ≡ false → player_after p (steps.Observe objects ∷ rest) ≡ p
 waits_observe p objects rest c = if_not p (is_calm p) (events.Observe objects 0) rest c
 
-pub leaves : (p : Player) → is_settled p ≡ true → in_session p.events ≡ true → last_steps p ≡ does p events.Leave []
+pub leaves : (p : Player) → nothing_outstanding p ≡ true → in_session p.events ≡ true → last_steps p ≡ does p events.Leave []
 leaves p s i = rw (s, i) refl
 
-pub closes : (p : Player) → is_settled p ≡ true → in_session p.events ≡ false → last_steps p ≡ record p { closed = true }
+pub closes : (p : Player) → nothing_outstanding p ≡ true → in_session p.events ≡ false → last_steps p ≡ record p { closed = true }
 closes p s i = rw (s, i) refl
 
-pub waits_last : (p : Player) → is_settled p ≡ false → last_steps p ≡ p
+pub waits_last : (p : Player) → nothing_outstanding p ≡ false → last_steps p ≡ p
 waits_last p s = rw s refl
 
 -- ---- Each turn, from what the client did
@@ -193,16 +193,16 @@ pub still_at : (next : Player) (p : Playing) (c : ExchangeView) → next ≡ pla
 still_at next p c is flags = subst (λ (n : Player). MovedPlayer n p p c c) (sym is) (still_moved p c flags)
 
 -- Steps left are no matter for the connection.
-sync_moves : (p : Player) (rest : List Step) → Moves (session_of p) p (next_step p (steps.Sync ∷ rest)) [] [] false
-sync_moves p rest = go (is_settled p)
+sync_moves : (p : Player) (rest : List Step) → Moves (session_of p) p (player_after p (steps.Sync ∷ rest)) [] [] false
+sync_moves p rest = go (nothing_outstanding p)
   where
     go : (b : Bool) → Moves (session_of p) p (if b then record p { left = rest } else p) [] [] false
     go true = left_moves p rest
     go false = still_moves p
 
 -- A sync was passed, or not yet.
-pub sync_moved : (p q : Playing) (rest : List Step) (c : ExchangeView) → player_of q ≡ next_step (player_of p) (steps.Sync ∷ rest) → AreFlags q →
-    MovedPlayer (next_step (player_of p) (steps.Sync ∷ rest)) p q c c
+pub sync_moved : (p q : Playing) (rest : List Step) (c : ExchangeView) → player_of q ≡ player_after (player_of p) (steps.Sync ∷ rest) → AreFlags q →
+    MovedPlayer (player_after (player_of p) (steps.Sync ∷ rest)) p q c c
 sync_moved p q rest c is flags = record {
   player = is;
   flags = flags;

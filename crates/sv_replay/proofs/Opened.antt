@@ -18,7 +18,7 @@ use Rattle.law_schedule.proofs.SoundLaws.{opening-sound}
 use Rattle.sv_exchange.specs.View.{ExchangeView, new_exchange}
 use Rattle.sv_replay.specs.Players.{got_in_run, IsChannel}
 use Rattle.sv_replay.specs.Playable.{IsPlayable}
-use Rattle.sv_replay.specs.Machine.{player_of, AreFlags, Stage, run_of, IsMachine}
+use Rattle.sv_replay.specs.Machine.{player_of, AreFlags, RunSoFar, run_of, IsMachine}
 
 pub some_sessions : (plans : List Plan) → 1 ≤ length plans → 1 ≤ sessions_in plans
 some_sessions [] l = absurd (omega arith)
@@ -49,7 +49,7 @@ opening_channel scenario n =
       stopped = refl;
     }
 
-pub opening_machine : (m : Stage) (scenario : Scenario) → IsGoodScenario scenario → IsPlayable scenario m.serves.server → m.scenario ≡ scenario → m.serves.rules ≡ rules_of scenario → m.serves.history ≡ [] →
+pub opening_machine : (m : RunSoFar) (scenario : Scenario) → IsGoodScenario scenario → IsPlayable scenario m.serves.server → m.scenario ≡ scenario → m.serves.rules ≡ rules_of scenario → m.serves.history ≡ [] →
     map player_of m.players ≡ players_from scenario.world.shape 0 0 scenario.clients → All AreFlags m.players → length m.channels ≡ session_count scenario →
     ((s : ℕ) → get_or m.channels s new_exchange ≡ new_exchange) → (run_of m ≡ opening_run scenario) × IsMachine m
 opening_machine m scenario good playable same rules empty players flags count new =

@@ -29,7 +29,7 @@ use Rattle.sv_replay.specs.Messages.{AsksMessages}
 use Rattle.sv_replay.specs.Serving.{ServerView, AnswersMessage, one_if, HadTurn}
 use Rattle.sv_replay.specs.Work.{work_of_session, work_of_client, Found}
 use Rattle.sv_replay.specs.declared.playing.Playing.{Playing}
-use Rattle.sv_replay.specs.Machine.{player_of, Stage, run_of, IsMachine}
+use Rattle.sv_replay.specs.Machine.{player_of, RunSoFar, run_of, IsMachine}
 use Rattle.sv_replay.proofs.Apart.{OthersSilent, sound_silent, open_by_one}
 use Rattle.sv_replay.proofs.Events.{not_begun}
 use Rattle.sv_replay.proofs.Places.{place_between}
@@ -50,7 +50,7 @@ silent_before n (suc k) f (p ∷ ps) h = (h.0, silent_before n k f ps h.1)
 
 -- ---- A client's turn
 
-module _ (m : Stage) (k : ℕ) (p : Player) (is : IsMachine m) (l : k < length m.scenario.clients) (at : slice_get (run_of m).players k ≡ Some p) where
+module _ (m : RunSoFar) (k : ℕ) (p : Player) (is : IsMachine m) (l : k < length m.scenario.clients) (at : slice_get (run_of m).players k ≡ Some p) where
   abbrev n : ℕ
   n = session_of p
 
@@ -120,7 +120,7 @@ module _ (m : Stage) (k : ℕ) (p : Player) (is : IsMachine m) (l : k < length m
 
 -- ---- A session's turn
 
-module _ (m : Stage) (s : ℕ) (is : IsMachine m) (l : s < session_count m.scenario) where
+module _ (m : RunSoFar) (s : ℕ) (is : IsMachine m) (l : s < session_count m.scenario) where
   abbrev server : Server
   server = m.serves.server
 
@@ -146,7 +146,7 @@ pub both_told : {A E : Type 0} (r : Result A E) (P : Type 0) (Q R : A → Type 0
 both_told (Ok x) P Q R f p q = f x p q
 both_told (Err e) P Q R f p q = tt
 
-pub session_found : (m w : Stage) (s : ℕ) (d : ExchangeView) (found : Bool) → IsMachine m → s < session_count m.scenario → HadTurn s m.serves w.serves (get_or m.channels s new_exchange) d →
+pub session_found : (m w : RunSoFar) (s : ℕ) (d : ExchangeView) (found : Bool) → IsMachine m → s < session_count m.scenario → HadTurn s m.serves w.serves (get_or m.channels s new_exchange) d →
     w.players ≡ m.players → length w.serves.history ≡ length m.serves.history + one_if found → Found (work_of_session s) (run_of m) (run_of w) found
 session_found m w s d found is l served players long =
     let server = m.serves.server in
@@ -157,7 +157,7 @@ session_found m w s d found is l served players long =
     subst (λ (xs : List Playing). Found (work_of_session s) (run_of m) (record { history = w.serves.history; players = map player_of xs }) found) (sym players)
     (turn_found server is.playable.keeps ps s h w.serves.history found made long)
 
-pub client_found : (m w : Stage) (k : ℕ) (p q : Playing) (found : Bool) → slice_get m.players k ≡ Some p → player_of q ≡ take_turn (run_of m).history (player_of p) →
+pub client_found : (m w : RunSoFar) (k : ℕ) (p q : Playing) (found : Bool) → slice_get m.players k ≡ Some p → player_of q ≡ take_turn (run_of m).history (player_of p) →
     w.serves ≡ m.serves → w.players ≡ set m.players k q → length q.client.events ≡ length p.client.events + one_if found →
     Found (work_of_client k) (run_of m) (run_of w) found
 client_found m w k p q found at took serves players long =

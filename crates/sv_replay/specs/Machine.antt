@@ -72,21 +72,21 @@ pub record MovedPlayer (next : Player) (old new : Playing) (c d : ExchangeView) 
 -- ---- The machine
 
 -- A scenario's run so far: who serves it, the clients, and their connections.
-pub record Stage : Type 0 where
+pub record RunSoFar : Type 0 where
   pub scenario : Scenario
   pub serves : ServerView
   pub players : List Playing
   pub channels : List ExchangeView
 
 -- What a machine has of a run, where this is seen of its server.
-abbrev pub stage_of : {S : Type 0} → (S → ServerView) → Machine S → Stage
-stage_of view m = record { scenario = m.scenario.now; serves = view m.server; players = m.players.items; channels = m.channels.items }
+abbrev pub so_far_of : {S : Type 0} → (S → ServerView) → Machine S → RunSoFar
+so_far_of view m = record { scenario = m.scenario.now; serves = view m.server; players = m.players.items; channels = m.channels.items }
 
-abbrev pub run_of : Stage → Run
+abbrev pub run_of : RunSoFar → Run
 run_of m = record { history = m.serves.history; players = map player_of m.players }
 
 -- The machine is in step with the run that it stands for, which is a sound one of its scenario over its server.
-pub record IsMachine (m : Stage) : Type 0 where
+pub record IsMachine (m : RunSoFar) : Type 0 where
   pub good : IsGoodScenario m.scenario
   pub playable : IsPlayable m.scenario m.serves.server
   pub rules : m.serves.rules ≡ rules_of m.scenario
@@ -96,18 +96,18 @@ pub record IsMachine (m : Stage) : Type 0 where
   pub channels : (s : ℕ) → s < session_count m.scenario → IsChannel (run_of m) s (slice_index_or m.channels s new_exchange)
 
 -- The machine went on to a run of the same scenario over the same server.
-pub record Became (old new : Stage) (run : Run) : Type 0 where
+pub record Became (old new : RunSoFar) (run : Run) : Type 0 where
   pub scenario : new.scenario ≡ old.scenario
   pub server : new.serves.server ≡ old.serves.server
   pub machine : IsMachine new
   pub run_is : run_of new ≡ run
 
 -- It went on to what this makes of its run.
-abbrev pub Went : (Server → Scenario → Run → Run) → Stage → Stage → Type 0
+abbrev pub Went : (Server → Scenario → Run → Run) → RunSoFar → RunSoFar → Type 0
 Went step old new = Became old new (step old.serves.server old.scenario (run_of old))
 
 -- On the way from one machine to a run: what is left to do makes it of the run so far.
-pub record Heads (start now : Stage) (left : Run → Run) (goal : Run) : Type 0 where
+pub record Heads (start now : RunSoFar) (left : Run → Run) (goal : Run) : Type 0 where
   pub scenario : now.scenario ≡ start.scenario
   pub server : now.serves.server ≡ start.serves.server
   pub machine : IsMachine now

@@ -9,7 +9,7 @@ ghost use Rattle.law_schedule.specs.Serving.{opening_run};
 ghost use Rattle.law_schedule.specs.Schedule.{rules_of};
 ghost use Rattle.sv_exchange.specs.View.{new_exchange};
 ghost use Rattle.sv_replay.specs.Playable.{IsPlayable};
-ghost use Rattle.sv_replay.specs.Machine.{player_of, AreFlags, stage_of, run_of, IsMachine};
+ghost use Rattle.sv_replay.specs.Machine.{player_of, AreFlags, so_far_of, run_of, IsMachine};
 
 use crate::machine::Machine;
 use crate::playing::Playing;
@@ -102,8 +102,8 @@ pub(crate) fn open_machine<'a, S: Server>(
     requires empty { (S.view server).history ≡ [] }
     ensures scenario { IfOk result (λ m. m.scenario.now ≡ scenario.now) }
     ensures server { IfOk result (λ m. m.server ≡ server) }
-    ensures machine { IfOk result (λ m. IsMachine (stage_of S.view m)) }
-    ensures run { IfOk result (λ m. run_of (stage_of S.view m) ≡ opening_run scenario.now) }
+    ensures machine { IfOk result (λ m. IsMachine (so_far_of S.view m)) }
+    ensures run { IfOk result (λ m. run_of (so_far_of S.view m) ≡ opening_run scenario.now) }
 {
     let players = open_players(alloc, scenario)?;
     let channels = open_channels(alloc, server.sessions())?;

@@ -8,7 +8,7 @@ ghost use Rattle.sv_client.specs.Proper.{MayMake, MayPoll, MayObserve, MayLeave}
 ghost use Rattle.sv_client.specs.Seen.{newly_asked};
 ghost use Rattle.sv_scenario.specs.declared.scenario.Step.TheVariants as steps;
 ghost use Rattle.sv_script.specs.Following.{must_join};
-ghost use Rattle.law_schedule.specs.Players.{player_turn, next_step, last_steps, takes, trace_of_player, is_calm, is_settled};
+ghost use Rattle.law_schedule.specs.Players.{player_turn, player_after, last_steps, takes, trace_of_player, is_calm, nothing_outstanding};
 ghost use Rattle.sv_wire.specs.Laws.{IsRequest};
 ghost use Rattle.sv_exchange.specs.View.{ExchangeView};
 ghost use Rattle.sv_replay.specs.Messages.{AsksMessages, IsAfterTurn};
@@ -113,9 +113,9 @@ impl<'a> Playing<'a> {
     fn step(&mut self, alloc: Global, channel: &mut Exchange) -> Result<(), AllocError>
         requires flags { AreFlags self.old }
         requires ready { IsInSession self.old }
-        requires after { IsAfterTurn (next_step (player_of self.old) self.old.left.now) }
+        requires after { IsAfterTurn (player_after (player_of self.old) self.old.left.now) }
         requires open { channel.old.closed ≡ false }
-        ensures { OnOk result (MovedPlayer (next_step (player_of self.old) self.old.left.now) self.old self.new channel.old channel.new) }
+        ensures { OnOk result (MovedPlayer (player_after (player_of self.old) self.old.left.now) self.old self.new channel.old channel.new) }
     {
         let Some((step, rest)) = self.left.split_first() else {
             return self.finish(channel);
@@ -142,8 +142,8 @@ impl<'a> Playing<'a> {
     }
 
     /// Whether no request is outstanding.
-    fn is_settled(&self) -> bool
-        ensures { result ≡ is_settled (player_of self.now) }
+    fn nothing_outstanding(&self) -> bool
+        ensures { result ≡ nothing_outstanding (player_of self.now) }
     {
         self.client.outstanding() == 0
     }
@@ -157,9 +157,9 @@ impl<'a> Playing<'a> {
     ) -> Result<(), AllocError>
         requires flags { AreFlags self.old }
         requires ready { IsInSession self.old }
-        requires after { IsAfterTurn (next_step (player_of self.old) (steps.Act action.now ∷ rest.now)) }
+        requires after { IsAfterTurn (player_after (player_of self.old) (steps.Act action.now ∷ rest.now)) }
         requires open { channel.old.closed ≡ false }
-        ensures { OnOk result (MovedPlayer (next_step (player_of self.old) (steps.Act action.now ∷ rest.now)) self.old self.new channel.old channel.new) }
+        ensures { OnOk result (MovedPlayer (player_after (player_of self.old) (steps.Act action.now ∷ rest.now)) self.old self.new channel.old channel.new) }
     {
         if self.client.pending() < MOST_PENDING && self.is_calm() {
             self.make(alloc, channel, action, rest)
@@ -195,9 +195,9 @@ impl<'a> Playing<'a> {
     fn poll(&mut self, channel: &mut Exchange, rest: &'a [Step]) -> Result<(), AllocError>
         requires flags { AreFlags self.old }
         requires ready { IsInSession self.old }
-        requires after { IsAfterTurn (next_step (player_of self.old) (steps.Poll ∷ rest.now)) }
+        requires after { IsAfterTurn (player_after (player_of self.old) (steps.Poll ∷ rest.now)) }
         requires open { channel.old.closed ≡ false }
-        ensures { OnOk result (MovedPlayer (next_step (player_of self.old) (steps.Poll ∷ rest.now)) self.old self.new channel.old channel.new) }
+        ensures { OnOk result (MovedPlayer (player_after (player_of self.old) (steps.Poll ∷ rest.now)) self.old self.new channel.old channel.new) }
     {
         if self.is_calm() {
             self.ask(channel, rest)
@@ -232,9 +232,9 @@ impl<'a> Playing<'a> {
     ) -> Result<(), AllocError>
         requires flags { AreFlags self.old }
         requires ready { IsInSession self.old }
-        requires after { IsAfterTurn (next_step (player_of self.old) (steps.Observe objects.now ∷ rest.now)) }
+        requires after { IsAfterTurn (player_after (player_of self.old) (steps.Observe objects.now ∷ rest.now)) }
         requires open { channel.old.closed ≡ false }
-        ensures { OnOk result (MovedPlayer (next_step (player_of self.old) (steps.Observe objects.now ∷ rest.now)) self.old self.new channel.old channel.new) }
+        ensures { OnOk result (MovedPlayer (player_after (player_of self.old) (steps.Observe objects.now ∷ rest.now)) self.old self.new channel.old channel.new) }
     {
         if self.is_calm() {
             self.look(alloc, channel, objects, rest)
@@ -270,10 +270,10 @@ impl<'a> Playing<'a> {
 
     fn sync(&mut self, rest: &'a [Step])
         requires flags { AreFlags self.old }
-        ensures player { player_of self.new ≡ next_step (player_of self.old) (steps.Sync ∷ rest.now) }
+        ensures player { player_of self.new ≡ player_after (player_of self.old) (steps.Sync ∷ rest.now) }
         ensures flags { AreFlags self.new }
     {
-        if self.is_settled() {
+        if self.nothing_outstanding() {
             self.left = rest;
         }
     }
@@ -327,7 +327,7 @@ impl<'a> Playing<'a> {
         requires none { self.old.left.now ≡ [] }
         ensures { OnOk result (MovedPlayer (last_steps (player_of self.old)) self.old self.new channel.old channel.new) }
     {
-        if !self.is_settled() {
+        if !self.nothing_outstanding() {
             return Ok(());
         }
         if self.client.in_session() {

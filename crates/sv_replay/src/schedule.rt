@@ -9,7 +9,7 @@ ghost use Rattle.law_schedule.specs.Schedule.{rules_of, scheduled_run};
 ghost use Rattle.law_schedule.specs.Records.{IsReplay};
 ghost use Rattle.sv_replay.specs.declared.playing.Playing.{Playing};
 ghost use Rattle.sv_replay.specs.Playable.{IsPlayable};
-ghost use Rattle.sv_replay.specs.Machine.{player_of, stage_of, run_of, IsMachine};
+ghost use Rattle.sv_replay.specs.Machine.{player_of, so_far_of, run_of, IsMachine};
 
 use crate::laws::scenarios_are_playable;
 use crate::machine::Machine;
@@ -77,9 +77,9 @@ pub fn run_over<S: Server>(
 
 /// What a machine's run leaves.
 fn left<S: Server>(machine: Machine<'_, S>) -> Result<ServedRun<S>, AllocError>
-    requires { IsMachine (stage_of S.view machine) }
+    requires { IsMachine (so_far_of S.view machine) }
     ensures server { IfOk result (λ ran. ran.server ≡ machine.entry.server) }
-    ensures traces { IfOk result (λ ran. ran.traces ≡ traces_of (run_of (stage_of S.view machine.entry))) }
+    ensures traces { IfOk result (λ ran. ran.traces ≡ traces_of (run_of (so_far_of S.view machine.entry))) }
 {
     let Machine {
         alloc,

@@ -11,7 +11,7 @@ use Rattle.sv_client.specs.Taking.{Identity, outstanding}
 use Rattle.sv_client.specs.Proper.{identity_of}
 use Rattle.sv_scenario.specs.declared.scenario.Step.{Step}
 use Rattle.sv_scenario.specs.declared.scenario.Step.TheVariants as steps
-use Rattle.sv_script.specs.Following.{DoesStep, MayCome, FollowsTo, Follows, after_syncs, passed_syncs}
+use Rattle.sv_script.specs.Following.{DoesStep, FollowsNext, FollowsTo, Follows, after_syncs, passed_syncs}
 
 synced-less : (ss : List Step) → length (after_syncs ss) ≤ length ss
 synced-less [] = omega arith
@@ -34,7 +34,7 @@ step-less who t before e left d =
     let next = ap (λ (ss : List Step). length ss) d.next in
     omega (arith, most, next)
 
-pub event-less : (who : Identity) (t : List Event) (before : List Step) (e : Event) (left : List Step) → MayCome who t before e left → length left ≤ length before
+pub event-less : (who : Identity) (t : List Event) (before : List Step) (e : Event) (left : List Step) → FollowsNext who t before e left → length left ≤ length before
 event-less who t before (events.Join s) left m = omega (arith, ap (λ (ss : List Step). length ss) m.same)
 event-less who t before (events.Got s reply) left m = omega (arith, ap (λ (ss : List Step). length ss) m.same)
 event-less who t before events.Leave left m = omega (arith, ap (λ (ss : List Step). length ss) m.same)
@@ -64,7 +64,7 @@ pub all-step : (P : Step → Type 0) (who : Identity) (t : List Event) (before :
     AllByRecursion P before → AllByRecursion P left
 all-step P who t before e left d a = (subst (AllByRecursion P) d.next (all-passed P (outstanding who t) before a)).1
 
-pub all-after : (P : Step → Type 0) (who : Identity) (t : List Event) (before : List Step) (e : Event) (left : List Step) → MayCome who t before e left →
+pub all-after : (P : Step → Type 0) (who : Identity) (t : List Event) (before : List Step) (e : Event) (left : List Step) → FollowsNext who t before e left →
     AllByRecursion P before → AllByRecursion P left
 all-after P who t before (events.Join s) left m a = subst (AllByRecursion P) (sym m.same) a
 all-after P who t before (events.Got s reply) left m a = subst (AllByRecursion P) (sym m.same) a

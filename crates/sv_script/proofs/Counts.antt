@@ -9,7 +9,7 @@ use Rattle.sv_client.specs.Traces.{joins}
 use Rattle.sv_client.specs.Taking.{Identity, outstanding}
 use Rattle.sv_client.specs.Proper.{AreProper, Proper, MayFollow, in_session, identity_of}
 use Rattle.sv_scenario.specs.declared.scenario.Step.{Step}
-use Rattle.sv_script.specs.Following.{FollowsTo, Follows, MayCome}
+use Rattle.sv_script.specs.Following.{FollowsTo, Follows, FollowsNext}
 use Rattle.sv_script.proofs.Beginnings.{step-less}
 use Rattle.sv_script.proofs.Due.{due, due-joined, due-made, due-polled, due-observed, due-left, due-got, due-cut, due-quit, due-shown}
 
@@ -50,7 +50,7 @@ record AreCounted (who : Identity) (script : List Step) (t : List Event) (left :
 module _ (who : Identity) (first : ℕ) (script : List Step) where
   -- What holds after an event, where it holds before it.
   abbrev Keeps : Event → List Event → Type 0
-  Keeps e t = (before left : List Step) → AreProper who first t → AreCounted who script t before → MayFollow who first t e → MayCome who t before e left → AreCounted who script (e ∷ t) left
+  Keeps e t = (before left : List Step) → AreProper who first t → AreCounted who script t before → MayFollow who first t e → FollowsNext who t before e left → AreCounted who script (e ∷ t) left
 
   keeps-join : (s : ℕ) (t : List Event) → Keeps (events.Join s) t
   keeps-join s t before left p k m c =

@@ -21,7 +21,7 @@ use Rattle.sv_scenario.specs.declared.scenario.Step.{Step}
 use Rattle.sv_scenario.specs.declared.scenario.Step.TheVariants as steps
 use Rattle.sv_scenario.specs.Limits.{quits_last}
 use Rattle.sv_client.proofs.Faultless.{kind-of}
-use Rattle.sv_script.specs.Following.{DoesStep, FollowsTo, FollowsToEnd, IsCarriedOut, MayCome, after_syncs, passed_syncs, event_of, events_of, steps_done, is_finished}
+use Rattle.sv_script.specs.Following.{DoesStep, FollowsTo, FollowsToEnd, IsCarriedOut, FollowsNext, after_syncs, passed_syncs, event_of, events_of, steps_done, is_finished}
 use Rattle.sv_script.proofs.Steps.{steps-in_order}
 
 -- ---- A Leave that is outstanding
@@ -132,7 +132,7 @@ quits-passed (o ∷ os) ss h = h
 quits-here : (who : Identity) (t : List Event) (before : List Step) (e : Event) (left : List Step) → (d : DoesStep who t before e left) → quits_last before ≡ true → quits_last (d.step ∷ left) ≡ true
 quits-here who t before e left d h = ap quits_last (sym d.next) ∙ quits-passed (outstanding who t) before h
 
-quits-more : (who : Identity) (t : List Event) (before : List Step) (e : Event) (left : List Step) → MayCome who t before e left → quits_last before ≡ true → quits_last left ≡ true
+quits-more : (who : Identity) (t : List Event) (before : List Step) (e : Event) (left : List Step) → FollowsNext who t before e left → quits_last before ≡ true → quits_last left ≡ true
 quits-more who t before (events.Join s) left m h = ap quits_last m.same ∙ h
 quits-more who t before (events.Got s reply) left m h = ap quits_last m.same ∙ h
 quits-more who t before events.Leave left m h = ap quits_last m.same

@@ -10,10 +10,10 @@ use Rattle.sv_script.specs.Laws.{is_got}
 use Rattle.sv_client.specs.Taking.{Identity, outstanding}
 use Rattle.sv_scenario.specs.declared.scenario.Step.{Step}
 use Rattle.sv_scenario.specs.declared.scenario.Step.TheVariants as steps
-use Rattle.sv_script.specs.Following.{DoesStep, MayCome, FollowsTo, must_join, is_welcomed, is_finished, is_step, passed_syncs, event_of}
+use Rattle.sv_script.specs.Following.{DoesStep, FollowsNext, FollowsTo, must_join, is_welcomed, is_finished, is_step, passed_syncs, event_of}
 
 -- What each event but a Join wants, and what each step does.
-joined-at : (who : Identity) (t : List Event) (before : List Step) (e : Event) (left : List Step) → MayCome who t before e left → is_join e ≡ must_join t
+joined-at : (who : Identity) (t : List Event) (before : List Step) (e : Event) (left : List Step) → FollowsNext who t before e left → is_join e ≡ must_join t
 joined-at who t before (events.Join s) left m = sym m.needed
 joined-at who t before (events.Got s reply) left m = sym m.joined
 joined-at who t before events.Leave left m = sym m.joined
@@ -24,7 +24,7 @@ joined-at who t before events.Cut left m = sym m.joined
 joined-at who t before events.Quit left m = sym m.joined
 joined-at who t before (events.Show objects) left m = sym m.joined
 
-does-step : (who : Identity) (t : List Event) (before : List Step) (e : Event) (left : List Step) → is_step e ≡ true → MayCome who t before e left → DoesStep who t before e left
+does-step : (who : Identity) (t : List Event) (before : List Step) (e : Event) (left : List Step) → is_step e ≡ true → FollowsNext who t before e left → DoesStep who t before e left
 does-step who t before (events.Join s) left h m = cc
 does-step who t before (events.Got s reply) left h m = cc
 does-step who t before events.Leave left h m = cc
@@ -51,7 +51,7 @@ abbrev first-step : Step → List Step → Step
 first-step d [] = d
 first-step d (step ∷ ss) = step
 
-pub syncs-wait : (who : Identity) (t : List Event) (ss : List Step) (e : Event) (left : List Step) → is_step e ≡ true → MayCome who t (steps.Sync ∷ ss) e left → outstanding who t ≡ []
+pub syncs-wait : (who : Identity) (t : List Event) (ss : List Step) (e : Event) (left : List Step) → is_step e ≡ true → FollowsNext who t (steps.Sync ∷ ss) e left → outstanding who t ≡ []
 syncs-wait who t ss e left h m = (let d = does-step who t (steps.Sync ∷ ss) e left h m in go (outstanding who t) d.step d.next d.event)
   where
     go : (os : List Request) (step : Step) → passed_syncs os (steps.Sync ∷ ss) ≡ step ∷ left → event_of step ≡ Some e → os ≡ []
@@ -70,7 +70,7 @@ finished-first (events.Leave ∷ t) h = cc
 finished-first (events.Cut ∷ t) h = cc
 finished-first (events.Show objects ∷ t) h = cc
 
-nothing-after : (who : Identity) (t : List Event) (before : List Step) (e : Event) (left : List Step) → is_finished t ≡ true → MayCome who t before e left → ⊥
+nothing-after : (who : Identity) (t : List Event) (before : List Step) (e : Event) (left : List Step) → is_finished t ≡ true → FollowsNext who t before e left → ⊥
 nothing-after who t before (events.Join s) left h m = true≢false (sym m.needed ∙ finished-first t h)
 nothing-after who t before (events.Got s reply) left h m = true≢false (sym h ∙ m.here)
 nothing-after who t before events.Leave left h m = true≢false (sym h ∙ m.here)
@@ -87,7 +87,7 @@ nothing-follows who script e t left h f = nothing-after who t f.0 e left h f.1.1
 pub cuts-bring_join : (who : Identity) (script : List Step) (e : Event) (t : List Event) (left : List Step) → FollowsTo who script (e ∷ events.Cut ∷ t) left → is_join e ≡ true
 cuts-bring_join who script e t left f = joins-where_needed who script e (events.Cut ∷ t) left f
 
-reply-at : (who : Identity) (s : ℕ) (t : List Event) (before : List Step) (e : Event) (left : List Step) → MayCome who (events.Join s ∷ t) before e left → is_got e ≡ true
+reply-at : (who : Identity) (s : ℕ) (t : List Event) (before : List Step) (e : Event) (left : List Step) → FollowsNext who (events.Join s ∷ t) before e left → is_got e ≡ true
 reply-at who s t before (events.Join n) left m = absurd (true≢false (sym m.needed))
 reply-at who s t before (events.Got n reply) left m = refl
 reply-at who s t before events.Leave left m = absurd (true≢false (sym m.welcomed))

@@ -9,7 +9,7 @@ use Rattle.sv_client.specs.Taking.{Identity}
 use Rattle.sv_client.specs.Seen.{raised}
 use Rattle.sv_client.proofs.Shifts.{Up, up_outstanding}
 use Rattle.sv_scenario.specs.declared.scenario.Step.{Step}
-use Rattle.sv_script.specs.Following.{DoesStep, MayCome, FollowsTo, must_join, is_welcomed, is_finished, passed_syncs, is_bye}
+use Rattle.sv_script.specs.Following.{DoesStep, FollowsNext, FollowsTo, must_join, is_welcomed, is_finished, passed_syncs, is_bye}
 
 pub bye_finishes : (s : ℕ) (reply : Reply) (t : List Event) → is_finished (events.Got s reply ∷ t) ≡ is_bye reply
 bye_finishes s (replies.Welcome commit head) t = refl
@@ -71,7 +71,7 @@ module _ (first : ℕ) where
         event = d.event;
       }
 
-  up_come : (who : Identity) (t : List Event) (before : List Step) (e : Event) (left : List Step) → MayCome who t before e left → MayCome who (Up first t) before (raised first e) left
+  up_come : (who : Identity) (t : List Event) (before : List Step) (e : Event) (left : List Step) → FollowsNext who t before e left → FollowsNext who (Up first t) before (raised first e) left
   up_come who t before (events.Join s) left m = record { needed = up_must_join t ∙ m.needed; same = m.same }
   up_come who t before (events.Got s reply) left m = record { joined = up_must_join t ∙ m.joined; here = up_finished t ∙ m.here; same = m.same }
   up_come who t before events.Leave left m =

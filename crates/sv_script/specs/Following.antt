@@ -91,16 +91,16 @@ pub record LeavesSession (who : Identity) (t : List Event) (before left : List S
   pub same : left ≡ []
 
 -- An event may come after the events t with so many steps left before and after it.
-abbrev pub MayCome : Identity → List Event → List Step → Event → List Step → Type 0
-MayCome who t before (events.Join s) left = Joins t before left
-MayCome who t before (events.Got s reply) left = Gets t before left
-MayCome who t before events.Leave left = LeavesSession who t before left
-MayCome who t before e left = DoesStep who t before e left
+abbrev pub FollowsNext : Identity → List Event → List Step → Event → List Step → Type 0
+FollowsNext who t before (events.Join s) left = Joins t before left
+FollowsNext who t before (events.Got s reply) left = Gets t before left
+FollowsNext who t before events.Leave left = LeavesSession who t before left
+FollowsNext who t before e left = DoesStep who t before e left
 
 -- The events follow the script as far as they go, and these steps are left.
 abbrev pub FollowsTo : Identity → List Step → List Event → List Step → Type 0
 FollowsTo who script [] left = left ≡ script
-FollowsTo who script (e ∷ t) left = (before : List Step) × (FollowsTo who script t before × MayCome who t before e left)
+FollowsTo who script (e ∷ t) left = (before : List Step) × (FollowsTo who script t before × FollowsNext who t before e left)
 
 -- ---- Steps done
 

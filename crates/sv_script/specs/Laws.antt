@@ -16,7 +16,7 @@ use Rattle.sv_client.specs.declared.trace.Trace.{Trace}
 use Rattle.sv_client.specs.Traces.{is_join, view_of}
 use Rattle.sv_client.specs.Taking.{Identity, outstanding}
 use Rattle.sv_client.specs.Proper.{Proper, AreProper}
-use Rattle.sv_script.specs.Following.{FollowsTo, Follows, FollowsToEnd, IsCarriedOut, MayCome, must_join, is_welcomed, is_step, steps_done, events_of}
+use Rattle.sv_script.specs.Following.{FollowsTo, Follows, FollowsToEnd, IsCarriedOut, FollowsNext, must_join, is_welcomed, is_step, steps_done, events_of}
 use Rattle.sv_script.specs.Telling.{change_by, changes_of, told_lines}
 
 -- ---- Beginnings
@@ -81,7 +81,7 @@ LeavesWaitForTheWelcome = (who : Identity) (script : List Step) (t : List Event)
 -- The step after a sync is done where nothing is outstanding.
 abbrev pub SyncsWaitForReplies : Type 0
 SyncsWaitForReplies = (who : Identity) (t : List Event) (ss : List Step) (e : Event) (left : List Step) → is_step e ≡ true →
-    MayCome who t (steps.Sync ∷ ss) e left → outstanding who t ≡ []
+    FollowsNext who t (steps.Sync ∷ ss) e left → outstanding who t ≡ []
 
 -- Directly after a Cut comes the Join of the next session, so no reply is got between them.
 abbrev pub CutsBringAJoin : Type 0

@@ -2,13 +2,13 @@
 use Rattle.std.proofs.Common.{refl, ap, ◌∙◌}
 use Rattle.std.proofs.lemmas.Option.{same_Some}
 use Rattle.sv_journal.specs.Answer.{Rules}
-use Rattle.sv_replay.specs.Machine.{Stage}
+use Rattle.sv_replay.specs.Machine.{RunSoFar}
 use Rattle.sv_replay.proofs.Opened.{opening_machine}
 use Rattle.sv_replay.proofs.opening.open_machine.Goals as goal
 
 pub returns-clause-machine : goal.returns-clause-machine
 returns-clause-machine g c =
-    let m : Stage = record {
+    let m : RunSoFar = record {
       scenario = c.args.scenario.now;
       serves = g.S.Server.view c.args.server;
       players = c.in_ok-players.players.items;
@@ -19,7 +19,7 @@ returns-clause-machine g c =
 
 pub returns-clause-run : goal.returns-clause-run
 returns-clause-run g c =
-    let m : Stage = record {
+    let m : RunSoFar = record {
       scenario = c.args.scenario.now;
       serves = g.S.Server.view c.args.server;
       players = c.in_ok-players.players.items;

@@ -1,29 +1,29 @@
 -- A session that finds nothing to do is done.
 use Rattle.std.proofs.Common.{refl}
-use Rattle.sv_replay.specs.Machine.{stage_of, run_of}
+use Rattle.sv_replay.specs.Machine.{so_far_of, run_of}
 use Rattle.sv_replay.specs.Work.{work_of_session}
 use Rattle.sv_replay.proofs.Heading.{heads_start, served_next, served_end}
 use Rattle.sv_replay.proofs.Working.{found_less, found_none}
 use Rattle.sv_replay.proofs.machine.Machine.serve_all.Goals as goal
 
 pub loop-init : goal.loop-init
-loop-init g c = heads_start (stage_of g.S.Server.view c.args.self.now) _ _ c.requires.machine refl
+loop-init g c = heads_start (so_far_of g.S.Server.view c.args.self.now) _ _ c.requires.machine refl
 
 pub loop-preserved : goal.loop-preserved
 loop-preserved g c =
     let view = g.S.Server.view in
-    served_next (stage_of view c.args.self.now) (stage_of view c.loop.self) (stage_of view c.session_turn.new.self) c.args.session _ c.loop.invariant c.in_ok-session_turn.ensures.became
+    served_next (so_far_of view c.args.self.now) (so_far_of view c.loop.self) (so_far_of view c.session_turn.new.self) c.args.session _ c.loop.invariant c.in_ok-session_turn.ensures.became
 
 pub loop-smaller : goal.loop-smaller
 loop-smaller g c =
     let view = g.S.Server.view in
-    found_less (work_of_session c.args.session) (run_of (stage_of view c.loop.self)) (run_of (stage_of view c.session_turn.new.self)) c.in_ok-session_turn.field-0 c.if-branch.true
+    found_less (work_of_session c.args.session) (run_of (so_far_of view c.loop.self)) (run_of (so_far_of view c.session_turn.new.self)) c.in_ok-session_turn.field-0 c.if-branch.true
     c.in_ok-session_turn.ensures.found
 
 pub returns : goal.returns
 returns g c =
     let view = g.S.Server.view in
-    let now = stage_of view c.loop.self in
-    let after = stage_of view c.session_turn.new.self in
-    served_end (stage_of view c.args.self.now) now after c.args.session _ c.loop.invariant c.in_ok-session_turn.ensures.became
+    let now = so_far_of view c.loop.self in
+    let after = so_far_of view c.session_turn.new.self in
+    served_end (so_far_of view c.args.self.now) now after c.args.session _ c.loop.invariant c.in_ok-session_turn.ensures.became
     (found_none (work_of_session c.args.session) (run_of now) (run_of after) c.in_ok-session_turn.field-0 c.if-branch.false c.in_ok-session_turn.ensures.found)

@@ -7,7 +7,7 @@ use Rattle.sv_scenario.specs.declared.scenario.Turn.TheVariants as turns
 use Rattle.law_schedule.specs.Players.{Player, take_turn}
 use Rattle.sv_exchange.specs.View.{ExchangeView, new_exchange}
 use Rattle.sv_replay.specs.Players.{session_of, taken_from}
-use Rattle.sv_replay.specs.Machine.{player_of, MovedPlayer, run_of, stage_of}
+use Rattle.sv_replay.specs.Machine.{player_of, MovedPlayer, run_of, so_far_of}
 use Rattle.sv_client.proofs.Shifts.{up_fault}
 use Rattle.law_system.proofs.Places.{map_at}
 use Rattle.sv_replay.specs.Messages.{AsksMessages}
@@ -19,29 +19,29 @@ use Rattle.sv_replay.proofs.Machines.{clients_are, player_read, player_flags, pl
 use Rattle.sv_replay.proofs.machine.Machine.take_turn.Goals as goal
 
 pub index_mut-player-requires : goal.index_mut-player-requires
-index_mut-player-requires g c = let m = stage_of g.S.Server.view c.args.self.now in omega (arith, clients_are m c.requires.machine, c.args.self.now.players.ok.0, c.requires.client)
+index_mut-player-requires g c = let m = so_far_of g.S.Server.view c.args.self.now in omega (arith, clients_are m c.requires.machine, c.args.self.now.players.ok.0, c.requires.client)
 
 pub session-session-requires-clause-flags : goal.session-session-requires-clause-flags
-session-session-requires-clause-flags g c = player_flags (stage_of g.S.Server.view c.args.self.now) c.args.client c.index_mut-player.result.now c.requires.machine c.requires.client c.index_mut-player.ensures.value
+session-session-requires-clause-flags g c = player_flags (so_far_of g.S.Server.view c.args.self.now) c.args.client c.index_mut-player.result.now c.requires.machine c.requires.client c.index_mut-player.ensures.value
 
 pub session-session-requires-clause-fit : goal.session-session-requires-clause-fit
-session-session-requires-clause-fit g c = player_fits (stage_of g.S.Server.view c.args.self.now) c.args.client c.index_mut-player.result.now c.requires.machine c.requires.client c.index_mut-player.ensures.value
+session-session-requires-clause-fit g c = player_fits (so_far_of g.S.Server.view c.args.self.now) c.args.client c.index_mut-player.result.now c.requires.machine c.requires.client c.index_mut-player.ensures.value
 
 pub index_mut-requires : goal.index_mut-requires
 index_mut-requires g c =
-    let m = stage_of g.S.Server.view c.args.self.now in
+    let m = so_far_of g.S.Server.view c.args.self.now in
     let fit = player_known m c.args.client c.index_mut-player.result.now c.requires.machine c.requires.client c.index_mut-player.ensures.value in
     omega (arith, fit.known, c.requires.machine.count, c.args.self.now.channels.ok.0, c.session-session.ensures)
 
 pub take-requires-clause-flags : goal.take-requires-clause-flags
-take-requires-clause-flags g c = player_flags (stage_of g.S.Server.view c.args.self.now) c.args.client c.index_mut-player.result.now c.requires.machine c.requires.client c.index_mut-player.ensures.value
+take-requires-clause-flags g c = player_flags (so_far_of g.S.Server.view c.args.self.now) c.args.client c.index_mut-player.result.now c.requires.machine c.requires.client c.index_mut-player.ensures.value
 
 pub take-requires-clause-fit : goal.take-requires-clause-fit
-take-requires-clause-fit g c = player_fits (stage_of g.S.Server.view c.args.self.now) c.args.client c.index_mut-player.result.now c.requires.machine c.requires.client c.index_mut-player.ensures.value
+take-requires-clause-fit g c = player_fits (so_far_of g.S.Server.view c.args.self.now) c.args.client c.index_mut-player.result.now c.requires.machine c.requires.client c.index_mut-player.ensures.value
 
 pub take-requires-clause-after : goal.take-requires-clause-after
 take-requires-clause-after g c =
-    let m = stage_of g.S.Server.view c.args.self.now in
+    let m = so_far_of g.S.Server.view c.args.self.now in
     let k = c.args.client in
     let p = c.index_mut-player.result.now in
     let is = c.requires.machine in
@@ -56,7 +56,7 @@ take-requires-clause-after g c =
 
 pub take-requires-clause-open : goal.take-requires-clause-open
 take-requires-clause-open g c =
-    let m = stage_of g.S.Server.view c.args.self.now in
+    let m = so_far_of g.S.Server.view c.args.self.now in
     let k = c.args.client in
     let p = c.index_mut-player.result.now in
     let is = c.requires.machine in
@@ -70,7 +70,7 @@ take-requires-clause-open g c =
 
 pub take-requires-clause-fine : goal.take-requires-clause-fine
 take-requires-clause-fine g c =
-    let m = stage_of g.S.Server.view c.args.self.now in
+    let m = so_far_of g.S.Server.view c.args.self.now in
     let k = c.args.client in
     let p = c.index_mut-player.result.now in
     let is = c.requires.machine in
@@ -87,13 +87,13 @@ take-requires-clause-fine g c =
 
 pub returns-clause-became : goal.returns-clause-became
 returns-clause-became g c =
-    let m = stage_of g.S.Server.view c.args.self.now in
+    let m = so_far_of g.S.Server.view c.args.self.now in
     let k = c.args.client in
     let p = c.index_mut-player.result.now in
     let q = c.take.new.self in
     let d = c.take.new.channel in
     let is = c.requires.machine in
-    let w = stage_of g.S.Server.view (record c.args.self.now { players = with_item c.args.self.now.players k q; channels = with_item c.args.self.now.channels c.session-session.result d }) in
+    let w = so_far_of g.S.Server.view (record c.args.self.now { players = with_item c.args.self.now.players k q; channels = with_item c.args.self.now.channels c.session-session.result d }) in
     let here = c.session-session.ensures in
     let at = player_read m k p is c.requires.client c.index_mut-player.ensures.value in
     let fit = player_known m k p is c.requires.client c.index_mut-player.ensures.value in
@@ -109,13 +109,13 @@ returns-clause-became g c =
 
 pub returns-clause-found : goal.returns-clause-found
 returns-clause-found g c =
-    let m = stage_of g.S.Server.view c.args.self.now in
+    let m = so_far_of g.S.Server.view c.args.self.now in
     let k = c.args.client in
     let p = c.index_mut-player.result.now in
     let q = c.take.new.self in
     let d = c.take.new.channel in
     let is = c.requires.machine in
-    let w = stage_of g.S.Server.view (record c.args.self.now { players = with_item c.args.self.now.players k q; channels = with_item c.args.self.now.channels c.session-session.result d }) in
+    let w = so_far_of g.S.Server.view (record c.args.self.now { players = with_item c.args.self.now.players k q; channels = with_item c.args.self.now.channels c.session-session.result d }) in
     let here = c.session-session.ensures in
     let at = player_read m k p is c.requires.client c.index_mut-player.ensures.value in
     let fit = player_known m k p is c.requires.client c.index_mut-player.ensures.value in

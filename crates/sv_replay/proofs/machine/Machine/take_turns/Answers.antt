@@ -2,7 +2,7 @@
 use Rattle.std.proofs.Common.{◌+◌, arith}
 use Rattle.law_schedule.specs.Players.{take_turns}
 use Rattle.law_schedule.specs.Serving.{Run}
-use Rattle.sv_replay.specs.Machine.{stage_of, run_of}
+use Rattle.sv_replay.specs.Machine.{so_far_of, run_of}
 use Rattle.sv_replay.proofs.Machines.{clients_are}
 use Rattle.sv_replay.proofs.Turns.{turned_from}
 use Rattle.sv_replay.proofs.Heading.{heads_next, heads_end, clients_next, clients_all, same_clients, players_are}
@@ -10,19 +10,19 @@ use Rattle.sv_replay.proofs.machine.Machine.take_turns.Goals as goal
 
 pub take_all-requires-clause-client : goal.take_all-requires-clause-client
 take_all-requires-clause-client g c =
-    let m = stage_of g.S.Server.view c.args.self.now in
+    let m = so_far_of g.S.Server.view c.args.self.now in
     omega (arith, same_clients _ _ _ _ c.loop-client.invariant, clients_are m c.requires, c.args.self.now.players.ok.0, c.loop-client-test.true, c.len-client-end.ensures)
 
 pub loop-client-preserved : goal.loop-client-preserved
 loop-client-preserved g c =
-    let now = run_of (stage_of g.S.Server.view c.loop-client.self) in
+    let now = run_of (so_far_of g.S.Server.view c.loop-client.self) in
     heads_next _ _ _ _ (λ (run : Run). record run { players = turned_from (c.loop-client.client + 1) (take_turns run.history) run.players }) _ _
     c.loop-client.invariant c.in_ok-take_all.ensures (clients_next (take_turns now.history) now c.loop-client.client)
 
 pub returns : goal.returns
 returns g c =
-    let m = stage_of g.S.Server.view c.args.self.now in
-    let now = stage_of g.S.Server.view c.loop-client.self in
+    let m = so_far_of g.S.Server.view c.args.self.now in
+    let now = so_far_of g.S.Server.view c.loop-client.self in
     let h = c.loop-client.invariant in
     heads_end m now _ _ h (clients_all (take_turns (run_of now).history) (run_of now) c.loop-client.client
     (omega (arith, players_are now h.machine, same_clients _ _ _ _ h, clients_are m c.requires, c.args.self.now.players.ok.0, c.loop-client-test.false, c.len-client-end.ensures)))

@@ -2,7 +2,7 @@
 use Rattle.std.proofs.Common.{nat_eq, List, length, sym, ap, ◌∙◌}
 use Rattle.sv_wire.specs.declared.message.Request.{Request}
 use Rattle.sv_client.proofs.Shifts.{up_outstanding}
-use Rattle.sv_replay.proofs.playing.Playing.is_settled.Goals as goal
+use Rattle.sv_replay.proofs.playing.Playing.nothing_outstanding.Goals as goal
 
 pub returns : goal.returns
 returns c =
