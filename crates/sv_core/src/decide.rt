@@ -121,7 +121,7 @@ impl Core {
         requires seat { SitsAt self.now seat }
         ensures { result ≡ is_live h seat.session }
     {
-        let client = self.client_of(seat);
+        let client = self.client(seat);
         client.is_some() && !self.is_over(seat)
     }
 
@@ -133,7 +133,7 @@ impl Core {
         ensures reply { reply_by (core_rules self.now) h seat.session request.now result ≡ reply_to_member (core_rules self.now) h seat.session (client_of h seat.session) request.now }
         ensures holds { DecisionHolds (core_rules self.now) h seat.session request.now result }
     {
-        let Some(client) = self.client_of(seat) else {
+        let Some(client) = self.client(seat) else {
             return Decision::Refuse {
                 refusal: Refusal::NotJoined,
                 detail: 0,
@@ -298,7 +298,7 @@ impl Core {
         requires seat { SitsAt self.now seat }
         ensures { IsTrue result → reply_to_request (core_rules self.now) h seat.session requests.Poll ≡ reply_to_poll (core_rules self.now) h seat.session (orphans h) }
     {
-        !self.is_over(seat) && self.has_more(seat) && self.client_of(seat).is_some()
+        !self.is_over(seat) && self.has_more(seat) && self.client(seat).is_some()
     }
 
     #[inline(never)]

@@ -147,15 +147,6 @@ impl Core {
         }
     }
 
-    pub(crate) fn client_of(&self, seat: Seat) -> Option<u16>
-        ghost h: { List Entry }
-        requires keeps { Keeps self.now h }
-        requires seat { SitsAt self.now seat }
-        ensures { result ≡ client_of h seat.session }
-    {
-        self.sessions[seat.slot as usize].client
-    }
-
     pub(crate) fn life_of(&self, client: u16) -> u32
         ghost h: { List Entry }
         requires { Keeps self.now h }

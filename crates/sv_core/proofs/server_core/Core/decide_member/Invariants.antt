@@ -1,9 +1,6 @@
 -- The ghost arguments of `Core::decide_member`.
 use Rattle.sv_core.proofs.server_core.Core.decide_member.Given as goal
 
-abbrev pub ghost-client_of : goal.ghost-client_of
-ghost-client_of g a = g.h
-
 abbrev pub ghost-decide_submit : goal.ghost-decide_submit
 ghost-decide_submit g a = g.h
 

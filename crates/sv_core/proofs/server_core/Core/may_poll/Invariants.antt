@@ -6,6 +6,3 @@ ghost-is_over g a = g.h
 
 abbrev pub ghost-has_more : goal.ghost-has_more
 ghost-has_more g a = g.h
-
-abbrev pub ghost-client_of : goal.ghost-client_of
-ghost-client_of g a = g.h
