@@ -15,7 +15,7 @@ use Rattle.sv_journal.specs.declared.entry.Entry.{Entry}
 use Rattle.sv_journal.specs.declared.entry.BriefReply.{BriefReply}
 use Rattle.sv_journal.specs.declared.entry.BriefReply.TheVariants as brief
 use Rattle.sv_journal.specs.History.{Authored, accepted, actions_of, commit_of}
-use Rattle.sv_journal.specs.Sessions.{positions_in, sent_to}
+use Rattle.sv_journal.specs.Sessions.{positions_in, observed_in, sent_to}
 use Rattle.sv_journal.specs.Answer.{Rules}
 use Rattle.sv_journal.specs.Serving.{Keeping, plain, reply_for, LegalFor, IsKeeping}
 use Rattle.sv_journal.specs.Laws.{PlainIsLegal}
@@ -25,7 +25,7 @@ use Rattle.sv_journal.proofs.Kept.{sent-kept, commit_within-kept, commit_grows-k
 use Rattle.sv_journal.proofs.Replies.{cut_for, is_seen, each_reply}
 use Rattle.sv_journal.proofs.Sizes.{SizeWithin, sized, served_bounded}
 use Rattle.law_journal.specs.Entries.{EachEntry}
-use Rattle.law_journal.specs.Cuts.{observed_in, seen_in, IsNoLater, NeverGoesBack, ServedCutsNeverGoBack, SendsWhereMore, SendsWhereMoreAreAccepted, LegalOlderCutsHaveItems, ServedOlderCutsHaveItems}
+use Rattle.law_journal.specs.Cuts.{seen_in, IsNoLater, NeverGoesBack, ServedCutsNeverGoBack, SendsWhereMore, SendsWhereMoreAreAccepted, LegalOlderCutsHaveItems, ServedOlderCutsHaveItems}
 use Rattle.law_journal.proofs.EveryEntry.{each-entry}
 
 none-seen : (w : BriefReply) → is_seen w ≡ false → seen_in w ≡ None

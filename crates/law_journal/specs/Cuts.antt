@@ -1,24 +1,17 @@
 -- What is said of the positions at which sessions see objects.
 -- A history is the list of a journal's entries with the latest first.
-use Rattle.std.specs.Prelude.{◌≡◌, ℕ, ◌<◌, ◌≤◌, All, List, [], length, Option, Some, None}
-use Rattle.sv_world.specs.Sets.{numbers_of}
-use Rattle.sv_wire.specs.declared.message.Request.{Request}
-use Rattle.sv_wire.specs.declared.message.Request.TheVariants as requests
+use Rattle.std.specs.Prelude.{◌≡◌, ℕ, ◌<◌, ◌≤◌, All, List, length, Option, Some, None}
 use Rattle.sv_journal.specs.declared.entry.Entry.{Entry}
 use Rattle.sv_journal.specs.declared.entry.BriefReply.{BriefReply}
 use Rattle.sv_journal.specs.declared.entry.BriefReply.TheVariants as brief
 use Rattle.sv_journal.specs.History.{accepted}
+use Rattle.sv_journal.specs.Sessions.{observed_in}
 use Rattle.sv_journal.specs.Answer.{Rules, Legal}
 use Rattle.sv_journal.specs.Serving.{Keeping, LegalFor, IsKeeping}
 use Rattle.sv_journal.specs.Laws.{AreWithinLimits}
 use Rattle.law_journal.specs.Entries.{EachEntry, HoldsInLegal, HoldsInServed}
 
--- The objects that a request observes.
-abbrev pub observed_in : Request → List ℕ
-observed_in (requests.Observe objects wait) = numbers_of objects
-observed_in _ = []
-
--- The position at which a reply shows them.
+-- The position at which a reply shows what is observed.
 abbrev pub seen_in : BriefReply → Option ℕ
 seen_in (brief.Seen last commit head positions) = Some last
 seen_in _ = None

@@ -6,7 +6,6 @@ use Rattle.sv_world.specs.declared.world.ObjectId.{ObjectId}
 use Rattle.sv_world.specs.Control.{blank, greatest_cut}
 use Rattle.sv_world.specs.Faults.{first_fault_of_action, may_be_observed}
 use Rattle.sv_world.specs.Limits.{most_positions}
-use Rattle.sv_world.specs.Sets.{numbers_of}
 use Rattle.sv_wire.specs.declared.message.Done1.{Done1}
 use Rattle.sv_wire.specs.declared.message.ObjectValue.{ObjectValue}
 use Rattle.sv_wire.specs.declared.message.Request.{Request}
@@ -15,7 +14,7 @@ use Rattle.sv_journal.specs.declared.entry.Entry.{Entry}
 use Rattle.sv_journal.specs.declared.entry.BriefReply.{BriefReply}
 use Rattle.sv_journal.specs.declared.entry.BriefReply.TheVariants as brief
 use Rattle.sv_journal.specs.History.{joining, is_welcome, is_relay, is_noted, client_of, is_client, is_submit_of, new_action, outcomes_of, accepted, actions_of, next_seq, commit_of}
-use Rattle.sv_journal.specs.Sessions.{names, positions_in, named_in, life_in, life_of, sent_to}
+use Rattle.sv_journal.specs.Sessions.{names, positions_in, named_in, life_in, life_of, observed_in, sent_to}
 use Rattle.sv_journal.specs.Answer.{Rules, refused_as, committed_held, relay_of, seen_at, commit_with, is_bad_result}
 use Rattle.sv_core.specs.declared.decision.Decision.{Decision}
 use Rattle.sv_core.specs.declared.decision.Decision.TheVariants as decisions
@@ -31,10 +30,6 @@ action_in _ = blank
 abbrev pub results_in : Request → List Done1
 results_in (requests.Done results) = results
 results_in _ = []
-
-abbrev pub observed_in : Request → List ℕ
-observed_in (requests.Observe objects wait) = numbers_of objects
-observed_in _ = []
 
 -- The reply that a decision stands for.
 abbrev pub reply_by : Rules → List Entry → ℕ → Request → Decision → BriefReply

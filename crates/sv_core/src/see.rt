@@ -8,10 +8,10 @@ ghost use Rattle.sv_wire.specs.declared.message.ObjectValue.{ObjectValue};
 ghost use Rattle.sv_wire.specs.declared.message.Reply.TheVariants as replies;
 ghost use Rattle.sv_journal.specs.declared.entry.BriefReply.TheVariants as brief;
 ghost use Rattle.sv_journal.specs.declared.entry.Entry.{Entry};
-ghost use Rattle.sv_journal.specs.Sessions.{is_end};
+ghost use Rattle.sv_journal.specs.Sessions.{is_end, observed_in};
 ghost use Rattle.sv_core.specs.declared.decision.Decision.TheVariants as decisions;
 ghost use Rattle.sv_core.specs.Cores.{core_rules, SitsAt, Keeps, CarriedOut, Remained};
-ghost use Rattle.sv_core.specs.Decisions.{IsOld, observed_in};
+ghost use Rattle.sv_core.specs.Decisions.{IsOld};
 ghost use Rattle.sv_core.specs.Relays.{knows, marked_all, given_all};
 ghost use Rattle.sv_core.specs.Seeing.{IsQuietAnswer};
 

@@ -1,8 +1,7 @@
 -- What a loop over an action's reads has before it.
-use Rattle.std.proofs.Common.{◌≡◌, ℕ, ◌+◌, ◌/◌, ◌%◌, ◌^◌, ◌<◌, ◌≤◌, Bool, true, false, ◌||◌, ◌&&◌, not, List, ◌∷◌, length, drop, get_or, All, refl, sym, ◌∙◌, ap, subst, bit_and, arith, eq-eqb, ne_eqb}
+use Rattle.std.proofs.Common.{◌≡◌, ℕ, ◌+◌, ◌<◌, ◌≤◌, Bool, true, false, ◌||◌, ◌&&◌, not, List, ◌∷◌, length, drop, get_or, All, refl, sym, ◌∙◌, ap, subst, arith}
 use Rattle.std.proofs.lemmas.Bool.{cond-true, cond-false, cond_both, or_left}
 use Rattle.std.proofs.lemmas.List.{drop_all, drop_more, get_or-map, length-map}
-use Rattle.std.proofs.lemmas.Nat.Bits.{shr_and_one}
 use Rattle.std.specs.List.{list_any}
 use Rattle.sv_world.specs.declared.action.Action.{Action}
 use Rattle.sv_world.specs.declared.world.ObjectId.{ObjectId}
@@ -39,17 +38,15 @@ or_move false true c = refl
 or_move false false c = refl
 
 -- A set f of objects meets what an action writes, at a slot.
-pub meets_hit : (f : ℕ → Bool) (mask k x : ℕ) (xs ys : List ℕ) → ys ≡ x ∷ xs → bit_and (mask / 2 ^ k) 1 ≡ 1 → f x ≡ true → list_any f (at_mask mask k ys) ≡ true
-meets_hit f mask k x xs ys e bit h =
-    let in' : is_in_mask mask k ≡ true = eq-eqb ((mask / 2 ^ k) % 2) 1 (sym (shr_and_one mask k) ∙ bit) in
+pub meets_hit : (f : ℕ → Bool) (mask k x : ℕ) (xs ys : List ℕ) → ys ≡ x ∷ xs → is_in_mask mask k ≡ true → f x ≡ true → list_any f (at_mask mask k ys) ≡ true
+meets_hit f mask k x xs ys e in' h =
     ap (λ (zs : List ℕ). list_any f (at_mask mask k zs)) e
     ∙ ap (list_any f) (cond-true (is_in_mask mask k) (x ∷ at_mask mask (k + 1) xs) (at_mask mask (k + 1) xs) in')
     ∙ or_left (f x) (list_any f (at_mask mask (k + 1) xs)) h
 
-pub meets_unwritten : (f : ℕ → Bool) (mask k x : ℕ) (xs ys : List ℕ) → ys ≡ x ∷ xs → (bit_and (mask / 2 ^ k) 1 ≡ 1 → ⊥) →
+pub meets_unwritten : (f : ℕ → Bool) (mask k x : ℕ) (xs ys : List ℕ) → ys ≡ x ∷ xs → is_in_mask mask k ≡ false →
     list_any f (at_mask mask k ys) ≡ list_any f (at_mask mask (k + 1) xs)
-meets_unwritten f mask k x xs ys e bit =
-    let out : is_in_mask mask k ≡ false = ne_eqb ((mask / 2 ^ k) % 2) 1 (λ s. bit (shr_and_one mask k ∙ s)) in
+meets_unwritten f mask k x xs ys e out =
     ap (λ (zs : List ℕ). list_any f (at_mask mask k zs)) e
     ∙ ap (list_any f) (cond-false (is_in_mask mask k) (x ∷ at_mask mask (k + 1) xs) (at_mask mask (k + 1) xs) out)
 
@@ -61,14 +58,12 @@ meets_miss f mask k x xs ys e h =
     (λ q. ap (λ (b : Bool). b || list_any f (at_mask mask (k + 1) xs)) h) (λ q. refl)
 
 -- What is left of an action's writes at a slot that it writes, and at another.
-pub masked_hit : (mask k x : ℕ) (xs ys : List ℕ) → ys ≡ x ∷ xs → bit_and (mask / 2 ^ k) 1 ≡ 1 → at_mask mask k ys ≡ x ∷ at_mask mask (k + 1) xs
-masked_hit mask k x xs ys e bit =
-    let in' : is_in_mask mask k ≡ true = eq-eqb ((mask / 2 ^ k) % 2) 1 (sym (shr_and_one mask k) ∙ bit) in
+pub masked_hit : (mask k x : ℕ) (xs ys : List ℕ) → ys ≡ x ∷ xs → is_in_mask mask k ≡ true → at_mask mask k ys ≡ x ∷ at_mask mask (k + 1) xs
+masked_hit mask k x xs ys e in' =
     ap (λ (zs : List ℕ). at_mask mask k zs) e ∙ cond-true (is_in_mask mask k) (x ∷ at_mask mask (k + 1) xs) (at_mask mask (k + 1) xs) in'
 
-pub masked_miss : (mask k x : ℕ) (xs ys : List ℕ) → ys ≡ x ∷ xs → (bit_and (mask / 2 ^ k) 1 ≡ 1 → ⊥) → at_mask mask k ys ≡ at_mask mask (k + 1) xs
-masked_miss mask k x xs ys e bit =
-    let out : is_in_mask mask k ≡ false = ne_eqb ((mask / 2 ^ k) % 2) 1 (λ s. bit (shr_and_one mask k ∙ s)) in
+pub masked_miss : (mask k x : ℕ) (xs ys : List ℕ) → ys ≡ x ∷ xs → is_in_mask mask k ≡ false → at_mask mask k ys ≡ at_mask mask (k + 1) xs
+masked_miss mask k x xs ys e out =
     ap (λ (zs : List ℕ). at_mask mask k zs) e ∙ cond-false (is_in_mask mask k) (x ∷ at_mask mask (k + 1) xs) (at_mask mask (k + 1) xs) out
 
 pub and_not_or : (h e t : Bool) → ((h && not e) && not t) ≡ (h && not (e || t))

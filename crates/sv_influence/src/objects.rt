@@ -2,11 +2,11 @@
 ghost use Rattle.std.specs.Prelude.{◌≡◌, ℕ, ◌<◌, ◌≤◌, ◌&&◌, ◌||◌, not, false, All, length, nat_eq};
 ghost use Rattle.std.specs.List.{list_any};
 ghost use Rattle.sv_world.specs.Control.{is_in};
-ghost use Rattle.sv_world.specs.Limits.{most_objects, most_reads};
+ghost use Rattle.sv_world.specs.Limits.{most_objects};
 ghost use Rattle.sv_world.specs.Sets.{read_set, write_set};
-ghost use Rattle.sv_influence.specs.Objects.{has_object};
+ghost use Rattle.sv_queue.specs.Slots.{has_bit};
 
-use sv_world::{Action, ObjectId};
+use sv_world::{Action, ObjectId, is_in_mask};
 
 /// A bit for each object that there may be.
 const WORDS: usize = 1024;
@@ -19,14 +19,14 @@ pub struct ObjectSet {
 
 impl ObjectSet {
     pub fn new() -> ObjectSet
-        ensures { (x : ℕ) → has_object result.words x ≡ false }
+        ensures { (x : ℕ) → has_bit result.words x ≡ false }
     {
         ObjectSet { words: [0; WORDS] }
     }
 
     pub fn has(&self, object: ObjectId) -> bool
         requires { object.0 < most_objects }
-        ensures { result ≡ has_object self.now.words object.0 }
+        ensures { result ≡ has_bit self.now.words object.0 }
     {
         let word = self.words[(object.0 / 64) as usize];
         (word >> (object.0 % 64)) & 1 == 1
@@ -34,7 +34,7 @@ impl ObjectSet {
 
     pub fn add(&mut self, object: ObjectId)
         requires { object.0 < most_objects }
-        ensures { (x : ℕ) → has_object self.new.words x ≡ (nat_eq x object.0 || has_object self.old.words x) }
+        ensures { (x : ℕ) → has_bit self.new.words x ≡ (nat_eq x object.0 || has_bit self.old.words x) }
     {
         let place = (object.0 / 64) as usize;
         let word = self.words[place];
@@ -43,7 +43,7 @@ impl ObjectSet {
 
     pub fn remove(&mut self, object: ObjectId)
         requires { object.0 < most_objects }
-        ensures { (x : ℕ) → has_object self.new.words x ≡ (has_object self.old.words x && not (nat_eq x object.0)) }
+        ensures { (x : ℕ) → has_bit self.new.words x ≡ (has_bit self.old.words x && not (nat_eq x object.0)) }
     {
         let place = (object.0 / 64) as usize;
         let word = self.words[place];
@@ -53,7 +53,7 @@ impl ObjectSet {
     /// Adds the objects that an action reads.
     pub fn add_reads(&mut self, action: &Action)
         requires { All (λ x. x < most_objects) (read_set action.now) }
-        ensures { (x : ℕ) → has_object self.new.words x ≡ (is_in x (read_set action.now) || has_object self.old.words x) }
+        ensures { (x : ℕ) → has_bit self.new.words x ≡ (is_in x (read_set action.now) || has_bit self.old.words x) }
     {
         for object in action.reads.as_slice() {
             self.add(*object);
@@ -63,11 +63,10 @@ impl ObjectSet {
     /// Removes the objects that an action writes.
     pub fn remove_writes(&mut self, action: &Action)
         requires low { All (λ x. x < most_objects) (read_set action.now) }
-        requires few { length action.now.reads ≤ most_reads }
-        ensures { (x : ℕ) → has_object self.new.words x ≡ (has_object self.old.words x && not (is_in x (write_set action.now))) }
+        ensures { (x : ℕ) → has_bit self.new.words x ≡ (has_bit self.old.words x && not (is_in x (write_set action.now))) }
     {
         for (slot, object) in action.reads.as_slice().iter().enumerate() {
-            if (action.mask >> slot) & 1 == 1 {
+            if is_in_mask(action.mask, slot) {
                 self.remove(*object);
             }
         }
@@ -76,11 +75,10 @@ impl ObjectSet {
     /// Whether it has an object that an action writes.
     pub fn meets_writes(&self, action: &Action) -> bool
         requires low { All (λ x. x < most_objects) (read_set action.now) }
-        requires few { length action.now.reads ≤ most_reads }
-        ensures { result ≡ list_any (λ x. has_object self.now.words x) (write_set action.now) }
+        ensures { result ≡ list_any (λ x. has_bit self.now.words x) (write_set action.now) }
     {
         for (slot, object) in action.reads.as_slice().iter().enumerate() {
-            if (action.mask >> slot) & 1 == 1 && self.has(*object) {
+            if is_in_mask(action.mask, slot) && self.has(*object) {
                 return true;
             }
         }

@@ -6,7 +6,7 @@ ghost use Rattle.sv_world.specs.Sets.{read_set, write_set};
 ghost use Rattle.std.specs.List.{list_any};
 ghost use Rattle.sv_queue.specs.Queue.{IsUncommitted, queue_actions, sent_positions, given_objects};
 ghost use Rattle.sv_influence.specs.Lacking.{lacking, base_objects};
-ghost use Rattle.sv_influence.specs.Objects.{has_object};
+ghost use Rattle.sv_queue.specs.Slots.{has_bit};
 
 use crate::answers::Closure;
 use crate::objects::ObjectSet;
@@ -62,7 +62,7 @@ fn is_wanted<L: Ledger>(
     look_ups: &mut LookUps<L>,
 ) -> bool
     requires { IsUncommitted queue.now at }
-    ensures wanted { result ≡ (nat_eq at pos || list_any (λ x. has_object objects.now.words x) (write_set (action_at (queue_actions queue.now) at))) }
+    ensures wanted { result ≡ (nat_eq at pos || list_any (λ x. has_bit objects.now.words x) (write_set (action_at (queue_actions queue.now) at))) }
     ensures ticks { look_ups.new ≡ look_ups.old + 1 }
 {
     let shape = queue.shape();
@@ -89,7 +89,7 @@ impl Walk {
     ) -> Result<(), AllocError>
         requires at { IsUncommitted queue.now at }
         ensures positions { OnOk result (self.new.positions.items ≡ (if is_in at (sent_positions queue.now slot) then self.old.positions.items else self.old.positions.items ++ at ∷ [])) }
-        ensures objects { OnOk result ((x : ℕ) → has_object self.new.objects.words x ≡ (if is_in at (sent_positions queue.now slot) then has_object self.old.objects.words x && not (is_in x (write_set (action_at (queue_actions queue.now) at))) else is_in x (read_set (action_at (queue_actions queue.now) at)) || has_object self.old.objects.words x)) }
+        ensures objects { OnOk result ((x : ℕ) → has_bit self.new.objects.words x ≡ (if is_in at (sent_positions queue.now slot) then has_bit self.old.objects.words x && not (is_in x (write_set (action_at (queue_actions queue.now) at))) else is_in x (read_set (action_at (queue_actions queue.now) at)) || has_bit self.old.objects.words x)) }
         ensures ticks { look_ups.new ≡ look_ups.old + 2 }
     {
         let shape = queue.shape();
@@ -112,7 +112,7 @@ fn bases_among(
     slot: u16,
     objects: &ObjectSet,
 ) -> Result<List<ObjectId>, AllocError>
-    ensures { IfOk result (λ list. map (λ (o : ObjectId). o.0) list ≡ filter (λ x. has_object objects.now.words x && not (is_in x (given_objects queue.now slot))) (below queue.now.shape.objects)) }
+    ensures { IfOk result (λ list. map (λ (o : ObjectId). o.0) list ≡ filter (λ x. has_bit objects.now.words x && not (is_in x (given_objects queue.now slot))) (below queue.now.shape.objects)) }
 {
     let shape = queue.shape();
     prove!(shape.objects <= MOST_OBJECTS);

@@ -4,7 +4,7 @@ use Rattle.std.specs.Prelude.{ℕ, zero, suc, ◌+◌, Bool, true, false, ◌&&�
 use Rattle.std.specs.List.{list_any}
 use Rattle.sv_world.specs.Control.{is_in, below, action_at, last_writer}
 use Rattle.sv_world.specs.Limits.{most_pending}
-use Rattle.sv_world.specs.Sets.{write_set}
+use Rattle.sv_world.specs.Sets.{write_set, numbers_of}
 use Rattle.sv_wire.specs.declared.message.ObjectValue.{ObjectValue}
 use Rattle.sv_wire.specs.declared.message.Request.{Request}
 use Rattle.sv_wire.specs.declared.message.Request.TheVariants as requests
@@ -56,6 +56,11 @@ is_ended h s = list_any (λ (e : Entry). e.session == s && is_end e.request) h
 abbrev pub asked_in : List Entry → ℕ → ℕ
 asked_in [] s = 0
 asked_in (e ∷ h) s = if e.session == s && not (is_end e.request) then suc (asked_in h s) else asked_in h s
+
+-- The objects that a request observes.
+abbrev pub observed_in : Request → List ℕ
+observed_in (requests.Observe objects wait) = numbers_of objects
+observed_in _ = []
 
 -- ---- Clients
 

@@ -38,7 +38,7 @@ set_but slot r = record r { slots = all_but slot r.slots }
 abbrev pub set_joined : List ℕ → SlotSet → SlotSet
 set_joined more r = record r { slots = with_slots more r.slots }
 
--- Slot 64 n + k is bit k of word n.
+-- A set of numbers by bits: 64 n + k is bit k of word n.
 abbrev pub has_bit : List ℕ → ℕ → Bool
 has_bit words s = bit_at (slice_index words (s / 64)) (s % 64) == 1
 

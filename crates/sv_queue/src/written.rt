@@ -3,7 +3,6 @@ ghost use Rattle.std.specs.Prelude.{◌≡◌, ◌+◌, ◌*◌, ◌<◌, ◌≤
 ghost use Rattle.sv_world.specs.declared.world.ObjectId.{ObjectId};
 ghost use Rattle.sv_world.specs.Control.{is_in};
 ghost use Rattle.sv_world.specs.Faults.{is_ascending};
-ghost use Rattle.sv_world.specs.Limits.{most_reads};
 ghost use Rattle.sv_world.specs.Sets.{read_set, write_set};
 ghost use Rattle.sv_eval.specs.Serial.{put_all};
 ghost use Rattle.sv_queue.specs.Blocks.{AreMarked};
@@ -14,18 +13,17 @@ use crate::rooms::BLOCK;
 use crate::slots::Slots;
 use std::alloc::{AllocError, Global};
 use sv_lists::List;
-use sv_world::{Action, ObjectId, Value};
+use sv_world::{Action, ObjectId, Value, is_in_mask};
 
 /// The object in a slot of an action's reads, where the action may write it.
 pub fn written_at(action: &Action, slot: usize) -> Option<ObjectId>
     requires slot { slot < length action.now.reads }
-    requires few_reads { length action.now.reads ≤ most_reads }
     requires ascending { is_ascending (read_set action.now) ≡ true }
     ensures next { writes_before action.now (slot + 1) ≡ writes_before action.now slot ++ map (λ (x : ObjectId). x.0) (option_to_list result) }
     ensures read { IfSome result (λ x. x.0 ≡ slice_index_or (read_set action.now) slot 0) }
     ensures fresh { IfSome result (λ x. is_in x.0 (writes_before action.now slot) ≡ false) }
 {
-    if (action.mask >> slot) % 2 == 1 {
+    if is_in_mask(action.mask, slot) {
         Some(action.reads.as_slice()[slot])
     } else {
         None

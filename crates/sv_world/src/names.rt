@@ -7,6 +7,7 @@ ghost use Rattle.sv_world.specs.Names.{set_passes, get_passes};
 use crate::{MOST_READS, Node};
 
 /// Whether an action with this mask may write the object in a slot.
+#[inline(always)]
 pub fn is_in_mask(mask: u16, slot: usize) -> bool
     ensures { result ≡ is_in_mask mask slot }
 {

@@ -8,7 +8,7 @@ use Rattle.sv_world.specs.Sets.{read_set, write_set}
 use Rattle.sv_world.proofs.Influences.{influence-ascending}
 use Rattle.sv_queue.specs.Queue.{queue_actions}
 use Rattle.sv_influence.specs.declared.objects.ObjectSet.{ObjectSet}
-use Rattle.sv_influence.specs.Objects.{has_object}
+use Rattle.sv_queue.specs.Slots.{has_bit}
 use Rattle.sv_influence.proofs.Counts.{above, above-taken, above-left}
 use Rattle.sv_influence.proofs.Looks.{queue_length}
 use Rattle.sv_influence.proofs.Walks.{are_read, walk-meets, walk-objects, walk-none, walk-rest, walk-first, walk-few, unwritten-more}
@@ -27,8 +27,8 @@ loop-bottom-init g c =
       bottom = c.below_writers-bottom.ensures.uncommitted;
       low = c.below_writers-bottom.ensures.bound;
       high = (let f = c.last-pos.ensures in omega arith);
-      objects = walk-first A v.commit a c.last-pos.result (has_object c.new-objects.result.words) (has_object c.add_reads.new.self.words) last c.new-objects.ensures c.add_reads.ensures;
-      unwritten = unwritten-more A (has_object c.new-objects.result.words) (λ x. is_in x (read_set a)) (has_object c.add_reads.new.self.words) c.last-pos.result c.below_writers-bottom.result
+      objects = walk-first A v.commit a c.last-pos.result (has_bit c.new-objects.result.words) (has_bit c.add_reads.new.self.words) last c.new-objects.ensures c.add_reads.ensures;
+      unwritten = unwritten-more A (has_bit c.new-objects.result.words) (λ x. is_in x (read_set a)) (has_bit c.add_reads.new.self.words) c.last-pos.result c.below_writers-bottom.result
           (λ x q t low. let n = c.new-objects.ensures x in cc) c.below_writers-bottom.ensures.unwritten c.below_writers-bottom.ensures.bound c.add_reads.ensures;
       count = sym (ap length none);
       far = sym (ap (λ (ks : List ℕ). greatest (map far ks)) none);
@@ -54,7 +54,7 @@ loop-bottom-preserved g c =
     let a = c.args.action.now in
     let p = c.loop-bottom.pos in
     let I = influence A v.commit a in
-    let f = λ (x : ℕ). has_object c.loop-bottom.objects.words x in
+    let f = λ (x : ℕ). has_bit c.loop-bottom.objects.words x in
     let last : c.last-pos.result ≡ length A = c.last-pos.ensures ∙ sym (queue_length v) in
     let e = c.last-pos.ensures in
     let high = c.loop-bottom.invariant.high in
@@ -79,11 +79,11 @@ loop-bottom-preserved g c =
       high = omega arith;
       objects = elim c.if-meets_writes.branch [
         | then-meets_writes w ↦ (λ x.
-            ap (λ (o : ObjectSet). has_object o.words x) w.objects-is
-            ∙ walk-objects A v.commit a c.entry-entry.result.action.now p f (λ y. has_object w.add_reads-then-meets_writes.new.self.words y) placed
+            ap (λ (o : ObjectSet). has_bit o.words x) w.objects-is
+            ∙ walk-objects A v.commit a c.entry-entry.result.action.now p f (λ y. has_bit w.add_reads-then-meets_writes.new.self.words y) placed
             (above-taken p I up (omega arith) (sym meets' ∙ w.if-meets_writes.true)) c.loop-bottom.invariant.objects w.add_reads-then-meets_writes.ensures x)
         | else-meets_writes w ↦ (λ x.
-            ap (λ (o : ObjectSet). has_object o.words x) w.objects-is
+            ap (λ (o : ObjectSet). has_bit o.words x) w.objects-is
             ∙ c.loop-bottom.invariant.objects x
             ∙ ap (λ (ks : List ℕ). is_in x (read_set a) || are_read A x ks) (sym (above-left p I up (omega arith) (sym meets' ∙ w.if-meets_writes.false))))
       ];
@@ -91,12 +91,12 @@ loop-bottom-preserved g c =
         | then-meets_writes w ↦
             (let more = w.below_writers-bottom-then-meets_writes in
             let is = w.bottom-is in
-            unwritten-more A f (λ x. is_in x (read_set c.entry-entry.result.action.now)) (λ x. has_object c.if-meets_writes.objects.words x) c.loop-bottom.bottom c.if-meets_writes.bottom
+            unwritten-more A f (λ x. is_in x (read_set c.entry-entry.result.action.now)) (λ x. has_bit c.if-meets_writes.objects.words x) c.loop-bottom.bottom c.if-meets_writes.bottom
             c.loop-bottom.invariant.unwritten (λ x q t l. more.ensures.unwritten x q t (omega arith)) (let b = more.ensures.bound in omega arith)
-            (λ x. ap (λ (o : ObjectSet). has_object o.words x) w.objects-is ∙ w.add_reads-then-meets_writes.ensures x))
+            (λ x. ap (λ (o : ObjectSet). has_bit o.words x) w.objects-is ∙ w.add_reads-then-meets_writes.ensures x))
         | else-meets_writes w ↦
             (let is = w.bottom-is in
-            λ x q t l. c.loop-bottom.invariant.unwritten x q (sym (ap (λ (o : ObjectSet). has_object o.words x) w.objects-is) ∙ t) (omega arith))
+            λ x q t l. c.loop-bottom.invariant.unwritten x q (sym (ap (λ (o : ObjectSet). has_bit o.words x) w.objects-is) ∙ t) (omega arith))
       ];
       count = elim c.if-meets_writes.branch [
         | then-meets_writes w ↦
@@ -127,7 +127,7 @@ returns-clause-count g c =
     let low = c.loop-bottom.invariant.low in
     let done = c.loop-bottom-test.false in
     let rest : above c.loop-bottom.pos (influence A v.commit a) ≡ influence A v.commit a =
-    walk-rest A v.commit a c.loop-bottom.pos (λ (x : ℕ). has_object c.loop-bottom.objects.words x) (omega arith) (omega arith) c.loop-bottom.invariant.objects
+    walk-rest A v.commit a c.loop-bottom.pos (λ (x : ℕ). has_bit c.loop-bottom.objects.words x) (omega arith) (omega arith) c.loop-bottom.invariant.objects
     (λ x q t l. c.loop-bottom.invariant.unwritten x q t (omega arith)) in
     c.loop-bottom.invariant.count ∙ ap length rest
 
@@ -143,7 +143,7 @@ returns-clause-far g c =
     let low = c.loop-bottom.invariant.low in
     let done = c.loop-bottom-test.false in
     let rest : above c.loop-bottom.pos (influence A v.commit a) ≡ influence A v.commit a =
-    walk-rest A v.commit a c.loop-bottom.pos (λ (x : ℕ). has_object c.loop-bottom.objects.words x) (omega arith) (omega arith) c.loop-bottom.invariant.objects
+    walk-rest A v.commit a c.loop-bottom.pos (λ (x : ℕ). has_bit c.loop-bottom.objects.words x) (omega arith) (omega arith) c.loop-bottom.invariant.objects
     (λ x q t l. c.loop-bottom.invariant.unwritten x q t (omega arith)) in
     let far = λ (ks : List ℕ). greatest (map (λ (j : ℕ). distance a.origin (action_at A j).origin) ks) in
     c.loop-bottom.invariant.far ∙ ap far rest

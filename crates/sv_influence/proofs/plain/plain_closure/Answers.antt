@@ -5,7 +5,7 @@ use Rattle.sv_world.specs.Control.{reads_committed}
 use Rattle.sv_queue.specs.Queue.{queue_actions}
 use Rattle.sv_influence.specs.declared.plain.Walk.{Walk}
 use Rattle.sv_influence.specs.Lacking.{lacking}
-use Rattle.sv_influence.specs.Objects.{has_object}
+use Rattle.sv_queue.specs.Slots.{has_bit}
 use Rattle.sv_influence.proofs.Counts.{above}
 use Rattle.sv_influence.proofs.Visits.{AreToBeHad, visited, passed, none-had, items-had, bases-had}
 use Rattle.sv_influence.proofs.plain.plain_closure.Goals as goal
@@ -36,7 +36,7 @@ loop-at-preserved g c =
     let t = c.loop-at-test.true in
     let low : v.commit < at = omega arith in
     let high = c.loop-at.invariant.high in
-    let f = has_object c.loop-at.walk.objects.words in
+    let f = has_bit c.loop-at.walk.objects.words in
     record {
       commit = e;
       low = omega arith;
@@ -44,7 +44,7 @@ loop-at-preserved g c =
       positions = elim c.if-is_wanted.branch [
         | then-is_wanted+in_ok-visit w ↦
             ap (λ (u : Walk). u.positions.items) w.walk-is
-            ∙ (visited v s pos at f (has_object w.visit.new.self.objects.words) c.loop-at.walk.positions.items w.visit.new.self.positions.items low high c.loop-at.invariant.objects
+            ∙ (visited v s pos at f (has_bit w.visit.new.self.objects.words) c.loop-at.walk.positions.items w.visit.new.self.positions.items low high c.loop-at.invariant.objects
             (sym c.is_wanted.ensures.wanted ∙ w.if-is_wanted.true) w.in_ok-visit.ensures.positions w.in_ok-visit.ensures.objects c.loop-at.invariant.positions).0
         | else-is_wanted w ↦
             ap (λ (u : Walk). u.positions.items) w.walk-is
@@ -52,11 +52,11 @@ loop-at-preserved g c =
       ];
       objects = elim c.if-is_wanted.branch [
         | then-is_wanted+in_ok-visit w ↦ (λ x.
-            ap (λ (u : Walk). has_object u.objects.words x) w.walk-is
-            ∙ (visited v s pos at f (has_object w.visit.new.self.objects.words) c.loop-at.walk.positions.items w.visit.new.self.positions.items low high c.loop-at.invariant.objects
+            ap (λ (u : Walk). has_bit u.objects.words x) w.walk-is
+            ∙ (visited v s pos at f (has_bit w.visit.new.self.objects.words) c.loop-at.walk.positions.items w.visit.new.self.positions.items low high c.loop-at.invariant.objects
             (sym c.is_wanted.ensures.wanted ∙ w.if-is_wanted.true) w.in_ok-visit.ensures.positions w.in_ok-visit.ensures.objects c.loop-at.invariant.positions).1 x)
         | else-is_wanted w ↦ (λ x.
-            ap (λ (u : Walk). has_object u.objects.words x) w.walk-is
+            ap (λ (u : Walk). has_bit u.objects.words x) w.walk-is
             ∙ (passed v s pos at f c.loop-at.walk.positions.items low high c.loop-at.invariant.objects (sym c.is_wanted.ensures.wanted ∙ w.if-is_wanted.false) c.loop-at.invariant.positions).1 x)
       ];
       ticks = (let was = c.loop-at.invariant.ticks in let one = c.is_wanted.ensures.ticks in elim c.if-is_wanted.branch [
@@ -86,5 +86,5 @@ returns-clause-head g c =
     let low : v.commit < c.args.pos = c.requires.0 in
     let here : c.loop-at.at ≡ v.commit = omega arith in
     c.in_ok-head.ensures
-    ∙ bases-had v c.args.slot c.args.pos (has_object c.loop-at.walk.objects.words) low
-    (subst (λ (n : ℕ). AreToBeHad v c.args.slot c.args.pos n (has_object c.loop-at.walk.objects.words)) here c.loop-at.invariant.objects)
+    ∙ bases-had v c.args.slot c.args.pos (has_bit c.loop-at.walk.objects.words) low
+    (subst (λ (n : ℕ). AreToBeHad v c.args.slot c.args.pos n (has_bit c.loop-at.walk.objects.words)) here c.loop-at.invariant.objects)

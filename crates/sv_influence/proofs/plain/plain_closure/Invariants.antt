@@ -1,7 +1,7 @@
 -- The loop invariant of `plain_closure`, and what gets smaller.
 use Rattle.std.proofs.Common.{◌≡◌, ◌≤◌, ◌+◌, ◌*◌, reverse}
 use Rattle.sv_influence.specs.Lacking.{lacking}
-use Rattle.sv_influence.specs.Objects.{has_object}
+use Rattle.sv_queue.specs.Slots.{has_bit}
 use Rattle.sv_influence.proofs.Counts.{above}
 use Rattle.sv_influence.proofs.Visits.{AreToBeHad}
 use Rattle.sv_influence.proofs.plain.plain_closure.Given as goal
@@ -12,7 +12,7 @@ invariant-loop-at g l = record {
   low : l.commit ≤ l.at;
   high : l.at ≤ l.pos;
   positions : l.walk.positions.items ≡ reverse (above l.at (lacking l.queue l.slot l.pos));
-  objects : AreToBeHad l.queue l.slot l.pos l.at (has_object l.walk.objects.words);
+  objects : AreToBeHad l.queue l.slot l.pos l.at (has_bit l.walk.objects.words);
   ticks : l.look_ups + 3 * l.at ≤ l.fn.look_ups + 3 * l.pos;
 }
 

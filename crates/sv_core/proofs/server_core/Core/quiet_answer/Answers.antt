@@ -6,7 +6,7 @@ use Rattle.sv_world.specs.Faults.{may_be_observed}
 use Rattle.sv_journal.specs.declared.entry.BriefReply.{BriefReply}
 use Rattle.sv_journal.specs.History.{accepted, full_reply}
 use Rattle.sv_core.specs.Cores.{core_rules}
-use Rattle.sv_core.specs.Decisions.{observed_in}
+use Rattle.sv_journal.specs.Sessions.{observed_in}
 use Rattle.sv_core.specs.Relays.{knows}
 use Rattle.sv_core.specs.Seeing.{shows_nothing}
 use Rattle.sv_core.proofs.Showing.{known-quiet, known-whole, unknown-shown}

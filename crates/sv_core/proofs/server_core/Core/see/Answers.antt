@@ -10,14 +10,13 @@ use Rattle.sv_wire.specs.declared.message.Reply.TheVariants as replies
 use Rattle.sv_journal.specs.declared.entry.BriefReply.{BriefReply}
 use Rattle.sv_journal.specs.declared.entry.BriefReply.TheVariants as brief
 use Rattle.sv_journal.specs.History.{Authored, accepted, actions_of, result_at, commit_of, full_reply}
-use Rattle.sv_journal.specs.Sessions.{positions_in, sent_to}
+use Rattle.sv_journal.specs.Sessions.{positions_in, observed_in, sent_to}
 use Rattle.sv_journal.specs.Answer.{seen_at}
 use Rattle.sv_queue.specs.Queue.{QueueView, IsUncommitted}
 use Rattle.sv_influence.specs.Lacking.{latest_cut}
 use Rattle.sv_core.specs.declared.decision.Decision.TheVariants as decisions
 use Rattle.sv_core.specs.Agreement.{Agrees}
 use Rattle.sv_core.specs.Cores.{core_rules}
-use Rattle.sv_core.specs.Decisions.{observed_in}
 use Rattle.sv_core.specs.Relays.{held_in, item_in, seen_positions, seen_bases}
 use Rattle.sv_journal.specs.History.{entry_of}
 use Rattle.sv_core.proofs.AgreeSends.{seen-sends, agree-sent}

@@ -2,7 +2,7 @@
 use Rattle.std.proofs.Common.{ℕ, ◌+◌, Bool, ◌||◌, List, drop, get_or, sym, ◌∙◌, ap, nat_eq}
 use Rattle.sv_world.specs.Control.{is_in}
 use Rattle.sv_world.specs.Sets.{read_set}
-use Rattle.sv_influence.specs.Objects.{has_object}
+use Rattle.sv_queue.specs.Slots.{has_bit}
 use Rattle.sv_influence.proofs.ReadSets.{read_low, read_at, or_move}
 use Rattle.sv_influence.proofs.objects.ObjectSet.add_reads.Goals as goal
 
@@ -18,7 +18,7 @@ loop-object-preserved c =
       items = c.loop-object.invariant.items;
       rest = λ x.
           ap (λ (b : Bool). is_in x rest || b) (c.add.ensures x)
-          ∙ sym (or_move (nat_eq x (get_or c.as_slice-object-items.result.now c.loop-object.object-index record { 0 = 0 }).0) (is_in x rest) (has_object c.loop-object.self.words x))
-          ∙ sym (ap (λ (xs : List ℕ). is_in x xs || has_object c.loop-object.self.words x) d)
+          ∙ sym (or_move (nat_eq x (get_or c.as_slice-object-items.result.now c.loop-object.object-index record { 0 = 0 }).0) (is_in x rest) (has_bit c.loop-object.self.words x))
+          ∙ sym (ap (λ (xs : List ℕ). is_in x xs || has_bit c.loop-object.self.words x) d)
           ∙ c.loop-object.invariant.rest x;
     }

@@ -1,6 +1,6 @@
 -- What the check leaves to prove of `ObjectSet::new`.
-use Rattle.sv_influence.proofs.Bits.{has_object-none}
+use Rattle.sv_influence.proofs.Bits.{has_bit-empty}
 use Rattle.sv_influence.proofs.objects.ObjectSet.new.Goals as goal
 
 pub returns : goal.returns
-returns c = has_object-none
+returns c = has_bit-empty

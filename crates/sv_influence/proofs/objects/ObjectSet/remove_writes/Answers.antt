@@ -3,10 +3,10 @@ use Rattle.std.proofs.Common.{ℕ, ◌+◌, Bool, ◌&&◌, not, List, drop, get
 use Rattle.sv_world.specs.Control.{is_in}
 use Rattle.sv_world.specs.Sets.{read_set, at_mask}
 use Rattle.sv_influence.specs.declared.objects.ObjectSet.{ObjectSet}
-use Rattle.sv_influence.specs.Objects.{has_object}
+use Rattle.sv_queue.specs.Slots.{has_bit}
 use Rattle.sv_influence.proofs.ReadSets.{read_low, read_at, masked_hit, masked_miss, and_not_or}
 use Rattle.sv_influence.proofs.objects.ObjectSet.remove_writes.Goals as goal
-use Rattle.sv_influence.proofs.objects.ObjectSet.remove_writes.Goals.{then-action-slot-eq1, else-action-slot-eq1}
+use Rattle.sv_influence.proofs.objects.ObjectSet.remove_writes.Goals.{then-is_in_mask, else-is_in_mask}
 
 pub remove-requires : goal.remove-requires
 remove-requires c =
@@ -21,16 +21,16 @@ loop-slot-preserved c =
     let left = at_mask mask (k + 1) (drop (k + 1) (read_set c.args.action.now)) in
     record {
       items = c.loop-slot.invariant.items;
-      rest = elim c.if-action-slot-eq1.branch [
-        | then-action-slot-eq1 w ↦ (λ x.
-            ap (λ (s : ObjectSet). has_object s.words x && not (is_in x left)) w.self-is
+      rest = elim c.if-is_in_mask.branch [
+        | then-is_in_mask w ↦ (λ x.
+            ap (λ (s : ObjectSet). has_bit s.words x && not (is_in x left)) w.self-is
             ∙ ap (λ (b : Bool). b && not (is_in x left)) (w.remove.ensures x)
-            ∙ and_not_or (has_object c.loop-slot.self.words x) (nat_eq x o) (is_in x left)
-            ∙ sym (ap (λ (ys : List ℕ). has_object c.loop-slot.self.words x && not (is_in x ys)) (masked_hit mask k o _ _ d w.if-action-slot-eq1.true))
+            ∙ and_not_or (has_bit c.loop-slot.self.words x) (nat_eq x o) (is_in x left)
+            ∙ sym (ap (λ (ys : List ℕ). has_bit c.loop-slot.self.words x && not (is_in x ys)) (masked_hit mask k o _ _ d (sym c.is_in_mask.ensures ∙ w.if-is_in_mask.true)))
             ∙ c.loop-slot.invariant.rest x)
-        | else-action-slot-eq1 w ↦ (λ x.
-            ap (λ (s : ObjectSet). has_object s.words x && not (is_in x left)) w.self-is
-            ∙ sym (ap (λ (ys : List ℕ). has_object c.loop-slot.self.words x && not (is_in x ys)) (masked_miss mask k o _ _ d w.if-action-slot-eq1.false))
+        | else-is_in_mask w ↦ (λ x.
+            ap (λ (s : ObjectSet). has_bit s.words x && not (is_in x left)) w.self-is
+            ∙ sym (ap (λ (ys : List ℕ). has_bit c.loop-slot.self.words x && not (is_in x ys)) (masked_miss mask k o _ _ d (sym c.is_in_mask.ensures ∙ w.if-is_in_mask.false)))
             ∙ c.loop-slot.invariant.rest x)
       ];
     }
