@@ -4,13 +4,14 @@ use Rattle.sv_wire.specs.declared.message.Request.{Request}
 use Rattle.sv_wire.specs.declared.message.Request.TheVariants as requests
 use Rattle.sv_journal.specs.declared.entry.Entry.{Entry}
 use Rattle.sv_journal.specs.Sessions.{is_end}
+use Rattle.sv_journal.specs.History.{joining}
 use Rattle.sv_living.specs.World.{WorldView}
 use Rattle.sv_keys.specs.Keeping.{KeysView, AreHeld, has_key}
 use Rattle.sv_keeper.specs.Views.{KeeperView}
 use Rattle.sv_log.specs.Pictures.{Disk}
 use Rattle.sv_log.specs.declared.folder.Folder.{Ghosts}
 use Rattle.sv_ports.specs.Traffic.{Traffic}
-use Rattle.sv_office.specs.Admitting.{is_admitted, is_observe, is_stewards_number, number_in, shows_key, steward_number}
+use Rattle.sv_office.specs.Admitting.{is_admitted, is_observe, is_stewards_number, shows_key, steward_number}
 use Rattle.sv_office.specs.Entering.{AreAdded, CameOfHeld, GoesOn, IsEndOf, IsReport, IsStewards, MayEnter, is_steward_ask}
 use Rattle.sv_office.specs.Renewing.{AreHeldFor, KeepsKeys}
 use Rattle.sv_office.specs.declared.guest.Held.{Held}
@@ -26,7 +27,7 @@ use Rattle.sv_host.specs.declared.ending.Stopped.{Stopped}
 
 -- ---- What is no Join
 
-pub no_join_reports : (r : Request) → is_steward_ask r ≡ true → number_in r ≡ None
+pub no_join_reports : (r : Request) → is_steward_ask r ≡ true → joining r ≡ None
 no_join_reports (requests.Join client life interest) is = let clash : false ≡ true = is in cc
 no_join_reports (requests.Submit seq action) is = refl
 no_join_reports (requests.Done results) is = refl
@@ -36,7 +37,7 @@ no_join_reports requests.Leave is = refl
 no_join_reports requests.Bad is = refl
 no_join_reports requests.End is = refl
 
-pub no_join_ends : (r : Request) → is_end r ≡ true → number_in r ≡ None
+pub no_join_ends : (r : Request) → is_end r ≡ true → joining r ≡ None
 no_join_ends (requests.Join client life interest) is = let clash : false ≡ true = is in cc
 no_join_ends (requests.Submit seq action) is = refl
 no_join_ends (requests.Done results) is = refl
@@ -46,7 +47,7 @@ no_join_ends requests.Leave is = refl
 no_join_ends requests.Bad is = refl
 no_join_ends requests.End is = refl
 
-pub no_join_observes : (r : Request) → is_observe r ≡ true → number_in r ≡ None
+pub no_join_observes : (r : Request) → is_observe r ≡ true → joining r ≡ None
 no_join_observes (requests.Join client life interest) is = let clash : false ≡ true = is in cc
 no_join_observes (requests.Submit seq action) is = refl
 no_join_observes (requests.Done results) is = refl
@@ -126,7 +127,7 @@ lets_then {first} {mid} {last} {a} {b} {c} one two = record {
   join = record {
     added = λ named held.
         added_then (one.join.added named held)
-        (added_as (λ e may. may_as one.kept.files named (number_in e.request) may)
+        (added_as (λ e may. may_as one.kept.files named (joining e.request) may)
         (two.join.added named (held_as {before = first} {now = mid} one.kept.files named b (one.kept.keys named held))));
   };
 }
@@ -142,7 +143,7 @@ no_join_may contents named number none = subst (λ (o : Option ℕ). MayJoinAs c
 pub lets_nobody : (contents : List ℕ → Option (List ℕ)) {old new : Option KeysView} {v w : WorldView} → LetsNobodyIn old new v w → LetsIn contents contents old new v w
 lets_nobody contents on = record {
   kept = kept_same (λ name. refl) on.keys;
-  join = record { added = λ named held. added_as (λ e none. no_join_may contents named (number_in e.request) none) on.added };
+  join = record { added = λ named held. added_as (λ e none. no_join_may contents named (joining e.request) none) on.added };
 }
 
 pub lets_office : {F : Type 0} {k : Ghosts F} {a b : Office F k} (contents : List ℕ → Option (List ℕ)) → b ≡ a
@@ -160,7 +161,7 @@ stewards_number_may contents named number is = subst (λ (o : Option ℕ). MayJo
 pub steward_let_in : {v w : WorldView} (h : List Entry) (mine : Option ℕ) → GoesOn (IsStewards h mine) v w → LetsStewardIn v w
 steward_let_in h mine on = added_as go on.added
   where
-    go : (e : Entry) → IsStewards h mine e → IsNoJoin e ⊎ (number_in e.request ≡ Some steward_number)
+    go : (e : Entry) → IsStewards h mine e → IsNoJoin e ⊎ (joining e.request ≡ Some steward_number)
     go e (asks, inl report) = inl (no_join_reports e.request report)
     go e (asks, inr joins) = inr joins
 
@@ -168,9 +169,9 @@ pub lets_steward : (contents : List ℕ → Option (List ℕ)) {old new : Option
     → LetsIn contents contents old new v w
 lets_steward contents same on = record { kept = kept_same (λ name. refl) same; join = record { added = λ named held. added_as (go named) on } }
   where
-    go : (named : Option (List ℕ)) (e : Entry) → IsNoJoin e ⊎ (number_in e.request ≡ Some steward_number) → MayJoinByKeys contents named e
-    go named e (inl none) = no_join_may contents named (number_in e.request) none
-    go named e (inr is) = stewards_number_may contents named (number_in e.request) is
+    go : (named : Option (List ℕ)) (e : Entry) → IsNoJoin e ⊎ (joining e.request ≡ Some steward_number) → MayJoinByKeys contents named e
+    go named e (inl none) = no_join_may contents named (joining e.request) none
+    go named e (inr is) = stewards_number_may contents named (joining e.request) is
 
 -- ---- The turn of a connection
 
@@ -189,12 +190,12 @@ admitted_may contents name keys (Some digest) (Some client) held is =
 entered_may : (contents : List ℕ → Option (List ℕ)) (named : Option (List ℕ)) (h : List Entry) (steward mine : Option ℕ) (keys : Option KeysView) (key : Option (List ℕ))
     → AreHeldFor contents named keys → (e : Entry) → MayEnter h steward mine keys key e → MayJoinByKeys contents named e
 entered_may contents named h steward mine keys key held e (inl report) =
-    no_join_may contents named (number_in e.request) (no_join_reports e.request report.1)
+    no_join_may contents named (joining e.request) (no_join_reports e.request report.1)
 entered_may contents named h steward mine keys key held e (inr (asks, inl ends)) =
-    no_join_may contents named (number_in e.request) (no_join_ends e.request ends)
+    no_join_may contents named (joining e.request) (no_join_ends e.request ends)
 entered_may contents None h steward mine keys key held e (inr (asks, inr is)) = tt
 entered_may contents (Some name) h steward mine None key held e (inr (asks, inr is)) = absurd held
-entered_may contents (Some name) h steward mine (Some keys) key held e (inr (asks, inr is)) = admitted_may contents name keys key (number_in e.request) held is
+entered_may contents (Some name) h steward mine (Some keys) key held e (inr (asks, inr is)) = admitted_may contents name keys key (joining e.request) held is
 
 pub heard_lets : {before now : List ℕ → Option (List ℕ)} {old new : Option KeysView} {v w : WorldView} (h : List Entry) (steward mine : Option ℕ) (key : Option (List ℕ))
     → KeepsKeys before now old new → GoesOn (MayEnter h steward mine new key) v w → LetsIn before now old new v w
@@ -236,7 +237,7 @@ held_now {contents} {now} named keys read = held_as {before = contents} {now = n
 -- The files had the same before.
 module _ {contents now : List ℕ → Option (List ℕ)} (named : Option (List ℕ)) (files : (name : List ℕ) → now name ≡ contents name) where
   may_before : (e : Entry) → MayJoinByKeys now named e → MayJoinByKeys contents named e
-  may_before e may = may_as files named (number_in e.request) may
+  may_before e may = may_as files named (joining e.request) may
 
   pub stopped_before : {F : Type 0} (disk : F → Disk) (is_honest : F → Type 0) (first : KeeperView F) (before after : Traffic) (name : List ℕ) (stopped : Stopped)
       → HasStopped disk is_honest (MayJoinByKeys now named) first before after name stopped → HasStopped disk is_honest (MayJoinByKeys contents named) first before after name stopped

@@ -1,9 +1,10 @@
 -- Who joins while a world is served. With keys it is a client for whom the file of keys has one.
 use Rattle.std.specs.Prelude.{◌≡◌, ◌⊎◌, ℕ, true, List, Option, Some, None}
 use Rattle.sv_journal.specs.declared.entry.Entry.{Entry}
+use Rattle.sv_journal.specs.History.{joining}
 use Rattle.sv_living.specs.World.{WorldView}
 use Rattle.sv_keys.specs.Keeping.{KeysView, AreHeld, has_key}
-use Rattle.sv_office.specs.Admitting.{number_in, steward_number}
+use Rattle.sv_office.specs.Admitting.{steward_number}
 use Rattle.sv_office.specs.Entering.{AreAdded}
 use Rattle.sv_office.specs.Renewing.{AreHeldFor, KeepsKeys}
 
@@ -22,7 +23,7 @@ MayJoinAs contents (Some name) (Some client) = (client ≡ steward_number) ⊎ H
 
 -- An entry is no Join, or one under such a number.
 abbrev pub MayJoinByKeys : (List ℕ → Option (List ℕ)) → Option (List ℕ) → Entry → Type 0
-MayJoinByKeys contents named e = MayJoinAs contents named (number_in e.request)
+MayJoinByKeys contents named e = MayJoinAs contents named (joining e.request)
 
 -- Whichever file these keys are those of, who joins between the two worlds may join by it.
 pub record JoinByKeys (contents : List ℕ → Option (List ℕ)) (keys : Option KeysView) (v w : WorldView) : Type 0 where
@@ -35,7 +36,7 @@ pub record LetsIn (before now : List ℕ → Option (List ℕ)) (old new : Optio
 
 -- An entry is no Join.
 abbrev pub IsNoJoin : Entry → Type 0
-IsNoJoin e = number_in e.request ≡ None
+IsNoJoin e = joining e.request ≡ None
 
 -- The keys stay, and nobody joins.
 pub record LetsNobodyIn (old new : Option KeysView) (v w : WorldView) : Type 0 where
@@ -44,4 +45,4 @@ pub record LetsNobodyIn (old new : Option KeysView) (v w : WorldView) : Type 0 w
 
 -- Nobody joins but under the steward's number.
 abbrev pub LetsStewardIn : WorldView → WorldView → Type 0
-LetsStewardIn v w = AreAdded (λ (e : Entry). IsNoJoin e ⊎ (number_in e.request ≡ Some steward_number)) v.history w.history
+LetsStewardIn v w = AreAdded (λ (e : Entry). IsNoJoin e ⊎ (joining e.request ≡ Some steward_number)) v.history w.history

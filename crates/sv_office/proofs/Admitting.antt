@@ -3,19 +3,20 @@ use Rattle.std.proofs.Common.{◌≡◌, ℕ, Bool, true, false, ◌&&◌, not, 
 use Rattle.std.proofs.lemmas.Bool.{and_parts}
 use Rattle.sv_wire.specs.declared.message.Request.{Request}
 use Rattle.sv_wire.specs.declared.message.Request.TheVariants as requests
+use Rattle.sv_journal.specs.History.{joining}
 use Rattle.sv_keys.specs.Keeping.{KeysView}
-use Rattle.sv_office.specs.Admitting.{is_admitted, is_observe, is_stewards_number, number_in, shows_key}
+use Rattle.sv_office.specs.Admitting.{is_admitted, is_observe, is_stewards_number, shows_key}
 
 not_true : (b : Bool) → not b ≡ true → b ≡ false
 not_true true e = let clash : false ≡ true = e in cc
 not_true false e = refl
 
 pub admitted_another : (keys : Option KeysView) (key : Option (List ℕ)) (request : Request) → is_admitted keys key request ≡ true
-    → is_stewards_number (number_in request) ≡ false
+    → is_stewards_number (joining request) ≡ false
 admitted_another keys key request is =
-    not_true (is_stewards_number (number_in request)) (and_parts (not (is_stewards_number (number_in request))) (shows_key keys key (number_in request)) is).0
+    not_true (is_stewards_number (joining request)) (and_parts (not (is_stewards_number (joining request))) (shows_key keys key (joining request)) is).0
 
-pub observes_another : (request : Request) → is_observe request ≡ true → is_stewards_number (number_in request) ≡ false
+pub observes_another : (request : Request) → is_observe request ≡ true → is_stewards_number (joining request) ≡ false
 observes_another (requests.Join client life interest) is = let clash : false ≡ true = is in cc
 observes_another (requests.Submit seq action) is = refl
 observes_another (requests.Done results) is = refl

@@ -16,7 +16,7 @@ use Rattle.sv_living.specs.Sessions.{is_open, may_ask, next_session, AreInOrder}
 use Rattle.sv_living.specs.World.{WorldView, after, reply_in}
 use Rattle.sv_keeper.specs.Views.{KeeperView}
 use Rattle.sv_keeper.specs.declared.fault.KeepFault.{KeepFault}
-use Rattle.sv_office.specs.Admitting.{is_stewards_number, number_in, steward_number}
+use Rattle.sv_office.specs.Admitting.{is_stewards_number, steward_number}
 use Rattle.sv_office.specs.Entering.{AsksIn, WasEntered}
 use Rattle.sv_office.specs.Knowing.{IsAlone, IsAloneIn}
 use Rattle.sv_office.specs.Trusting.{WasJoinedAsSteward}
@@ -26,7 +26,7 @@ clash : {b : Bool} → b ≡ true → b ≡ false → ⊥
 clash t f = let e : true ≡ false = sym t ∙ f in cc
 
 -- Who does not join as the steward joins under another number.
-joins_another : (request : Request) → is_stewards_number (number_in request) ≡ false → joining request ≢ Some steward_number
+joins_another : (request : Request) → is_stewards_number (joining request) ≡ false → joining request ≢ Some steward_number
 joins_another (requests.Join client life interest) other same = clash (ap is_stewards_number same) other
 joins_another (requests.Submit seq action) other same = let no : None ≡ Some steward_number = same in cc
 joins_another (requests.Done results) other same = let no : None ≡ Some steward_number = same in cc
@@ -75,7 +75,7 @@ module _ (join : StewardsJoin) (fresh : UnbegunIsNobodys) where
     abbrev e : Entry
     e = entry_of s request (reply_in v s request)
 
-    others_alone : AreInOrder (after v s request).history → is_stewards_number (number_in request) ≡ false → (mine : Option ℕ) → IsAlone v mine
+    others_alone : AreInOrder (after v s request).history → is_stewards_number (joining request) ≡ false → (mine : Option ℕ) → IsAlone v mine
         → IsAlone (after v s request) mine
     others_alone order other mine alone t lives joined =
         let before = joined_before v.history e t (λ same. joins_another request other) joined in
@@ -108,7 +108,7 @@ module _ (join : StewardsJoin) (fresh : UnbegunIsNobodys) where
 
     -- One that does not join as the steward asked.
     pub step_others : (result : Result Reply KeepFault) → IfOk result (WasEntered old.world new.world s request)
-        → OnErr result ((new.world ≡ old.world) ⊎ (new.is_broken ≡ true)) → is_stewards_number (number_in request) ≡ false → (mine : Option ℕ)
+        → OnErr result ((new.world ≡ old.world) ⊎ (new.is_broken ≡ true)) → is_stewards_number (joining request) ≡ false → (mine : Option ℕ)
         → IsAloneIn old mine → IsAloneIn new mine
     step_others (Err fault) is why other mine alone = kept_alone why mine alone
     step_others (Ok reply) is why other mine alone = λ sound.

@@ -5,9 +5,10 @@ use Rattle.sv_wire.specs.declared.message.Request.{Request}
 use Rattle.sv_wire.specs.declared.message.Request.TheVariants as requests
 use Rattle.sv_journal.specs.declared.entry.Entry.{Entry}
 use Rattle.sv_journal.specs.Sessions.{is_end}
+use Rattle.sv_journal.specs.History.{joining}
 use Rattle.sv_living.specs.World.{WorldView}
 use Rattle.sv_keys.specs.Keeping.{KeysView}
-use Rattle.sv_office.specs.Admitting.{is_admitted, is_observe, is_stewards_number, number_in, shows_key}
+use Rattle.sv_office.specs.Admitting.{is_admitted, is_observe, is_stewards_number, shows_key}
 use Rattle.sv_office.specs.Entering.{AreAdded, AsksIn, KeepsOwn, IsEndOf, IsGuests, Follows, CameOf, IsHeldOf, CameOfAsking, CameOfHeld, MayEnter, MayHold}
 use Rattle.sv_office.specs.Offices.{IsNotStewards, HasBegun}
 use Rattle.sv_office.specs.declared.guest.Guest.{Guest}
@@ -47,7 +48,7 @@ request_asked steward keys guest request added keeps none admitted e (inl stewar
 request_asked steward keys guest request added keeps none admitted e (inr (asks, inl ends)) = inr (asks_before added keeps none e.session asks, inl ends)
 request_asked steward keys guest request added keeps none admitted e (inr (asks, inr is)) = inr (asks_before added keeps none e.session asks, inr (admitted, inr is))
 
-none_of_end : (request : Request) → is_end request ≡ true → is_stewards_number (number_in request) ≡ false
+none_of_end : (request : Request) → is_end request ≡ true → is_stewards_number (joining request) ≡ false
 none_of_end requests.End e = refl
 none_of_end (requests.Join client life interest) e = cc
 none_of_end (requests.Submit seq action) e = refl
@@ -62,7 +63,7 @@ not_off false e = refl
 not_off true e = cc
 
 -- What is held shows no number, so any key will do.
-number_of_observe : (request : Request) → is_observe request ≡ true → number_in request ≡ None
+number_of_observe : (request : Request) → is_observe request ≡ true → joining request ≡ None
 number_of_observe requests.End e = cc
 number_of_observe (requests.Join client life interest) e = cc
 number_of_observe (requests.Submit seq action) e = cc
@@ -83,17 +84,17 @@ observe_admitted keys key request observes shown =
     subst (λ (n : Option ℕ). (not (is_stewards_number n) && shows_key keys key n) ≡ true) (sym (number_of_observe request observes)) shown
 
 admitted_parts : (keys : Option KeysView) (key : Option (List ℕ)) (request : Request) → is_admitted keys key request ≡ true
-    → (is_stewards_number (number_in request) ≡ false) × (shows_key keys key (number_in request) ≡ true)
+    → (is_stewards_number (joining request) ≡ false) × (shows_key keys key (joining request) ≡ true)
 admitted_parts keys key request admitted =
-    let parts = and_parts (not (is_stewards_number (number_in request))) (shows_key keys key (number_in request)) admitted in
-    (not_off (is_stewards_number (number_in request)) parts.0, parts.1)
+    let parts = and_parts (not (is_stewards_number (joining request))) (shows_key keys key (joining request)) admitted in
+    (not_off (is_stewards_number (joining request)) parts.0, parts.1)
 
 -- Who may ask something may ask what is held.
 pub held_admitted : (keys : Option KeysView) (key : Option (List ℕ)) (held : Option Held) (request other : Request) → is_admitted keys key request ≡ true → IsHeldOf held other
     → is_admitted keys key other ≡ true
 held_admitted keys key (Some held) request other admitted is =
     subst (λ (q : Request). is_admitted keys key q ≡ true) (sym is)
-    (observe_admitted keys key held.request held.observes (shown_at_all keys key (number_in request) (admitted_parts keys key request admitted).1))
+    (observe_admitted keys key held.request held.observes (shown_at_all keys key (joining request) (admitted_parts keys key request admitted).1))
 held_admitted keys key None request other admitted is = absurd is
 
 -- What a connection may hold it may hold under any keys with a key.
@@ -101,7 +102,7 @@ pub may_hold_with : (before now : Option KeysView) (key shown : Option (List ℕ
     → (shows_key before key None ≡ true → shows_key now shown None ≡ true) → MayHold now shown held
 may_hold_with before now key shown None may better = tt
 may_hold_with before now key shown (Some held) may better =
-    observe_admitted now shown held.request held.observes (better (shown_at_all before key (number_in held.request) (admitted_parts before key held.request may).1))
+    observe_admitted now shown held.request held.observes (better (shown_at_all before key (joining held.request) (admitted_parts before key held.request may).1))
 
 -- What a connection asks may be entered in its turn.
 pub asked_may : (h : List Entry) (steward : Option ℕ) (keys : Option KeysView) (guest : Guest) (request : Request) (e : Entry)

@@ -6,7 +6,7 @@ use Rattle.sv_wire.specs.declared.message.Reply.{Reply}
 use Rattle.sv_wire.specs.declared.message.Request.{Request}
 use Rattle.sv_wire.specs.declared.message.Request.TheVariants as requests
 use Rattle.sv_journal.specs.declared.entry.Entry.{Entry}
-use Rattle.sv_journal.specs.History.{accepted, actions_of, full_reply}
+use Rattle.sv_journal.specs.History.{accepted, actions_of, full_reply, joining}
 use Rattle.sv_journal.specs.Laws.{AreWithinLimits}
 use Rattle.sv_journal.specs.Answer.{Rules}
 use Rattle.sv_journal.specs.Living.{Stewardship, living}
@@ -22,7 +22,7 @@ use Rattle.sv_client.specs.declared.trace.Event.TheVariants as events
 use Rattle.sv_client.specs.Answers.{got_now}
 use Rattle.sv_client.specs.Seen.{newly_asked}
 use Rattle.sv_client.specs.Taking.{Identity}
-use Rattle.sv_office.specs.Admitting.{number_in, steward_number}
+use Rattle.sv_office.specs.Admitting.{steward_number}
 use Rattle.sv_office.specs.Entering.{AreAdded, GrowsBy, AsksIn, IsEntryOf, WasEntered}
 use Rattle.sv_office.specs.Knowing.{IsAlone, IsAloneIn, IsTrusted, IsUpToDate}
 use Rattle.sv_office.specs.Offices.{IsNotStewards, session_of}
@@ -89,7 +89,7 @@ took h o before here now reply same is lacks =
 -- ---- What is reported
 
 -- Who joins reports nothing.
-pub joins_report_nothing : (v : WorldView) (number : ℕ) (request : Request) → number_in request ≡ Some number
+pub joins_report_nothing : (v : WorldView) (number : ℕ) (request : Request) → joining request ≡ Some number
     → ReportsSerial v.rules.world.values (actions_of v.history) request
 joins_report_nothing v number (requests.Join client life interest) is = tt
 joins_report_nothing v number (requests.Submit seq action) is = tt

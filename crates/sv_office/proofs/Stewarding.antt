@@ -5,7 +5,7 @@ use Rattle.sv_wire.specs.declared.message.Request.{Request}
 use Rattle.sv_wire.specs.declared.message.Request.TheVariants as requests
 use Rattle.sv_wire.specs.declared.message.Reply.{Reply}
 use Rattle.sv_journal.specs.declared.entry.Entry.{Entry}
-use Rattle.sv_journal.specs.History.{accepted, actions_of}
+use Rattle.sv_journal.specs.History.{accepted, actions_of, joining}
 use Rattle.sv_journal.specs.Living.{living}
 use Rattle.sv_journal.specs.Sessions.{positions_in}
 use Rattle.sv_core.specs.Rows.{has_entry}
@@ -13,7 +13,7 @@ use Rattle.law_system.specs.Told.{ReportsSerial}
 use Rattle.sv_living.specs.World.{WorldView, after, reply_in}
 use Rattle.sv_client.specs.Kinds.{asks_for_done}
 use Rattle.sv_client.specs.Taking.{items_of}
-use Rattle.sv_office.specs.Admitting.{number_in, steward_number}
+use Rattle.sv_office.specs.Admitting.{steward_number}
 use Rattle.sv_office.specs.Entering.{GoesOn, GrowsBy, IsEntryOf, AsksIn, KeepsOwn, IsReport, IsReported, IsStewards, WasEntered, is_steward_ask}
 use Rattle.sv_office.specs.Offices.{HasBegun}
 use Rattle.sv_office.specs.Stewarding.{Reports, is_refused, reported_at}
@@ -45,11 +45,11 @@ still_asking h mine s (inl has) some = sym has
 still_asking h mine s (inr none) some = absurd (some none.0)
 
 -- A Join of the steward, in the session in which it asks. It reports nothing.
-pub stewards_entered : (v w : WorldView) (mine : Option ℕ) (s : ℕ) (request : Request) → number_in request ≡ Some steward_number → AsksIn v.history mine s
+pub stewards_entered : (v w : WorldView) (mine : Option ℕ) (s : ℕ) (request : Request) → joining request ≡ Some steward_number → AsksIn v.history mine s
     → GrowsBy (IsEntryOf s request) v w → (ReportsSerial v.rules.world.values (actions_of v.history) request → StaysSerial v w)
     → GoesOn (IsStewards v.history mine) v w
 stewards_entered v w mine s request joins asks on serial =
-    goes_as (λ e is. (asks_entered v.history mine s request asks e is, inr (ap number_in is.1 ∙ joins)))
+    goes_as (λ e is. (asks_entered v.history mine s request asks e is, inr (ap joining is.1 ∙ joins)))
     (goes_by on (serial (joins_report_nothing v steward_number request joins)))
 
 -- In one call after the other.

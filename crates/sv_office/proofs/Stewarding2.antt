@@ -5,6 +5,7 @@ use Rattle.sv_wire.specs.declared.message.Request.{Request}
 use Rattle.sv_wire.specs.declared.message.Request.TheVariants as requests
 use Rattle.sv_wire.specs.declared.message.Reply.{Reply}
 use Rattle.sv_journal.specs.declared.entry.Entry.{Entry}
+use Rattle.sv_journal.specs.History.{joining}
 use Rattle.sv_living.specs.World.{WorldView, after}
 use Rattle.sv_client.specs.Kinds.{asks_for_done}
 use Rattle.sv_client.specs.Seen.{newly_asked}
@@ -12,7 +13,7 @@ use Rattle.sv_client.specs.Taking.{Identity}
 use Rattle.sv_client.specs.Traces.{joins, pending_of, submit_of}
 use Rattle.sv_client.specs.declared.trace.Event.{Event}
 use Rattle.sv_client.specs.declared.trace.Event.TheVariants as events
-use Rattle.sv_office.specs.Admitting.{number_in, steward_number}
+use Rattle.sv_office.specs.Admitting.{steward_number}
 use Rattle.sv_office.specs.Entering.{GoesOn, IsEntryOf, IsReport, IsStewards, KeepsOwn, IsReported, WasEntered, is_steward_ask}
 use Rattle.sv_office.specs.Stewarding.{Reports, is_refused}
 use Rattle.sv_office.proofs.Adding.{goes_as, goes_then, keeps_then, still_none}
@@ -72,11 +73,11 @@ first_is e = cc
 
 -- It joins under its own number.
 pub joins_itself : (who : Identity) (t : List Event) (requests_are : List Request) (request : Request) → who.client.0 ≡ steward_number
-    → requests_are ≡ newly_asked who t (events.Join (joins t)) → slice_get requests_are 0 ≡ Some request → number_in request ≡ Some steward_number
+    → requests_are ≡ newly_asked who t (events.Join (joins t)) → slice_get requests_are 0 ≡ Some request → joining request ≡ Some steward_number
 joins_itself who t requests_are request number are first = go (nat_eq (joins t) (joins t)) (eq-eqb (joins t) (joins t) refl) (ap (λ (xs : List Request). slice_get xs 0) (sym are) ∙ first)
   where
     go : (b : Bool) → b ≡ true
         → slice_get (if b then requests.Join who.client (suc (joins t)) who.interest ∷ map submit_of (pending_of t) else []) 0 ≡ Some request
-        → number_in request ≡ Some steward_number
+        → joining request ≡ Some steward_number
     go false is at = let e : false ≡ true = is in cc
-    go true is at = ap number_in (first_is at) ∙ ap (λ (n : ℕ). Some n) number
+    go true is at = ap joining (first_is at) ∙ ap (λ (n : ℕ). Some n) number

@@ -2,16 +2,12 @@
 use Rattle.std.specs.Prelude.{ℕ, ◌==◌, ◌&&◌, not, Bool, true, false, List, Option, Some, None}
 use Rattle.sv_wire.specs.declared.message.Request.{Request}
 use Rattle.sv_wire.specs.declared.message.Request.TheVariants as requests
+use Rattle.sv_journal.specs.History.{joining}
 use Rattle.sv_keys.specs.Keeping.{KeysView, has_key}
 
 -- The client number of the steward.
 abbrev pub steward_number : ℕ
 steward_number = 65535
-
--- The number under which a request joins.
-abbrev pub number_in : Request → Option ℕ
-number_in (requests.Join client life interest) = Some client.0
-number_in _ = None
 
 -- With keys, a connection showed one, and it joins under no number but those of its key.
 abbrev pub shows : KeysView → Option (List ℕ) → Option ℕ → Bool
@@ -30,7 +26,7 @@ is_stewards_number (Some number) = number == steward_number
 
 -- A connection that showed a key, or none, may ask this.
 abbrev pub is_admitted : Option KeysView → Option (List ℕ) → Request → Bool
-is_admitted keys key request = not (is_stewards_number (number_in request)) && shows_key keys key (number_in request)
+is_admitted keys key request = not (is_stewards_number (joining request)) && shows_key keys key (joining request)
 
 abbrev pub is_observe : Request → Bool
 is_observe (requests.Observe objects wait) = true

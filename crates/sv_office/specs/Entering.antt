@@ -6,13 +6,13 @@ use Rattle.sv_wire.specs.declared.message.Request.TheVariants as requests
 use Rattle.sv_wire.specs.declared.message.Reply.{Reply}
 use Rattle.sv_journal.specs.declared.entry.Entry.{Entry}
 use Rattle.sv_journal.specs.declared.entry.BriefReply.TheVariants as brief
-use Rattle.sv_journal.specs.History.{accepted, full_reply, is_relay}
+use Rattle.sv_journal.specs.History.{accepted, full_reply, is_relay, joining}
 use Rattle.sv_journal.specs.Sessions.{is_end, positions_in}
 use Rattle.sv_core.specs.Rows.{has_entry}
 use Rattle.sv_living.specs.Sessions.{may_ask}
 use Rattle.sv_living.specs.World.{WorldView, after, reply_in}
 use Rattle.sv_keys.specs.Keeping.{KeysView}
-use Rattle.sv_office.specs.Admitting.{is_admitted, number_in, is_stewards_number, steward_number}
+use Rattle.sv_office.specs.Admitting.{is_admitted, is_stewards_number, steward_number}
 use Rattle.sv_office.specs.Stewarding.{reported_at}
 use Rattle.sv_office.specs.Trusting.{StaysSerial}
 use Rattle.sv_office.specs.declared.guest.Guest.{Guest}
@@ -74,11 +74,11 @@ IsReport steward e = IsOf steward e × (is_steward_ask e.request ≡ true)
 
 -- What the steward enters as it begins: a report, or a Join under its own number, in the session in which it asks.
 abbrev pub IsStewards : List Entry → Option ℕ → Entry → Type 0
-IsStewards h mine e = AsksIn h mine e.session × ((is_steward_ask e.request ≡ true) ⊎ (number_in e.request ≡ Some steward_number))
+IsStewards h mine e = AsksIn h mine e.session × ((is_steward_ask e.request ≡ true) ⊎ (joining e.request ≡ Some steward_number))
 
 -- An entry of a connection, in the session in which it asks, or a report of the steward. No connection joins as the steward.
 abbrev pub IsGuests : List Entry → Option ℕ → Option ℕ → Entry → Type 0
-IsGuests h steward mine e = IsReport steward e ⊎ (AsksIn h mine e.session × (is_stewards_number (number_in e.request) ≡ false))
+IsGuests h steward mine e = IsReport steward e ⊎ (AsksIn h mine e.session × (is_stewards_number (joining e.request) ≡ false))
 
 -- What may follow a reply: the steward's report, and the End of the session.
 abbrev pub Follows : Option ℕ → Option ℕ → Entry → Type 0

@@ -1,11 +1,12 @@
 //! Entering what a session asks.
 ghost use Rattle.std.specs.Prelude.{◌≡◌, ◌≢◌, ◌⊎◌, ℕ, true, false, Option, Some, Err, IfOk, IfErr, OnOk, OnErr};
+ghost use Rattle.sv_journal.specs.History.{joining};
 ghost use Rattle.sv_journal.specs.Laws.{AreWithinLimits};
 ghost use Rattle.sv_keeper.specs.Keeping.{Stepped, WasNotStepped};
 ghost use Rattle.sv_keeper.specs.declared.fault.KeepFault.TheVariants as faults;
 ghost use Rattle.sv_living.specs.Sessions.{AreInOrder};
 ghost use Rattle.sv_living.specs.World.{after};
-ghost use Rattle.sv_office.specs.Admitting.{is_stewards_number, number_in};
+ghost use Rattle.sv_office.specs.Admitting.{is_stewards_number};
 ghost use Rattle.sv_office.specs.Entering.{AsksIn, GoesOn, GrowsBy, IsEntryOf, WasEntered};
 ghost use Rattle.sv_office.specs.Knowing.{IsAloneIn, IsTrusted};
 ghost use Rattle.sv_office.specs.Trusting.{IsLegalWorld, ReportsSerially, StaysSerial};
@@ -61,7 +62,7 @@ pub(crate) fn enter<F: Folder>(
     ensures added { GrowsBy (IsEntryOf session request.now) keeper.old.world keeper.new.world }
     ensures serial { (keeper.old.is_broken ≡ false → ReportsSerially keeper.old.world session request.now) → StaysSerial keeper.old.world keeper.new.world }
     // Whose the open sessions are that were joined as the steward, where another asked, and where it asked itself.
-    ensures others { is_stewards_number (number_in request.now) ≡ false → (mine : Option ℕ) → IsAloneIn keeper.old mine → IsAloneIn keeper.new mine }
+    ensures others { is_stewards_number (joining request.now) ≡ false → (mine : Option ℕ) → IsAloneIn keeper.old mine → IsAloneIn keeper.new mine }
     ensures own { (mine : Option ℕ) → AsksIn keeper.old.world.history mine session → IsAloneIn keeper.old mine → OnOk result (IsAloneIn keeper.new (Some session)) }
     ensures kept { (mine : Option ℕ) → IsAloneIn keeper.old mine → OnErr result (IsAloneIn keeper.new mine) }
 {

@@ -1,9 +1,8 @@
 //! A request: it is refused a connection, held, answered without an entry, or stepped.
-ghost use Rattle.std.specs.Prelude.{◌≡◌, ◌≢◌, ◌⊎◌, ℕ, true, false, List, None, Some, IfOk, OnOk, IfSome, IfNone, option_map, length};
-ghost use Rattle.sv_world.specs.declared.world.ClientId.{ClientId};
+ghost use Rattle.std.specs.Prelude.{◌≡◌, ◌≢◌, ◌⊎◌, ℕ, true, false, List, None, Some, IfOk, OnOk, IfSome, IfNone, length};
 ghost use Rattle.sv_wire.specs.Grammar.{IsWireReply};
 ghost use Rattle.sv_journal.specs.declared.entry.Entry.{Entry};
-ghost use Rattle.sv_journal.specs.History.{accepted, full_reply};
+ghost use Rattle.sv_journal.specs.History.{accepted, full_reply, joining};
 ghost use Rattle.sv_journal.specs.Laws.{AreWithinLimits};
 ghost use Rattle.sv_journal.specs.Sessions.{is_end};
 ghost use Rattle.sv_living.specs.Quiet.{IsQuietReply};
@@ -11,7 +10,7 @@ ghost use Rattle.sv_living.specs.Sessions.{AreInOrder};
 ghost use Rattle.sv_living.specs.World.{WorldView, after, reply_in};
 ghost use Rattle.sv_wire.specs.declared.message.Reply.{Reply};
 ghost use Rattle.sv_wire.specs.declared.message.Request.{Request};
-ghost use Rattle.sv_office.specs.Admitting.{is_admitted, is_stewards_number, number_in, shows_key};
+ghost use Rattle.sv_office.specs.Admitting.{is_admitted, is_stewards_number, shows_key};
 ghost use Rattle.sv_office.specs.Entering.{GoesOn, KeepsOwn, AsksInOne, IsEndOf, IsEnded, Follows, CameOf, CameOfAsking, MayHold, WasFollowed, WasAnswered, IsReport};
 ghost use Rattle.sv_office.specs.Guests.{HasYetToAsk, Stays};
 ghost use Rattle.sv_office.specs.Offices.{IsNotStewards, session_of};
@@ -23,7 +22,7 @@ use crate::entering::{asking_session, enter};
 use crate::guest::{Guest, Held};
 use crate::halt::Halt;
 use crate::office::Office;
-use sv_journal::{is_stopping, served_replies_are_messages};
+use sv_journal::{is_stopping, joining, served_replies_are_messages};
 use sv_keeper::{KeepFault, Keeper};
 use sv_keys::Keys;
 use sv_log::Folder;
@@ -41,34 +40,25 @@ struct Before {
     outcomes: Option<u32>,
 }
 
-fn joining(request: &Request) -> Option<ClientId>
-    ensures { option_map (λ (c : ClientId). c.0) result ≡ number_in request.now }
-{
-    match request {
-        Request::Join { client, .. } => Some(*client),
-        _ => None,
-    }
-}
-
 // Notes the client as which a request joins.
 fn note_client(client: &mut Option<ClientId>, request: &Request) {
     if let Some(joined) = joining(request) {
-        *client = Some(joined);
+        *client = Some(ClientId(joined));
     }
 }
 
-fn is_stewards(client: Option<ClientId>) -> bool
-    ensures { result ≡ is_stewards_number (option_map (λ (c : ClientId). c.0) client) }
+fn is_stewards(number: Option<u16>) -> bool
+    ensures { result ≡ is_stewards_number number }
 {
-    match client {
-        Some(client) => client.0 == STEWARD_NUMBER,
+    match number {
+        Some(number) => number == STEWARD_NUMBER,
         None => false,
     }
 }
 
 /// Whether a key lets a client join, where keys are wanted, or lets ask anything else.
-fn shows_key(keys: &Option<Keys>, key: &Option<[u8; 32]>, client: Option<ClientId>) -> bool
-    ensures { result ≡ shows_key keys.now key.now (option_map (λ (c : ClientId). c.0) client) }
+fn shows_key(keys: &Option<Keys>, key: &Option<[u8; 32]>, number: Option<u16>) -> bool
+    ensures { result ≡ shows_key keys.now key.now number }
 {
     let Some(keys) = keys else {
         return true;
@@ -76,8 +66,8 @@ fn shows_key(keys: &Option<Keys>, key: &Option<[u8; 32]>, client: Option<ClientI
     let Some(digest) = key else {
         return false;
     };
-    match client {
-        Some(client) => keys.has(client, digest),
+    match number {
+        Some(number) => keys.has(ClientId(number), digest),
         None => true,
     }
 }
@@ -121,8 +111,8 @@ impl<F: Folder> Office<F> {
     fn admits(&self, guest: &Guest, request: &Request) -> bool
         ensures { result ≡ is_admitted self.now.keys guest.now.key request.now }
     {
-        let client = joining(request);
-        !is_stewards(client) && shows_key(&self.keys, &guest.key, client)
+        let number = joining(request);
+        !is_stewards(number) && shows_key(&self.keys, &guest.key, number)
     }
 
     /// Takes a request of a connection that is served. An End is none: only the server enters one.
@@ -169,7 +159,7 @@ impl<F: Folder> Office<F> {
     /// Answers a request: without an entry, where it is an Observe that would show nothing, and else by a step.
     pub(crate) fn answer(&mut self, guest: &mut Guest, request: &Request) -> Result<(), Halt>
         requires asks { is_end request.now ≡ false }
-        requires another { is_stewards_number (number_in request.now) ≡ false }
+        requires another { is_stewards_number (joining request.now) ≡ false }
         requires open { guest.old.standing ≡ standing.Open }
         requires served { IsServedGuest self.old.keeper.world guest.old }
         requires apart { IsNotStewards guest.old.session (session_of self.old.steward) }
@@ -210,7 +200,7 @@ impl<F: Folder> Office<F> {
     // Steps a request, and does what its reply asks for.
     fn step(&mut self, guest: &mut Guest, request: &Request) -> Result<(), Halt>
         requires asks { is_end request.now ≡ false }
-        requires another { is_stewards_number (number_in request.now) ≡ false }
+        requires another { is_stewards_number (joining request.now) ≡ false }
         requires open { guest.old.standing ≡ standing.Open }
         requires served { IsServedGuest self.old.keeper.world guest.old }
         requires apart { IsNotStewards guest.old.session (session_of self.old.steward) }
