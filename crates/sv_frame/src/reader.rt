@@ -15,7 +15,7 @@ use sv_link::{End, EndRead};
 /// What a reader finds at the front of what it was fed.
 #[derive(Clone, Copy, Debug, PartialEq, Eq)]
 pub enum NextFrame<'a> {
-    /// The payload of a whole frame, which is taken off the stream.
+    /// The payload of a whole frame.
     Frame(&'a [u8]),
 
     /// No whole frame has come yet.

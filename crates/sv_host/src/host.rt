@@ -97,7 +97,7 @@ impl<F: Folder> Host<F> {
         ensures written { KeepsOut self.old.office.keeper.world self.old.room.guests guest.old self.new.office.keeper.world self.new.room.guests guest.new }
         ensures office { self.new.office ≡ self.old.office }
     {
-        guest.leave();
+        guest.break_off();
     }
 
     /// Takes what a connection asks, in its turn. `piece` is for what is read at once.

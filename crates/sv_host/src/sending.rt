@@ -11,7 +11,8 @@ use crate::room::Room;
 use std::alloc::Global;
 use sv_keeper::Durable;
 use sv_log::Folder;
-use sv_office::{FULL, Guest, Halt, Standing};
+use sv_office::{Guest, Halt, Standing};
+use sv_peer::FULL;
 use sv_ports::{Numbered, PortWrote, Ports};
 use sv_site::Counts;
 
@@ -40,7 +41,7 @@ fn flush<P: Ports>(
             }
             PortWrote::NotYet => return,
             PortWrote::Failed => {
-                guest.leave();
+                guest.break_off();
                 return;
             }
         }

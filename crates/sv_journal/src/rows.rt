@@ -10,7 +10,7 @@ ghost use Rattle.sv_journal.specs.Rows.{tells_outcome, count_after, accepts, Are
 use crate::{Entry, BriefReply};
 use std::alloc::AllocError;
 use sv_wire::Request;
-use sv_world::ClientId;
+use sv_world::{CLIENT_NUMBERS, ClientId};
 
 /// An accepted action: its client, and the place of its entry.
 #[derive(Clone, Copy, Debug, Drop)]
@@ -20,7 +20,7 @@ pub struct Acceptance {
 }
 
 /// How many numbers there are for sessions, and for clients.
-const NUMBERS: usize = 65_536;
+const NUMBERS: usize = CLIENT_NUMBERS as usize;
 
 /// Makes a row for each number that a session may have, where there is none yet.
 pub fn make_client_rows(clients: &mut Vec<Option<ClientId>>) -> Result<(), AllocError>

@@ -125,7 +125,7 @@ fn bye() -> Answer
 
 /// The End of a session, whose slot is free then. `g` has the history of all entries, and whose reports count. It takes no memory.
 #[inline(never)]
-fn leave(core: &mut Core, seat: Seat)
+fn end_and_free(core: &mut Core, seat: Seat)
     ghost g: { Course }
     requires keeps { Keeps core.old (heeded g.w g.h) }
     requires seat { SitsAt core.old seat }
@@ -245,7 +245,7 @@ impl Live {
         ensures end { is_end request.now ≡ true → IsOk result }
     {
         if let Request::End = request {
-            leave(&mut self.core, seat);
+            end_and_free(&mut self.core, seat);
             self.table.remove(seat.session);
             return Ok(bye());
         }
@@ -297,7 +297,7 @@ impl Live {
         ensures err { OnErr result (StoodStill self.old self.new g.h) }
     {
         let seat = self.core.open(session)?;
-        leave(&mut self.core, seat);
+        end_and_free(&mut self.core, seat);
         self.next += 1;
         Ok(bye())
     }

@@ -94,7 +94,7 @@ impl Guest {
     }
 
     /// It is closed at once.
-    pub fn leave(&mut self)
+    pub fn break_off(&mut self)
         ensures { self.new ≡ record self.old { standing = standing.Gone; held = None; has_more = false } }
     {
         self.standing = Standing::Gone;

@@ -17,7 +17,7 @@ use crate::office::Office;
 use crate::outside::Outside;
 use sv_bytes::{Files, Sink};
 use sv_log::Folder;
-use sv_peer::Heard;
+use sv_peer::{FULL, Heard};
 use sv_ports::{PortRead, Ports};
 use sv_site::Site;
 use sv_wire::Request;
@@ -27,9 +27,6 @@ pub const REQUESTS_A_TURN: u32 = 16;
 
 /// How many reads of one connection are made before another's turn.
 const READS_A_TURN: u32 = 64;
-
-/// While so many bytes wait to be sent to a connection, nothing is taken of it.
-pub const FULL: usize = 65_536;
 
 /// What was taken of a connection.
 #[derive(Clone, Copy, Debug, Drop, PartialEq, Eq)]
@@ -77,7 +74,7 @@ fn read_piece<P: Ports>(ports: &mut P, number: u64, guest: &mut Guest, piece: &m
             0
         }
         PortRead::Failed => {
-            guest.leave();
+            guest.break_off();
             0
         }
     }
@@ -96,7 +93,7 @@ fn drain<P: Ports>(ports: &mut P, number: u64, guest: &mut Guest, piece: &mut [u
             PortRead::NotYet => return,
             PortRead::Ended => return,
             PortRead::Failed => {
-                guest.leave();
+                guest.break_off();
                 return;
             }
         }
@@ -322,7 +319,7 @@ impl<F: Folder> Office<F> {
             calls: 0,
         };
         if guest.peer.hear(piece, self.random, &mut site).is_err() {
-            guest.leave();
+            guest.break_off();
         }
         if site.calls > 0 {
             guest.heard = self.time;
@@ -417,7 +414,7 @@ impl<F: Folder> Office<F> {
         match guest.peer.next() {
             Heard::NotYet => Ok(Taken::Nothing),
             Heard::Memory => {
-                guest.leave();
+                guest.break_off();
                 Ok(Taken::Other)
             }
             Heard::Closed => {
@@ -466,7 +463,7 @@ impl<F: Folder> Office<F> {
             return Ok(());
         }
         self.counts.refuse();
-        guest.leave();
+        guest.break_off();
         Ok(())
     }
 }

@@ -19,7 +19,7 @@ pub use ages::Ages;
 pub use entering::end_session;
 pub use guest::{Guest, Held, Standing};
 pub use halt::Halt;
-pub use hearing::{FULL, Half};
+pub use hearing::Half;
 pub use laws::{all_stay_served, new_worlds_are_serial, others_stay_served};
 pub use office::{Office, Policy};
 pub use outside::Outside;

@@ -102,7 +102,7 @@ fn tell(guest: &mut Guest, reply: &Reply)
 {
     reply_numbers_fit(reply);
     if guest.peer.say(reply).is_err() {
-        guest.leave();
+        guest.break_off();
     }
 }
 
@@ -142,7 +142,7 @@ impl<F: Folder> Office<F> {
         guest.has_spoken = true;
         if !self.admits(guest, &request) {
             self.counts.refuse();
-            guest.leave();
+            guest.break_off();
             return self.end(guest);
         }
         self.release(guest)?;
@@ -227,11 +227,11 @@ impl<F: Folder> Office<F> {
             Err(KeepFault::Broken) => Err(Halt::Log),
             Err(KeepFault::NoRoom) => {
                 self.counts.refuse();
-                guest.leave();
+                guest.break_off();
                 Ok(())
             }
             Err(_) => {
-                guest.leave();
+                guest.break_off();
                 self.end(guest)
             }
         }

@@ -11,7 +11,7 @@ use std::hash::RandomState;
 /// How long a request's body may be.
 const MOST_BODY: usize = 65_536;
 
-/// While so many bytes wait to be sent, no more requests are answered.
+/// While so many bytes wait to be sent to a connection, nothing more of it is taken or answered.
 pub const FULL: usize = 65_536;
 
 /// How many steps are made at once.

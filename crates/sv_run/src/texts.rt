@@ -27,7 +27,7 @@ use sv_threads::ending_of_fault;
 
 /// Leaves a scenario and what its run kept to the system, which takes them back when the program ends. On one thread, to free them piece by
 /// piece takes up to a sixth of a load's time.
-fn leave<T: Drop>(scenario: Scenario, kept: T) {
+fn forget_both<T: Drop>(scenario: Scenario, kept: T) {
     forget(scenario);
     forget(kept);
 }
@@ -41,7 +41,7 @@ fn replay<F: Files>(alloc: Global, file: &str, files: &mut F) -> Result<String, 
     let scenario = scenario_in(alloc, file, files)?;
     let played = run_schedule(alloc, &scenario)?;
     let text = report(alloc, &scenario, &played)?;
-    leave(scenario, played);
+    forget_both(scenario, played);
     Ok(text)
 }
 
@@ -67,7 +67,7 @@ fn play<F: Files, N: Net, C: Crew, G: Gate + Sync, R: Threads + Wait + Sync>(
         Err(fault) => return Err(ending_of_fault(fault)),
     };
     let text = form_text(stage.alloc, &scenario, form, &threaded)?;
-    leave(scenario, threaded);
+    forget_both(scenario, threaded);
     Ok(text)
 }
 
@@ -91,7 +91,7 @@ fn load<N: Net, C: Crew, G: Gate + Sync, R: Threads + Wait + Sync>(
         Err(fault) => return Err(ending_of_fault(fault)),
     };
     let text = load_text(stage.alloc, size, &scenario, &threaded)?;
-    leave(scenario, threaded);
+    forget_both(scenario, threaded);
     Ok(text)
 }
 

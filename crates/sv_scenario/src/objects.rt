@@ -13,6 +13,9 @@ use std::alloc::Global;
 use sv_lists::List;
 use sv_world::{MOST_INTEREST, MOST_READS, MOST_SHOWN, ObjectId};
 
+/// The greatest number by which a scenario file may name an object, whether the world has it or not.
+const GREATEST_NUMBER: u32 = 65_535;
+
 fn known(alloc: Global, objects: u16, number: u32) -> Result<ObjectId, ReadFault>
     ensures { Gives (λ o. o) result (known objects number) }
 {
@@ -27,7 +30,7 @@ fn known(alloc: Global, objects: u16, number: u32) -> Result<ObjectId, ReadFault
 fn object_of(alloc: Global, objects: u16, value: &Value) -> Result<ObjectId, ReadFault>
     ensures { Gives (λ o. o) result (object_of objects (view value.now)) }
 {
-    let number = number_within(alloc, 0, 65_535, value)?;
+    let number = number_within(alloc, 0, GREATEST_NUMBER, value)?;
     known(alloc, objects, number)
 }
 
@@ -77,7 +80,7 @@ pub fn next_object(
 ) -> Result<ObjectId, ReadFault>
     ensures { Gives (λ o. o) result (next_object objects least (view value.now)) }
 {
-    let number = number_within(alloc, 0, 65_535, value)?;
+    let number = number_within(alloc, 0, GREATEST_NUMBER, value)?;
     let number = not_below(alloc, least, number)?;
     known(alloc, objects, number)
 }

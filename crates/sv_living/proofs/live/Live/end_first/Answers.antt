@@ -30,8 +30,8 @@ returns-in_err-seat-clause-err g c =
     on-err c.from_residual.result
     (stood-still l g.g.h c.requires.0 c.open.new.self (subst (λ (w : Stewardship). Remained l.core c.open.new.self (heeded w g.g.h)) c.requires.1.0 c.in_err-seat.ensures.err))
 
-pub leave-requires : goal.leave-requires
-leave-requires g c =
+pub end_and_free-requires : goal.end_and_free-requires
+end_and_free-requires g c =
     let l = c.args.self.now in
     let seat = c.in_ok-seat.seat in
     let was = c.in_ok-seat.ensures.ok in (
@@ -46,9 +46,9 @@ pub returns-clause-ok : goal.returns-clause-ok
 returns-clause-ok g c =
     let l = c.args.self.now in
     let mid = c.open.new.self in
-    let core = c.leave.new.core in
+    let core = c.end_and_free.new.core in
     let seat = c.in_ok-seat.seat in
     stepped-unused l g.g.h c.requires.0 mid core seat c.args.session c.bye.result
     (subst (λ (w : Stewardship). WasSeated l.core mid (heeded w g.g.h) seat) c.requires.1.0 c.in_ok-seat.ensures.ok)
-    (subst (λ (w : Stewardship). Left mid core w g.g.h seat) c.requires.1.0 c.leave.ensures)
+    (subst (λ (w : Stewardship). Left mid core w g.g.h seat) c.requires.1.0 c.end_and_free.ensures)
     c.in_ok-seat.ensures.number c.requires.1.1.0 c.requires.1.1.1.0 c.bye.ensures.brief c.bye.ensures.reply

@@ -13,11 +13,11 @@ use Rattle.sv_living.proofs.live.Live.step_open.Goals as goal
 pub returns-in-End-clause-ok : goal.returns-in-End-clause-ok
 returns-in-End-clause-ok g c =
     let l = c.args.self.now in
-    let core = c.leave.new.core in
+    let core = c.end_and_free.new.core in
     let seat = c.args.seat in
     subst (λ (q : Request). Moved l (record l { core = core; table = c.remove.new.self }) g.g.h seat.session q c.bye.result) (sym c.in-End.is)
     (subst (λ (table : List Seat). Moved l (record l { core = core; table = table }) g.g.h seat.session requests.End c.bye.result) (sym c.remove.ensures)
-    (stepped-end l g.g.h c.requires.0 core seat c.bye.result (subst (λ (w : Stewardship). Left l.core core w g.g.h seat) c.requires.1.0 c.leave.ensures)
+    (stepped-end l g.g.h c.requires.0 core seat c.bye.result (subst (λ (w : Stewardship). Left l.core core w g.g.h seat) c.requires.1.0 c.end_and_free.ensures)
     c.requires.1.1.0 c.requires.1.1.1 c.bye.ensures.brief c.bye.ensures.reply))
 
 pub returns : goal.returns

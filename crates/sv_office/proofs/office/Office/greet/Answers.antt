@@ -30,11 +30,11 @@ returns-then-look-clause-idle g c = yet_same refl refl
 
 pub returns-clause-turn : goal.returns-clause-turn
 returns-clause-turn g c =
-    turn_looked _ _ c.args.guest.now c.leave.new.self refl (ap (λ (guest : Guest). guest.session) c.leave.ensures) refl refl c.if-guest.false
-    (inl (ap (λ (guest : Guest). guest.key) c.leave.ensures)) (λ may. may_hold_none (Some c.look.new.self) c.leave.new.self.key (ap (λ (guest : Guest). guest.held) c.leave.ensures))
+    turn_looked _ _ c.args.guest.now c.break_off.new.self refl (ap (λ (guest : Guest). guest.session) c.break_off.ensures) refl refl c.if-guest.false
+    (inl (ap (λ (guest : Guest). guest.key) c.break_off.ensures)) (λ may. may_hold_none (Some c.look.new.self) c.break_off.new.self.key (ap (λ (guest : Guest). guest.held) c.break_off.ensures))
 
 pub returns-clause-idle : goal.returns-clause-idle
-returns-clause-idle g c = yet_shut (gone_shut (ap (λ (guest : Guest). guest.standing) c.leave.ensures))
+returns-clause-idle g c = yet_shut (gone_shut (ap (λ (guest : Guest). guest.standing) c.break_off.ensures))
 
 pub returns-then-guest-clause-kept : goal.returns-then-guest-clause-kept
 returns-then-guest-clause-kept g c = kept_same (λ name. refl) c.take_request.ensures.keys
@@ -52,4 +52,4 @@ pub returns-then-look-clause-key : goal.returns-then-look-clause-key
 returns-then-look-clause-key g c = inr refl
 
 pub returns-clause-key : goal.returns-clause-key
-returns-clause-key g c = inl (ap (λ (guest : Guest). guest.key) c.leave.ensures)
+returns-clause-key g c = inl (ap (λ (guest : Guest). guest.key) c.break_off.ensures)

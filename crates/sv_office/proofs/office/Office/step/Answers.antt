@@ -87,7 +87,7 @@ pub returns-in-Err-clause-added : goal.returns-in-Err-clause-added
 returns-in-Err-clause-added g c =
     entered_ended_came _ _ _ _ c.asking_session-session.ensures (goes_by c.enter.ensures.added (c.enter.ensures.serial (λ sound.
     others_report_nothing _ c.args.guest.now _ _ _ (c.args.self.now.trusted.alone sound) c.requires.served
-    c.asking_session-session.ensures (apart_asking c.args.self.now.keeper.world _ _ _ c.args.self.now.sound.begun c.requires.apart c.asking_session-session.ensures)))) (ap (λ (x : Guest). x.session) c.leave-in-Err.ensures) c.end.ensures.added
+    c.asking_session-session.ensures (apart_asking c.args.self.now.keeper.world _ _ _ c.args.self.now.sound.begun c.requires.apart c.asking_session-session.ensures)))) (ap (λ (x : Guest). x.session) c.break_off-in-Err.ensures) c.end.ensures.added
 
 pub returns-in-Ok-clause-asked : goal.returns-in-Ok-clause-asked
 returns-in-Ok-clause-asked g c =
@@ -101,22 +101,22 @@ returns-in-Err-Broken-clause-asked g c = one_entered c.asking_session-session.re
 
 pub returns-in-Err-NoRoom-clause-asked : goal.returns-in-Err-NoRoom-clause-asked
 returns-in-Err-NoRoom-clause-asked g c =
-    one_entered c.asking_session-session.result _ c.asking_session-session.ensures c.enter.ensures.added.added (ap (λ (x : Guest). x.session) c.leave.ensures)
+    one_entered c.asking_session-session.result _ c.asking_session-session.ensures c.enter.ensures.added.added (ap (λ (x : Guest). x.session) c.break_off.ensures)
 
 pub returns-in-Err-NoRoom-clause-idle : goal.returns-in-Err-NoRoom-clause-idle
-returns-in-Err-NoRoom-clause-idle g c = yet_shut (gone_shut (ap (λ (x : Guest). x.standing) c.leave.ensures))
+returns-in-Err-NoRoom-clause-idle g c = yet_shut (gone_shut (ap (λ (x : Guest). x.standing) c.break_off.ensures))
 
 pub returns-in-Err-clause-asked : goal.returns-in-Err-clause-asked
 returns-in-Err-clause-asked g c =
-    one_entered_ended c.asking_session-session.result _ c.asking_session-session.ensures c.enter.ensures.added.added (ap (λ (x : Guest). x.session) c.leave-in-Err.ensures)
+    one_entered_ended c.asking_session-session.result _ c.asking_session-session.ensures c.enter.ensures.added.added (ap (λ (x : Guest). x.session) c.break_off-in-Err.ensures)
     c.end.ensures.added.added c.end.ensures.session
 
 pub returns-in-Err-clause-idle : goal.returns-in-Err-clause-idle
 returns-in-Err-clause-idle g c =
-    ok_any c.end.result (yet_shut (end_shut (gone_shut (ap (λ (x : Guest). x.standing) c.leave-in-Err.ensures)) c.end.ensures.open))
+    ok_any c.end.result (yet_shut (end_shut (gone_shut (ap (λ (x : Guest). x.standing) c.break_off-in-Err.ensures)) c.end.ensures.open))
 
 pub returns-in-Err-clause-answered : goal.returns-in-Err-clause-answered
 returns-in-Err-clause-answered g c =
-    answered_ended c.end.result (session_of c.args.self.now.steward) c.args.self.now.policy.authority c.args.guest.now.session c.leave-in-Err.new.self.session
+    answered_ended c.end.result (session_of c.args.self.now.steward) c.args.self.now.policy.authority c.args.guest.now.session c.break_off-in-Err.new.self.session
     c.end.new.guest.session c.args.self.now.keeper.world c.enter.new.keeper.world c.end.new.self.keeper.world c.args.request.now
-    (ap (λ (x : Guest). x.session) c.leave-in-Err.ensures) (first_of (grind (arith, common_steps), search rules)) c.end.ensures.ended
+    (ap (λ (x : Guest). x.session) c.break_off-in-Err.ensures) (first_of (grind (arith, common_steps), search rules)) c.end.ensures.ended

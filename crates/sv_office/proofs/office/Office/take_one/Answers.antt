@@ -21,11 +21,11 @@ returns-in-NotYet-clause-idle g c = yet_same refl refl
 
 pub returns-in-Memory-clause-turn : goal.returns-in-Memory-clause-turn
 returns-in-Memory-clause-turn g c =
-    turn_nowhere _ _ _ _ refl (ap (λ (guest : Guest). guest.session) c.leave.ensures) refl refl refl (ap (λ (guest : Guest). guest.key) c.leave.ensures)
-    (ap (λ (guest : Guest). guest.has_spoken) c.leave.ensures) (inr (ap (λ (guest : Guest). guest.held) c.leave.ensures))
+    turn_nowhere _ _ _ _ refl (ap (λ (guest : Guest). guest.session) c.break_off.ensures) refl refl refl (ap (λ (guest : Guest). guest.key) c.break_off.ensures)
+    (ap (λ (guest : Guest). guest.has_spoken) c.break_off.ensures) (inr (ap (λ (guest : Guest). guest.held) c.break_off.ensures))
 
 pub returns-in-Memory-clause-idle : goal.returns-in-Memory-clause-idle
-returns-in-Memory-clause-idle g c = yet_same (ap (λ (guest : Guest). guest.session) c.leave.ensures) refl
+returns-in-Memory-clause-idle g c = yet_same (ap (λ (guest : Guest). guest.session) c.break_off.ensures) refl
 
 pub returns-in-Closed-clause-turn : goal.returns-in-Closed-clause-turn
 returns-in-Closed-clause-turn g c =
@@ -65,7 +65,7 @@ pub returns-in-NotYet-clause-key : goal.returns-in-NotYet-clause-key
 returns-in-NotYet-clause-key g c = inl refl
 
 pub returns-in-Memory-clause-key : goal.returns-in-Memory-clause-key
-returns-in-Memory-clause-key g c = inl (ap (λ (guest : Guest). guest.key) c.leave.ensures)
+returns-in-Memory-clause-key g c = inl (ap (λ (guest : Guest). guest.key) c.break_off.ensures)
 
 pub returns-in-Closed-clause-key : goal.returns-in-Closed-clause-key
 returns-in-Closed-clause-key g c = inl c.close.ensures.key

@@ -16,8 +16,8 @@ use Rattle.sv_office.proofs.office.Office.take_request.Goals as goal
 pub end-requires : goal.end-requires
 end-requires g c = record {
   served =
-      served_left _ c.args.guest.now _ (ap (λ (x : Guest). x.session) c.leave.ensures) (ap (λ (x : Guest). x.peer.told) c.leave.ensures)
-      (ap (λ (x : Guest). x.standing) c.leave.ensures) c.requires.served;
+      served_left _ c.args.guest.now _ (ap (λ (x : Guest). x.session) c.break_off.ensures) (ap (λ (x : Guest). x.peer.told) c.break_off.ensures)
+      (ap (λ (x : Guest). x.standing) c.break_off.ensures) c.requires.served;
 }
 
 pub release-requires-clause-served : goal.release-requires-clause-served
@@ -46,7 +46,7 @@ returns-clause-session g c = keeps_then c.in_ok-release.ensures.added.added c.in
     (λ none. (c.in_ok-release.ensures.idle (c.is_open.ensures.0 c.if-not-is_open.false) none).0) c.answer.ensures.session
 
 pub returns-then-not-admits-clause-added : goal.returns-then-not-admits-clause-added
-returns-then-not-admits-clause-added g c = ended_asked_in _ _ c.args.guest.now _ (ap (λ (x : Guest). x.session) c.leave.ensures) c.end.ensures.added
+returns-then-not-admits-clause-added g c = ended_asked_in _ _ c.args.guest.now _ (ap (λ (x : Guest). x.session) c.break_off.ensures) c.end.ensures.added
 
 pub returns-then-not-is_open-clause-added : goal.returns-then-not-is_open-clause-added
 returns-then-not-is_open-clause-added g c = held_came _ _ c.args.guest.now _ (sym c.admits.ensures ∙ c.if-not-admits.false) c.in_ok-release.ensures.added
@@ -56,11 +56,11 @@ returns-then-not-admits-clause-taken g c = λ yes. absurd (clash yes (sym c.admi
 
 pub returns-then-not-admits-clause-refused : goal.returns-then-not-admits-clause-refused
 returns-then-not-admits-clause-refused g c = λ no.
-    subst (λ (o : Option ℕ). OnOk c.end.result (IsEnded o c.end.new.guest.session c.args.self.now.keeper.world.history c.end.new.self.keeper.world.history)) (ap (λ (x : Guest). x.session) c.leave.ensures)
+    subst (λ (o : Option ℕ). OnOk c.end.result (IsEnded o c.end.new.guest.session c.args.self.now.keeper.world.history c.end.new.self.keeper.world.history)) (ap (λ (x : Guest). x.session) c.break_off.ensures)
     c.end.ensures.ended
 
 pub returns-then-not-admits-clause-held : goal.returns-then-not-admits-clause-held
-returns-then-not-admits-clause-held g c = held_none _ (none_held c.end.ensures.guest.held (ap (λ (x : Guest). x.held) c.leave.ensures))
+returns-then-not-admits-clause-held g c = held_none _ (none_held c.end.ensures.guest.held (ap (λ (x : Guest). x.held) c.break_off.ensures))
 
 pub returns-in_err-release-clause-held : goal.returns-in_err-release-clause-held
 returns-in_err-release-clause-held g c = held_none _ c.in_err-release.ensures.held
@@ -99,14 +99,14 @@ returns-clause-held g c = held_none _ (none_held c.answer.ensures.guest.held c.i
 
 pub returns-then-not-admits-clause-asked : goal.returns-then-not-admits-clause-asked
 returns-then-not-admits-clause-asked g c =
-    one_then_ended (one_nowhere refl (ap (λ (x : Guest). x.session) c.leave.ensures)) c.end.ensures.added.added c.end.ensures.session
+    one_then_ended (one_nowhere refl (ap (λ (x : Guest). x.session) c.break_off.ensures)) c.end.ensures.added.added c.end.ensures.session
 
 pub returns-then-not-admits-clause-idle : goal.returns-then-not-admits-clause-idle
 returns-then-not-admits-clause-idle g c =
-    ok_any c.end.result (yet_shut (end_shut (gone_shut (ap (λ (x : Guest). x.standing) c.leave.ensures)) c.end.ensures.open))
+    ok_any c.end.result (yet_shut (end_shut (gone_shut (ap (λ (x : Guest). x.standing) c.break_off.ensures)) c.end.ensures.open))
 
 pub returns-then-not-admits-clause-may_hold : goal.returns-then-not-admits-clause-may_hold
-returns-then-not-admits-clause-may_hold g c = may_hold_none _ _ (none_held c.end.ensures.guest.held (ap (λ (x : Guest). x.held) c.leave.ensures))
+returns-then-not-admits-clause-may_hold g c = may_hold_none _ _ (none_held c.end.ensures.guest.held (ap (λ (x : Guest). x.held) c.break_off.ensures))
 
 pub returns-in_err-release-clause-may_hold : goal.returns-in_err-release-clause-may_hold
 returns-in_err-release-clause-may_hold g c = may_hold_none _ _ c.in_err-release.ensures.held

@@ -2,7 +2,7 @@
 use Rattle.std.proofs.Common.{◌∙◌}
 use Rattle.sv_journal.specs.Living.{heeded}
 use Rattle.sv_living.proofs.Standing.{ended-heeded, left-slot, may-close}
-use Rattle.sv_living.proofs.step.leave.Goals as goal
+use Rattle.sv_living.proofs.step.end_and_free.Goals as goal
 
 pub end-requires : goal.end-requires
 end-requires g c = (c.requires.0, (c.requires.1.0, ended-heeded g.g.w g.g.h c.args.seat.session ∙ c.requires.1.1))

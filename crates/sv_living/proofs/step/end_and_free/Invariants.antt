@@ -2,7 +2,7 @@
 use Rattle.std.proofs.Common.{◌∷◌}
 use Rattle.sv_journal.specs.Living.{heeded}
 use Rattle.sv_journal.specs.History.{end_entry}
-use Rattle.sv_living.proofs.step.leave.Given as goal
+use Rattle.sv_living.proofs.step.end_and_free.Given as goal
 
 abbrev pub ghost-end : goal.ghost-end
 ghost-end g a = heeded g.g.w g.g.h
