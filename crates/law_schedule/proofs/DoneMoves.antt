@@ -14,10 +14,11 @@ use Rattle.sv_scenario.specs.declared.scenario.Step.TheVariants as steps
 use Rattle.sv_scenario.specs.Sessions.{cuts_by, cuts_in}
 use Rattle.sv_script.specs.Following.{must_join, is_welcomed}
 use Rattle.sv_script.proofs.Counts.{one_if}
+use Rattle.sv_script.specs.Next.{may_ask}
 use Rattle.law_system.proofs.Aligned.{aligned}
 use Rattle.law_system.proofs.Clients.{proper-events}
 use Rattle.law_system.proofs.Pendings.{key_of, keys, submits}
-use Rattle.law_schedule.specs.Players.{Player, does, if_free, is_calm, nothing_outstanding, last_steps, player_after, player_turn}
+use Rattle.law_schedule.specs.Players.{Player, does, if_free, nothing_outstanding, last_steps, player_after, player_turn}
 use Rattle.law_schedule.proofs.DoneTakes.{IsOpen}
 use Rattle.law_schedule.proofs.DoneShut.{turn-joins, turn-steps}
 
@@ -81,7 +82,7 @@ moved-by p s step ss e o left joined inside current =
 pub settled-none : (p : Player) → nothing_outstanding p ≡ true → outstanding p.who p.events ≡ []
 settled-none p e = nil_from_length (outstanding p.who p.events) (eqb-true (length (outstanding p.who p.events)) 0 e)
 
-calm-settled : (p : Player) → nothing_outstanding p ≡ true → is_calm p ≡ true
+calm-settled : (p : Player) → nothing_outstanding p ≡ true → may_ask p.who p.events ≡ true
 calm-settled p e = let none = ap length (settled-none p e) in lt-ltb (length (outstanding p.who p.events)) 16 (omega (arith, none))
 
 -- Nothing is pending then.
@@ -128,11 +129,11 @@ last-turn p s o left =
 step-moves : (p : Player) (s : ℕ) → AreProper p.who p.first p.events → IsOpen p s → (left : List Step) → p.left ≡ left → HasMoved p (player_after p left)
 step-moves p s proper o [] e = last-turn p s o e
 step-moves p s proper o (steps.Act action ∷ ss) e =
-    free-or_waits p s o (nat_lt (length (pending_of p.events)) 8 && is_calm p) (events.Make action) ss
-    (λ x. and_from (nat_lt (length (pending_of p.events)) 8) (is_calm p) (room-settled p s proper o x) (calm-settled p x))
+    free-or_waits p s o (nat_lt (length (pending_of p.events)) 8 && may_ask p.who p.events) (events.Make action) ss
+    (λ x. and_from (nat_lt (length (pending_of p.events)) 8) (may_ask p.who p.events) (room-settled p s proper o x) (calm-settled p x))
     (moved-by p s (steps.Act action) ss (events.Make action) o e refl refl refl)
-step-moves p s proper o (steps.Poll ∷ ss) e = free-or_waits p s o (is_calm p) events.Poll ss (calm-settled p) (moved-by p s steps.Poll ss events.Poll o e refl refl refl)
-step-moves p s proper o (steps.Observe objects ∷ ss) e = free-or_waits p s o (is_calm p) (events.Observe objects 0) ss (calm-settled p) (moved-by p s (steps.Observe objects) ss (events.Observe objects 0) o e refl refl refl)
+step-moves p s proper o (steps.Poll ∷ ss) e = free-or_waits p s o (may_ask p.who p.events) events.Poll ss (calm-settled p) (moved-by p s steps.Poll ss events.Poll o e refl refl refl)
+step-moves p s proper o (steps.Observe objects ∷ ss) e = free-or_waits p s o (may_ask p.who p.events) (events.Observe objects 0) ss (calm-settled p) (moved-by p s (steps.Observe objects) ss (events.Observe objects 0) o e refl refl refl)
 step-moves p s proper o (steps.Sync ∷ ss) e =
     settled-or_waits p (record p { left = ss }) s o
     (let all = before-step p steps.Sync ss e o.joined in

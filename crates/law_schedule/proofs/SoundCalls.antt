@@ -21,7 +21,8 @@ use Rattle.sv_script.specs.Following.{must_join, is_welcomed}
 use Rattle.sv_script.proofs.Counts.{events-few, one_if}
 use Rattle.sv_script.proofs.Places.{joined_once}
 use Rattle.sv_script.proofs.Begun.{joins-counted}
-use Rattle.law_schedule.specs.Players.{Player, is_calm, nothing_outstanding, player_turn, take_turn}
+use Rattle.sv_script.specs.Next.{may_ask}
+use Rattle.law_schedule.specs.Players.{Player, nothing_outstanding, player_turn, take_turn}
 use Rattle.law_schedule.specs.Serving.{Run, Server}
 use Rattle.law_schedule.specs.Sound.{IsPlaying, ArePlaying, has_joined}
 use Rattle.law_schedule.specs.Served.{IsSoundOver}
@@ -91,13 +92,13 @@ module _ (server : Server) (shape : Shape) (sessions : ℕ) (h : List Entry) (p 
   call-join m = may-join server shape h a.number a.first a.plan p a.playing a.fitting m a.few
 
   module _ (o : p.closed ≡ false) (m : must_join p.events ≡ false) (v : is_welcomed p.events ≡ true) where
-    pub call-make : (action : Action) (ss : List Step) → p.left ≡ steps.Act action ∷ ss → (nat_lt (length (pending_of p.events)) 8 && is_calm p) ≡ true → MayMake p.who p.events action
+    pub call-make : (action : Action) (ss : List Step) → p.left ≡ steps.Act action ∷ ss → (nat_lt (length (pending_of p.events)) 8 && may_ask p.who p.events) ≡ true → MayMake p.who p.events action
     call-make = may-make server shape h a.number a.first a.plan p a.playing a.fitting a.good o m v
 
-    pub call-poll : (ss : List Step) → p.left ≡ steps.Poll ∷ ss → is_calm p ≡ true → MayPoll p.who p.events
+    pub call-poll : (ss : List Step) → p.left ≡ steps.Poll ∷ ss → may_ask p.who p.events ≡ true → MayPoll p.who p.events
     call-poll = may-poll server shape h a.number a.first a.plan p a.playing a.fitting a.good o m v
 
-    pub call-observe : (objects : List ObjectId) (ss : List Step) → p.left ≡ steps.Observe objects ∷ ss → is_calm p ≡ true → MayObserve p.who p.events objects
+    pub call-observe : (objects : List ObjectId) (ss : List Step) → p.left ≡ steps.Observe objects ∷ ss → may_ask p.who p.events ≡ true → MayObserve p.who p.events objects
     call-observe = may-observe server shape h a.number a.first a.plan p a.playing a.fitting a.good o m v
 
     pub call-leave : nothing_outstanding p ≡ true → in_session p.events ≡ true → MayLeave p.who p.events

@@ -32,13 +32,14 @@ use Rattle.sv_script.specs.Following.{DoesStep, FollowsNext, must_join, is_welco
 use Rattle.law_system.specs.Fronts.{IsFront}
 use Rattle.law_system.specs.Fits.{is_join_of, requests_in, replies_in, IsEndLast}
 use Rattle.law_system.proofs.Fronts.{front-append, get-push_cases}
-use Rattle.law_schedule.specs.Players.{Player, does, is_calm, nothing_outstanding, last_steps, player_after, player_turn, open_session, takes_if, takes, take_in, take_turn, take_turns, repeated}
+use Rattle.law_schedule.specs.Players.{Player, does, nothing_outstanding, last_steps, player_after, player_turn, open_session, takes_if, takes, take_in, take_turn, take_turns, repeated}
 use Rattle.law_schedule.specs.Serving.{Server}
 use Rattle.law_schedule.specs.Sound.{ArePassed, none, sync, IsPlaying, has_joined}
 use Rattle.law_schedule.specs.Served.{AreHeard}
 use Rattle.law_schedule.proofs.SoundTraces.{IsNoQuit, nothing-left, left-or_finished, finished-settled, makes-within, all-left}
 use Rattle.sv_script.proofs.Begun.{joins-counted}
 use Rattle.sv_script.proofs.Counts.{one_if}
+use Rattle.sv_script.specs.Next.{may_ask}
 use Rattle.law_system.proofs.Joined.{joined-within}
 use Rattle.law_schedule.proofs.DoneLists.{open-by}
 
@@ -301,9 +302,9 @@ module _ (server : Server) (shape : Shape) (h : List Entry) (k s : ℕ) (plan : 
     makes-few = (let most = makes-within p.who plan.steps p.events w.before w.follows in omega (arith, most, good.few_steps))
 
     -- What a client's call asks for holds where its turn makes the call.
-    pub may-make : (action : Action) (ss : List Step) → p.left ≡ steps.Act action ∷ ss → (nat_lt (length (pending_of p.events)) 8 && is_calm p) ≡ true → MayMake p.who p.events action
+    pub may-make : (action : Action) (ss : List Step) → p.left ≡ steps.Act action ∷ ss → (nat_lt (length (pending_of p.events)) 8 && may_ask p.who p.events) ≡ true → MayMake p.who p.events action
     may-make action ss l t =
-        let parts = and_parts (nat_lt (length (pending_of p.events)) 8) (is_calm p) t in
+        let parts = and_parts (nat_lt (length (pending_of p.events)) 8) (may_ask p.who p.events) t in
         record {
           joined = still-in (steps.Act action) ss m l;
           good = good-action action ss l;
@@ -312,7 +313,7 @@ module _ (server : Server) (shape : Shape) (h : List Entry) (k s : ℕ) (plan : 
           few = makes-few;
         }
 
-    pub may-poll : (ss : List Step) → p.left ≡ steps.Poll ∷ ss → is_calm p ≡ true → MayPoll p.who p.events
+    pub may-poll : (ss : List Step) → p.left ≡ steps.Poll ∷ ss → may_ask p.who p.events ≡ true → MayPoll p.who p.events
     may-poll ss l t = record { joined = still-in steps.Poll ss m l; calm = ltb-true (length (outstanding p.who p.events)) 16 t }
 
     good-objects : (objects : List ObjectId) (ss : List Step) → p.left ≡ steps.Observe objects ∷ ss → may_be_observed p.who.shape.objects (numbers_of objects) ≡ true
@@ -320,7 +321,7 @@ module _ (server : Server) (shape : Shape) (h : List Entry) (k s : ℕ) (plan : 
         let all = subst (AllByRecursion (IsGoodStep shape)) l (all-in_left (IsGoodStep shape) good.steps) in
         subst (λ (x : Shape). may_be_observed x.objects (numbers_of objects) ≡ true) (sym (ap (λ (x : Identity). x.shape) w.who)) all.0
 
-    pub may-observe : (objects : List ObjectId) (ss : List Step) → p.left ≡ steps.Observe objects ∷ ss → is_calm p ≡ true → MayObserve p.who p.events objects
+    pub may-observe : (objects : List ObjectId) (ss : List Step) → p.left ≡ steps.Observe objects ∷ ss → may_ask p.who p.events ≡ true → MayObserve p.who p.events objects
     may-observe objects ss l t =
         record { joined = still-in (steps.Observe objects) ss m l; good = good-objects objects ss l; calm = ltb-true (length (outstanding p.who p.events)) 16 t }
 
@@ -330,14 +331,14 @@ module _ (server : Server) (shape : Shape) (h : List Entry) (k s : ℕ) (plan : 
     pub may-leave : nothing_outstanding p ≡ true → in_session p.events ≡ true → MayLeave p.who p.events
     may-leave t i = record { joined = i; settled = settled-nil t }
 
-    making : (action : Action) (ss : List Step) → p.left ≡ steps.Act action ∷ ss → (nat_lt (length (pending_of p.events)) 8 && is_calm p) ≡ true → Kept (does p (events.Make action) ss)
+    making : (action : Action) (ss : List Step) → p.left ≡ steps.Act action ∷ ss → (nat_lt (length (pending_of p.events)) 8 && may_ask p.who p.events) ≡ true → Kept (does p (events.Make action) ss)
     making action ss l t =
         stepped (events.Make action) ss (does-step (events.Make action) (steps.Act action) ss l refl refl) (may-make action ss l t) (λ n. refl) (λ n. refl) refl
 
-    polling : (ss : List Step) → p.left ≡ steps.Poll ∷ ss → is_calm p ≡ true → Kept (does p events.Poll ss)
+    polling : (ss : List Step) → p.left ≡ steps.Poll ∷ ss → may_ask p.who p.events ≡ true → Kept (does p events.Poll ss)
     polling ss l t = stepped events.Poll ss (does-step events.Poll steps.Poll ss l refl refl) (may-poll ss l t) (λ n. refl) (λ n. refl) refl
 
-    observing : (objects : List ObjectId) (ss : List Step) → p.left ≡ steps.Observe objects ∷ ss → is_calm p ≡ true → Kept (does p (events.Observe objects 0) ss)
+    observing : (objects : List ObjectId) (ss : List Step) → p.left ≡ steps.Observe objects ∷ ss → may_ask p.who p.events ≡ true → Kept (does p (events.Observe objects 0) ss)
     observing objects ss l t =
         stepped (events.Observe objects 0) ss (does-step (events.Observe objects 0) (steps.Observe objects) ss l refl refl) (may-observe objects ss l t) (λ n. refl) (λ n. refl) refl
 
@@ -415,9 +416,9 @@ module _ (server : Server) (shape : Shape) (h : List Entry) (k s : ℕ) (plan : 
     next-kept : (left : List Step) → p.left ≡ left → Kept (player_after p left)
     next-kept [] l = last-kept l
     next-kept (steps.Act action ∷ ss) l =
-        cond_both (nat_lt (length (pending_of p.events)) 8 && is_calm p) (does p (events.Make action) ss) p Kept (making action ss l) (λ _. stays)
-    next-kept (steps.Poll ∷ ss) l = cond_both (is_calm p) (does p events.Poll ss) p Kept (polling ss l) (λ _. stays)
-    next-kept (steps.Observe objects ∷ ss) l = cond_both (is_calm p) (does p (events.Observe objects 0) ss) p Kept (observing objects ss l) (λ _. stays)
+        cond_both (nat_lt (length (pending_of p.events)) 8 && may_ask p.who p.events) (does p (events.Make action) ss) p Kept (making action ss l) (λ _. stays)
+    next-kept (steps.Poll ∷ ss) l = cond_both (may_ask p.who p.events) (does p events.Poll ss) p Kept (polling ss l) (λ _. stays)
+    next-kept (steps.Observe objects ∷ ss) l = cond_both (may_ask p.who p.events) (does p (events.Observe objects 0) ss) p Kept (observing objects ss l) (λ _. stays)
     next-kept (steps.Sync ∷ ss) l = cond_both (nothing_outstanding p) (record p { left = ss }) p Kept (passing ss l) (λ _. stays)
     next-kept (steps.Show objects ∷ ss) l =
         stepped (events.Show objects) ss (does-step (events.Show objects) (steps.Show objects) ss l refl refl) tt (λ n. refl) (λ n. refl) refl

@@ -1,9 +1,8 @@
 -- What one client of a run does at its turns, and what of its session's replies it takes.
 -- A history is the list of a journal's entries with the latest first; events stand with the latest first too.
-use Rattle.std.specs.Prelude.{ℕ, zero, suc, ◌+◌, Bool, true, false, ◌==◌, ◌&&◌, ◌||◌, not, nat_lt, List, [], ◌∷◌, length, reverse, slice_get, Option, Some, None, if◌then◌else◌}
+use Rattle.std.specs.Prelude.{ℕ, zero, suc, ◌+◌, Bool, true, false, ◌==◌, ◌&&◌, ◌||◌, not, List, [], ◌∷◌, length, reverse, slice_get, Option, Some, None, if◌then◌else◌}
 use Rattle.std.specs.List.{list_any, flat_map}
 use Rattle.sv_world.specs.declared.world.Shape.{Shape}
-use Rattle.sv_world.specs.Limits.{most_outstanding, most_pending}
 use Rattle.sv_wire.specs.declared.message.Reply.{Reply}
 use Rattle.sv_wire.specs.declared.message.Request.{Request}
 use Rattle.sv_journal.specs.declared.entry.Entry.{Entry}
@@ -11,7 +10,7 @@ use Rattle.sv_journal.specs.History.{accepted}
 use Rattle.sv_client.specs.declared.trace.Event.{Event}
 use Rattle.sv_client.specs.declared.trace.Event.TheVariants as events
 use Rattle.sv_client.specs.declared.trace.Trace.{Trace}
-use Rattle.sv_client.specs.Traces.{joins, current_session, is_session, pending_of, asked, got}
+use Rattle.sv_client.specs.Traces.{joins, current_session, is_session, asked, got}
 use Rattle.sv_client.specs.Taking.{Identity, Fault, outstanding, first_fault_of_reply}
 use Rattle.sv_client.specs.Proper.{in_session}
 use Rattle.sv_scenario.specs.declared.scenario.Plan.{Plan}
@@ -19,6 +18,7 @@ use Rattle.sv_scenario.specs.declared.scenario.Step.{Step}
 use Rattle.sv_scenario.specs.declared.scenario.Step.TheVariants as steps
 use Rattle.sv_scenario.specs.Sessions.{sessions_of_plan}
 use Rattle.sv_script.specs.Following.{must_join, is_welcomed}
+use Rattle.sv_script.specs.Next.{can_do}
 use Rattle.law_system.specs.Fits.{is_join_of, replies_in}
 
 -- One client so far: what it did, the steps that are left, and whether it closed its last link.
@@ -37,9 +37,6 @@ does p e left = record p { events = e ∷ p.events; left = left }
 abbrev pub if_free : Player → Bool → Event → List Step → Player
 if_free p may e left = if may then does p e left else p
 
-abbrev pub is_calm : Player → Bool
-is_calm p = nat_lt (length (outstanding p.who p.events)) most_outstanding
-
 abbrev pub nothing_outstanding : Player → Bool
 nothing_outstanding p = length (outstanding p.who p.events) == 0
 
@@ -52,9 +49,9 @@ last_steps p = if not (nothing_outstanding p) then p
 -- The next step of a client in a session that has its Welcome. A step that can't be done yet waits.
 abbrev pub player_after : Player → List Step → Player
 player_after p [] = last_steps p
-player_after p (steps.Act action ∷ ss) = if_free p (nat_lt (length (pending_of p.events)) most_pending && is_calm p) (events.Make action) ss
-player_after p (steps.Poll ∷ ss) = if_free p (is_calm p) events.Poll ss
-player_after p (steps.Observe objects ∷ ss) = if_free p (is_calm p) (events.Observe objects 0) ss
+player_after p (steps.Act action ∷ ss) = if_free p (can_do p.who p.events (steps.Act action)) (events.Make action) ss
+player_after p (steps.Poll ∷ ss) = if_free p (can_do p.who p.events steps.Poll) events.Poll ss
+player_after p (steps.Observe objects ∷ ss) = if_free p (can_do p.who p.events (steps.Observe objects)) (events.Observe objects 0) ss
 player_after p (steps.Sync ∷ ss) = if nothing_outstanding p then record p { left = ss } else p
 player_after p (steps.Show objects ∷ ss) = does p (events.Show objects) ss
 player_after p (steps.Cut ∷ ss) = does p events.Cut ss

@@ -26,8 +26,9 @@ use Rattle.sv_scenario.specs.declared.scenario.Step.{Step}
 use Rattle.sv_scenario.specs.declared.scenario.Step.TheVariants as steps
 use Rattle.sv_script.specs.Laws.{is_got}
 use Rattle.sv_script.specs.Following.{must_join, is_welcomed}
+use Rattle.sv_script.specs.Next.{may_ask}
 use Rattle.law_system.specs.Outcomes.{is_quit}
-use Rattle.law_schedule.specs.Players.{Player, player_turn, player_after, last_steps, if_free, is_calm, nothing_outstanding, does, takes, takes_if}
+use Rattle.law_schedule.specs.Players.{Player, player_turn, player_after, last_steps, if_free, nothing_outstanding, does, takes, takes_if}
 use Rattle.law_schedule.proofs.DoneShut.{turn-joins}
 use Rattle.sv_replay.specs.declared.playing.Playing.{Playing}
 use Rattle.sv_exchange.specs.View.{ExchangeView, TakesReply}
@@ -133,26 +134,26 @@ if_may p may e rest t = rw t refl
 if_not : (p : Player) (may : Bool) (e : Event) (rest : List Step) → may ≡ false → if_free p may e rest ≡ p
 if_not p may e rest f = rw f refl
 
-pub acts : (p : Player) (a : Action) (rest : List Step) → length (pending_of p.events) < 8 → is_calm p ≡ true → player_after p (steps.Act a ∷ rest) ≡ does p (events.Make a) rest
-acts p a rest l c = if_may p (nat_lt (length (pending_of p.events)) 8 && is_calm p) (events.Make a) rest (and_from (nat_lt (length (pending_of p.events)) 8) (is_calm p) (lt-ltb _ 8 l) c)
+pub acts : (p : Player) (a : Action) (rest : List Step) → length (pending_of p.events) < 8 → may_ask p.who p.events ≡ true → player_after p (steps.Act a ∷ rest) ≡ does p (events.Make a) rest
+acts p a rest l c = if_may p (nat_lt (length (pending_of p.events)) 8 && may_ask p.who p.events) (events.Make a) rest (and_from (nat_lt (length (pending_of p.events)) 8) (may_ask p.who p.events) (lt-ltb _ 8 l) c)
 
 pub waits_full : (p : Player) (a : Action) (rest : List Step) → 8 ≤ length (pending_of p.events) → player_after p (steps.Act a ∷ rest) ≡ p
-waits_full p a rest l = if_not p (nat_lt (length (pending_of p.events)) 8 && is_calm p) (events.Make a) rest (ap (λ b. b && is_calm p) (le-ltb _ 8 l))
+waits_full p a rest l = if_not p (nat_lt (length (pending_of p.events)) 8 && may_ask p.who p.events) (events.Make a) rest (ap (λ b. b && may_ask p.who p.events) (le-ltb _ 8 l))
 
-pub waits_busy : (p : Player) (a : Action) (rest : List Step) → is_calm p ≡ false → player_after p (steps.Act a ∷ rest) ≡ p
-waits_busy p a rest c = if_not p (nat_lt (length (pending_of p.events)) 8 && is_calm p) (events.Make a) rest (and_right (nat_lt (length (pending_of p.events)) 8) (is_calm p) c)
+pub waits_busy : (p : Player) (a : Action) (rest : List Step) → may_ask p.who p.events ≡ false → player_after p (steps.Act a ∷ rest) ≡ p
+waits_busy p a rest c = if_not p (nat_lt (length (pending_of p.events)) 8 && may_ask p.who p.events) (events.Make a) rest (and_right (nat_lt (length (pending_of p.events)) 8) (may_ask p.who p.events) c)
 
-pub polls : (p : Player) (rest : List Step) → is_calm p ≡ true → player_after p (steps.Poll ∷ rest) ≡ does p events.Poll rest
-polls p rest c = if_may p (is_calm p) events.Poll rest c
+pub polls : (p : Player) (rest : List Step) → may_ask p.who p.events ≡ true → player_after p (steps.Poll ∷ rest) ≡ does p events.Poll rest
+polls p rest c = if_may p (may_ask p.who p.events) events.Poll rest c
 
-pub waits_poll : (p : Player) (rest : List Step) → is_calm p ≡ false → player_after p (steps.Poll ∷ rest) ≡ p
-waits_poll p rest c = if_not p (is_calm p) events.Poll rest c
+pub waits_poll : (p : Player) (rest : List Step) → may_ask p.who p.events ≡ false → player_after p (steps.Poll ∷ rest) ≡ p
+waits_poll p rest c = if_not p (may_ask p.who p.events) events.Poll rest c
 
-pub observes : (p : Player) (objects : List ObjectId) (rest : List Step) → is_calm p ≡ true → player_after p (steps.Observe objects ∷ rest) ≡ does p (events.Observe objects 0) rest
-observes p objects rest c = if_may p (is_calm p) (events.Observe objects 0) rest c
+pub observes : (p : Player) (objects : List ObjectId) (rest : List Step) → may_ask p.who p.events ≡ true → player_after p (steps.Observe objects ∷ rest) ≡ does p (events.Observe objects 0) rest
+observes p objects rest c = if_may p (may_ask p.who p.events) (events.Observe objects 0) rest c
 
-pub waits_observe : (p : Player) (objects : List ObjectId) (rest : List Step) → is_calm p ≡ false → player_after p (steps.Observe objects ∷ rest) ≡ p
-waits_observe p objects rest c = if_not p (is_calm p) (events.Observe objects 0) rest c
+pub waits_observe : (p : Player) (objects : List ObjectId) (rest : List Step) → may_ask p.who p.events ≡ false → player_after p (steps.Observe objects ∷ rest) ≡ p
+waits_observe p objects rest c = if_not p (may_ask p.who p.events) (events.Observe objects 0) rest c
 
 pub leaves : (p : Player) → nothing_outstanding p ≡ true → in_session p.events ≡ true → last_steps p ≡ does p events.Leave []
 leaves p s i = rw (s, i) refl

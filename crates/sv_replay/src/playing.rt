@@ -8,7 +8,8 @@ ghost use Rattle.sv_client.specs.Proper.{MayMake, MayPoll, MayObserve, MayLeave}
 ghost use Rattle.sv_client.specs.Seen.{newly_asked};
 ghost use Rattle.sv_scenario.specs.declared.scenario.Step.TheVariants as steps;
 ghost use Rattle.sv_script.specs.Following.{must_join};
-ghost use Rattle.law_schedule.specs.Players.{player_turn, player_after, last_steps, takes, trace_of_player, is_calm, nothing_outstanding};
+ghost use Rattle.sv_script.specs.Next.{may_ask};
+ghost use Rattle.law_schedule.specs.Players.{player_turn, player_after, last_steps, takes, trace_of_player, nothing_outstanding};
 ghost use Rattle.sv_wire.specs.Laws.{IsRequest};
 ghost use Rattle.sv_exchange.specs.View.{ExchangeView};
 ghost use Rattle.sv_replay.specs.Messages.{AsksMessages, IsAfterTurn};
@@ -21,8 +22,9 @@ use sv_client::{Client, MakeFault, ObserveFault, PollFault, TakeFault, Trace, Tr
 use sv_exchange::Exchange;
 use sv_lists::List;
 use sv_scenario::Step;
+use sv_script::may_ask;
 use sv_wire::Request;
-use sv_world::{Action, MOST_OUTSTANDING, MOST_PENDING, ObjectId, copy_action, copy_objects};
+use sv_world::{Action, MOST_PENDING, ObjectId, copy_action, copy_objects};
 
 /// A client that plays its script.
 #[derive(Drop)]
@@ -135,10 +137,10 @@ impl<'a> Playing<'a> {
     }
 
     /// Whether it may have one more request outstanding.
-    fn is_calm(&self) -> bool
-        ensures { result ≡ is_calm (player_of self.now) }
+    fn may_ask(&self) -> bool
+        ensures { result ≡ may_ask (player_of self.now).who (player_of self.now).events }
     {
-        self.client.outstanding() < MOST_OUTSTANDING
+        may_ask(&self.client)
     }
 
     /// Whether no request is outstanding.
@@ -161,7 +163,7 @@ impl<'a> Playing<'a> {
         requires open { channel.old.closed ≡ false }
         ensures { OnOk result (MovedPlayer (player_after (player_of self.old) (steps.Act action.now ∷ rest.now)) self.old self.new channel.old channel.new) }
     {
-        if self.client.pending() < MOST_PENDING && self.is_calm() {
+        if self.client.pending() < MOST_PENDING && self.may_ask() {
             self.make(alloc, channel, action, rest)
         } else {
             Ok(())
@@ -199,7 +201,7 @@ impl<'a> Playing<'a> {
         requires open { channel.old.closed ≡ false }
         ensures { OnOk result (MovedPlayer (player_after (player_of self.old) (steps.Poll ∷ rest.now)) self.old self.new channel.old channel.new) }
     {
-        if self.is_calm() {
+        if self.may_ask() {
             self.ask(channel, rest)
         } else {
             Ok(())
@@ -236,7 +238,7 @@ impl<'a> Playing<'a> {
         requires open { channel.old.closed ≡ false }
         ensures { OnOk result (MovedPlayer (player_after (player_of self.old) (steps.Observe objects.now ∷ rest.now)) self.old self.new channel.old channel.new) }
     {
-        if self.is_calm() {
+        if self.may_ask() {
             self.look(alloc, channel, objects, rest)
         } else {
             Ok(())

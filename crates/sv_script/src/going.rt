@@ -52,7 +52,8 @@ fn unsynced<'a>(client: &Client, steps: &'a [Step]) -> &'a [Step]
     }
 }
 
-fn may_ask(client: &Client) -> bool
+/// Whether a client may have one more request outstanding.
+pub fn may_ask(client: &Client) -> bool
     ensures { result ≡ may_ask client.now.who client.now.events }
 {
     client.outstanding() < MOST_OUTSTANDING
