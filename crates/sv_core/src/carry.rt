@@ -78,7 +78,12 @@ impl Core {
         ensures owed { owed_by self.new + 1 ≡ owed_by self.old }
         ensures keeps { Keeps self.new (end_entry seat.session ∷ h) }
     {
-        note(&mut self.sessions, seat.slot, &Request::End, &BriefReply::Bye);
+        note(
+            &mut self.sessions,
+            seat.slot,
+            &Request::End,
+            &BriefReply::Bye,
+        );
         self.owed -= 1;
     }
 

@@ -7,7 +7,7 @@ ghost use Rattle.sv_queue.specs.Queue.{last_position};
 ghost use Rattle.sv_core.specs.Relays.{knows};
 
 use std::sync::ledger::Ledger;
-use sv_queue::{Queue, LookUps};
+use sv_queue::{LookUps, Queue};
 use sv_world::ObjectId;
 
 /// Whether the session of a slot knows what each of these objects is at the last position. It takes no memory.

@@ -11,7 +11,7 @@ use crate::sessions::SessionRow;
 use std::alloc::{AllocError, Global};
 use std::marker::Brand;
 use std::sync::ledger::{Blank, Ledger};
-use sv_queue::{Queue, Slots, LookUps};
+use sv_queue::{LookUps, Queue, Slots};
 
 /// The lowest uncommitted position without a result of which each session that it was sent to is over.
 ///

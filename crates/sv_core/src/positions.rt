@@ -12,7 +12,7 @@ use crate::seats::Seat;
 use crate::server_core::Core;
 use std::marker::Brand;
 use std::sync::ledger::{Blank, Ledger};
-use sv_queue::{Queue, LookUps};
+use sv_queue::{LookUps, Queue};
 
 impl Core {
     /// The last accepted position.

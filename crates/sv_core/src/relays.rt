@@ -14,7 +14,7 @@ use std::marker::Brand;
 use std::sync::ledger::{Blank, Ledger};
 use sv_influence::{closure, cut};
 use sv_lists::List;
-use sv_queue::{Queue, LookUps};
+use sv_queue::{LookUps, Queue};
 use sv_wire::{Item, ObjectValue, copy_head};
 use sv_world::{ObjectId, copy_action, copy_value};
 
@@ -83,7 +83,13 @@ fn counted<L: Ledger>(
 {
     let mut look_ups = LookUps::<L>::new(blank);
     let found = closure(alloc, queue, slot, pos, &mut look_ups)?;
-    relayed_of(alloc, queue, found.positions, found.head.as_slice(), &mut look_ups)
+    relayed_of(
+        alloc,
+        queue,
+        found.positions,
+        found.head.as_slice(),
+        &mut look_ups,
+    )
 }
 
 /// What a session may see of objects, at the greatest cut. Where it knows them all it sees nothing at the last position, and no memory is taken.
@@ -133,7 +139,13 @@ fn seen_counted<L: Ledger>(
     }
     let found = cut(alloc, queue, slot, objects, &mut look_ups)?;
     let last = found.last;
-    let relayed = relayed_of(alloc, queue, found.positions, found.head.as_slice(), &mut look_ups)?;
+    let relayed = relayed_of(
+        alloc,
+        queue,
+        found.positions,
+        found.head.as_slice(),
+        &mut look_ups,
+    )?;
     Ok(Seen { last, relayed })
 }
 

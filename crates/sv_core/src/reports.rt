@@ -13,7 +13,7 @@ use std::alloc::{AllocError, Global};
 use std::marker::Brand;
 use std::sync::ledger::{Blank, Ledger};
 use sv_lists::List;
-use sv_queue::{Queue, LookUps};
+use sv_queue::{LookUps, Queue};
 use sv_wire::{Done1, copy_result};
 use sv_world::{Action, MOST_ITEMS, Value, is_in_mask};
 
@@ -54,7 +54,12 @@ fn is_any_bad<L: Ledger>(queue: &Queue, slot: u16, results: &[Done1], blank: Bla
     is_one_bad(queue, slot, results, &mut look_ups)
 }
 
-fn is_one_bad<L: Ledger>(queue: &Queue, slot: u16, results: &[Done1], look_ups: &mut LookUps<L>) -> bool
+fn is_one_bad<L: Ledger>(
+    queue: &Queue,
+    slot: u16,
+    results: &[Done1],
+    look_ups: &mut LookUps<L>,
+) -> bool
     ensures { result ≡ list_any (is_bad_report queue.now slot) results.now }
 {
     let [first, rest @ ..] = results else {

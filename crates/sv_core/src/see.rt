@@ -28,7 +28,7 @@ use std::marker::Brand;
 use std::sync::ledger::{Blank, Ledger};
 use sv_journal::BriefReply;
 use sv_lists::List;
-use sv_queue::{Queue, LookUps};
+use sv_queue::{LookUps, Queue};
 use sv_wire::{Reply, Request};
 use sv_world::ObjectId;
 

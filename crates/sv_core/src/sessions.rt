@@ -146,7 +146,12 @@ fn one_less(left: Option<u16>) -> Option<u16>
 }
 
 /// The client of a session after a request and its reply, which may be its own.
-fn client_after(request: &Request, reply: &BriefReply, own: bool, client: Option<u16>) -> Option<u16>
+fn client_after(
+    request: &Request,
+    reply: &BriefReply,
+    own: bool,
+    client: Option<u16>,
+) -> Option<u16>
     ensures { result ≡ either client (if own && is_welcome reply.now then joining request.now else None) }
 {
     if client.is_some() {

@@ -12,7 +12,7 @@ use crate::answers::ConsistentCut;
 use crate::lacking::{Found, Missing, listed};
 use std::alloc::{AllocError, Global};
 use std::sync::ledger::Ledger;
-use sv_queue::{Queue, LookUps};
+use sv_queue::{LookUps, Queue};
 use sv_world::{MOST_ITEMS, MOST_OBJECTS, ObjectId};
 
 /// The greatest cut that the session of a slot can be shown of objects, and what it lacks of them there.

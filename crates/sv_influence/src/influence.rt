@@ -10,7 +10,7 @@ use crate::objects::ObjectSet;
 use crate::wanted::{Full, Wanted};
 use std::marker::Brand;
 use std::sync::ledger::{Blank, Ledger};
-use sv_queue::{Queue, LookUps};
+use sv_queue::{LookUps, Queue};
 use sv_world::{Action, MOST_OBJECTS, ObjectId, Point};
 
 /// How many uncommitted actions a new action depends on, directly or through others, and how far away they were made.
@@ -125,7 +125,12 @@ fn walk_down<L: Ledger>(queue: &Queue, action: &Action, blank: Blank) -> Chain
 }
 
 /// The bound, lowered until at and below it nothing writes what an action reads.
-fn below_writers<L: Ledger>(queue: &Queue, action: &Action, bound: u32, look_ups: &mut LookUps<L>) -> u32
+fn below_writers<L: Ledger>(
+    queue: &Queue,
+    action: &Action,
+    bound: u32,
+    look_ups: &mut LookUps<L>,
+) -> u32
     requires reads { All (λ x. x < queue.now.shape.objects) (read_set action.now) }
     requires bound { queue.now.commit ≤ bound }
     ensures uncommitted { queue.now.commit ≤ result }
@@ -139,7 +144,12 @@ fn below_writers<L: Ledger>(queue: &Queue, action: &Action, bound: u32, look_ups
     below
 }
 
-fn below_writer<L: Ledger>(queue: &Queue, object: ObjectId, bound: u32, look_ups: &mut LookUps<L>) -> u32
+fn below_writer<L: Ledger>(
+    queue: &Queue,
+    object: ObjectId,
+    bound: u32,
+    look_ups: &mut LookUps<L>,
+) -> u32
     requires object { object.0 < queue.now.shape.objects }
     requires bound { queue.now.commit ≤ bound }
     ensures uncommitted { queue.now.commit ≤ result }

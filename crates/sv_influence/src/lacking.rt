@@ -14,7 +14,7 @@ use crate::numbers::Numbers;
 use std::alloc::{AllocError, Global};
 use std::sync::ledger::Ledger;
 use sv_lists::List;
-use sv_queue::{Queue, LookUps};
+use sv_queue::{LookUps, Queue};
 use sv_world::{MOST_ITEMS, MOST_OBJECTS, ObjectId};
 
 /// What a relay of an uncommitted position has for the session of a slot: the positions that the session lacks, and the objects whose committed
@@ -42,7 +42,12 @@ pub fn closure<L: Ledger>(
 }
 
 /// The position itself, where the session lacks it.
-fn first_wanted<L: Ledger>(queue: &Queue, slot: u16, pos: u32, look_ups: &mut LookUps<L>) -> Option<u32>
+fn first_wanted<L: Ledger>(
+    queue: &Queue,
+    slot: u16,
+    pos: u32,
+    look_ups: &mut LookUps<L>,
+) -> Option<u32>
     requires { IsUncommitted queue.now pos }
     ensures within { (j : ℕ) → is_in j (option_to_list result) ≡ true → (queue.now.commit < j) × (j ≤ pos) }
     ensures whole { wanted_up_to (queue_actions queue.now) queue.now.commit (sent_positions queue.now slot) pos (option_to_list result) ≡ lacking queue.now slot pos }

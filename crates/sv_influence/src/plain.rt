@@ -13,7 +13,7 @@ use crate::objects::ObjectSet;
 use std::alloc::{AllocError, Global};
 use std::sync::ledger::Ledger;
 use sv_lists::List;
-use sv_queue::{Queue, LookUps};
+use sv_queue::{LookUps, Queue};
 use sv_world::{MOST_OBJECTS, ObjectId};
 
 /// The same as [`closure`](crate::closure), by a walk over the queue from the position downwards with the set of the objects that are

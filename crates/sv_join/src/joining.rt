@@ -10,7 +10,7 @@ ghost use Rattle.sv_join.specs.Joining.{passed, passages_of, answer_of, ConnectC
 
 use crate::outcome::{JoinFault, Joined};
 use crate::steady::Steady;
-use law_asked::{scenario_numbers_fit, replies_are_messages};
+use law_asked::{replies_are_messages, scenario_numbers_fit};
 use law_system::honest_clients_are_never_refused;
 use std::alloc::{AllocError, Global};
 use sv_client::{Client, Trace};

@@ -10,7 +10,7 @@ mod requests;
 mod rows;
 mod text;
 
-pub use entry::{Entry, BriefReply, is_end, is_stopping};
+pub use entry::{BriefReply, Entry, is_end, is_stopping};
 pub use journal::Journal;
 pub use laws::{
     accepted_actions_are_rightful, counts_have_an_end, examples_are_answered, full_replies_stay,

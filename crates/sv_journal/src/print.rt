@@ -8,7 +8,7 @@ ghost use Rattle.sv_journal.specs.Text.{item_text, reply_text, entry_line, entry
 use crate::journal::Journal;
 use crate::pieces::{append_head, append_items};
 use crate::requests::put_request;
-use crate::{Entry, BriefReply};
+use crate::{BriefReply, Entry};
 use std::alloc::AllocError;
 use sv_wire::ObjectValue;
 use sv_world::{ObjectId, Shape};
@@ -57,7 +57,10 @@ fn append_reply(journal: &Journal, reply: &BriefReply, out: &mut String) -> Resu
             write!(out, "relay {seq} at {commit} ")?;
             append_relayed(journal, head.as_slice(), positions.as_slice(), out)
         }
-        BriefReply::Dropped { seq, chain, far } => write!(out, "dropped {seq} chain {chain} far {far}"),
+        BriefReply::Dropped { seq, chain, far } => write!(
+            out,
+            "dropped {seq} chain {chain} far {far}"
+        ),
         BriefReply::Denied { seq, object } => append_denied(*seq, *object, out),
         BriefReply::Seen {
             last,

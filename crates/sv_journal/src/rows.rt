@@ -7,7 +7,7 @@ ghost use Rattle.sv_journal.specs.declared.entry.Entry.{Entry};
 ghost use Rattle.sv_journal.specs.History.{is_welcome, is_relay, is_submit_of, joining};
 ghost use Rattle.sv_journal.specs.Rows.{tells_outcome, count_after, accepts, AreAllRows};
 
-use crate::{Entry, BriefReply};
+use crate::{BriefReply, Entry};
 use std::alloc::AllocError;
 use sv_wire::Request;
 use sv_world::{CLIENT_NUMBERS, ClientId};

@@ -30,7 +30,9 @@ impl ToldReplies {
     pub fn new() -> ToldReplies
         ensures { result ≡ [] }
     {
-        ToldReplies { log: GhostLog::new() }
+        ToldReplies {
+            log: GhostLog::new(),
+        }
     }
 
     pub fn add(&mut self, reply: &Reply)
@@ -60,7 +62,9 @@ impl SentBytes {
     pub fn new() -> SentBytes
         ensures { result ≡ [] }
     {
-        SentBytes { log: GhostLog::new() }
+        SentBytes {
+            log: GhostLog::new(),
+        }
     }
 
     /// So many of these bytes were sent.

@@ -9,10 +9,10 @@ ghost use Rattle.sv_queue.specs.Pairs.{is_pair};
 ghost use Rattle.sv_queue.specs.Queue.{IsFirstWriter, IsUncommitted, IsUnwritten, last_position, entry_at, queue_actions, sent_positions, opening_queue, with_action, without_last, with_mark, with_result, with_given, without_slot, ready, first_installed, ready_installed};
 ghost use Rattle.sv_world.specs.Worlds.{IsGoodShape, IsGoodWorld, HaveAttrs};
 
+use crate::look_ups::LookUps;
 use crate::rooms::{BLOCK, forget_given, forget_marks, make_given_room, make_marks_room};
 use crate::slots::Slots;
 use crate::sources::Sources;
-use crate::look_ups::LookUps;
 use crate::waiting::WaitingAction;
 use crate::writers::Writers;
 use crate::written::{give_written, no_rows, put_values, tell_blocks};
@@ -138,7 +138,12 @@ impl Queue {
     }
 
     /// The last writer of an object below a position where it is above the commit, else 0. One look-up.
-    pub fn last_writer<L: Ledger>(&self, object: ObjectId, below: u32, look_ups: &mut LookUps<L>) -> u32
+    pub fn last_writer<L: Ledger>(
+        &self,
+        object: ObjectId,
+        below: u32,
+        look_ups: &mut LookUps<L>,
+    ) -> u32
         requires { object.0 < self.now.shape.objects }
         ensures writer { result ≡ last_writer (queue_actions self.now) object.0 below }
         ensures ticks { look_ups.new ≡ look_ups.old + 1 }
@@ -155,7 +160,11 @@ impl Queue {
     }
 
     /// The first uncommitted writer of an object. One look-up.
-    pub fn first_writer<L: Ledger>(&self, object: ObjectId, look_ups: &mut LookUps<L>) -> Option<u32>
+    pub fn first_writer<L: Ledger>(
+        &self,
+        object: ObjectId,
+        look_ups: &mut LookUps<L>,
+    ) -> Option<u32>
         requires { object.0 < self.now.shape.objects }
         ensures writer { IfSome result (λ pos. IsFirstWriter (queue_actions self.now) object.0 pos) }
         ensures uncommitted { IfSome result (λ pos. self.now.commit < pos) }

@@ -7,7 +7,7 @@ ghost use Rattle.sv_report.specs.Drops.{is_dropped, drops, dropped_count};
 
 use std::alloc::{AllocError, Global};
 use sv_journal::{
-    Entry, BriefReply, count_after, joining_client, make_client_rows, make_count_rows, new_seq,
+    BriefReply, Entry, count_after, joining_client, make_client_rows, make_count_rows, new_seq,
 };
 use sv_world::ClientId;
 

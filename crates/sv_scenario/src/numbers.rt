@@ -95,11 +95,7 @@ fn value_of(alloc: Global, attrs: u32, value: &Value) -> Result<WorldValue, Read
 }
 
 /// The values of these objects, each of so many numbers.
-pub fn each_value(
-    alloc: Global,
-    attrs: u32,
-    values: &[Value],
-) -> Result<Vec<WorldValue>, ReadFault>
+pub fn each_value(alloc: Global, attrs: u32, values: &[Value]) -> Result<Vec<WorldValue>, ReadFault>
     ensures reads { Gives (λ v. v.items) result (each (value_of attrs) [] (items_view values.now)) }
     ensures count { IfOk result (λ v. vec_len v ≡ length values.now) }
 {

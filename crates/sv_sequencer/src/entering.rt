@@ -12,7 +12,7 @@ ghost use Rattle.sv_journal.specs.History.{entry_of, end_entry};
 
 use std::alloc::{AllocError, Global};
 use sv_core::{Answer, Core, Decided, Opened, Seat};
-use sv_journal::{Entry, Journal, BriefReply};
+use sv_journal::{BriefReply, Entry, Journal};
 use sv_wire::{Reply, Request};
 use sv_world::World;
 

@@ -11,7 +11,7 @@ use crate::reports::Reports;
 use crate::testimony::Asker;
 use std::marker::Brand;
 use std::sync::ledger::{Blank, Ledger};
-use sv_queue::{Queue, Steps};
+use sv_queue::{LookUps, Queue};
 
 /// The lowest position above the commit without a result that was not sent to a session and that its client did not report.
 pub fn first_due(queue: &Queue, reports: &Reports, asker: Asker) -> Option<u32>
@@ -26,10 +26,10 @@ fn search<L: Ledger>(queue: &Queue, reports: &Reports, asker: Asker, blank: Blan
     requires some { 0 < blank.parts }
     ensures { MatchOption result (due_in queue.now reports.now asker.client asker.session ≡ []) (λ p. (rest : List ℕ) × (due_in queue.now reports.now asker.client asker.session ≡ p ∷ rest)) }
 {
-    let mut steps = Steps::<L>::new(blank);
+    let mut look_ups = LookUps::<L>::new(blank);
     for before in queue.commit()..queue.last() {
         let pos = before + 1;
-        if is_due(queue, reports, asker, pos, &mut steps) {
+        if is_due(queue, reports, asker, pos, &mut look_ups) {
             return Some(pos);
         }
     }
@@ -41,12 +41,12 @@ fn is_due<L: Ledger>(
     reports: &Reports,
     asker: Asker,
     pos: u32,
-    steps: &mut Steps<L>,
+    look_ups: &mut LookUps<L>,
 ) -> bool
     requires { IsUncommitted queue.now pos }
     ensures { result ≡ is_due_in queue.now reports.now asker.client asker.session pos }
 {
-    !queue.has_result(pos, steps)
-        && !queue.is_marked(pos, asker.session, steps)
+    !queue.has_result(pos, look_ups)
+        && !queue.is_marked(pos, asker.session, look_ups)
         && !reports.has_reported(pos, asker.client)
 }

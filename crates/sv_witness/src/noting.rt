@@ -14,7 +14,7 @@ use std::alloc::{AllocError, Global};
 use std::marker::Brand;
 use std::sync::ledger::{Blank, Ledger};
 use sv_client::are_same_values;
-use sv_queue::{Queue, Steps};
+use sv_queue::{LookUps, Queue};
 use sv_wire::{Done1, copy_result};
 use sv_world::{ClientId, copy_values};
 
@@ -106,8 +106,9 @@ fn brings<L: Ledger>(queue: &Queue, reports: &Reports, found: &Done1, blank: Bla
     requires pos { IsUncommitted queue.now found.now.pos }
     ensures { result ≡ brings queue.now reports.now found.now }
 {
-    let mut steps = Steps::<L>::new(blank);
-    !queue.has_result(found.pos, &mut steps) && reports.agrees(found.pos, found.values.as_slice())
+    let mut look_ups = LookUps::<L>::new(blank);
+    !queue.has_result(found.pos, &mut look_ups)
+        && reports.agrees(found.pos, found.values.as_slice())
 }
 
 /// The disputes that results of a client make with the first reports of their positions.

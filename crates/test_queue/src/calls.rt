@@ -8,7 +8,7 @@ use std::marker::Brand;
 use std::sync::ledger::{Blank, Ledger};
 use sv_influence::{Chain, Closure, chain, closure};
 use sv_lists::List;
-use sv_queue::{Queue, Slots, LookUps};
+use sv_queue::{LookUps, Queue, Slots};
 use sv_world::{Action, ClientId, MOST_OPEN, ObjectId, check_action};
 
 /// What changes a queue. A push answers the position, an install the count, and the others answer 0.
@@ -189,7 +189,12 @@ fn number(queue: &Queue, object: u16) -> u32 {
     }
 }
 
-fn last_writer<L: Ledger>(queue: &Queue, object: u16, below: u32, look_ups: &mut LookUps<L>) -> u32 {
+fn last_writer<L: Ledger>(
+    queue: &Queue,
+    object: u16,
+    below: u32,
+    look_ups: &mut LookUps<L>,
+) -> u32 {
     if object >= queue.shape().objects {
         return u32::MAX;
     }

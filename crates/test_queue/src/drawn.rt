@@ -8,7 +8,7 @@ use std::marker::Brand;
 use std::sync::ledger::{Blank, Ledger};
 use std::test::Fail;
 use sv_influence::{closure, plain_closure};
-use sv_queue::{Queue, LookUps};
+use sv_queue::{LookUps, Queue};
 
 /// The next number of a fixed sequence.
 pub fn draw(seed: &mut u64) -> u64 {

@@ -11,7 +11,7 @@ use std::sync::ledger::{Blank, Ledger};
 use std::test::Fail;
 use sv_influence::{Closure, ConsistentCut, closure, plain_closure};
 use sv_lists::List;
-use sv_queue::{Queue, LookUps};
+use sv_queue::{LookUps, Queue};
 use sv_world::ObjectId;
 
 /// Sends a session what it lacks of a position, so that its marks stay closed.

@@ -9,7 +9,7 @@ ghost use Rattle.sv_influence.specs.Lacking.{MarksAreClosed};
 use std::alloc::{AllocError, Global};
 use std::sync::ledger::Ledger;
 use sv_influence::{ConsistentCut, cut};
-use sv_queue::{Queue, LookUps};
+use sv_queue::{LookUps, Queue};
 use sv_world::{ObjectId, may_be_observed};
 
 /// Whether all that a position reads from is committed or marked.

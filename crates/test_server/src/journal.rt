@@ -2,7 +2,7 @@
 use std::alloc::{AllocError, Global};
 use std::test::Fail;
 use sv_journal::{
-    Entry, Journal, BriefReply, append_held, append_objects, append_value, print_journal,
+    BriefReply, Entry, Journal, append_held, append_objects, append_value, print_journal,
     relays_name_accepted,
 };
 use sv_lists::List;
@@ -65,7 +65,12 @@ fn relay(alloc: Global, seq: u32, positions: &[u32]) -> Result<BriefReply, Alloc
 }
 
 // A tree that is let go at the end of its scope makes a long proof; a call that takes it makes none.
-fn add(journal: &mut Journal, session: u16, request: Request, reply: BriefReply) -> Result<(), Fail> {
+fn add(
+    journal: &mut Journal,
+    session: u16,
+    request: Request,
+    reply: BriefReply,
+) -> Result<(), Fail> {
     let entry = Entry {
         session,
         request,

@@ -7,7 +7,7 @@ use super::scans::{
     written,
 };
 use std::alloc::{AllocError, Global};
-use sv_journal::{Entry, BriefReply};
+use sv_journal::{BriefReply, Entry};
 use sv_lists::List;
 use sv_wire::{Done1, ObjectValue, Request};
 use sv_world::{
@@ -174,7 +174,12 @@ impl<'a> Past<'a> {
         }
     }
 
-    fn reply_to_new(&self, client: u16, seq: u32, action: &Action) -> Result<BriefReply, AllocError> {
+    fn reply_to_new(
+        &self,
+        client: u16,
+        seq: u32,
+        action: &Action,
+    ) -> Result<BriefReply, AllocError> {
         let next = next_seq(self.told, client);
         if seq != next {
             return refused(5, next);

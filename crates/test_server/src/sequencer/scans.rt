@@ -2,7 +2,7 @@
 //!
 //! Positions count from 1, and an action at a position is the one before it in `actions`.
 use std::alloc::{AllocError, Global};
-use sv_journal::{Entry, BriefReply};
+use sv_journal::{BriefReply, Entry};
 use sv_lists::List;
 use sv_wire::{Done1, ObjectValue, Request};
 use sv_world::{Action, Value, is_in_mask};
@@ -272,7 +272,10 @@ pub fn reported(results: &[Done1], pos: u32) -> Option<&List<Value>> {
 /// The result of a position: what the first Done that names it, and was noted, reports.
 pub fn result_at(entries: &[Entry], pos: u32) -> Option<&List<Value>> {
     for entry in entries {
-        if let (Request::Done { results }, BriefReply::Noted { .. }) = (&entry.request, &entry.reply) {
+        if let (Request::Done { results }, BriefReply::Noted { .. }) = (
+            &entry.request,
+            &entry.reply,
+        ) {
             if let Some(values) = reported(results.as_slice(), pos) {
                 return Some(values);
             }

@@ -10,7 +10,7 @@ use std::sync::Wait;
 use std::test::Fail;
 use std::thread;
 use std::thread::Threads;
-use sv_journal::{Entry, BriefReply};
+use sv_journal::{BriefReply, Entry};
 use sv_lists::List;
 use sv_lock::{Pass, SeqLock};
 use sv_sequencer::Sequencer;
