@@ -101,9 +101,10 @@ is_leave requests.End = inr (λ e. cc)
 
 -- a code never stops a session as left
 code_stop : (a b c : Bool) →
-    (if a then Some outs.Malformed else if b then Some outs.Ended else if c then Some outs.Spent else None) ≢ Some outs.Left
+    (if (a || c) || b then Some (if a then outs.Malformed else if b then outs.Ended else outs.Spent) else None) ≢ Some outs.Left
 code_stop true b c e = cc
-code_stop false true c e = cc
+code_stop false true true e = cc
+code_stop false true false e = cc
 code_stop false false true e = cc
 code_stop false false false e = cc
 
@@ -156,10 +157,11 @@ stop_alone e = or_none (stop_of e.reply)
 
 -- ---- Each reason to stop
 
-code_reason : (P : SessionOut → Type 0) (a b c : Bool) (out : SessionOut) → (if a then Some outs.Malformed else if b then Some outs.Ended else if c then Some outs.Spent else None) ≡ Some out →
+code_reason : (P : SessionOut → Type 0) (a b c : Bool) (out : SessionOut) → (if (a || c) || b then Some (if a then outs.Malformed else if b then outs.Ended else outs.Spent) else None) ≡ Some out →
     P outs.Malformed → P outs.Ended → P outs.Spent → P out
 code_reason P true b c out e malformed ended spent = let same : outs.Malformed ≡ out = cc in subst P same malformed
-code_reason P false true c out e malformed ended spent = let same : outs.Ended ≡ out = cc in subst P same ended
+code_reason P false true true out e malformed ended spent = let same : outs.Ended ≡ out = cc in subst P same ended
+code_reason P false true false out e malformed ended spent = let same : outs.Ended ≡ out = cc in subst P same ended
 code_reason P false false true out e malformed ended spent = let same : outs.Spent ≡ out = cc in subst P same spent
 code_reason P false false false out e malformed ended spent = absurd cc
 

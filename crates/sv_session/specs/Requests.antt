@@ -14,6 +14,7 @@ use Rattle.sv_journal.specs.declared.entry.Entry.{Entry}
 use Rattle.sv_journal.specs.declared.entry.BriefReply.{BriefReply}
 use Rattle.sv_journal.specs.declared.entry.BriefReply.TheVariants as brief
 use Rattle.sv_journal.specs.History.{either, accepted, full_reply}
+use Rattle.sv_journal.specs.Sessions.{is_stopping}
 use Rattle.sv_session.specs.declared.outcome.SessionOut.{SessionOut}
 use Rattle.sv_session.specs.declared.outcome.SessionOut.TheVariants as outs
 
@@ -44,18 +45,20 @@ due_frames seen entries = frames_of (map (reply_payload seen) entries)
 
 -- ---- Stops
 
--- why a session stops after a refusal
-abbrev pub stop_for_code : ℕ → Option SessionOut
-stop_for_code code = if code == code_of refusals.Malformed then Some outs.Malformed
-    else if code == code_of refusals.Over then Some outs.Ended
-    else if code == code_of refusals.TooManyRequests then Some outs.Spent
-    else None
+-- the reason of a refusal that stops a session
+abbrev pub reason_for_code : ℕ → SessionOut
+reason_for_code code = if code == code_of refusals.Malformed then outs.Malformed
+    else if code == code_of refusals.Over then outs.Ended
+    else outs.Spent
 
--- why a session stops after a reply, where it does
+-- the reason of a reply that stops a session
+abbrev pub reason_of : BriefReply → SessionOut
+reason_of (brief.Refused code detail) = reason_for_code code
+reason_of _ = outs.Left
+
+-- why a session stops after a reply, where it does: the journal says after which it does
 abbrev pub stop_of : BriefReply → Option SessionOut
-stop_of brief.Bye = Some outs.Left
-stop_of (brief.Refused code detail) = stop_for_code code
-stop_of _ = None
+stop_of reply = if is_stopping reply then Some (reason_of reply) else None
 
 -- why a session stops after these entries: the first of their replies that stops it
 abbrev pub stop_after : List Entry → Option SessionOut

@@ -5,27 +5,37 @@ ghost use Rattle.sv_wire.specs.Grammar.{IsWireReply};
 ghost use Rattle.sv_wire.specs.Spelling.{reply_bytes};
 ghost use Rattle.sv_exchange.specs.Outgoing.{KeepsBack};
 ghost use Rattle.sv_journal.specs.History.{brief_of};
-ghost use Rattle.sv_session.specs.Requests.{stop_for_code, stop_of};
+ghost use Rattle.sv_session.specs.Requests.{reason_for_code, reason_of, stop_of};
 ghost use Rattle.sv_session.specs.Answers.{IsReplyPosted, RoundCause};
 
 use crate::outcome::SessionOut;
 use sv_exchange::Outbox;
+use sv_journal::is_stopping;
 use sv_link::{End, Sent};
 use sv_wire::{Refusal, Reply, reply_numbers_fit};
 
-/// Why a session stops after a refusal of this code, if it does.
-fn stop_for_refusal(code: u8) -> Option<SessionOut>
-    ensures stop { result ≡ stop_for_code code }
-    ensures reason { IfSome result (λ out. out ≢ SessionOut.LinkFault) }
+/// The reason of a refusal of this code, which stops a session.
+fn reason_for_refusal(code: u8) -> SessionOut
+    ensures reason { result ≡ reason_for_code code }
+    ensures other { result ≢ SessionOut.LinkFault }
 {
     if code == Refusal::Malformed.code() {
-        Some(SessionOut::Malformed)
+        SessionOut::Malformed
     } else if code == Refusal::Over.code() {
-        Some(SessionOut::Ended)
-    } else if code == Refusal::TooManyRequests.code() {
-        Some(SessionOut::Spent)
+        SessionOut::Ended
     } else {
-        None
+        SessionOut::Spent
+    }
+}
+
+/// The reason of a reply that stops a session.
+fn reason_for(reply: &Reply) -> SessionOut
+    ensures reason { result ≡ reason_of (brief_of reply.now) }
+    ensures other { result ≢ SessionOut.LinkFault }
+{
+    match reply {
+        Reply::Refused { code, .. } => reason_for_refusal(*code),
+        _ => SessionOut::Left,
     }
 }
 
@@ -34,10 +44,10 @@ pub fn stop_for(reply: &Reply) -> Option<SessionOut>
     ensures stop { result ≡ stop_of (brief_of reply.now) }
     ensures reason { IfSome result (λ out. out ≢ SessionOut.LinkFault) }
 {
-    match reply {
-        Reply::Bye => Some(SessionOut::Left),
-        Reply::Refused { code, .. } => stop_for_refusal(*code),
-        _ => None,
+    if is_stopping(reply) {
+        Some(reason_for(reply))
+    } else {
+        None
     }
 }
 
