@@ -1,0 +1,312 @@
+-- A core that has the state of a history keeps it.
+use Rattle.std.proofs.Common.{◌≡◌, ◌≢◌, ℕ, zero, suc, ◌+◌, ◌-◌, ◌<◌, ◌≤◌, Bool, true, false, ◌&&◌, ◌||◌, not, cond, nat_eq, nat_lt, nat_le, ◌⊎◌, inl, inr, ℤ, List, [], ◌∷◌, ◌++◌, map, filter, length, max, Option, Some, None, is_some, option_map, slice_get, refl, sym, ◌∙◌, ap, subst, arith, append-nil}
+use Rattle.std.specs.List.{list_any}
+use Rattle.std.proofs.lemmas.Bool.{both_ways, cases_lt, cases_eq, cases_Bool, eq-eqb, eqb-true, ne_eqb, or_cases, or_parts, or_left, or_right, and_parts, not-true, not_from_false, lt-ltb, le-ltb, ltb-true, cond-true, cond-false}
+use Rattle.std.proofs.lemmas.List.{length-map}
+use Rattle.std.proofs.lemmas.List.Elements.{filter-append}
+use Rattle.std.proofs.lemmas.Option.{slice_get-map}
+use Rattle.sv_world.specs.declared.world.ClientId.{ClientId}
+use Rattle.sv_world.specs.Control.{is_in, below}
+use Rattle.sv_world.specs.Faults.{is_ascending}
+use Rattle.sv_world.specs.Sets.{object_numbered, numbers_of}
+use Rattle.sv_world.proofs.Ascending.{ascending-filter}
+use Rattle.sv_world.proofs.Members.{is_in-filter, is_in-filter_parts, same_test}
+use Rattle.sv_world.proofs.Bases.{is_in-below, below-is_in, below-ascending}
+use Rattle.sv_queue.specs.Queue.{QueueView, last_position, entry_at}
+use Rattle.sv_clients.specs.declared.clients.Clients.{Clients}
+use Rattle.sv_clients.specs.Clients.{ClientView, no_client, client_row, KeepsOutcomes, last_of, outcome_value}
+use Rattle.sv_journal.specs.declared.entry.Entry.{Entry}
+use Rattle.sv_journal.specs.History.{either, is_welcome, joining, Outcome, Accepted, Dropped, Denied, client_of, is_client, is_submit_of, outcome_in, outcomes_of, accepted, next_seq, result_at, commit_of, installed}
+use Rattle.sv_journal.specs.Sessions.{welcomes, is_over, is_ended, life_in, life_of, sent_to, named_to, is_given, already_given}
+use Rattle.sv_journal.specs.Answer.{Rules}
+use Rattle.sv_journal.proofs.Commits.{run_within}
+use Rattle.sv_sequencer.specs.declared.sessions.SessionRow.{SessionRow}
+use Rattle.sv_sequencer.specs.Agreement.{IsClientRow, sent_at, named_at, FitsSeats, AreSeated}
+use Rattle.sv_sequencer.specs.Fits.{actions_in, values_after, was_given, IsEntry}
+use Rattle.sv_sequencer.specs.Rows.{row_at, seat_in, has_entry, owes_end, count_rows, requests_left, IsSessionRow}
+use Rattle.sv_sequencer.proofs.HistorySteps.{installed-is}
+use Rattle.sv_state.specs.declared.state.Above.{Above}
+use Rattle.sv_state.specs.declared.state.ClientState.{ClientState}
+use Rattle.sv_state.specs.declared.state.OpenSession.{OpenSession}
+use Rattle.sv_state.specs.declared.state.State.{State}
+use Rattle.sv_state.specs.States.{client_numbered, sessions_begun, unended, uncommitted, sent_uncommitted, given_where_joined, sent_where_joined, open_session, ever_joined, outcome_row, client_state, above_at, state_after}
+use Rattle.sv_state.specs.WellFormed.{position_of, above_numbered, client_with}
+use Rattle.law_state.specs.Made.{Place}
+use Rattle.law_state.specs.Stands.{row_of, sent_by, given_by}
+use Rattle.law_state.specs.Actions.{counting}
+use Rattle.law_state.specs.OfState.{nobody, place_of, row_in, IsRaised, HasState, AgreesBelow}
+use Rattle.law_state.specs.Kept.{IsLivingHistory, HistoriesOfStatesAreKept}
+use Rattle.law_state.proofs.Values.{numbers-back}
+use Rattle.law_state.proofs.Builds.{AreOnce}
+use Rattle.law_state.proofs.Agree.{row_or, row-seat, number_of, seat-number, count-owed}
+use Rattle.law_state.proofs.Course.{ascending-once}
+
+-- ---- Positions above the commit
+
+counting-push : (k m : ℕ) → counting k (suc m) ≡ counting k m ++ (k + m) ∷ []
+counting-push k zero = ap (λ n. n ∷ []) (let e : k ≡ k + 0 = omega arith in e)
+counting-push k (suc m) = ap (λ xs. k ∷ xs) (counting-push (suc k) m ∙ ap (λ n. counting (suc k) m ++ n ∷ []) (let e : suc k + m ≡ k + suc m = omega arith in e))
+
+none-above : (c n : ℕ) → n ≤ suc c → filter (λ p. nat_lt c p) (below n) ≡ []
+none-above c zero low = refl
+none-above c (suc n) low =
+    filter-append (λ p. nat_lt c p) (below n) (n ∷ []) ∙ ap (λ xs. xs ++ filter (λ p. nat_lt c p) (n ∷ [])) (none-above c n (omega (arith, low)))
+    ∙ ap (λ b. cond b (n ∷ []) []) (le-ltb c n (omega (arith, low)))
+
+all-above : (c m : ℕ) → filter (λ p. nat_lt c p) (below (suc (c + m))) ≡ counting (suc c) m
+all-above c zero = none-above c (suc (c + 0)) (omega arith)
+all-above c (suc m) =
+    filter-append (λ p. nat_lt c p) (below (c + suc m)) ((c + suc m) ∷ [])
+    ∙ ap (λ n. filter (λ p. nat_lt c p) (below n) ++ filter (λ p. nat_lt c p) ((c + suc m) ∷ [])) (let e : c + suc m ≡ suc (c + m) = omega arith in e)
+    ∙ ap (λ xs. xs ++ filter (λ p. nat_lt c p) ((c + suc m) ∷ [])) (all-above c m)
+    ∙ ap (λ b. counting (suc c) m ++ cond b ((c + suc m) ∷ []) []) (lt-ltb c (c + suc m) (omega arith))
+    ∙ ap (λ n. counting (suc c) m ++ n ∷ []) (let e : c + suc m ≡ suc c + m = omega arith in e)
+    ∙ sym (counting-push (suc c) m)
+
+get-counting : (k m i : ℕ) → i < m → slice_get (counting k m) i ≡ Some (k + i)
+get-counting k zero i low = absurd (omega (arith, low))
+get-counting k (suc m) zero low = ap Some (let e : k ≡ k + 0 = omega arith in e)
+get-counting k (suc m) (suc i) low = get-counting (suc k) m i (omega (arith, low)) ∙ ap Some (let e : suc k + i ≡ k + suc i = omega arith in e)
+
+length-counting : (k m : ℕ) → length (counting k m) ≡ m
+length-counting k zero = refl
+length-counting k (suc m) = ap suc (length-counting (suc k) m)
+
+filter-member : (f : ℕ → Bool) (p : ℕ) (xs : List ℕ) → is_in p xs ≡ true → is_in p (filter f xs) ≡ f p
+filter-member f p xs m = same_test (is_in p (filter f xs)) (f p) (λ q. (is_in-filter_parts f p xs q).1) (λ q. is_in-filter f p xs m q)
+
+get-in : (xs : List ℕ) (i t : ℕ) → slice_get xs i ≡ Some t → is_in t xs ≡ true
+get-in [] i t q = cc
+get-in (x ∷ xs) zero t q = (let is : x ≡ t = cc in or_left (nat_eq t x) (is_in t xs) (eq-eqb t x (sym is)))
+get-in (x ∷ xs) (suc i) t q = or_right (nat_eq t x) (is_in t xs) (get-in xs i t q)
+
+in-get : (xs : List ℕ) (t : ℕ) → is_in t xs ≡ true → (i : ℕ) × (slice_get xs i ≡ Some t)
+in-get [] t m = absurd (both_ways false refl m)
+in-get (x ∷ xs) t m = elim (or_cases (nat_eq t x) (is_in t xs) m) [
+  | inl is ↦ (0, ap Some (sym (eqb-true t x is)))
+  | inr later ↦ (let f = in-get xs t later in (suc f.0, f.1))
+]
+
+get-once : (xs : List ℕ) (i j t : ℕ) → AreOnce xs → slice_get xs i ≡ Some t → slice_get xs j ≡ Some t → i ≡ j
+get-once [] i j t once a b = cc
+get-once (x ∷ xs) zero zero t once a b = refl
+get-once (x ∷ xs) zero (suc j) t once a b = (let is : x ≡ t = cc in absurd (both_ways (is_in x xs) once.0 (ap (λ n. is_in n xs) is ∙ get-in xs j t b)))
+get-once (x ∷ xs) (suc i) zero t once a b = (let is : x ≡ t = cc in absurd (both_ways (is_in x xs) once.0 (ap (λ n. is_in n xs) is ∙ get-in xs i t a)))
+get-once (x ∷ xs) (suc i) (suc j) t once a b = ap suc (get-once xs i j t once.1 a b)
+
+-- ---- Clients
+
+client-back : (o : Option ℕ) → option_map (λ (k : ClientId). k.0) (option_map client_numbered o) ≡ o
+client-back None = refl
+client-back (Some k) = refl
+
+outcomes-back : (os : List Outcome) → map outcome_value (map outcome_row os) ≡ os
+outcomes-back [] = refl
+outcomes-back (Accepted p ∷ os) = ap (λ xs. Accepted p ∷ xs) (outcomes-back os)
+outcomes-back (Dropped chain far ∷ os) = ap (λ xs. Dropped chain far ∷ xs) (outcomes-back os)
+outcomes-back (Denied object ∷ os) = ap (λ xs. Denied object ∷ xs) (outcomes-back os)
+
+with-state : (h : List Entry) (ks : List ℕ) (k : ℕ) → client_with k (map (client_state h) ks) ≡ cond (is_in k ks) (Some (client_state h k)) None
+with-state h [] k = refl
+with-state h (j ∷ ks) k = elim (cases_eq j k) [
+  | inl is ↦ cond-true (nat_eq j k) (Some (client_state h j)) (client_with k (map (client_state h) ks)) (eq-eqb j k is) ∙ ap (λ n. Some (client_state h n)) is
+      ∙ sym (cond-true (nat_eq k j || is_in k ks) (Some (client_state h k)) None (or_left (nat_eq k j) (is_in k ks) (eq-eqb k j (sym is))))
+  | inr ne ↦ cond-false (nat_eq j k) (Some (client_state h j)) (client_with k (map (client_state h) ks)) (ne_eqb j k ne) ∙ with-state h ks k
+      ∙ ap (λ b. cond (b || is_in k ks) (Some (client_state h k)) None) (sym (ne_eqb k j (λ q. ne (sym q))))
+]
+
+-- A client that never joined has no life, no session and no outcome.
+no-life : (h : List Entry) (k : ℕ) → ever_joined h k ≡ false → life_of h k ≡ 0
+no-life [] k none = refl
+no-life (e ∷ h) k none = (let both = or_parts (welcomes e (Some k)) (ever_joined h k) none in
+    cond-false (welcomes e (Some k)) (max (life_in e.request) (life_of h k)) (life_of h k) both.0 ∙ no-life h k both.1)
+
+no-session : (h : List Entry) (k s : ℕ) → ever_joined h k ≡ false → is_client (client_of h s) k ≡ false
+no-session [] k s none = refl
+no-session (e ∷ h) k s none =
+    (let both = or_parts (welcomes e (Some k)) (ever_joined h k) none in
+    go (client_of h s) (no-session h k s both.1) (nat_eq e.session s) (is_welcome e.reply) refl both.0)
+  where
+    go : (o : Option ℕ) → is_client o k ≡ false → (b d : Bool) → is_welcome e.reply ≡ d → (is_welcome e.reply && is_client (joining e.request) k) ≡ false →
+        is_client (either o (cond (b && d) (joining e.request) None)) k ≡ false
+    go (Some j) f b d q w = f
+    go None f true true q w = sym (ap (λ x. x && is_client (joining e.request) k) q) ∙ w
+    go None f true false q w = refl
+    go None f false d q w = refl
+
+no-outcomes : (h : List Entry) (k : ℕ) → ever_joined h k ≡ false → outcomes_of h k ≡ []
+no-outcomes [] k none = refl
+no-outcomes (e ∷ h) k none =
+    (let both = or_parts (welcomes e (Some k)) (ever_joined h k) none in
+    ap (λ b. outcomes_of h k ++ cond (b && is_submit_of e.request (suc (length (outcomes_of h k)))) (outcome_in (suc (length (accepted h))) e.reply) []) (no-session h k e.session both.1)
+    ∙ append-nil (outcomes_of h k) ∙ no-outcomes h k both.1)
+
+-- ---- A core
+
+module _ (r : Rules) (h : List Entry) (v : QueueView) (rows : List SessionRow) (clients : Clients) (owed : ℕ) (is : IsLivingHistory r h) (has : HasState r (state_after r h) v rows clients owed) where
+  abbrev c : ℕ
+  c = commit_of h
+
+  abbrev n : ℕ
+  n = length (accepted h)
+
+  abbrev ts : List ℕ
+  ts = unended h
+
+  abbrev seats : List Place
+  seats = map place_of (map (open_session r h) ts)
+
+  abbrev place : ℕ → Place
+  place t = place_of (open_session r h t)
+
+  commit-within : c ≤ n
+  commit-within = run_within (λ p. is_some (result_at h p)) (length (accepted h))
+
+  uncommitted-are : uncommitted h ≡ counting (suc c) (n - c)
+  uncommitted-are = ap (λ m. filter (λ p. nat_lt c p) (below (suc m))) (let e : n ≡ c + (n - c) = omega (arith, commit-within) in e) ∙ all-above c (n - c)
+
+  last-is : position_of (state_after r h) ≡ n
+  last-is =
+      (let e : length (map (above_at h) (uncommitted h)) ≡ n - c = length-map (uncommitted h) (above_at h) ∙ ap length uncommitted-are ∙ length-counting (suc c) (n - c) in
+      omega (arith, e, commit-within))
+
+  above-is : (p : ℕ) → c < p → p ≤ n → above_numbered c (map (above_at h) (uncommitted h)) p ≡ Some (above_at h p)
+  above-is p low high =
+      slice_get-map (above_at h) (uncommitted h) (p - suc c)
+      ∙ ap (λ ps. option_map (above_at h) (slice_get ps (p - suc c))) uncommitted-are
+      ∙ ap (option_map (above_at h)) (get-counting (suc c) (n - c) (p - suc c) (omega (arith, low, high)))
+      ∙ ap (λ m. Some (above_at h m)) (let e : suc c + (p - suc c) ≡ p = omega (arith, low) in e)
+
+  raised : (p : ℕ) → c < p → p ≤ n → IsRaised v p (above_at h p)
+  raised p low high = has.raised p (above_at h p) low (above-is p low high)
+
+  in-uncommitted : (p : ℕ) → c < p → p ≤ n → is_in p (uncommitted h) ≡ true
+  in-uncommitted p low high = is_in-filter (λ m. nat_lt c m) p (below (suc n)) (is_in-below (suc n) p (omega (arith, high))) (lt-ltb c p low)
+
+  -- ---- Seats
+
+  seat-get : (slot : ℕ) → slice_get seats slot ≡ option_map place (slice_get ts slot)
+  seat-get slot = slice_get-map place_of (map (open_session r h) ts) slot ∙ ap (option_map place_of) (slice_get-map (open_session r h) ts slot) ∙ go (slice_get ts slot)
+    where
+      go : (o : Option ℕ) → option_map place_of (option_map (open_session r h) o) ≡ option_map place o
+      go None = refl
+      go (Some t) = refl
+
+  seat-is : (slot : ℕ) → seat_in rows slot ≡ slice_get ts slot
+  seat-is slot = ap (λ rs. seat_in rs slot) has.session_rows ∙ seat-number seats slot ∙ ap number_of (seat-get slot) ∙ go (slice_get ts slot)
+    where
+      go : (o : Option ℕ) → number_of (option_map place o) ≡ o
+      go None = refl
+      go (Some t) = refl
+
+  -- ---- Marks, and what was given
+
+  sent-same : (o : Option ℕ) (p : ℕ) → c < p → p ≤ n → is_in p (sent_by (option_map place o)) ≡ is_in p (sent_at h o)
+  sent-same None p low high = refl
+  sent-same (Some t) p low high = go (client_of h t) refl
+    where
+      go : (k : Option ℕ) → client_of h t ≡ k → is_in p (sent_where_joined h t k) ≡ is_in p (sent_to h t)
+      go (Some k) q = filter-member (λ m. is_in m (sent_to h t)) p (uncommitted h) (in-uncommitted p low high)
+      go None q = ap (is_in p) (sym (is.unsent t q))
+
+  given-same : (o : Option ℕ) (x : ℕ) → x < r.world.shape.objects → is_in x (given_by (option_map place o)) ≡ was_given (actions_in (accepted h)) (sent_at h o) (named_at h o x) x c
+  given-same None x low = refl
+  given-same (Some t) x low = go (client_of h t) refl
+    where
+      go : (k : Option ℕ) → client_of h t ≡ k → is_in x (numbers_of (given_where_joined r h t k)) ≡ was_given (actions_in (accepted h)) (sent_to h t) (named_to h t x) x c
+      go (Some k) q = ap (is_in x) (numbers-back (already_given r.world.shape.objects h t)) ∙ filter-member (is_given h t) x (below r.world.shape.objects) (is_in-below r.world.shape.objects x low)
+      go None q = sym (ap (λ ps. was_given (actions_in (accepted h)) ps (named_to h t x) x c) (is.unsent t q) ∙ ap (λ qs. was_given (actions_in (accepted h)) [] qs x c) (is.unnamed t x q))
+
+  fits : FitsSeats r h rows v
+  fits = record {
+    shape = has.shape;
+    last = has.last ∙ last-is;
+    committed = has.committed ∙ installed-is r.world.values h c ∙ ap (values_after r.world.values (actions_in (accepted h)) (result_at h)) (sym has.commit);
+    entries = λ p low high. entry p (omega (arith, low, has.commit)) high;
+    given = λ x slot low small. has.given x slot low small ∙ ap (λ o. is_in x (given_by o)) (seat-get slot) ∙ given-same (slice_get ts slot) x low
+        ∙ ap (λ o. was_given (actions_in (accepted h)) (sent_at h o) (named_at h o x) x c) (sym (seat-is slot))
+        ∙ ap (was_given (actions_in (accepted h)) (sent_at h (seat_in rows slot)) (named_at h (seat_in rows slot) x) x) (sym has.commit);
+  }
+    where
+      entry : (p : ℕ) → c < p → p ≤ n → IsEntry (accepted h) (result_at h) (λ slot. sent_at h (seat_in rows slot)) p (entry_at v p)
+      entry p low high = (let up = raised p low high in record {
+        author = up.author;
+        seq = up.seq;
+        action = up.action;
+        result = up.result;
+        marks = λ slot small. has.marks p slot low (omega (arith, high, last-is)) small ∙ ap (λ o. is_in p (sent_by o)) (seat-get slot) ∙ sent-same (slice_get ts slot) p low high
+            ∙ ap (λ o. is_in p (sent_at h o)) (sym (seat-is slot));
+      })
+
+  -- ---- Rows
+
+  ts-once : AreOnce ts
+  ts-once = ascending-once ts (ascending-filter (λ t. not (is_ended h t)) (below (sessions_begun h)) (below-ascending (sessions_begun h)))
+
+  open-unended : (t : ℕ) → is_in t ts ≡ true → is_ended h t ≡ false
+  open-unended t m = not-true (is_ended h t) (is_in-filter_parts (λ u. not (is_ended h u)) t (below (sessions_begun h)) m).1
+
+  seats-are : AreSeated h rows
+  seats-are = record {
+    once = λ i j t a b. get-once ts i j t ts-once (sym (seat-is i) ∙ a) (sym (seat-is j) ∙ b);
+    all = λ t begun on.
+        (let low = ltb-true t (sessions_begun h) (sym (is.begun t) ∙ begun) in
+        let ended : is_ended h t ≡ false = unended-is t on in
+        let there = in-get ts t (is_in-filter (λ u. not (is_ended h u)) t (below (sessions_begun h)) (is_in-below (sessions_begun h) t low) (not_from_false (is_ended h t) ended)) in
+        (there.0, seat-is there.0 ∙ there.1));
+  }
+    where
+      unended-is : (t : ℕ) → is_over h t ≡ false → is_ended h t ≡ false
+      unended-is t on = elim (cases_Bool (is_ended h t)) [
+        | inl q ↦ absurd (both_ways (is_over h t) on (is.sound.ended t q))
+        | inr q ↦ q
+      ]
+
+  row-is : (slot t : ℕ) → slice_get ts slot ≡ Some t → row_at rows slot ≡ row_of (place t)
+  row-is slot t at = ap (λ rs. row_at rs slot) has.session_rows ∙ row-seat seats slot ∙ ap row_or (seat-get slot ∙ ap (option_map place) at)
+
+  session-row : (slot t : ℕ) → seat_in rows slot ≡ Some t → IsSessionRow r h t (row_at rows slot)
+  session-row slot t at =
+      (let there : slice_get ts slot ≡ Some t = sym (seat-is slot) ∙ at in
+      subst (IsSessionRow r h t) (sym (row-is slot t there)) (record {
+        client = client-back (client_of h t);
+        over = refl;
+        left = sym (ap (option_map _) is.requests);
+        ended = sym (open-unended t (get-in ts slot t there));
+      }))
+
+  -- ---- Clients
+
+  listed : (k : ℕ) → k < nobody → is_in k (filter (ever_joined h) (below r.clients)) ≡ ever_joined h k
+  listed k low = filter-member (ever_joined h) k (below r.clients) (is_in-below r.clients k (omega (arith, low, is.clients)))
+
+  client-is : (k : ℕ) → k < nobody → IsClientRow h k (client_row clients k)
+  client-is k low = subst (IsClientRow h k) (sym (has.client_rows k low ∙ ap row_in (with-state h (filter (ever_joined h) (below r.clients)) k ∙ ap (λ b. cond b (Some (client_state h k)) None) (listed k low))))
+      (go (ever_joined h k) refl)
+    where
+      go : (b : Bool) → ever_joined h k ≡ b → IsClientRow h k (row_in (cond b (Some (client_state h k)) None))
+      go true q = record {
+        life = refl;
+        outcomes = record { count = (let e : next_seq h k - 1 ≡ length (outcomes_of h k) = omega arith in e); kept = outcomes-back (last_of 8 (outcomes_of h k)) };
+      }
+      go false q = record {
+        life = sym (no-life h k q);
+        outcomes = subst (λ os. KeepsOutcomes os no_client) (sym (no-outcomes h k q)) (record { count = refl; kept = refl });
+      }
+
+  pub history-kept : AgreesBelow nobody r h v rows clients owed
+  history-kept = record {
+    sound = is.sound;
+    positions = is.limit;
+    few = (let e = ap length has.session_rows in let a = length-map seats row_of in let b = length-map (map (open_session r h) ts) place_of in let d = length-map ts (open_session r h) in omega (arith, e, a, b, d, is.few));
+    room = (let e = ap length has.session_rows in let a = length-map seats row_of in let b = length-map (map (open_session r h) ts) place_of in omega (arith, e, a, b, has.room));
+    fits = fits;
+    commit = has.commit;
+    seats = seats-are;
+    session_rows = session-row;
+    client_rows = client-is;
+    ends = has.ends ∙ sym (length-map (map (open_session r h) ts) place_of) ∙ sym (count-owed seats) ∙ ap (count_rows owes_end) (sym has.session_rows);
+  }
+
+pub histories-of-states-are-kept : HistoriesOfStatesAreKept
+histories-of-states-are-kept r h v rows clients owed is has = history-kept r h v rows clients owed is has
