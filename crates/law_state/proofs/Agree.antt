@@ -14,10 +14,10 @@ use Rattle.sv_journal.specs.declared.entry.Entry.{Entry}
 use Rattle.sv_journal.specs.History.{either, Authored, Outcome, Accepted, Dropped, Denied, client_of, outcomes_of, accepted, actions_of, authored_at, result_at, run_length, commit_of, reported}
 use Rattle.sv_journal.specs.Sessions.{is_over, is_ended, life_of, sent_to, named_to}
 use Rattle.sv_journal.specs.Answer.{Rules}
-use Rattle.sv_sequencer.specs.declared.sessions.SessionRow.{SessionRow}
-use Rattle.sv_sequencer.specs.Agreement.{IsSoundHistory, IsClientRow, sent_at, named_at, FitsSeats, AreSeated}
-use Rattle.sv_sequencer.specs.Fits.{actions_in, was_given, IsEntry, QueueFits, values_after}
-use Rattle.sv_sequencer.specs.Rows.{no_session, row_at, seat_in, has_entry, owes_end, count_rows, requests_left, IsSessionRow}
+use Rattle.sv_core.specs.declared.sessions.SessionRow.{SessionRow}
+use Rattle.sv_core.specs.Agreement.{IsSoundHistory, IsClientRow, sent_at, named_at, FitsSeats, AreSeated}
+use Rattle.sv_core.specs.Fits.{actions_in, was_given, IsEntry, QueueFits, values_after}
+use Rattle.sv_core.specs.Rows.{no_session, row_at, seat_in, has_entry, owes_end, count_rows, requests_left, IsSessionRow}
 use Rattle.sv_sequencer.proofs.HistorySteps.{run_length-is}
 use Rattle.sv_sequencer.proofs.AgreeNext.{get-push}
 use Rattle.sv_sequencer.proofs.FitMarks.{was_given-named}

@@ -11,7 +11,7 @@ use Rattle.sv_journal.specs.Sessions.{is_end, is_last, welcomes, is_over, is_end
 use Rattle.sv_journal.specs.Serving.{with_results}
 use Rattle.sv_journal.specs.Living.{Stewardship, counts, heeded}
 use Rattle.sv_journal.proofs.Results.{either_none}
-use Rattle.sv_sequencer.specs.Rows.{has_entry}
+use Rattle.sv_core.specs.Rows.{has_entry}
 use Rattle.sv_sequencer.proofs.HistorySteps.{accepted-quiet, outcomes-quiet, result-quiet}
 
 -- ---- A fact of each entry

@@ -9,11 +9,11 @@ use Rattle.sv_world.specs.Control.{is_in, below, blank, action_at, SentIsClosed}
 use Rattle.sv_world.specs.Faults.{is_ascending}
 use Rattle.sv_world.proofs.Ascending.{ascending-tail, ascending-head}
 use Rattle.sv_world.proofs.Members.{is_in-filter_parts}
-use Rattle.sv_clients.specs.Clients.{ClientView, KeepsOutcomes, last_of, outcome_value}
+use Rattle.sv_clients.specs.Clients.{KeptClient, KeepsOutcomes, last_of, outcome_value}
 use Rattle.sv_journal.specs.History.{Authored, Outcome, Accepted, Dropped, Denied, authored_at}
 use Rattle.sv_journal.specs.Answer.{Rules}
 use Rattle.sv_journal.specs.Living.{Stewardship}
-use Rattle.sv_sequencer.specs.Fits.{actions_in, values_after}
+use Rattle.sv_core.specs.Fits.{actions_in, values_after}
 use Rattle.sv_state.specs.declared.state.Above.{Above}
 use Rattle.sv_state.specs.declared.state.ClientState.{ClientState}
 use Rattle.sv_state.specs.declared.state.OpenSession.{OpenSession}

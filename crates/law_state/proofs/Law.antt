@@ -12,15 +12,15 @@ use Rattle.sv_queue.specs.Queue.{QueueView, last_position, entry_at}
 use Rattle.sv_clients.specs.declared.clients.Clients.{Clients}
 use Rattle.sv_clients.specs.declared.outcome.Outcome.{Outcome as OutcomeRow}
 use Rattle.sv_clients.specs.declared.outcome.Outcome.TheVariants as rows
-use Rattle.sv_clients.specs.Clients.{ClientView, client_row, KeepsOutcomes, last_of, outcome_value}
+use Rattle.sv_clients.specs.Clients.{KeptClient, client_row, KeepsOutcomes, last_of, outcome_value}
 use Rattle.sv_journal.specs.declared.entry.Entry.{Entry}
 use Rattle.sv_journal.specs.History.{Authored, Outcome, Accepted, authored_at}
 use Rattle.sv_journal.specs.Sessions.{is_ended}
 use Rattle.sv_journal.specs.Answer.{Rules}
 use Rattle.sv_journal.specs.Living.{Stewardship, heeded}
-use Rattle.sv_sequencer.specs.declared.sessions.SessionRow.{SessionRow}
-use Rattle.sv_sequencer.specs.Fits.{actions_in, values_after}
-use Rattle.sv_sequencer.specs.Rows.{has_entry, owes_end, count_rows}
+use Rattle.sv_core.specs.declared.sessions.SessionRow.{SessionRow}
+use Rattle.sv_core.specs.Fits.{actions_in, values_after}
+use Rattle.sv_core.specs.Rows.{has_entry, owes_end, count_rows}
 use Rattle.sv_state.specs.declared.state.Above.{Above}
 use Rattle.sv_state.specs.declared.state.ClientState.{ClientState}
 use Rattle.sv_state.specs.declared.state.OpenSession.{OpenSession}
@@ -206,7 +206,7 @@ module _ (r : Rules) (w : Stewardship) (s : State) (wf : IsWellFormed r.world.sh
 
     client-is : (k : ℕ) → k < nobody → AreClientsOf (course_of w s) clients' k
     client-is k low = record {
-      life = ap (λ (row : ClientView). row.life) (has.client_rows k low) ∙ row-life (client_with k s.clients) ∙ sym (life-is r w s wf in' k);
+      life = ap (λ (row : KeptClient). row.life) (has.client_rows k low) ∙ row-life (client_with k s.clients) ∙ sym (life-is r w s wf in' k);
       outcomes = subst (λ os. KeepsOutcomes os (client_row clients' k)) (sym (plan-outcomes r w s wf in' k (λ is. omega (arith, is, low))))
           (subst (KeepsOutcomes (turned (outcomes_by s k))) (sym (has.client_rows k low)) (keeps k (client_with k s.clients) refl));
     }

@@ -8,7 +8,7 @@ use Rattle.sv_journal.specs.Sessions.{is_end, is_ended, life_in, life_of, positi
 use Rattle.sv_journal.specs.Serving.{with_results}
 use Rattle.sv_journal.specs.Living.{Stewardship, is_stewards, counts, heeded}
 use Rattle.sv_journal.proofs.Results.{either_none}
-use Rattle.sv_sequencer.specs.Rows.{has_entry}
+use Rattle.sv_core.specs.Rows.{has_entry}
 use Rattle.sv_sequencer.specs.Step.{end_entry}
 use Rattle.sv_sequencer.proofs.HistorySteps.{accepted-quiet, outcomes-quiet}
 use Rattle.law_state.specs.Plans.{Fate, Takes, Drops, Denies, Turn, outcome_by, taken_by, planned_outcomes, planned_actions}

@@ -14,16 +14,16 @@ use Rattle.sv_world.proofs.Members.{is_in-filter, is_in-filter_parts, same_test}
 use Rattle.sv_world.proofs.Bases.{is_in-below, below-is_in, below-ascending}
 use Rattle.sv_queue.specs.Queue.{QueueView, last_position, entry_at}
 use Rattle.sv_clients.specs.declared.clients.Clients.{Clients}
-use Rattle.sv_clients.specs.Clients.{ClientView, no_client, client_row, KeepsOutcomes, last_of, outcome_value}
+use Rattle.sv_clients.specs.Clients.{KeptClient, no_client, client_row, KeepsOutcomes, last_of, outcome_value}
 use Rattle.sv_journal.specs.declared.entry.Entry.{Entry}
 use Rattle.sv_journal.specs.History.{either, is_welcome, joining, Outcome, Accepted, Dropped, Denied, client_of, is_client, is_submit_of, outcome_in, outcomes_of, accepted, next_seq, result_at, commit_of, installed}
 use Rattle.sv_journal.specs.Sessions.{welcomes, is_over, is_ended, life_in, life_of, sent_to, named_to, is_given, already_given}
 use Rattle.sv_journal.specs.Answer.{Rules}
 use Rattle.sv_journal.proofs.Commits.{run_within}
-use Rattle.sv_sequencer.specs.declared.sessions.SessionRow.{SessionRow}
-use Rattle.sv_sequencer.specs.Agreement.{IsClientRow, sent_at, named_at, FitsSeats, AreSeated}
-use Rattle.sv_sequencer.specs.Fits.{actions_in, values_after, was_given, IsEntry}
-use Rattle.sv_sequencer.specs.Rows.{row_at, seat_in, has_entry, owes_end, count_rows, requests_left, IsSessionRow}
+use Rattle.sv_core.specs.declared.sessions.SessionRow.{SessionRow}
+use Rattle.sv_core.specs.Agreement.{IsClientRow, sent_at, named_at, FitsSeats, AreSeated}
+use Rattle.sv_core.specs.Fits.{actions_in, values_after, was_given, IsEntry}
+use Rattle.sv_core.specs.Rows.{row_at, seat_in, has_entry, owes_end, count_rows, requests_left, IsSessionRow}
 use Rattle.sv_sequencer.proofs.HistorySteps.{installed-is}
 use Rattle.sv_state.specs.declared.state.Above.{Above}
 use Rattle.sv_state.specs.declared.state.ClientState.{ClientState}

@@ -6,7 +6,7 @@ use Rattle.sv_journal.specs.declared.entry.Entry.{Entry}
 use Rattle.sv_journal.specs.History.{either, is_welcome, client_of}
 use Rattle.sv_journal.specs.Sessions.{is_last, welcomes, is_over, is_ended, names, sent_to, named_to}
 use Rattle.sv_journal.proofs.Results.{either_none}
-use Rattle.sv_sequencer.specs.Rows.{has_entry}
+use Rattle.sv_core.specs.Rows.{has_entry}
 use Rattle.law_state.specs.Made.{Place, join_entry, joined_by, spoiled_entry, spoiled, named, shown_entry, place_entries, placed}
 use Rattle.law_state.specs.Places.{sits, Among, AreDistinct, clash, AreOrderly}
 use Rattle.law_state.proofs.Appends.{Each, each-append, IsMild, EndsWell, HasNoLife, client-append, sent-append, named-append, entry-append, ended-append, no-client, no-over, none-sent, none-named, over-append}

@@ -6,7 +6,7 @@ use Rattle.sv_world.specs.declared.action.Action.{Action}
 use Rattle.sv_world.specs.Control.{action_at, blank}
 use Rattle.sv_world.specs.Sets.{object_numbered, numbers_of, is_in_mask, at_mask, write_set}
 use Rattle.sv_eval.specs.Serial.{put_all}
-use Rattle.sv_sequencer.specs.Fits.{values_after}
+use Rattle.sv_core.specs.Fits.{values_after}
 use Rattle.law_state.specs.Actions.{full_mask, counting, writing_all}
 
 -- ---- The mask of all slots

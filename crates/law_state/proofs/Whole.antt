@@ -7,7 +7,7 @@ use Rattle.sv_journal.specs.declared.entry.Entry.{Entry}
 use Rattle.sv_journal.specs.History.{either, client_of, outcomes_of, accepted, reported, result_at}
 use Rattle.sv_journal.specs.Sessions.{is_over, is_ended, life_of, sent_to, named_to}
 use Rattle.sv_journal.specs.Living.{Stewardship, counts, heeded}
-use Rattle.sv_sequencer.specs.Rows.{has_entry}
+use Rattle.sv_core.specs.Rows.{has_entry}
 use Rattle.law_state.specs.Plans.{planned_outcomes, planned_actions}
 use Rattle.law_state.specs.Made.{Place, join_entry, placed, closed, reported_by, lived, played}
 use Rattle.law_state.specs.Places.{sits, Among, AreDistinct, AreOrderly}

@@ -9,9 +9,9 @@ use Rattle.sv_journal.specs.Sessions.{sent_to, named_to}
 use Rattle.sv_journal.specs.Answer.{Rules}
 use Rattle.sv_journal.specs.Serving.{LegalFor}
 use Rattle.sv_journal.specs.Living.{Stewardship, heeded, living}
-use Rattle.sv_sequencer.specs.declared.sessions.SessionRow.{SessionRow}
-use Rattle.sv_sequencer.specs.Agreement.{IsSoundHistory}
-use Rattle.sv_sequencer.specs.Rows.{has_entry}
+use Rattle.sv_core.specs.declared.sessions.SessionRow.{SessionRow}
+use Rattle.sv_core.specs.Agreement.{IsSoundHistory}
+use Rattle.sv_core.specs.Rows.{has_entry}
 use Rattle.sv_state.specs.States.{sessions_begun, unended, state_after}
 use Rattle.law_state.specs.OfState.{nobody, HasState, AgreesBelow}
 

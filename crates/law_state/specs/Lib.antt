@@ -1,4 +1,5 @@
 -- The definitions of this crate, file by file.
+pub mod States
 pub mod Plans
 pub mod Made
 pub mod Places

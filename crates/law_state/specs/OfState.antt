@@ -6,7 +6,7 @@ use Rattle.sv_world.specs.Control.{is_in, below, blank}
 use Rattle.sv_world.specs.Limits.{most_open, most_positions}
 use Rattle.sv_world.specs.Sets.{numbers_of}
 use Rattle.sv_clients.specs.declared.clients.Clients.{Clients}
-use Rattle.sv_clients.specs.Clients.{ClientView, no_client, client_row, outcome_value}
+use Rattle.sv_clients.specs.Clients.{KeptClient, no_client, client_row, outcome_value}
 use Rattle.sv_journal.specs.declared.entry.Entry.{Entry}
 use Rattle.sv_journal.specs.History.{Outcome, Accepted, Dropped, commit_of}
 use Rattle.sv_journal.specs.Sessions.{is_ended}
@@ -14,9 +14,9 @@ use Rattle.sv_journal.specs.Answer.{Rules}
 use Rattle.sv_journal.specs.Living.{Stewardship, heeded}
 use Rattle.sv_queue.specs.Pairs.{is_pair}
 use Rattle.sv_queue.specs.Queue.{QueueView, last_position, entry_at}
-use Rattle.sv_sequencer.specs.declared.sessions.SessionRow.{SessionRow}
-use Rattle.sv_sequencer.specs.Agreement.{IsSoundHistory, IsClientRow, FitsSeats, AreSeated}
-use Rattle.sv_sequencer.specs.Rows.{row_at, seat_in, has_entry, owes_end, count_rows, IsSessionRow}
+use Rattle.sv_core.specs.declared.sessions.SessionRow.{SessionRow}
+use Rattle.sv_core.specs.Agreement.{IsSoundHistory, IsClientRow, FitsSeats, AreSeated}
+use Rattle.sv_core.specs.Rows.{row_at, seat_in, has_entry, owes_end, count_rows, IsSessionRow}
 use Rattle.sv_state.specs.declared.state.Above.{Above}
 use Rattle.sv_state.specs.declared.state.ClientState.{ClientState}
 use Rattle.sv_state.specs.declared.state.OpenSession.{OpenSession}
@@ -124,7 +124,7 @@ pub record HasNumbers (s : State) : Type 0 where
 -- ---- A core that has what the state says
 
 -- What is kept of a client.
-abbrev pub row_in : Option ClientState → ClientView
+abbrev pub row_in : Option ClientState → KeptClient
 row_in None = no_client
 row_in (Some c) = record { life = c.life; count = c.next - 1; kept = outcomes_kept c }
 

@@ -8,9 +8,9 @@ use Rattle.sv_clients.specs.declared.clients.Clients.{Clients}
 use Rattle.sv_clients.specs.Clients.{client_row, KeepsOutcomes}
 use Rattle.sv_journal.specs.History.{authored_at}
 use Rattle.sv_journal.specs.Answer.{Rules}
-use Rattle.sv_sequencer.specs.declared.sessions.SessionRow.{SessionRow}
-use Rattle.sv_sequencer.specs.Fits.{actions_in, values_after}
-use Rattle.sv_sequencer.specs.Rows.{owes_end, count_rows}
+use Rattle.sv_core.specs.declared.sessions.SessionRow.{SessionRow}
+use Rattle.sv_core.specs.Fits.{actions_in, values_after}
+use Rattle.sv_core.specs.Rows.{owes_end, count_rows}
 use Rattle.law_state.specs.Plans.{planned_outcomes, planned_actions}
 use Rattle.law_state.specs.Made.{Place}
 use Rattle.law_state.specs.Places.{Among, AreDistinct, AreOrderly}

@@ -1,11 +1,14 @@
 -- Which states the reader takes: those that some history may lead to, with what it needs of their parts. What the core of a world without end
 -- holds is one of them.
-use Rattle.std.specs.Prelude.{◌≡◌, ℕ, suc, ◌+◌, ◌-◌, ◌≤◌, Bool, true, false, ◌&&◌, ◌||◌, not, ◌==◌, nat_lt, nat_le, ℤ, List, [], ◌∷◌, map, length, slice_get, min, Option, Some, None, is_none, is_some, if◌then◌else◌}
-use Rattle.std.specs.List.{list_any, list_all, flat_map}
+use Rattle.std.specs.Prelude.{◌≡◌, ℕ, suc, ◌+◌, ◌-◌, ◌≤◌, Bool, true, false, ◌&&◌, ◌||◌, not, ◌==◌, nat_lt, nat_le, ℤ, List, [], ◌∷◌, map, length, slice_get, slice_index_or, min, Option, Some, None, is_none, is_some, if◌then◌else◌}
+use Rattle.std.specs.List.{list_all, flat_map}
+use Rattle.std.specs.Ordering.{int_eq}
+use lib.Pointwise.{pointwise}
 use Rattle.sv_world.specs.declared.action.Action.{Action}
 use Rattle.sv_world.specs.declared.world.ClientId.{ClientId}
 use Rattle.sv_world.specs.declared.world.ObjectId.{ObjectId}
 use Rattle.sv_world.specs.declared.world.Shape.{Shape}
+use Rattle.sv_world.specs.declared.world.World.{World}
 use Rattle.sv_world.specs.Control.{is_in, action_at, last_writer}
 use Rattle.sv_world.specs.Faults.{is_ascending, first_fault_of_action}
 use Rattle.sv_world.specs.Limits.{most_positions, most_open}
@@ -21,6 +24,13 @@ use Rattle.sv_state.specs.declared.state.State.{State}
 -- Each value has a number for each attribute.
 abbrev pub have_attrs : ℕ → List (List ℤ) → Bool
 have_attrs attrs values = list_all (λ v. length v == attrs) values
+
+-- Where nothing is committed an object has the world's value.
+abbrev pub is_opening_value : World → ℕ → List ℤ → Bool
+is_opening_value world object v = pointwise int_eq v (slice_index_or world.values object [])
+
+abbrev pub is_value_of : World → ℕ → ℕ → List ℤ → Bool
+is_value_of world commit object v = (length v == world.shape.attrs) && (not (commit == 0) || is_opening_value world object v)
 
 -- ---- Actions above the commit
 
@@ -165,19 +175,20 @@ live_apart (o ∷ rest) = list_all (are_apart o) rest && live_apart rest
 
 -- ---- The whole
 
--- The objects and attributes are those of the shape; and what the parts say of one another agrees.
-pub record IsWellFormed (shape : Shape) (s : State) : Type 0 where
+-- Its objects and attributes are those of the world, and its values where nothing is committed; and what the parts say of one another agrees.
+pub record IsWellFormed (world : World) (s : State) : Type 0 where
   pub positions : position_of s ≤ most_positions
-  pub objects : length s.values ≡ shape.objects
-  pub attrs : have_attrs shape.attrs s.values ≡ true
-  pub above : list_all (is_good_above shape) s.above ≡ true
+  pub objects : length s.values ≡ length world.values
+  pub attrs : have_attrs world.shape.attrs s.values ≡ true
+  pub opening : s.commit ≡ 0 → s.values ≡ world.values
+  pub above : list_all (is_good_above world.shape) s.above ≡ true
   pub lowest : lowest_waits s.above ≡ true
   pub turns : are_in_turn s.above ≡ true
-  pub clients : list_all (is_good_client shape.objects s.commit s.above) s.clients ≡ true
+  pub clients : list_all (is_good_client world.shape.objects s.commit s.above) s.clients ≡ true
   pub clients_ascend : is_ascending (client_numbers s.clients) ≡ true
   pub authors : have_authors s.clients (suc s.commit) s.above ≡ true
   pub places : are_new [] (all_places s.clients) ≡ true
-  pub opened : list_all (is_good_open shape.objects s.sessions s.commit s.above s.clients) s.opened ≡ true
+  pub opened : list_all (is_good_open world.shape.objects s.sessions s.commit s.above s.clients) s.opened ≡ true
   pub opened_ascend : is_ascending (session_numbers s.opened) ≡ true
   pub apart : live_apart s.opened ≡ true
   pub few : length s.opened ≤ most_open

@@ -9,7 +9,8 @@ use crate::state::{Above, ClientState, OpenSession, State};
 use indexmap::IndexSet;
 use std::alloc::{AllocError, Global};
 use sv_clients::Outcome;
-use sv_world::{ClientId, List, MOST_OPEN};
+use sv_lists::List;
+use sv_world::{ClientId, MOST_OPEN};
 
 // ---- The actions above the commit
 

@@ -6,13 +6,14 @@ ghost use Rattle.sv_world.specs.Faults.{first_fault_of_action, is_ascending};
 ghost use Rattle.sv_world.specs.Limits.{most_positions};
 ghost use Rattle.sv_world.specs.Sets.{write_set, numbers_of};
 ghost use Rattle.sv_journal.specs.Sessions.{kept_count};
-ghost use Rattle.sv_state.specs.WellFormed.{have_attrs, is_result_of, is_good_above, is_by, above_numbered, is_good_outcome, are_good_outcomes, places_in, keeps_last, is_good_client, client_numbers, is_accepted_at, is_authors, client_with, has_writers, actions_above, may_be_sent, may_be_given, is_members, is_good_open};
+ghost use Rattle.sv_state.specs.WellFormed.{have_attrs, is_opening_value, is_value_of, is_result_of, is_good_above, is_by, above_numbered, is_good_outcome, are_good_outcomes, places_in, keeps_last, is_good_client, client_numbers, is_accepted_at, is_authors, client_with, has_writers, actions_above, may_be_sent, may_be_given, is_members, is_good_open};
 ghost use Rattle.sv_state.specs.Judging.{is_next_above, is_next_client, is_next_open};
 
 use crate::print::first_kept;
 use crate::state::{Above, ClientState, OpenSession};
 use sv_clients::Outcome;
-use sv_world::{Action, List, MOST_PENDING, MOST_POSITIONS, ObjectId, Shape, Value, are_below, check_action, is_ascending, is_in_mask};
+use sv_lists::List;
+use sv_world::{Action, MOST_PENDING, MOST_POSITIONS, ObjectId, Shape, Value, World, are_below, check_action, is_ascending, is_in_mask};
 
 /// Whether each value has so many numbers.
 fn have_attrs(attrs: u8, values: &[Value]) -> bool
@@ -24,6 +25,23 @@ fn have_attrs(attrs: u8, values: &[Value]) -> bool
         }
     }
     true
+}
+
+fn is_opening_value(world: &World, object: usize, value: &Value) -> bool
+    ensures { result ≡ is_opening_value world.now object value.now }
+{
+    match world.values.as_slice().get(object) {
+        Some(opening) => value.as_slice() == opening.as_slice(),
+        None => value.as_slice().is_empty(),
+    }
+}
+
+/// Whether an object of a world may have a value: where nothing is committed just the one that the world was opened with.
+pub(crate) fn is_value_of(world: &World, commit: u32, object: usize, value: &Value) -> bool
+    ensures { result ≡ is_value_of world.now commit object value.now }
+{
+    value.len() == world.shape.attrs as usize
+        && (commit != 0 || is_opening_value(world, object, value))
 }
 
 // ---- Actions above the commit

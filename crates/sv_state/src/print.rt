@@ -9,28 +9,13 @@ ghost use Rattle.sv_state.specs.WellFormed.{position_of};
 ghost use Rattle.sv_state.specs.Text.{entries_line, sessions_line, positions_line, value_line, value_lines, result_part, above_line, above_lines, outcome_text, numbered_text, more_outcomes, outcome_list, client_line, positions_text, member_part, over_part, open_line, first_lines, IsPrintable, state_lines, state_text};
 
 use crate::state::{Above, ClientState, OpenSession, State};
-use itoa::Buffer;
 use std::alloc::{AllocError, Global};
 use sv_clients::Outcome;
-use sv_journal::{append_objects, append_value, append_values};
+use sv_journal::{append_objects, append_value, append_values, put_behind, put_decimal};
 use sv_log::sum_line;
 use sv_text::put_action;
-use sv_world::{ClientId, List, ObjectId, Value};
-
-fn put_number(number: u64, out: &mut String) -> Result<(), AllocError>
-    ensures { OnOk result (string_bytes out.new ≡ string_bytes out.old ++ decimal number) }
-{
-    let mut digits = Buffer::new();
-    out.push_str(digits.format(number))
-}
-
-/// A number behind a text.
-fn put_behind(front: &str, number: u64, out: &mut String) -> Result<(), AllocError>
-    ensures { OnOk result (string_bytes out.new ≡ string_bytes out.old ++ front.now ++ decimal number) }
-{
-    out.push_str(front)?;
-    put_number(number, out)
-}
+use sv_lists::List;
+use sv_world::{ClientId, ObjectId, Value};
 
 // ---- The first lines
 
@@ -61,7 +46,7 @@ pub(crate) fn put_positions(last: u64, commit: u32, out: &mut String) -> Result<
 pub(crate) fn put_value(object: u64, value: &Value, out: &mut String) -> Result<(), AllocError>
     ensures { OnOk result (string_bytes out.new ≡ string_bytes out.old ++ value_line object value.now) }
 {
-    put_number(object, out)?;
+    put_decimal(object, out)?;
     out.push_str("=")?;
     append_value(value.as_slice(), out)?;
     out.push_str("\n")
@@ -93,7 +78,7 @@ fn put_result(values: &Option<List<Value>>, out: &mut String) -> Result<(), Allo
 pub(crate) fn put_above(pos: u64, above: &Above, out: &mut String) -> Result<(), AllocError>
     ensures { OnOk result (string_bytes out.new ≡ string_bytes out.old ++ above_line pos above.now) }
 {
-    put_number(pos, out)?;
+    put_decimal(pos, out)?;
     put_behind(" c", above.client.0 as u64, out)?;
     put_behind(".", above.seq as u64, out)?;
     out.push_str(" ")?;
@@ -132,7 +117,7 @@ fn put_outcome(outcome: &Outcome, out: &mut String) -> Result<(), AllocError>
 fn put_numbered(seq: u64, outcome: &Outcome, out: &mut String) -> Result<(), AllocError>
     ensures { OnOk result (string_bytes out.new ≡ string_bytes out.old ++ numbered_text seq outcome.now) }
 {
-    put_number(seq, out)?;
+    put_decimal(seq, out)?;
     out.push_str(":")?;
     put_outcome(outcome, out)
 }
@@ -197,7 +182,7 @@ fn put_position_list(positions: &[u32], out: &mut String) -> Result<(), AllocErr
     let [first, rest @ ..] = positions else {
         return Ok(());
     };
-    put_number(*first as u64, out)?;
+    put_decimal(*first as u64, out)?;
     put_more_positions(rest, out)
 }
 

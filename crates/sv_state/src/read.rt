@@ -9,7 +9,8 @@ use crate::state::{Above, ClientState, Member, OpenSession};
 use std::alloc::Global;
 use sv_clients::Outcome;
 use sv_lines::{Unread, action_at, behind, expect, next_at, number_at, numeral_at, object_at, objects_at, plain_width, small_at, value_at, values_at};
-use sv_world::{Action, ClientId, List, ObjectId, Shape, Value};
+use sv_lists::List;
+use sv_world::{Action, ClientId, ObjectId, Shape, Value};
 
 /// The number of 64 bits that the text begins with, and what comes after it.
 #[tactic(auto, unfolding(sv_lines::specs::Reading::number_read))]

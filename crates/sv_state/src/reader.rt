@@ -6,16 +6,18 @@ ghost use Rattle.sv_state.specs.Whole.{Answers, first_from, rest_values, rest_ab
 
 use crate::agree::parts_agree;
 use crate::state::{Above, ClientState, First, State};
+use crate::stop::{StateCause, StateStop};
 use crate::whole::{
     actions_from, clients_from, entries_from, opened_from, positions_from, sessions_from,
     values_from, wrong,
 };
 use std::alloc::{AllocError, Global};
-use sv_lines::{LineStop, behind};
+use sv_lines::behind;
 use sv_log::sum_line;
-use sv_world::{List, Shape, Value};
+use sv_lists::List;
+use sv_world::{Shape, Value, World};
 
-fn first_from(alloc: Global, text: &[u8]) -> Result<(First, &[u8]), LineStop>
+fn first_from(alloc: Global, text: &[u8]) -> Result<(First, &[u8]), StateStop>
     ensures read { Answers (λ x. (x.0, x.1.now)) result (first_from text.now) }
     ensures order { IfOk result (λ x. x.0.commit ≤ x.0.last) }
     ensures few { IfOk result (λ x. x.0.last ≤ most_positions) }
@@ -45,15 +47,15 @@ fn is_sum(alloc: Global, whole: &[u8], last: &[u8]) -> Result<bool, AllocError>
 }
 
 /// The state, where its parts agree and the last line of the whole text is right.
-fn ended(alloc: Global, whole: &[u8], state: State, last: &[u8]) -> Result<State, LineStop>
+fn ended(alloc: Global, whole: &[u8], state: State, last: &[u8]) -> Result<State, StateStop>
     requires { position_of state ≤ most_positions }
     ensures { Answers (λ s. s) result (ended_from whole.now state last.now) }
 {
-    if !parts_agree(alloc, &state)? {
-        return Err(wrong(last));
-    }
     if !is_sum(alloc, whole, last)? {
-        return Err(wrong(last));
+        return Err(wrong(StateCause::Sum, last));
+    }
+    if !parts_agree(alloc, &state)? {
+        return Err(wrong(StateCause::Apart, last));
     }
     Ok(state)
 }
@@ -69,7 +71,7 @@ fn with_opened(
     above: List<Above>,
     clients: List<ClientState>,
     text: &[u8],
-) -> Result<State, LineStop>
+) -> Result<State, StateStop>
     requires { first.commit + length above ≤ most_positions }
     ensures { Answers (λ s. s) result (rest_opened shape whole.now first values above clients text.now) }
 {
@@ -102,7 +104,7 @@ fn with_clients(
     values: List<Value>,
     above: List<Above>,
     text: &[u8],
-) -> Result<State, LineStop>
+) -> Result<State, StateStop>
     requires { first.commit + length above ≤ most_positions }
     ensures { Answers (λ s. s) result (rest_clients shape whole.now first values above text.now) }
 {
@@ -117,7 +119,7 @@ fn with_above(
     first: First,
     values: List<Value>,
     text: &[u8],
-) -> Result<State, LineStop>
+) -> Result<State, StateStop>
     requires order { first.commit ≤ first.last }
     requires few { first.last ≤ most_positions }
     ensures { Answers (λ s. s) result (rest_above shape whole.now first values text.now) }
@@ -128,23 +130,23 @@ fn with_above(
 
 fn with_values(
     alloc: Global,
-    shape: Shape,
+    world: &World,
     whole: &[u8],
     first: First,
     text: &[u8],
-) -> Result<State, LineStop>
+) -> Result<State, StateStop>
     requires order { first.commit ≤ first.last }
     requires few { first.last ≤ most_positions }
-    ensures { Answers (λ s. s) result (rest_values shape whole.now first text.now) }
+    ensures { Answers (λ s. s) result (rest_values world.now whole.now first text.now) }
 {
-    let (values, rest) = values_from(alloc, shape, text)?;
-    with_above(alloc, shape, whole, first, values, rest)
+    let (values, rest) = values_from(alloc, world, first.commit, text)?;
+    with_above(alloc, world.shape, whole, first, values, rest)
 }
 
-/// The state that a text is of, or how many bytes are left from its first wrong line on.
-pub fn read_state(alloc: Global, shape: Shape, text: &[u8]) -> Result<State, LineStop>
-    ensures { Answers (λ s. s) result (state_read shape text.now) }
+/// The state of a world that a text is of, or its first wrong line.
+pub fn read_state(alloc: Global, world: &World, text: &[u8]) -> Result<State, StateStop>
+    ensures { Answers (λ s. s) result (state_read world.now text.now) }
 {
     let (first, rest) = first_from(alloc, text)?;
-    with_values(alloc, shape, text, first, rest)
+    with_values(alloc, world, text, first, rest)
 }

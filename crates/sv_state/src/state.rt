@@ -1,6 +1,7 @@
 //! What a living world's core holds, as plain data.
 use sv_clients::Outcome;
-use sv_world::{Action, ClientId, List, ObjectId, Value};
+use sv_lists::List;
+use sv_world::{Action, ClientId, ObjectId, Value};
 
 /// An accepted action above the commit. The first of a state stands at the position behind the commit, and so on.
 #[derive(Debug, Drop)]

@@ -2,13 +2,15 @@
 ghost use Rattle.std.specs.Prelude.{◌≡◌, ◌≤◌, ◌<◌, ◌+◌, ◌-◌, ◌==◌, ℕ, [], length, not, is_none, codes, Some, IfOk};
 ghost use Rattle.sv_lines.specs.Reading.{behind_front};
 ghost use Rattle.sv_world.specs.Limits.{most_positions};
-ghost use Rattle.sv_lines.specs.declared.stop.LineStop.TheVariants as stop;
+ghost use Rattle.sv_state.specs.declared.stop.StateCause.TheVariants as causes;
+ghost use Rattle.sv_state.specs.declared.stop.StateStop.TheVariants as stop;
 ghost use Rattle.sv_lines.specs.declared.stop.Unread.TheVariants as unread;
 ghost use Rattle.sv_state.specs.Text.{value_line, above_line, client_line, open_line};
 ghost use Rattle.sv_state.specs.Judging.{is_next_above, is_next_client, is_next_open};
-ghost use Rattle.sv_state.specs.Whole.{Answers, stopped, as_printed, are_positions, entries_from, sessions_from, positions_from, value_from, action_from, client_from, client_number, open_from, session_number, count_from, run_from};
+ghost use Rattle.sv_state.specs.WellFormed.{is_value_of};
+ghost use Rattle.sv_state.specs.Whole.{Answers, passed, as_printed, are_positions, entries_from, sessions_from, positions_from, value_from, values_from, action_from, client_from, client_number, open_from, session_number, count_from, run_from};
 
-use crate::checks::{is_next_above, is_next_client, is_next_open};
+use crate::checks::{is_next_above, is_next_client, is_next_open, is_value_of};
 use crate::print::{
     put_above, put_client, put_entries, put_open, put_positions, put_sessions, put_value,
 };
@@ -16,44 +18,49 @@ use crate::read::{
     above_at, client_at, entries_at, line_value_at, open_at, positions_at, sessions_at,
 };
 use crate::state::{Above, ClientState, OpenSession};
+use crate::stop::{StateCause, StateStop};
 use std::alloc::Global;
-use sv_lines::{LineStop, Unread, behind};
-use sv_world::{List, MOST_POSITIONS, Shape, Value};
+use sv_lines::{Unread, behind};
+use sv_lists::List;
+use sv_world::{MOST_POSITIONS, Shape, Value, World};
 
-pub(crate) fn wrong(text: &[u8]) -> LineStop
-    ensures { result ≡ stop.Wrong (length text.now) }
+pub(crate) fn wrong(cause: StateCause, text: &[u8]) -> StateStop
+    ensures { result ≡ stop.Wrong (length text.now) cause }
 {
-    LineStop::Wrong { left: text.len() }
+    StateStop::Wrong {
+        left: text.len(),
+        cause,
+    }
 }
 
 /// Why reading stops where a line was not read.
-fn stop_of(why: Unread, text: &[u8]) -> LineStop
-    ensures wrong { why ≡ unread.Wrong → result ≡ stop.Wrong (length text.now) }
+fn stop_of(why: Unread, text: &[u8]) -> StateStop
+    ensures wrong { why ≡ unread.Wrong → result ≡ stop.Wrong (length text.now) causes.Unread }
     ensures memory { why ≡ unread.Memory → result ≡ stop.Memory }
 {
     match why {
-        Unread::Wrong => wrong(text),
-        Unread::Memory => LineStop::Memory,
+        Unread::Wrong => wrong(StateCause::Unread, text),
+        Unread::Memory => StateStop::Memory,
     }
 }
 
 /// What comes after a line that was printed again.
-fn after<'a>(line: &str, text: &'a [u8]) -> Result<&'a [u8], LineStop>
-    ensures { Answers (λ rest. rest.now) result (stopped text.now (behind_front line.now text.now)) }
+fn after<'a>(line: &str, text: &'a [u8]) -> Result<&'a [u8], StateStop>
+    ensures { Answers (λ rest. rest.now) result (passed text.now (behind_front line.now text.now)) }
 {
     match behind(text, line.as_bytes()) {
         Some(rest) => Ok(rest),
-        None => Err(wrong(text)),
+        None => Err(wrong(StateCause::Unread, text)),
     }
 }
 
 // ---- The first lines
 
-pub(crate) fn entries_from(alloc: Global, text: &[u8]) -> Result<(u64, &[u8]), LineStop>
+pub(crate) fn entries_from(alloc: Global, text: &[u8]) -> Result<(u64, &[u8]), StateStop>
     ensures { Answers (λ x. (x.0, x.1.now)) result (entries_from text.now) }
 {
     let Ok(entries) = entries_at(text) else {
-        return Err(wrong(text));
+        return Err(wrong(StateCause::Unread, text));
     };
     let mut line = String::new(alloc);
     put_entries(entries, &mut line)?;
@@ -61,11 +68,11 @@ pub(crate) fn entries_from(alloc: Global, text: &[u8]) -> Result<(u64, &[u8]), L
     Ok((entries, rest))
 }
 
-pub(crate) fn sessions_from(alloc: Global, text: &[u8]) -> Result<(u64, &[u8]), LineStop>
+pub(crate) fn sessions_from(alloc: Global, text: &[u8]) -> Result<(u64, &[u8]), StateStop>
     ensures { Answers (λ x. (x.0, x.1.now)) result (sessions_from text.now) }
 {
     let Ok(sessions) = sessions_at(text) else {
-        return Err(wrong(text));
+        return Err(wrong(StateCause::Unread, text));
     };
     let mut line = String::new(alloc);
     put_sessions(sessions, &mut line)?;
@@ -79,14 +86,14 @@ fn are_positions(last: u32, commit: u32) -> bool
     commit <= last && last <= MOST_POSITIONS
 }
 
-pub(crate) fn positions_from(alloc: Global, text: &[u8]) -> Result<((u32, u32), &[u8]), LineStop>
+pub(crate) fn positions_from(alloc: Global, text: &[u8]) -> Result<((u32, u32), &[u8]), StateStop>
     ensures { Answers (λ x. (x.0, x.1.now)) result (positions_from text.now) }
 {
     let Ok((last, commit)) = positions_at(text) else {
-        return Err(wrong(text));
+        return Err(wrong(StateCause::Unread, text));
     };
     if !are_positions(last, commit) {
-        return Err(wrong(text));
+        return Err(wrong(StateCause::Unfit, text));
     }
     let mut line = String::new(alloc);
     put_positions(last as u64, commit, &mut line)?;
@@ -99,15 +106,16 @@ pub(crate) fn positions_from(alloc: Global, text: &[u8]) -> Result<((u32, u32), 
 /// A value that was read, where the text begins with its line.
 fn keep_value<'a>(
     alloc: Global,
-    attrs: u8,
-    object: u16,
+    world: &World,
+    commit: u32,
+    object: usize,
     value: Value,
     text: &'a [u8],
-) -> Result<(Value, &'a [u8]), LineStop>
-    ensures { Answers (λ x. (x.0, x.1.now)) result (stopped text.now (as_printed (λ v. length v == attrs) (value_line object) text.now (Some value))) }
+) -> Result<(Value, &'a [u8]), StateStop>
+    ensures { Answers (λ x. (x.0, x.1.now)) result (as_printed (is_value_of world.now commit object) (value_line object) text.now (Some value)) }
 {
-    if value.len() != attrs as usize {
-        return Err(wrong(text));
+    if !is_value_of(world, commit, object, &value) {
+        return Err(wrong(StateCause::Unfit, text));
     }
     let mut line = String::new(alloc);
     put_value(object as u64, &value, &mut line)?;
@@ -115,32 +123,34 @@ fn keep_value<'a>(
     Ok((value, rest))
 }
 
-fn value_from(
+fn value_from<'a>(
     alloc: Global,
-    attrs: u8,
-    object: u16,
-    text: &[u8],
-) -> Result<(Value, &[u8]), LineStop>
-    ensures { Answers (λ x. (x.0, x.1.now)) result (value_from attrs object text.now) }
+    world: &World,
+    commit: u32,
+    object: usize,
+    text: &'a [u8],
+) -> Result<(Value, &'a [u8]), StateStop>
+    ensures { Answers (λ x. (x.0, x.1.now)) result (value_from world.now commit object text.now) }
 {
     match line_value_at(alloc, text) {
-        Ok(value) => keep_value(alloc, attrs, object, value, text),
+        Ok(value) => keep_value(alloc, world, commit, object, value, text),
         Err(why) => Err(stop_of(why, text)),
     }
 }
 
 /// The values of all objects.
-pub(crate) fn values_from(
+pub(crate) fn values_from<'a>(
     alloc: Global,
-    shape: Shape,
-    text: &[u8],
-) -> Result<(List<Value>, &[u8]), LineStop>
-    ensures { Answers (λ x. (x.0, x.1.now)) result (count_from (value_from shape.attrs) shape.objects 0 [] text.now) }
+    world: &World,
+    commit: u32,
+    text: &'a [u8],
+) -> Result<(List<Value>, &'a [u8]), StateStop>
+    ensures { Answers (λ x. (x.0, x.1.now)) result (values_from world.now commit text.now) }
 {
     let mut values = List::new(alloc);
     let mut left = text;
-    for object in 0..shape.objects {
-        let (value, rest) = value_from(alloc, shape.attrs, object, left)?;
+    for object in 0..world.values.len() {
+        let (value, rest) = value_from(alloc, world, commit, object, left)?;
         values.push(value)?;
         left = rest;
     }
@@ -156,12 +166,12 @@ fn keep_action<'a>(
     pos: u32,
     action: Above,
     text: &'a [u8],
-) -> Result<(Above, &'a [u8]), LineStop>
+) -> Result<(Above, &'a [u8]), StateStop>
     requires { commit < pos }
-    ensures { Answers (λ x. (x.0, x.1.now)) result (stopped text.now (as_printed (is_next_above shape (pos == commit + 1)) (above_line pos) text.now (Some action))) }
+    ensures { Answers (λ x. (x.0, x.1.now)) result (as_printed (is_next_above shape (pos == commit + 1)) (above_line pos) text.now (Some action)) }
 {
     if !is_next_above(shape, pos - 1 == commit, &action) {
-        return Err(wrong(text));
+        return Err(wrong(StateCause::Unfit, text));
     }
     let mut line = String::new(alloc);
     put_above(pos as u64, &action, &mut line)?;
@@ -175,7 +185,7 @@ fn action_from(
     commit: u32,
     pos: u32,
     text: &[u8],
-) -> Result<(Above, &[u8]), LineStop>
+) -> Result<(Above, &[u8]), StateStop>
     requires { commit < pos }
     ensures { Answers (λ x. (x.0, x.1.now)) result (action_from shape commit pos text.now) }
 {
@@ -192,7 +202,7 @@ pub(crate) fn actions_from(
     commit: u32,
     last: u32,
     text: &[u8],
-) -> Result<(List<Above>, &[u8]), LineStop>
+) -> Result<(List<Above>, &[u8]), StateStop>
     requires order { commit ≤ last }
     requires few { last ≤ most_positions }
     ensures read { Answers (λ x. (x.0, x.1.now)) result (count_from (action_from shape commit) (last - commit) (commit + 1) [] text.now) }
@@ -218,11 +228,11 @@ fn keep_client<'a>(
     least: u32,
     client: ClientState,
     text: &'a [u8],
-) -> Result<(ClientState, &'a [u8]), LineStop>
-    ensures { Answers (λ x. (x.0, x.1.now)) result (stopped text.now (as_printed (is_next_client objects commit above.now least) client_line text.now (Some client))) }
+) -> Result<(ClientState, &'a [u8]), StateStop>
+    ensures { Answers (λ x. (x.0, x.1.now)) result (as_printed (is_next_client objects commit above.now least) client_line text.now (Some client)) }
 {
     if !is_next_client(objects, commit, above, least, &client) {
-        return Err(wrong(text));
+        return Err(wrong(StateCause::Unfit, text));
     }
     let mut line = String::new(alloc);
     put_client(&client, &mut line)?;
@@ -237,7 +247,7 @@ fn client_from<'a>(
     above: &[Above],
     least: u32,
     text: &'a [u8],
-) -> Result<(ClientState, &'a [u8]), LineStop>
+) -> Result<(ClientState, &'a [u8]), StateStop>
     ensures { Answers (λ x. (x.0, x.1.now)) result (client_from objects commit above.now least text.now) }
 {
     match client_at(alloc, text) {
@@ -263,7 +273,7 @@ pub(crate) fn clients_from<'a>(
     commit: u32,
     above: &[Above],
     text: &'a [u8],
-) -> Result<(List<ClientState>, &'a [u8]), LineStop>
+) -> Result<(List<ClientState>, &'a [u8]), StateStop>
     ensures { Answers (λ x. (x.0, x.1.now)) result (run_from (codes "client ") (client_from objects commit above.now) client_number (length text.now) 0 [] text.now) }
 {
     let mut clients = List::new(alloc);
@@ -293,12 +303,12 @@ fn keep_open<'a>(
     least: u64,
     session: OpenSession,
     text: &'a [u8],
-) -> Result<(OpenSession, &'a [u8]), LineStop>
+) -> Result<(OpenSession, &'a [u8]), StateStop>
     requires { commit + length above.now ≤ most_positions }
-    ensures { Answers (λ x. (x.0, x.1.now)) result (stopped text.now (as_printed (is_next_open objects sessions commit above.now clients.now least) open_line text.now (Some session))) }
+    ensures { Answers (λ x. (x.0, x.1.now)) result (as_printed (is_next_open objects sessions commit above.now clients.now least) open_line text.now (Some session)) }
 {
     if !is_next_open(objects, sessions, commit, above, clients, least, &session) {
-        return Err(wrong(text));
+        return Err(wrong(StateCause::Unfit, text));
     }
     let mut line = String::new(alloc);
     put_open(&session, &mut line)?;
@@ -315,7 +325,7 @@ fn open_from<'a>(
     clients: &[ClientState],
     least: u64,
     text: &'a [u8],
-) -> Result<(OpenSession, &'a [u8]), LineStop>
+) -> Result<(OpenSession, &'a [u8]), StateStop>
     requires { commit + length above.now ≤ most_positions }
     ensures { Answers (λ x. (x.0, x.1.now)) result (open_from objects sessions commit above.now clients.now least text.now) }
 {
@@ -336,7 +346,7 @@ pub(crate) fn opened_from<'a>(
     above: &[Above],
     clients: &[ClientState],
     text: &'a [u8],
-) -> Result<(List<OpenSession>, &'a [u8]), LineStop>
+) -> Result<(List<OpenSession>, &'a [u8]), StateStop>
     requires { commit + length above.now ≤ most_positions }
     ensures { Answers (λ x. (x.0, x.1.now)) result (run_from (codes "session ") (open_from objects sessions commit above.now clients.now) session_number (length text.now) 0 [] text.now) }
 {

@@ -68,9 +68,9 @@ open_session r h s = record {
 
 -- ---- Clients
 
--- A Join of the client was answered Welcome.
-abbrev pub ever_joined : List Entry → ℕ → Bool
-ever_joined h k = list_any (λ (e : Entry). welcomes e (Some k)) h
+-- The clients that ever joined, ascending: with a life above 0.
+abbrev pub joined_clients : Rules → List Entry → List ℕ
+joined_clients r h = filter (λ k. nat_lt 0 (life_of h k)) (below r.clients)
 
 abbrev pub outcome_row : Outcome → OutcomeRow
 outcome_row (Accepted p) = rows.Accepted p
@@ -95,18 +95,18 @@ above_at h p = record {
   result = result_at h p;
 }
 
--- Where a history leads, all of whose results count.
-abbrev pub state_after : Rules → List Entry → State
-state_after r h = record {
-  entries = length h;
+-- Where a history leads, all of whose results count. Its entries were so many. (A history that is made up for a state may have more or fewer.)
+abbrev pub state_after : Rules → ℕ → List Entry → State
+state_after r entries h = record {
+  entries = entries;
   sessions = sessions_begun h;
   commit = commit_of h;
   values = committed_of r.world.values h;
   above = map (above_at h) (uncommitted h);
-  clients = map (client_state h) (filter (ever_joined h) (below r.clients));
+  clients = map (client_state h) (joined_clients r h);
   opened = map (open_session r h) (unended h);
 }
 
 -- Where a history leads: its results are those that count.
-abbrev pub state_of : Rules → Stewardship → List Entry → State
-state_of r w h = state_after r (heeded w h)
+abbrev pub state_of : Rules → Stewardship → ℕ → List Entry → State
+state_of r w entries h = state_after r entries (heeded w h)
