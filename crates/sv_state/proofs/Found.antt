@@ -2,15 +2,16 @@
 use Rattle.std.proofs.Common.{◌≡◌, ℕ, zero, suc, ◌+◌, ◌≤◌, eqb, Bool, true, false, not, cond, List, [], ◌∷◌, ◌++◌, length, Option, Some, None, is_none, Result, Ok, Err, refl, sym, ap, subst, ◌∙◌, arith, append_assoc, append-nil, true≢false}
 use Rattle.std.specs.List.{flat_map}
 use Rattle.std.proofs.lemmas.Bool.{eqb-true}
-use Rattle.sv_lines.specs.Reading.{Read, ◌>>=◌, behind_front}
-use Rattle.sv_state.specs.Whole.{as_printed, Reads, stopped, ◌>=>◌, count_from, run_from}
+use Rattle.sv_lines.specs.Reading.{behind_front}
+use Rattle.sv_state.specs.declared.stop.StateCause.TheVariants as causes
+use Rattle.sv_state.specs.Whole.{Wrong, wrong, passed, as_printed, Reads, ◌>=>◌, count_from, run_from}
 
 -- ---- One line
 
 some_is : {A : Type 0} (x y : A) → Some x ≡ Some y → x ≡ y
 some_is x y e = cc
 
-ok_is : {A : Type 0} (x y : A) → Ok {E = ℕ} x ≡ Ok y → x ≡ y
+ok_is : {A : Type 0} (x y : A) → Ok {E = Wrong} x ≡ Ok y → x ≡ y
 ok_is x y e = cc
 
 pub front_is : (p s rest : List ℕ) → behind_front p s ≡ Some rest → s ≡ p ++ rest
@@ -30,7 +31,7 @@ pub record IsTaken {A : Type 0} (good : A → Bool) (print : A → List ℕ) (te
 
 module _ {A : Type 0} (good : A → Bool) (print : A → List ℕ) (text : List ℕ) where
   printed_some : (y x : A) (rest : List ℕ) (b : Bool) → good y ≡ b → (o : Option (List ℕ)) → behind_front (print y) text ≡ o →
-      stopped text (cond b (o >>= λ r. Some (y, r)) None) ≡ Ok (x, rest) → IsTaken good print text x rest
+      cond b (passed text o >=> λ r. Ok (y, r)) (wrong causes.Unfit text) ≡ Ok (x, rest) → IsTaken good print text x rest
   printed_some y x rest true i (Some r) j e =
       let same = ok_is (y, r) (x, rest) e in
       let first : y ≡ x = ap (λ (q : A × List ℕ). q.0) same in
@@ -42,16 +43,16 @@ module _ {A : Type 0} (good : A → Bool) (print : A → List ℕ) (text : List 
   printed_some y x rest true i None j e = absurd cc
   printed_some y x rest false i o j e = absurd cc
 
-  pub printed_found : (o : Option A) (x : A) (rest : List ℕ) → stopped text (as_printed good print text o) ≡ Ok (x, rest) → IsTaken good print text x rest
+  pub printed_found : (o : Option A) (x : A) (rest : List ℕ) → as_printed good print text o ≡ Ok (x, rest) → IsTaken good print text x rest
   printed_found None x rest e = absurd cc
   printed_found (Some y) x rest e = printed_some y x rest (good y) refl (behind_front (print y) text) refl e
 
 -- ---- Lines behind one another
 
 -- A step that went on had an answer, and what comes behind gives the rest.
-pub then_ok : {A B : Type 0} (r : Result A ℕ) (f : A → Result B ℕ) (z : B) → r >=> f ≡ Ok z → (x : A) × ((r ≡ Ok x) × (f x ≡ Ok z))
+pub then_ok : {A B : Type 0} (r : Result A Wrong) (f : A → Result B Wrong) (z : B) → r >=> f ≡ Ok z → (x : A) × ((r ≡ Ok x) × (f x ≡ Ok z))
 then_ok (Ok x) f z e = (x, (refl, e))
-then_ok (Err left) f z e = absurd cc
+then_ok (Err w) f z e = absurd cc
 
 -- The lines of things that are counted from a number on.
 abbrev pub counted_lines : {A : Type 0} → (ℕ → A → List ℕ) → ℕ → List A → List ℕ
@@ -106,7 +107,7 @@ module _ {A : Type 0} (front : List ℕ) (reader : ℕ → List ℕ → Reads A)
     pub text_is : text ≡ flat_map print new ++ rest
     pub good : AreRun number Good least new
 
-  no_more : (least : ℕ) (so_far all : List A) (text rest : List ℕ) → Ok {E = ℕ} (so_far, text) ≡ Ok (all, rest) → IsRun least so_far all text rest
+  no_more : (least : ℕ) (so_far all : List A) (text rest : List ℕ) → Ok {E = Wrong} (so_far, text) ≡ Ok (all, rest) → IsRun least so_far all text rest
   no_more least so_far all text rest e =
       let same = ok_is (so_far, text) (all, rest) e in
       record {

@@ -1,5 +1,5 @@
 -- Each line of a state is read.
-use Rattle.std.proofs.Common.{◌≡◌, ℕ, zero, suc, ◌+◌, ◌-◌, ◌^◌, ◌<◌, ◌≤◌, Bool, true, false, ◌&&◌, cond, ℤ, List, [], ◌∷◌, ◌++◌, length, length-append, Option, Some, None, refl, sym, ap, ◌∙◌, arith, decimal, append_assoc}
+use Rattle.std.proofs.Common.{◌≡◌, ℕ, zero, suc, ◌+◌, ◌-◌, ◌^◌, ◌<◌, ◌≤◌, Bool, true, false, ◌&&◌, cond, ℤ, List, [], ◌∷◌, ◌++◌, length, length-append, Option, Some, Ok, refl, sym, ap, ◌∙◌, arith, decimal, append_assoc}
 use Rattle.std.specs.Prelude.{codes}
 use Rattle.std.specs.Fmt.{signed_decimal}
 use Rattle.std.specs.List.{AllByRecursion, flat_map}
@@ -11,14 +11,14 @@ use Rattle.sv_lines.specs.Reading.{Read, ◌>>=◌, behind_front, behind_numeral
 use Rattle.sv_lines.proofs.Splitting.{decimal_passes, Ends, number_begins}
 use Rattle.sv_lines.proofs.Telling.{IsI64, all_long, digit_numeric, signed_begins}
 use Rattle.sv_lines.proofs.Numerals.{front_there, behind_of, number_is_read, signed_is_read}
-use Rattle.sv_lines.proofs.ReadLists.{listed_read}
+use Rattle.sv_lines.proofs.ReadLists.{value_is_read}
 use Rattle.sv_state.specs.Text.{entries_line, sessions_line, positions_line, value_line}
 use Rattle.sv_state.specs.Reading.{entries_read, sessions_read, positions_read, line_value_read}
-use Rattle.sv_state.specs.Whole.{as_printed, stopped}
+use Rattle.sv_state.specs.Whole.{as_printed}
 
 -- A thing that is read where its line stands, and passes the test, is taken.
 pub printed_again : {A : Type 0} (good : A → Bool) (print : A → List ℕ) (o : Option A) (x : A) (rest : List ℕ) → o ≡ Some x → good x ≡ true →
-    stopped (print x ++ rest) (as_printed good print (print x ++ rest) o) ≡ Ok (x, rest)
+    as_printed good print (print x ++ rest) o ≡ Ok (x, rest)
 printed_again good print o x rest e f = rw (e, f, front_there (print x) rest) refl
 
 -- ---- The first lines
@@ -57,12 +57,6 @@ positions_again last commit rest f g =
     ) refl
 
 -- ---- Values
-
-pub value_is_read : (v : List ℤ) (rest : List ℕ) → ValueFits v → value_read (joined 44 signed_decimal v ++ 41 ∷ rest) ≡ Some (v, rest)
-unfolding value_read
-value_is_read v rest f =
-    listed_read IsI64 signed_decimal (Ends is_numeric) signed_read signed_is_read 41 44 (λ e. omega (arith, e)) (λ l. refl) (λ l. refl)
-    (λ a x y p e. signed_begins a x 41 y p refl e) v rest (all_long v f)
 
 pub number_passed : (n : ℕ) (rest : List ℕ) → n < 2 ^ 64 → Ends is_numeric rest → behind_numeral (decimal n ++ rest) ≡ rest
 number_passed n rest f stop = behind_of (decimal n) rest (decimal_passes is_numeric digit_numeric n f) stop

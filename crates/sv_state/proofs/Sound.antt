@@ -1,10 +1,14 @@
 -- A state that is read is well formed, and the text is its text.
-use Rattle.std.proofs.Common.{◌≡◌, ℕ, zero, suc, ◌+◌, ◌-◌, ◌≤◌, eqb, leb, Bool, true, false, ◌&&◌, ◌||◌, not, cond, ℤ, List, [], ◌∷◌, ◌++◌, length, take, map, length-append, Option, Some, None, is_none, Result, Ok, Err, refl, sym, subst, ap, ◌∙◌, arith, append_assoc, append-nil}
+use Rattle.std.proofs.Common.{◌≡◌, ℕ, zero, suc, ◌+◌, ◌-◌, ◌≤◌, eqb, leb, Bool, true, false, ◌&&◌, ◌||◌, not, cond, ℤ, List, [], ◌∷◌, ◌++◌, length, take, get_or, map, length-append, Option, Some, None, is_none, Result, Ok, Err, refl, sym, subst, ap, ◌∙◌, arith, append_assoc, append-nil}
 use Rattle.std.specs.Prelude.{codes}
 use Rattle.std.specs.List.{flat_map, list_all}
+use Rattle.std.specs.Ordering.{int_eq}
+use lib.Pointwise.{pointwise_decides}
 use Rattle.std.proofs.lemmas.Bool.{and_parts, eqb-true, leb-true, eq-eqb}
+use Rattle.std.proofs.lemmas.Int.{ints}
 use Rattle.std.proofs.lemmas.List.{take_at}
 use Rattle.sv_world.specs.declared.world.Shape.{Shape}
+use Rattle.sv_world.specs.declared.world.World.{World}
 use Rattle.sv_world.specs.Faults.{is_ascending}
 use Rattle.sv_world.specs.Limits.{most_positions, most_open}
 use Rattle.sv_lines.specs.Reading.{behind_front}
@@ -14,37 +18,62 @@ use Rattle.sv_state.specs.declared.state.ClientState.{ClientState}
 use Rattle.sv_state.specs.declared.state.First.{First}
 use Rattle.sv_state.specs.declared.state.OpenSession.{OpenSession}
 use Rattle.sv_state.specs.declared.state.State.{State}
-use Rattle.sv_state.specs.WellFormed.{have_attrs, is_good_above, lowest_waits, are_in_turn, is_good_client, client_numbers, have_authors, are_new, all_places, is_good_open, session_numbers, live_apart, position_of, IsWellFormed}
+use Rattle.sv_state.specs.declared.stop.StateCause.TheVariants as causes
+use Rattle.sv_state.specs.WellFormed.{have_attrs, is_opening_value, is_value_of, is_good_above, lowest_waits, are_in_turn, is_good_client, client_numbers, have_authors, are_new, all_places, is_good_open, session_numbers, live_apart, position_of, IsWellFormed}
 use Rattle.sv_state.specs.Text.{entries_line, sessions_line, positions_line, value_line, value_lines, above_line, above_lines, client_line, open_line, first_lines, state_lines, state_text}
 use Rattle.sv_state.specs.Judging.{rise_from, is_next_above, is_next_client, is_next_open, parts_agree}
 use Rattle.sv_state.specs.Reading.{entries_read, sessions_read, positions_read, line_value_read, above_read, client_read, open_read}
-use Rattle.sv_state.specs.Whole.{as_printed, Reads, stopped, ◌>=>◌, are_positions, count_from, run_from, entries_from, sessions_from, positions_from, value_from, action_from, client_from, client_number, open_from, session_number, is_only, ended_from, as_first, first_from, values_from, actions_from, clients_from, opened_from, as_state, rest_opened, rest_clients, rest_above, rest_values, state_read}
+use Rattle.sv_state.specs.Whole.{Wrong, wrong, Reads, ◌>=>◌, are_positions, count_from, run_from, entries_from, sessions_from, positions_from, value_from, action_from, client_from, client_number, open_from, session_number, is_only, ended_from, as_first, first_from, values_from, actions_from, clients_from, opened_from, as_state, rest_opened, rest_clients, rest_above, rest_values, state_read}
 use Rattle.sv_state.proofs.Rises.{rises}
 use Rattle.sv_state.proofs.Found.{front_is, IsTaken, printed_found, then_ok, counted_lines, AreCounted, AreRun, count_all, run_all}
 
 -- ---- The lists
 
-same_values : (object : ℕ) (vs : List (List ℤ)) → counted_lines value_line object vs ≡ value_lines object vs
+pub same_values : (object : ℕ) (vs : List (List ℤ)) → counted_lines value_line object vs ≡ value_lines object vs
 same_values object [] = refl
 same_values object (v ∷ vs) = ap (λ (l : List ℕ). value_line object v ++ l) (same_values (object + 1) vs)
 
-same_actions : (p : ℕ) (xs : List Above) → counted_lines above_line p xs ≡ above_lines p xs
+pub same_actions : (p : ℕ) (xs : List Above) → counted_lines above_line p xs ≡ above_lines p xs
 same_actions p [] = refl
 same_actions p (x ∷ xs) = ap (λ (l : List ℕ). above_line p x ++ l) (same_actions (p + 1) xs)
+
+pub int_decides : (x y : ℤ) → (int_eq x y ≡ true → x ≡ y) × (x ≡ y → int_eq x y ≡ true)
+int_decides x y = (λ h. grind (arith, ints, h), λ h. grind (arith, ints, h))
 
 both_true : (a b : Bool) → a ≡ true → b ≡ true → (a && b) ≡ true
 both_true a b f g = rw (f, g) refl
 
-module _ (attrs : ℕ) where
-  abbrev IsLong : ℕ → List ℤ → Type 0
-  IsLong object v = eqb (length v) attrs ≡ true
+module _ (world : World) (commit : ℕ) where
+  abbrev IsValue : ℕ → List ℤ → Type 0
+  IsValue object v = is_value_of world commit object v ≡ true
 
-  value_found : (object : ℕ) (text : List ℕ) (v : List ℤ) (rest : List ℕ) → value_from attrs object text ≡ Ok (v, rest) → IsLong object v × (text ≡ value_line object v ++ rest)
-  value_found object text v rest e = (let t = printed_found (λ w. eqb (length w) attrs) (value_line object) text (line_value_read text) v rest e in (t.passes, t.begins))
+  value_found : (object : ℕ) (text : List ℕ) (v : List ℤ) (rest : List ℕ) → value_from world commit object text ≡ Ok (v, rest) → IsValue object v × (text ≡ value_line object v ++ rest)
+  value_found object text v rest e = (let t = printed_found (is_value_of world commit object) (value_line object) text (line_value_read text) v rest e in (t.passes, t.begins))
 
-  all_long : (object : ℕ) (vs : List (List ℤ)) → AreCounted IsLong object vs → have_attrs attrs vs ≡ true
+  all_long : (object : ℕ) (vs : List (List ℤ)) → AreCounted IsValue object vs → have_attrs world.shape.attrs vs ≡ true
   all_long object [] f = refl
-  all_long object (v ∷ vs) f = both_true (eqb (length v) attrs) (have_attrs attrs vs) f.0 (all_long (object + 1) vs f.1)
+  all_long object (v ∷ vs) f =
+      both_true (eqb (length v) world.shape.attrs) (have_attrs world.shape.attrs vs) (and_parts (eqb (length v) world.shape.attrs) (not (eqb commit 0) || is_opening_value world object v) f.0).0 (all_long (object + 1) vs f.1)
+
+  -- Where nothing is committed each value is the world's.
+  opening_value : (object : ℕ) (v : List ℤ) → commit ≡ 0 → IsValue object v → v ≡ get_or world.values object []
+  opening_value object v none f =
+      let second = (and_parts (eqb (length v) world.shape.attrs) (not (eqb commit 0) || is_opening_value world object v) f).1 in
+      let zero_is : eqb commit 0 ≡ true = eq-eqb commit 0 none in
+      (pointwise_decides int_decides v (get_or world.values object [])).0 (subst (λ (b : Bool). (not b || is_opening_value world object v) ≡ true) zero_is second)
+
+  opening_from : (object : ℕ) (vs ws : List (List ℤ)) → commit ≡ 0 → ((n : ℕ) → get_or world.values (object + n) [] ≡ get_or ws n []) → length vs ≡ length ws → AreCounted IsValue object vs → vs ≡ ws
+  opening_from object [] [] none same e f = refl
+  opening_from object [] (w ∷ ws) none same e f = absurd (omega (arith, e))
+  opening_from object (v ∷ vs) [] none same e f = absurd (omega (arith, e))
+  opening_from object (v ∷ vs) (w ∷ ws) none same e f =
+      let here : v ≡ w = opening_value object v none f.0 ∙ ap (λ (k : ℕ). get_or world.values k []) (omega arith) ∙ same 0 in
+      let next : (n : ℕ) → get_or world.values (object + 1 + n) [] ≡ get_or ws n [] = λ n. ap (λ (k : ℕ). get_or world.values k []) (omega arith) ∙ same (suc n) in
+      let more : vs ≡ ws = opening_from (object + 1) vs ws none next (omega (arith, e)) f.1 in
+      ap (λ (x : List ℤ). x ∷ vs) here ∙ ap (λ (l : List (List ℤ)). w ∷ l) more
+
+  opening_values : (vs : List (List ℤ)) → commit ≡ 0 → length vs ≡ length world.values → AreCounted IsValue 0 vs → vs ≡ world.values
+  opening_values vs none e f = opening_from 0 vs world.values none (λ n. refl) e f
 
 module _ (shape : Shape) (commit : ℕ) where
   abbrev IsNext : ℕ → Above → Type 0
@@ -103,7 +132,7 @@ module _ (objects commit : ℕ) (above : List Above) where
 
 -- ---- The first lines
 
-ok_is : {A : Type 0} (x y : A) → Ok {E = ℕ} x ≡ Ok y → x ≡ y
+ok_is : {A : Type 0} (x y : A) → Ok {E = Wrong} x ≡ Ok y → x ≡ y
 ok_is x y e = cc
 
 pub record IsFirst (text : List ℕ) (f : First) (rest : List ℕ) : Type 0 where
@@ -143,11 +172,12 @@ ended_found whole s t text e = go (parts_agree s) refl (behind_front sum text) r
     sum : List ℕ
     sum = sum_line (take (length whole - length text) whole)
 
-    go : (b : Bool) → parts_agree s ≡ b → (o : Option (List ℕ)) → behind_front sum text ≡ o → stopped text (cond (b && is_only o) (Some s) None) ≡ Ok t → IsEnded whole s t text
+    go : (b : Bool) → parts_agree s ≡ b → (o : Option (List ℕ)) → behind_front sum text ≡ o →
+        cond (is_only o) (cond b (Ok s) (wrong causes.Apart text)) (wrong causes.Sum text) ≡ Ok t → IsEnded whole s t text
     go true i (Some []) j f = record { same = ok_is s t f; agree = i; last = front_is sum text [] j ∙ append-nil sum }
-    go true i (Some (b ∷ bs)) j f = absurd cc
-    go true i None j f = absurd cc
-    go false i o j f = absurd cc
+    go false i (Some []) j f = absurd cc
+    go b i (Some (c ∷ cs)) j f = absurd cc
+    go b i None j f = absurd cc
 
 -- ---- The whole
 
@@ -159,20 +189,23 @@ summed whole lines last e f =
     let front : take (length whole - length last) whole ≡ lines = ap (take (length whole - length last)) e ∙ take_at lines last (length whole - length last) at in
     e ∙ ap (λ (l : List ℕ). lines ++ l) (f ∙ ap sum_line front)
 
-five_parts : (a b c d e z : List ℕ) → a ++ (b ++ (c ++ (d ++ (e ++ z)))) ≡ (a ++ b ++ c ++ d ++ e) ++ z
+pub five_parts : (a b c d e z : List ℕ) → a ++ (b ++ (c ++ (d ++ (e ++ z)))) ≡ (a ++ b ++ c ++ d ++ e) ++ z
 five_parts a b c d e z =
     sym (append_assoc a b (c ++ (d ++ (e ++ z)))) ∙ sym (append_assoc (a ++ b) c (d ++ (e ++ z))) ∙ sym (append_assoc (a ++ b ++ c) d (e ++ z)) ∙ sym (append_assoc (a ++ b ++ c ++ d) e z)
 
-pub record IsRead (shape : Shape) (text : List ℕ) (s : State) : Type 0 where
+pub record IsRead (world : World) (text : List ℕ) (s : State) : Type 0 where
   pub text_is : text ≡ state_text s
-  pub good : IsWellFormed shape s
+  pub good : IsWellFormed world s
 
 -- What was read of the parts makes the state.
-module _ (shape : Shape) (whole : List ℕ) (f : First) (vs : List (List ℤ)) (above : List Above) (clients : List ClientState) (opened : List OpenSession) where
+module _ (world : World) (whole : List ℕ) (f : First) (vs : List (List ℤ)) (above : List Above) (clients : List ClientState) (opened : List OpenSession) where
+  abbrev shape : Shape
+  shape = world.shape
+
   abbrev made : State
   made = as_state f vs above clients opened
 
-  module _ (order : f.commit ≤ f.last) (few : f.last ≤ most_positions) (objects : length vs ≡ shape.objects) (longs : AreCounted (IsLong shape.attrs) 0 vs)
+  module _ (order : f.commit ≤ f.last) (few : f.last ≤ most_positions) (objects : length vs ≡ length world.values) (longs : AreCounted (IsValue world f.commit) 0 vs)
       (many : length above ≡ f.last - f.commit) (nexts : AreCounted (IsNext shape f.commit) (f.commit + 1) above)
       (runs : AreRun client_number (IsNextClient shape.objects f.commit above) 0 clients)
       (sits : AreRun session_number (IsNextOpen shape.objects f.commit above f.sessions clients) 0 opened) (agree : parts_agree made ≡ true) where
@@ -181,11 +214,12 @@ module _ (shape : Shape) (whole : List ℕ) (f : First) (vs : List (List ℤ)) (
     three = and_parts (are_new [] (all_places clients)) (live_apart opened && leb (length opened) most_open) two.1
     four = and_parts (live_apart opened) (leb (length opened) most_open) three.1
 
-    made_good : IsWellFormed shape made
+    made_good : IsWellFormed world made
     made_good = record {
       positions = omega (arith, order, few, many);
       objects = objects;
-      attrs = all_long shape.attrs 0 vs longs;
+      attrs = all_long world f.commit 0 vs longs;
+      opening = λ none. opening_values world f.commit vs none objects longs;
       above = all_good shape f.commit (f.commit + 1) above nexts;
       lowest = first_waits shape f.commit above nexts;
       turns = one.0;
@@ -207,11 +241,12 @@ first_parts f vs above clients opened order many =
     ap (λ (n : ℕ). entries_line f.entries ++ sessions_line f.sessions ++ positions_line n f.commit) same
 
 -- A state that is read is well formed, and the text is its text.
-pub state_found : (shape : Shape) (text : List ℕ) (t : State) → state_read shape text ≡ Ok t → IsRead shape text t
-state_found shape text t e =
-    let a = then_ok (first_from text) (λ f. rest_values shape text f.0 f.1) t e in
+pub state_found : (world : World) (text : List ℕ) (t : State) → state_read world text ≡ Ok t → IsRead world text t
+state_found world text t e =
+    let shape = world.shape in
+    let a = then_ok (first_from text) (λ f. rest_values world text f.0 f.1) t e in
     let f = a.0.0 in
-    let b = then_ok (values_from shape a.0.1) (λ v. rest_above shape text f v.0 v.1) t a.1.1 in
+    let b = then_ok (values_from world f.commit a.0.1) (λ v. rest_above shape text f v.0 v.1) t a.1.1 in
     let vs = b.0.0 in
     let c = then_ok (actions_from shape f.commit f.last b.0.1) (λ x. rest_clients shape text f vs x.0 x.1) t b.1.1 in
     let above = c.0.0 in
@@ -221,7 +256,7 @@ state_found shape text t e =
     let opened = o.0.0 in
     let z = ended_found text (as_state f vs above clients opened) t o.0.1 o.1.1 in
     let first = first_found text f a.0.1 a.1.0 in
-    let values = count_all (value_from shape.attrs) value_line (IsLong shape.attrs) (value_found shape.attrs) shape.objects 0 vs a.0.1 b.0.1 b.1.0 in
+    let values = count_all (value_from world f.commit) value_line (IsValue world f.commit) (value_found world f.commit) (length world.values) 0 vs a.0.1 b.0.1 b.1.0 in
     let actions = count_all (action_from shape f.commit) above_line (IsNext shape f.commit) (action_found shape f.commit) (f.last - f.commit) (f.commit + 1) above b.0.1 c.0.1 c.1.0 in
     let rows = run_all (codes "client ") (client_from shape.objects f.commit above) client_number client_line (IsNextClient shape.objects f.commit above) (client_found shape.objects f.commit above)
     (length c.0.1) 0 clients c.0.1 d.0.1 d.1.0 in
@@ -239,7 +274,7 @@ state_found shape text t e =
     let whole : text ≡ state_lines made ++ o.0.1 =
     first.begins ∙ ap (λ (l : List ℕ). l ++ a.0.1) (first_parts f vs above clients opened first.order actions.long) ∙ ap (λ (l : List ℕ). first_lines made ++ l) two
     ∙ five_parts (first_lines made) v x y w o.0.1 in
-    subst (λ (s : State). IsRead shape text s) z.same (record {
+    subst (λ (s : State). IsRead world text s) z.same (record {
       text_is = summed text (state_lines made) o.0.1 whole z.last;
-      good = made_good shape text f vs above clients opened first.order first.few values.long values.good actions.long actions.good rows.good seats.good z.agree;
+      good = made_good world text f vs above clients opened first.order first.few values.long values.good actions.long actions.good rows.good seats.good z.agree;
     })

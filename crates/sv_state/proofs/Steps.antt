@@ -1,7 +1,7 @@
 -- One turn of the loops that read lines.
 use Rattle.std.proofs.Common.{◌≡◌, ℕ, zero, suc, ◌+◌, ◌-◌, ◌<◌, ◌≤◌, Bool, true, false, cond, List, [], ◌∷◌, ◌++◌, Option, Some, None, is_none, Result, Ok, Err, refl, sym, ◌∙◌, arith}
 use Rattle.sv_lines.specs.Reading.{behind_front}
-use Rattle.sv_state.specs.Whole.{Reads, ◌>=>◌, count_from, run_from}
+use Rattle.sv_state.specs.Whole.{Wrong, Reads, ◌>=>◌, count_from, run_from}
 
 module _ {A : Type 0} (reader : ℕ → List ℕ → Reads A) (n i at : ℕ) (so_far : List A) (text : List ℕ) (total : Reads (List A)) where
   pub count_out : n ≤ i → count_from reader (n - i) at so_far text ≡ total → total ≡ Ok (so_far, text)
@@ -15,8 +15,8 @@ module _ {A : Type 0} (reader : ℕ → List ℕ → Reads A) (n i at : ℕ) (so
         let k : n - i ≡ suc (n - (i + 1)) = omega (arith, lt) in
         sym inv ∙ rw k refl
 
-    pub count_stops : (left : ℕ) → reader at text ≡ Err left → total ≡ Err left
-    count_stops left e = turn ∙ rw e refl
+    pub count_stops : (w : Wrong) → reader at text ≡ Err w → total ≡ Err w
+    count_stops w e = turn ∙ rw e refl
 
     pub count_goes : (x : A) (rest : List ℕ) (now : List A) → reader at text ≡ Ok (x, rest) → now ≡ so_far ++ x ∷ [] → count_from reader (n - (i + 1)) (at + 1) now rest ≡ total
     count_goes x rest now e pushed = sym (turn ∙ rw (e, pushed) refl)
@@ -37,8 +37,8 @@ module _ {A : Type 0} (front : List ℕ) (reader : ℕ → List ℕ → Reads A)
     run_ends e = run_turn ∙ rw e refl
 
     module _ (there : is_none (behind_front front text) ≡ false) where
-      pub run_stops : (left : ℕ) → reader least text ≡ Err left → total ≡ Err left
-      run_stops left e = run_turn ∙ rw (there, e) refl
+      pub run_stops : (w : Wrong) → reader least text ≡ Err w → total ≡ Err w
+      run_stops w e = run_turn ∙ rw (there, e) refl
 
       pub run_goes : (x : A) (rest : List ℕ) (now : List A) → reader least text ≡ Ok (x, rest) → now ≡ so_far ++ x ∷ [] → run_from front reader number (turns - (i + 1)) (number x + 1) now rest ≡ total
       run_goes x rest now e pushed = sym (run_turn ∙ rw (there, e, pushed) refl)

@@ -11,7 +11,7 @@ mod state;
 mod stop;
 mod whole;
 
-pub use laws::what_is_read_is_a_state_of_it;
+pub use laws::{texts_of_states_are_read, what_is_read_is_a_state_of_it};
 pub use print::{append_lines, print_state};
 pub use reader::read_state;
 pub use state::{Above, ClientState, OpenSession, State};
