@@ -16,11 +16,11 @@ use Rattle.sv_journal.specs.Sessions.{is_over, is_ended, life_of, sent_to, named
 use Rattle.sv_journal.specs.Answer.{Rules}
 use Rattle.sv_core.specs.declared.sessions.SessionRow.{SessionRow}
 use Rattle.sv_core.specs.Agreement.{IsSoundHistory, IsClientRow, sent_at, named_at, FitsSeats, AreSeated}
-use Rattle.sv_core.specs.Fits.{actions_in, was_given, IsEntry, QueueFits, values_after}
+use Rattle.sv_core.specs.Fits.{actions_in, was_given, IsQueueEntry, QueueFits, values_after}
 use Rattle.sv_core.specs.Rows.{no_session, row_at, seat_in, has_entry, owes_end, count_rows, requests_left, IsSessionRow}
-use Rattle.sv_sequencer.proofs.HistorySteps.{run_length-is}
-use Rattle.sv_sequencer.proofs.AgreeNext.{get-push}
-use Rattle.sv_sequencer.proofs.FitMarks.{was_given-named}
+use Rattle.sv_core.proofs.HistorySteps.{run_length-is}
+use Rattle.sv_core.proofs.AgreeNext.{get-push}
+use Rattle.sv_core.proofs.FitMarks.{was_given-named}
 use Rattle.law_state.specs.Plans.{Fate, Takes, Drops, Denies, Turn, outcome_by, taken_by, planned_outcomes, planned_actions}
 use Rattle.law_state.specs.Made.{Place, placed}
 use Rattle.law_state.specs.Places.{sits, Among, AreDistinct, AreOrderly}

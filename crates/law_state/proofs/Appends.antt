@@ -12,7 +12,7 @@ use Rattle.sv_journal.specs.Serving.{with_results}
 use Rattle.sv_journal.specs.Living.{Stewardship, counts, heeded}
 use Rattle.sv_journal.proofs.Results.{either_none}
 use Rattle.sv_core.specs.Rows.{has_entry}
-use Rattle.sv_sequencer.proofs.HistorySteps.{accepted-quiet, outcomes-quiet, result-quiet}
+use Rattle.sv_core.proofs.HistorySteps.{accepted-quiet, outcomes-quiet, result-quiet}
 
 -- ---- A fact of each entry
 

@@ -196,7 +196,7 @@ greatest-is (c ∷ cs) k asc = go (nat_eq c.client.0 k) refl (greatest-is cs k (
 
 -- ---- The course
 
-module _ (r : Rules) (w : Stewardship) (s : State) (wf : IsWellFormed r.world.shape s) (in' : HasNumbers s) where
+module _ (r : Rules) (w : Stewardship) (s : State) (wf : IsWellFormed r.world s) (in' : HasNumbers s) where
   abbrev pub C : Course
   C = course_of w s
 
@@ -204,7 +204,7 @@ module _ (r : Rules) (w : Stewardship) (s : State) (wf : IsWellFormed r.world.sh
   P = built (outcomes_by s) (client_numbers s.clients) (makers_of (maker_at s) (position_of s))
 
   makers : AreMakers nobody (maker_at s) (position_of s) (outcomes_by s)
-  makers = makers-are r.world.shape s wf in'
+  makers = makers-are r.world s wf in'
 
   nobody-out : is_in nobody (client_numbers s.clients) ≡ false
   nobody-out = elim (cases_Bool (is_in nobody (client_numbers s.clients))) [
@@ -242,7 +242,7 @@ module _ (r : Rules) (w : Stewardship) (s : State) (wf : IsWellFormed r.world.sh
   all-length : (o : Option ClientState) (k : ℕ) → client_with k s.clients ≡ o → length (turned (all_outcomes s o)) ≤ 4294967294
   all-length None k f = omega arith
   all-length (Some c) k f =
-      (let g = client-good r.world.shape s wf in' k c f in
+      (let g = client-good r.world s wf in' k c f in
       let e = ap length (all-turned s c) in
       let long = length-append (turned (older_outcomes s.commit s.above c.client.0 (c.next - 1 - length c.kept))) (outcomes_kept c) in
       let old = length-older-turned s c in
@@ -326,7 +326,7 @@ module _ (r : Rules) (w : Stewardship) (s : State) (wf : IsWellFormed r.world.sh
   above-action zero low high = absurd (omega (arith, low))
   above-action (suc j) low high =
       plan-action (s.commit + suc j) (omega arith) (omega (arith, high))
-      ∙ ap (λ (m : Maker). m.action) (maker-high r.world.shape s wf in' (s.commit + suc j) (omega arith))
+      ∙ ap (λ (m : Maker). m.action) (maker-high r.world s wf in' (s.commit + suc j) (omega arith))
       ∙ ap (λ n. (maker_above (slice_get s.above n)).action) (let e : s.commit + suc j - suc s.commit ≡ j = omega arith in e)
       ∙ at s.above j
     where

@@ -13,8 +13,8 @@ use Rattle.sv_journal.proofs.Kept.{client-kept, sent-kept, named-kept}
 use Rattle.sv_journal.proofs.Replies.{HoldsByEachRow, each_row}
 use Rattle.sv_journal.proofs.Stewards.{living-keeping}
 use Rattle.sv_core.specs.Rows.{has_entry}
-use Rattle.sv_sequencer.specs.Step.{entry_of}
-use Rattle.sv_state.specs.States.{has_begun, run_from_zero, sessions_begun}
+use Rattle.sv_journal.specs.History.{entry_of}
+use Rattle.law_state.specs.States.{has_begun, run_from_zero, sessions_begun}
 use Rattle.law_state.specs.Kept.{JoinedSessionsAloneAreSent, NextSessionIsTheFirstWithoutAnEntry}
 
 first-none : (o q : Option ℕ) → either o q ≡ None → o ≡ None

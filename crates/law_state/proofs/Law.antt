@@ -67,7 +67,7 @@ accepted-is p (Some (rows.Accepted x)) q = ap (λ n. Some (Accepted n)) (eqb-tru
 accepted-is p (Some (rows.Dropped chain far)) q = absurd (both_ways false refl q)
 accepted-is p (Some (rows.Denied object)) q = absurd (both_ways false refl q)
 
-module _ (r : Rules) (w : Stewardship) (s : State) (wf : IsWellFormed r.world.shape s) (in' : HasNumbers s) where
+module _ (r : Rules) (w : Stewardship) (s : State) (wf : IsWellFormed r.world s) (in' : HasNumbers s) where
   abbrev H : List Entry
   H = made first_nobodys (course_of w s)
 
@@ -82,8 +82,8 @@ module _ (r : Rules) (w : Stewardship) (s : State) (wf : IsWellFormed r.world.sh
       go (Some c) q wrote =
           ap (λ o. slice_get (turned (all_outcomes s o)) i) q ∙ ap (λ xs. slice_get xs i) (all-turned s c) ∙ kinds (nat_le c.next (a.seq + length c.kept)) refl parts.1
         where
-          g : IsGood r.world.shape s wf in' c
-          g = client-good r.world.shape s wf in' a.client.0 c q
+          g : IsGood r.world s wf in' c
+          g = client-good r.world s wf in' a.client.0 c q
 
           parts : (nat_lt a.seq c.next ≡ true) × (cond (nat_le c.next (a.seq + length c.kept)) (is_accepted_at p (slice_get c.kept (a.seq + length c.kept - c.next))) (list_all (λ n. nat_lt p n) (places_in c.kept)) ≡ true)
           parts = and_parts (nat_lt a.seq c.next) (cond (nat_le c.next (a.seq + length c.kept)) (is_accepted_at p (slice_get c.kept (a.seq + length c.kept - c.next))) (list_all (λ n. nat_lt p n) (places_in c.kept))) wrote
@@ -131,7 +131,7 @@ module _ (r : Rules) (w : Stewardship) (s : State) (wf : IsWellFormed r.world.sh
       go (Some c) q wrote = (let low = in'.clients a.client.0 (with-listed a.client.0 s.clients c q) in omega (arith, low, is))
 
   maker-is : (i : ℕ) (a : Above) → s.commit < suc i → suc i ≤ position_of s → above_numbered s.commit s.above (suc i) ≡ Some a → maker_of (get_or (planned_actions (P r w s wf in')) i nobodys) ≡ record { client = a.client.0; action = a.action }
-  maker-is i a high low f = plan-maker r w s wf in' i (omega (arith, low)) ∙ maker-high r.world.shape s wf in' (suc i) high ∙ ap maker_above f
+  maker-is i a high low f = plan-maker r w s wf in' i (omega (arith, low)) ∙ maker-high r.world s wf in' (suc i) high ∙ ap maker_above f
 
   seq-is : (i : ℕ) (a : Above) → s.commit < suc i → suc i ≤ position_of s → above_numbered s.commit s.above (suc i) ≡ Some a → (get_or (planned_actions (P r w s wf in')) i nobodys).seq ≡ a.seq
   seq-is i a high low f =
@@ -143,7 +143,7 @@ module _ (r : Rules) (w : Stewardship) (s : State) (wf : IsWellFormed r.world.sh
       ap (λ os. slice_get os placed.0) (sym (ap (planned_outcomes (P r w s wf in')) client ∙ plan-outcomes r w s wf in' a.client.0 (author-listed (suc i) a high f))) ∙ placed.1.1 in
       let some = positive (suc i) a f in
       let here = index-above (suc i) a high f (a.seq - 1) (let e : a.seq ≡ suc (a.seq - 1) = omega (arith, some) in e) in
-      let one = place-once (suc (position_of s)) (outcomes_by s a.client.0) placed.0 (a.seq - 1) (suc i) ((makers-are r.world.shape s wf in').falls a.client.0) there here in
+      let one = place-once (suc (position_of s)) (outcomes_by s a.client.0) placed.0 (a.seq - 1) (suc i) ((makers-are r.world s wf in').falls a.client.0) there here in
       omega (arith, placed.1.0, one, some))
 
   -- ---- A core that has what the state says
@@ -157,14 +157,14 @@ module _ (r : Rules) (w : Stewardship) (s : State) (wf : IsWellFormed r.world.sh
     numbered (suc i) low high = (i, refl)
 
     queue-at : (i : ℕ) → s.commit < suc i → suc i ≤ position_of s → (a : Above) × ((above_numbered s.commit s.above (suc i) ≡ Some a) × IsRaised v (suc i) a)
-    queue-at i low high = (let some = above-some r.world.shape s wf in' (suc i) low high in (some.0, (some.1, has.raised (suc i) some.0 low some.1)))
+    queue-at i low high = (let some = above-some r.world s wf in' (suc i) low high in (some.0, (some.1, has.raised (suc i) some.0 low some.1)))
 
     queue : IsQueueOf r (course_of w s) (map place_of s.opened) v
     queue = record {
       shape = has.shape;
       commit = has.commit;
       last = has.last;
-      values = has.committed ∙ sym (values-are r w s wf in' suits.opening (suits.objects ∙ sym wf.objects));
+      values = has.committed ∙ sym (values-are r w s wf in' wf.opening (sym wf.objects));
       author = λ p. author p;
       seq = λ p. seq p;
       action = λ p. action p;
@@ -193,7 +193,7 @@ module _ (r : Rules) (w : Stewardship) (s : State) (wf : IsWellFormed r.world.sh
     keeps : (k : ℕ) (o : Option ClientState) → client_with k s.clients ≡ o → KeepsOutcomes (turned (all_outcomes s o)) (row_in o)
     keeps k None f = record { count = refl; kept = refl }
     keeps k (Some c) f =
-        (let g = client-good r.world.shape s wf in' k c f in
+        (let g = client-good r.world s wf in' k c f in
         let O : List Outcome = turned (older_outcomes s.commit s.above c.client.0 (c.next - 1 - length c.kept)) in
         let long : length O ≡ c.next - 1 - length c.kept = length-older-turned s c in
         let both = length-append O (outcomes_kept c) in

@@ -4,6 +4,7 @@ use Rattle.std.specs.List.{list_all, flat_map}
 use Rattle.std.proofs.lemmas.Bool.{both_ways, cases_lt, cases_eq, cases_Bool, eq-eqb, eqb-true, ne_eqb, or_cases, or_parts, or_left, or_right, and_parts, not-true, not_from_true, lt-leb, le-leb, leb-true, leb-false, ltb-true, cond-true, cond-false}
 use Rattle.std.proofs.lemmas.Option.{slice_get_within, slice_get-map}
 use Rattle.sv_world.specs.declared.world.Shape.{Shape}
+use Rattle.sv_world.specs.declared.world.World.{World}
 use Rattle.sv_world.specs.Control.{is_in}
 use Rattle.sv_world.specs.Faults.{is_ascending, first_fault_of_action}
 use Rattle.sv_world.proofs.Ascending.{ascending-tail, ascending-head}
@@ -174,7 +175,10 @@ accepted-place p (rows.Denied object ∷ os) (suc i) q = accepted-place p os i q
 
 -- ---- The makers of a state
 
-module _ (shape : Shape) (s : State) (wf : IsWellFormed shape s) (in' : HasNumbers s) where
+module _ (world : World) (s : State) (wf : IsWellFormed world s) (in' : HasNumbers s) where
+  abbrev shape : Shape
+  shape = world.shape
+
   good : (k : ℕ) (c : ClientState) → client_with k s.clients ≡ Some c → is_good_client shape.objects s.commit s.above c ≡ true
   good k c f = with-all (is_good_client shape.objects s.commit s.above) k s.clients c wf.clients f
 

@@ -9,8 +9,8 @@ use Rattle.sv_journal.specs.Serving.{with_results}
 use Rattle.sv_journal.specs.Living.{Stewardship, is_stewards, counts, heeded}
 use Rattle.sv_journal.proofs.Results.{either_none}
 use Rattle.sv_core.specs.Rows.{has_entry}
-use Rattle.sv_sequencer.specs.Step.{end_entry}
-use Rattle.sv_sequencer.proofs.HistorySteps.{accepted-quiet, outcomes-quiet}
+use Rattle.sv_journal.specs.History.{end_entry}
+use Rattle.sv_core.proofs.HistorySteps.{accepted-quiet, outcomes-quiet}
 use Rattle.law_state.specs.Plans.{Fate, Takes, Drops, Denies, Turn, outcome_by, taken_by, planned_outcomes, planned_actions}
 use Rattle.law_state.specs.Made.{join_entry, action_of, reply_of, submit_entry, turn_entries, played, lived, done_entry, reported_by, closed}
 use Rattle.law_state.specs.Stands.{greatest_life}

@@ -1,7 +1,7 @@
 -- A core that has the state of a history keeps it.
 use Rattle.std.proofs.Common.{◌≡◌, ◌≢◌, ℕ, zero, suc, ◌+◌, ◌-◌, ◌<◌, ◌≤◌, Bool, true, false, ◌&&◌, ◌||◌, not, cond, nat_eq, nat_lt, nat_le, ◌⊎◌, inl, inr, ℤ, List, [], ◌∷◌, ◌++◌, map, filter, length, max, Option, Some, None, is_some, option_map, slice_get, refl, sym, ◌∙◌, ap, subst, arith, append-nil}
 use Rattle.std.specs.List.{list_any}
-use Rattle.std.proofs.lemmas.Bool.{both_ways, cases_lt, cases_eq, cases_Bool, eq-eqb, eqb-true, ne_eqb, or_cases, or_parts, or_left, or_right, and_parts, not-true, not_from_false, lt-ltb, le-ltb, ltb-true, cond-true, cond-false}
+use Rattle.std.proofs.lemmas.Bool.{both_ways, cases_lt, cases_eq, cases_Bool, eq-eqb, eqb-true, ne_eqb, or_cases, or_parts, or_left, or_right, and_parts, not-true, not_from_false, lt-ltb, le-ltb, ltb-true, ltb-false, cond-true, cond-false}
 use Rattle.std.proofs.lemmas.List.{length-map}
 use Rattle.std.proofs.lemmas.List.Elements.{filter-append}
 use Rattle.std.proofs.lemmas.Option.{slice_get-map}
@@ -22,14 +22,14 @@ use Rattle.sv_journal.specs.Answer.{Rules}
 use Rattle.sv_journal.proofs.Commits.{run_within}
 use Rattle.sv_core.specs.declared.sessions.SessionRow.{SessionRow}
 use Rattle.sv_core.specs.Agreement.{IsClientRow, sent_at, named_at, FitsSeats, AreSeated}
-use Rattle.sv_core.specs.Fits.{actions_in, values_after, was_given, IsEntry}
+use Rattle.sv_core.specs.Fits.{actions_in, values_after, was_given, IsQueueEntry}
 use Rattle.sv_core.specs.Rows.{row_at, seat_in, has_entry, owes_end, count_rows, requests_left, IsSessionRow}
-use Rattle.sv_sequencer.proofs.HistorySteps.{installed-is}
+use Rattle.sv_core.proofs.HistorySteps.{installed-is}
 use Rattle.sv_state.specs.declared.state.Above.{Above}
 use Rattle.sv_state.specs.declared.state.ClientState.{ClientState}
 use Rattle.sv_state.specs.declared.state.OpenSession.{OpenSession}
 use Rattle.sv_state.specs.declared.state.State.{State}
-use Rattle.sv_state.specs.States.{client_numbered, sessions_begun, unended, uncommitted, sent_uncommitted, given_where_joined, sent_where_joined, open_session, ever_joined, outcome_row, client_state, above_at, state_after}
+use Rattle.law_state.specs.States.{client_numbered, sessions_begun, unended, uncommitted, sent_uncommitted, given_where_joined, sent_where_joined, open_session, joined_clients, outcome_row, client_state, above_at, state_after}
 use Rattle.sv_state.specs.WellFormed.{position_of, above_numbered, client_with}
 use Rattle.law_state.specs.Made.{Place}
 use Rattle.law_state.specs.Stands.{row_of, sent_by, given_by}
@@ -115,35 +115,9 @@ with-state h (j ∷ ks) k = elim (cases_eq j k) [
       ∙ ap (λ b. cond (b || is_in k ks) (Some (client_state h k)) None) (sym (ne_eqb k j (λ q. ne (sym q))))
 ]
 
--- A client that never joined has no life, no session and no outcome.
-no-life : (h : List Entry) (k : ℕ) → ever_joined h k ≡ false → life_of h k ≡ 0
-no-life [] k none = refl
-no-life (e ∷ h) k none = (let both = or_parts (welcomes e (Some k)) (ever_joined h k) none in
-    cond-false (welcomes e (Some k)) (max (life_in e.request) (life_of h k)) (life_of h k) both.0 ∙ no-life h k both.1)
-
-no-session : (h : List Entry) (k s : ℕ) → ever_joined h k ≡ false → is_client (client_of h s) k ≡ false
-no-session [] k s none = refl
-no-session (e ∷ h) k s none =
-    (let both = or_parts (welcomes e (Some k)) (ever_joined h k) none in
-    go (client_of h s) (no-session h k s both.1) (nat_eq e.session s) (is_welcome e.reply) refl both.0)
-  where
-    go : (o : Option ℕ) → is_client o k ≡ false → (b d : Bool) → is_welcome e.reply ≡ d → (is_welcome e.reply && is_client (joining e.request) k) ≡ false →
-        is_client (either o (cond (b && d) (joining e.request) None)) k ≡ false
-    go (Some j) f b d q w = f
-    go None f true true q w = sym (ap (λ x. x && is_client (joining e.request) k) q) ∙ w
-    go None f true false q w = refl
-    go None f false d q w = refl
-
-no-outcomes : (h : List Entry) (k : ℕ) → ever_joined h k ≡ false → outcomes_of h k ≡ []
-no-outcomes [] k none = refl
-no-outcomes (e ∷ h) k none =
-    (let both = or_parts (welcomes e (Some k)) (ever_joined h k) none in
-    ap (λ b. outcomes_of h k ++ cond (b && is_submit_of e.request (suc (length (outcomes_of h k)))) (outcome_in (suc (length (accepted h))) e.reply) []) (no-session h k e.session both.1)
-    ∙ append-nil (outcomes_of h k) ∙ no-outcomes h k both.1)
-
 -- ---- A core
 
-module _ (r : Rules) (h : List Entry) (v : QueueView) (rows : List SessionRow) (clients : Clients) (owed : ℕ) (is : IsLivingHistory r h) (has : HasState r (state_after r h) v rows clients owed) where
+module _ (r : Rules) (entries : ℕ) (h : List Entry) (v : QueueView) (rows : List SessionRow) (clients : Clients) (owed : ℕ) (is : IsLivingHistory r h) (has : HasState r (state_after r entries h) v rows clients owed) where
   abbrev c : ℕ
   c = commit_of h
 
@@ -165,7 +139,7 @@ module _ (r : Rules) (h : List Entry) (v : QueueView) (rows : List SessionRow) (
   uncommitted-are : uncommitted h ≡ counting (suc c) (n - c)
   uncommitted-are = ap (λ m. filter (λ p. nat_lt c p) (below (suc m))) (let e : n ≡ c + (n - c) = omega (arith, commit-within) in e) ∙ all-above c (n - c)
 
-  last-is : position_of (state_after r h) ≡ n
+  last-is : position_of (state_after r entries h) ≡ n
   last-is =
       (let e : length (map (above_at h) (uncommitted h)) ≡ n - c = length-map (uncommitted h) (above_at h) ∙ ap length uncommitted-are ∙ length-counting (suc c) (n - c) in
       omega (arith, e, commit-within))
@@ -228,7 +202,7 @@ module _ (r : Rules) (h : List Entry) (v : QueueView) (rows : List SessionRow) (
         ∙ ap (was_given (actions_in (accepted h)) (sent_at h (seat_in rows slot)) (named_at h (seat_in rows slot) x) x) (sym has.commit);
   }
     where
-      entry : (p : ℕ) → c < p → p ≤ n → IsEntry (accepted h) (result_at h) (λ slot. sent_at h (seat_in rows slot)) p (entry_at v p)
+      entry : (p : ℕ) → c < p → p ≤ n → IsQueueEntry (accepted h) (result_at h) (λ slot. sent_at h (seat_in rows slot)) p (entry_at v p)
       entry p low high = (let up = raised p low high in record {
         author = up.author;
         seq = up.seq;
@@ -277,22 +251,25 @@ module _ (r : Rules) (h : List Entry) (v : QueueView) (rows : List SessionRow) (
 
   -- ---- Clients
 
-  listed : (k : ℕ) → k < nobody → is_in k (filter (ever_joined h) (below r.clients)) ≡ ever_joined h k
-  listed k low = filter-member (ever_joined h) k (below r.clients) (is_in-below r.clients k (omega (arith, low, is.clients)))
+  listed : (k : ℕ) → k < nobody → is_in k (joined_clients r h) ≡ nat_lt 0 (life_of h k)
+  listed k low = filter-member (λ j. nat_lt 0 (life_of h j)) k (below r.clients) (is_in-below r.clients k (omega (arith, low, is.clients)))
 
   client-is : (k : ℕ) → k < nobody → IsClientRow h k (client_row clients k)
-  client-is k low = subst (IsClientRow h k) (sym (has.client_rows k low ∙ ap row_in (with-state h (filter (ever_joined h) (below r.clients)) k ∙ ap (λ b. cond b (Some (client_state h k)) None) (listed k low))))
-      (go (ever_joined h k) refl)
+  client-is k low =
+      subst (IsClientRow h k) (sym (has.client_rows k low ∙ ap row_in (with-state h (joined_clients r h) k ∙ ap (λ b. cond b (Some (client_state h k)) None) (listed k low)))) (go (nat_lt 0 (life_of h k)) refl)
     where
-      go : (b : Bool) → ever_joined h k ≡ b → IsClientRow h k (row_in (cond b (Some (client_state h k)) None))
+      go : (b : Bool) → nat_lt 0 (life_of h k) ≡ b → IsClientRow h k (row_in (cond b (Some (client_state h k)) None))
       go true q = record {
         life = refl;
         outcomes = record { count = (let e : next_seq h k - 1 ≡ length (outcomes_of h k) = omega arith in e); kept = outcomes-back (last_of 8 (outcomes_of h k)) };
       }
-      go false q = record {
-        life = sym (no-life h k q);
-        outcomes = subst (λ os. KeepsOutcomes os no_client) (sym (no-outcomes h k q)) (record { count = refl; kept = refl });
-      }
+      go false q =
+          (let low = ltb-false 0 (life_of h k) q in
+          let none : life_of h k ≡ 0 = omega (arith, low) in
+          record {
+            life = sym none;
+            outcomes = subst (λ os. KeepsOutcomes os no_client) (sym (is.unheard k none)) (record { count = refl; kept = refl });
+          })
 
   pub history-kept : AgreesBelow nobody r h v rows clients owed
   history-kept = record {
@@ -309,4 +286,4 @@ module _ (r : Rules) (h : List Entry) (v : QueueView) (rows : List SessionRow) (
   }
 
 pub histories-of-states-are-kept : HistoriesOfStatesAreKept
-histories-of-states-are-kept r h v rows clients owed is has = history-kept r h v rows clients owed is has
+histories-of-states-are-kept r entries h v rows clients owed is has = history-kept r entries h v rows clients owed is has

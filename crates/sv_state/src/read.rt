@@ -8,19 +8,19 @@ ghost use Rattle.sv_state.specs.Reading.{entries_read, sessions_read, positions_
 use crate::state::{Above, ClientState, Member, OpenSession};
 use std::alloc::Global;
 use sv_clients::Outcome;
-use sv_lines::{Unread, action_at, behind, expect, next_at, number_at, numeral_at, object_at, objects_at, plain_width, small_at, value_at, values_at};
+use sv_lines::{LineFault, action_at, behind, expect, next_at, number_at, numeral_at, object_at, objects_at, plain_width, small_at, value_at, values_at};
 use sv_lists::List;
 use sv_world::{Action, ClientId, ObjectId, Shape, Value};
 
 /// The number of 64 bits that the text begins with, and what comes after it.
 #[tactic(auto, unfolding(sv_lines::specs::Reading::number_read))]
-fn wide_at(text: &[u8]) -> Result<(u64, &[u8]), Unread>
+fn wide_at(text: &[u8]) -> Result<(u64, &[u8]), LineFault>
     ensures { seen (λ x. (x.0, x.1.now)) result ≡ number_read (2 ^ 64) text.now }
 {
     let (digits, rest) = numeral_at(text);
     match digits.parse::<u64>() {
         Ok(number) => Ok((number, rest)),
-        Err(_) => Err(Unread::Wrong),
+        Err(_) => Err(LineFault::Wrong),
     }
 }
 
@@ -35,7 +35,7 @@ fn behind_number(text: &[u8]) -> &[u8]
 // ---- The first lines
 
 #[tactic(auto, unfolding(crate::specs::Reading::entries_read))]
-pub(crate) fn entries_at(text: &[u8]) -> Result<u64, Unread>
+pub(crate) fn entries_at(text: &[u8]) -> Result<u64, LineFault>
     ensures { seen (λ n. n) result ≡ entries_read text.now }
 {
     let rest = expect(text, b"state ")?;
@@ -44,7 +44,7 @@ pub(crate) fn entries_at(text: &[u8]) -> Result<u64, Unread>
 }
 
 #[tactic(auto, unfolding(crate::specs::Reading::sessions_read))]
-pub(crate) fn sessions_at(text: &[u8]) -> Result<u64, Unread>
+pub(crate) fn sessions_at(text: &[u8]) -> Result<u64, LineFault>
     ensures { seen (λ n. n) result ≡ sessions_read text.now }
 {
     let rest = expect(text, b"sessions ")?;
@@ -54,7 +54,7 @@ pub(crate) fn sessions_at(text: &[u8]) -> Result<u64, Unread>
 
 /// The last position, and the commit.
 #[tactic(auto, unfolding(crate::specs::Reading::positions_read))]
-pub(crate) fn positions_at(text: &[u8]) -> Result<(u32, u32), Unread>
+pub(crate) fn positions_at(text: &[u8]) -> Result<(u32, u32), LineFault>
     ensures { seen (λ p. p) result ≡ positions_read text.now }
 {
     let rest = expect(text, b"last ")?;
@@ -67,7 +67,7 @@ pub(crate) fn positions_at(text: &[u8]) -> Result<(u32, u32), Unread>
 // ---- Values
 
 #[tactic(auto, unfolding(crate::specs::Reading::line_value_read))]
-pub(crate) fn line_value_at(alloc: Global, text: &[u8]) -> Result<Value, Unread>
+pub(crate) fn line_value_at(alloc: Global, text: &[u8]) -> Result<Value, LineFault>
     ensures { Gives (λ v. v) result (line_value_read text.now) }
 {
     let rest = expect(behind_number(text), b"=(")?;
@@ -109,7 +109,7 @@ fn action_width(text: &[u8]) -> usize
 
 /// The values behind ` = `, where that comes next.
 #[tactic(auto, unfolding(crate::specs::Reading::result_read))]
-fn result_at(alloc: Global, text: &[u8]) -> Result<Option<List<Value>>, Unread>
+fn result_at(alloc: Global, text: &[u8]) -> Result<Option<List<Value>>, LineFault>
     ensures { Gives (λ values. values) result (result_read text.now) }
 {
     let Some(rest) = behind(text, b" = ") else {
@@ -125,12 +125,12 @@ fn acted_at(
     alloc: Global,
     shape: Shape,
     text: &[u8],
-) -> Result<(Action, Option<List<Value>>), Unread>
+) -> Result<(Action, Option<List<Value>>), LineFault>
     ensures { Gives (λ x. x) result (acted_read shape text.now) }
 {
     let (front, rest) = text.split_at(action_width(text));
     let Ok(front) = str::from_utf8(front) else {
-        return Err(Unread::Wrong);
+        return Err(LineFault::Wrong);
     };
     let action = action_at(alloc, shape, front)?;
     let values = result_at(alloc, rest)?;
@@ -138,7 +138,7 @@ fn acted_at(
 }
 
 #[tactic(auto, unfolding(crate::specs::Reading::above_read))]
-pub(crate) fn above_at(alloc: Global, shape: Shape, text: &[u8]) -> Result<Above, Unread>
+pub(crate) fn above_at(alloc: Global, shape: Shape, text: &[u8]) -> Result<Above, LineFault>
     ensures { Gives (λ a. a) result (above_read shape text.now) }
 {
     let rest = expect(behind_number(text), b" c")?;
@@ -158,7 +158,7 @@ pub(crate) fn above_at(alloc: Global, shape: Shape, text: &[u8]) -> Result<Above
 // ---- Clients
 
 #[tactic(auto, unfolding(crate::specs::Reading::accepted_read))]
-fn accepted_at(text: &[u8]) -> Result<(Outcome, &[u8]), Unread>
+fn accepted_at(text: &[u8]) -> Result<(Outcome, &[u8]), LineFault>
     ensures { seen (λ x. (x.0, x.1.now)) result ≡ accepted_read text.now }
 {
     let (pos, rest) = number_at(text)?;
@@ -166,7 +166,7 @@ fn accepted_at(text: &[u8]) -> Result<(Outcome, &[u8]), Unread>
 }
 
 #[tactic(auto, unfolding(crate::specs::Reading::dropped_read))]
-fn dropped_at(text: &[u8]) -> Result<(Outcome, &[u8]), Unread>
+fn dropped_at(text: &[u8]) -> Result<(Outcome, &[u8]), LineFault>
     ensures { seen (λ x. (x.0, x.1.now)) result ≡ dropped_read text.now }
 {
     let (chain, rest) = number_at(text)?;
@@ -176,7 +176,7 @@ fn dropped_at(text: &[u8]) -> Result<(Outcome, &[u8]), Unread>
 }
 
 #[tactic(auto, unfolding(crate::specs::Reading::denied_read))]
-fn denied_at(text: &[u8]) -> Result<(Outcome, &[u8]), Unread>
+fn denied_at(text: &[u8]) -> Result<(Outcome, &[u8]), LineFault>
     ensures { seen (λ x. (x.0, x.1.now)) result ≡ denied_read text.now }
 {
     let rest = expect(text, b"denied ")?;
@@ -185,7 +185,7 @@ fn denied_at(text: &[u8]) -> Result<(Outcome, &[u8]), Unread>
 }
 
 #[tactic(auto, unfolding(crate::specs::Reading::told_read))]
-fn told_at(text: &[u8]) -> Result<(Outcome, &[u8]), Unread>
+fn told_at(text: &[u8]) -> Result<(Outcome, &[u8]), LineFault>
     ensures { seen (λ x. (x.0, x.1.now)) result ≡ told_read text.now }
 {
     if let Some(rest) = behind(text, b"at ") {
@@ -198,7 +198,7 @@ fn told_at(text: &[u8]) -> Result<(Outcome, &[u8]), Unread>
 }
 
 #[tactic(auto, unfolding(crate::specs::Reading::outcome_read))]
-fn outcome_at(text: &[u8]) -> Result<(Outcome, &[u8]), Unread>
+fn outcome_at(text: &[u8]) -> Result<(Outcome, &[u8]), LineFault>
     ensures { seen (λ x. (x.0, x.1.now)) result ≡ outcome_read text.now }
 {
     let rest = expect(behind_number(text), b":")?;
@@ -210,7 +210,7 @@ fn joined_outcomes(
     alloc: Global,
     turns: usize,
     text: &[u8],
-) -> Result<(List<Outcome>, &[u8]), Unread>
+) -> Result<(List<Outcome>, &[u8]), LineFault>
     ensures { Gives (λ x. (x.0, x.1.now)) result (joined_by outcome_read (93 ∷ []) (32 ∷ []) turns [] text.now) }
 {
     let mut outcomes = List::new(alloc);
@@ -224,11 +224,11 @@ fn joined_outcomes(
         }
         left = rest;
     }
-    Err(Unread::Wrong)
+    Err(LineFault::Wrong)
 }
 
 #[tactic(auto, unfolding(crate::specs::Reading::outcomes_read))]
-fn outcomes_at(alloc: Global, text: &[u8]) -> Result<(List<Outcome>, &[u8]), Unread>
+fn outcomes_at(alloc: Global, text: &[u8]) -> Result<(List<Outcome>, &[u8]), LineFault>
     ensures { Gives (λ x. (x.0, x.1.now)) result (outcomes_read text.now) }
 {
     if let Some(rest) = behind(text, b"]") {
@@ -238,7 +238,7 @@ fn outcomes_at(alloc: Global, text: &[u8]) -> Result<(List<Outcome>, &[u8]), Unr
 }
 
 #[tactic(auto, unfolding(crate::specs::Reading::client_read))]
-pub(crate) fn client_at(alloc: Global, text: &[u8]) -> Result<ClientState, Unread>
+pub(crate) fn client_at(alloc: Global, text: &[u8]) -> Result<ClientState, LineFault>
     ensures { Gives (λ c. c) result (client_read text.now) }
 {
     let rest = expect(text, b"client ")?;
@@ -260,7 +260,7 @@ pub(crate) fn client_at(alloc: Global, text: &[u8]) -> Result<ClientState, Unrea
 // ---- Open sessions
 
 /// One position or more, as `6 7]`.
-fn joined_positions(alloc: Global, turns: usize, text: &[u8]) -> Result<(List<u32>, &[u8]), Unread>
+fn joined_positions(alloc: Global, turns: usize, text: &[u8]) -> Result<(List<u32>, &[u8]), LineFault>
     ensures { Gives (λ x. (x.0, x.1.now)) result (joined_by (number_read (2 ^ 32)) (93 ∷ []) (32 ∷ []) turns [] text.now) }
 {
     let mut positions = List::new(alloc);
@@ -274,11 +274,11 @@ fn joined_positions(alloc: Global, turns: usize, text: &[u8]) -> Result<(List<u3
         }
         left = rest;
     }
-    Err(Unread::Wrong)
+    Err(LineFault::Wrong)
 }
 
 #[tactic(auto, unfolding(crate::specs::Reading::positions_list_read))]
-fn positions_list_at(alloc: Global, text: &[u8]) -> Result<(List<u32>, &[u8]), Unread>
+fn positions_list_at(alloc: Global, text: &[u8]) -> Result<(List<u32>, &[u8]), LineFault>
     ensures { Gives (λ x. (x.0, x.1.now)) result (positions_list_read text.now) }
 {
     if let Some(rest) = behind(text, b"]") {
@@ -289,7 +289,7 @@ fn positions_list_at(alloc: Global, text: &[u8]) -> Result<(List<u32>, &[u8]), U
 
 /// The positions behind ` sent `, and what comes after them.
 #[tactic(auto, unfolding(crate::specs::Reading::sent_read))]
-fn sent_at(alloc: Global, text: &[u8]) -> Result<(List<u32>, &[u8]), Unread>
+fn sent_at(alloc: Global, text: &[u8]) -> Result<(List<u32>, &[u8]), LineFault>
     ensures { Gives (λ x. (x.0, x.1.now)) result (sent_read text.now) }
 {
     let rest = expect(text, b" sent [")?;
@@ -297,7 +297,7 @@ fn sent_at(alloc: Global, text: &[u8]) -> Result<(List<u32>, &[u8]), Unread>
 }
 
 #[tactic(auto, unfolding(crate::specs::Reading::joined_read))]
-fn joined_at(alloc: Global, text: &[u8]) -> Result<(Member, &[u8]), Unread>
+fn joined_at(alloc: Global, text: &[u8]) -> Result<(Member, &[u8]), LineFault>
     ensures { Gives (λ x. (x.0, x.1.now)) result (joined_read text.now) }
 {
     let (client, rest) = small_at(text)?;
@@ -315,7 +315,7 @@ fn joined_at(alloc: Global, text: &[u8]) -> Result<(Member, &[u8]), Unread>
 }
 
 #[tactic(auto, unfolding(crate::specs::Reading::member_read))]
-fn member_at(alloc: Global, text: &[u8]) -> Result<(Member, &[u8]), Unread>
+fn member_at(alloc: Global, text: &[u8]) -> Result<(Member, &[u8]), LineFault>
     ensures { Gives (λ x. (x.0, x.1.now)) result (member_read text.now) }
 {
     if let Some(rest) = behind(text, b" c") {
@@ -342,7 +342,7 @@ fn over_at(text: &[u8]) -> bool
 }
 
 #[tactic(auto, unfolding(crate::specs::Reading::open_read))]
-pub(crate) fn open_at(alloc: Global, text: &[u8]) -> Result<OpenSession, Unread>
+pub(crate) fn open_at(alloc: Global, text: &[u8]) -> Result<OpenSession, LineFault>
     ensures { Gives (λ o. o) result (open_read text.now) }
 {
     let rest = expect(text, b"session ")?;

@@ -4,7 +4,7 @@ ghost use Rattle.sv_lines.specs.Reading.{behind_front};
 ghost use Rattle.sv_world.specs.Limits.{most_positions};
 ghost use Rattle.sv_state.specs.declared.stop.StateCause.TheVariants as causes;
 ghost use Rattle.sv_state.specs.declared.stop.StateStop.TheVariants as stop;
-ghost use Rattle.sv_lines.specs.declared.stop.Unread.TheVariants as unread;
+ghost use Rattle.sv_lines.specs.declared.stop.LineFault.TheVariants as unread;
 ghost use Rattle.sv_state.specs.Text.{value_line, above_line, client_line, open_line};
 ghost use Rattle.sv_state.specs.Judging.{is_next_above, is_next_client, is_next_open};
 ghost use Rattle.sv_state.specs.WellFormed.{is_value_of};
@@ -20,7 +20,7 @@ use crate::read::{
 use crate::state::{Above, ClientState, OpenSession};
 use crate::stop::{StateCause, StateStop};
 use std::alloc::Global;
-use sv_lines::{Unread, behind};
+use sv_lines::{LineFault, behind};
 use sv_lists::List;
 use sv_world::{MOST_POSITIONS, Shape, Value, World};
 
@@ -34,13 +34,13 @@ pub(crate) fn wrong(cause: StateCause, text: &[u8]) -> StateStop
 }
 
 /// Why reading stops where a line was not read.
-fn stop_of(why: Unread, text: &[u8]) -> StateStop
+fn stop_of(why: LineFault, text: &[u8]) -> StateStop
     ensures wrong { why ≡ unread.Wrong → result ≡ stop.Wrong (length text.now) causes.Unread }
     ensures memory { why ≡ unread.Memory → result ≡ stop.Memory }
 {
     match why {
-        Unread::Wrong => wrong(StateCause::Unread, text),
-        Unread::Memory => StateStop::Memory,
+        LineFault::Wrong => wrong(StateCause::Unread, text),
+        LineFault::Memory => StateStop::Memory,
     }
 }
 
