@@ -13,3 +13,7 @@ pub mod Law
 pub mod OfHistories
 pub mod Joined
 pub mod Builds
+pub mod Coupled
+pub mod Uncommitted
+pub mod Lawful
+pub mod Formed

@@ -19,7 +19,7 @@ use Rattle.sv_journal.specs.declared.entry.Entry.{Entry}
 use Rattle.sv_journal.specs.History.{either, is_welcome, joining, Outcome, Accepted, Dropped, Denied, client_of, is_client, is_submit_of, outcome_in, outcomes_of, accepted, next_seq, result_at, commit_of, installed}
 use Rattle.sv_journal.specs.Sessions.{welcomes, is_over, is_ended, life_in, life_of, sent_to, named_to, is_given, already_given}
 use Rattle.sv_journal.specs.Answer.{Rules}
-use Rattle.sv_journal.proofs.Commits.{run_within}
+use Rattle.sv_journal.proofs.Commits.{commit_within}
 use Rattle.sv_core.specs.declared.sessions.SessionRow.{SessionRow}
 use Rattle.sv_core.specs.Agreement.{IsClientRow, sent_at, named_at, FitsSeats, AreSeated}
 use Rattle.sv_core.specs.Fits.{actions_in, values_after, was_given, IsQueueEntry}
@@ -37,43 +37,12 @@ use Rattle.law_state.specs.Actions.{counting}
 use Rattle.law_state.specs.OfState.{nobody, place_of, row_in, IsRaised, HasState, AgreesBelow}
 use Rattle.law_state.specs.Kept.{IsLivingHistory, HistoriesOfStatesAreKept}
 use Rattle.law_state.proofs.Values.{numbers-back}
+use Rattle.law_state.proofs.Uncommitted.{filter-member, above-count, above-is, in-uncommitted}
 use Rattle.law_state.proofs.Builds.{AreOnce}
 use Rattle.law_state.proofs.Agree.{row_or, row-seat, number_of, seat-number, count-owed}
 use Rattle.law_state.proofs.Course.{ascending-once}
 
--- ---- Positions above the commit
-
-counting-push : (k m : ℕ) → counting k (suc m) ≡ counting k m ++ (k + m) ∷ []
-counting-push k zero = ap (λ n. n ∷ []) (let e : k ≡ k + 0 = omega arith in e)
-counting-push k (suc m) = ap (λ xs. k ∷ xs) (counting-push (suc k) m ∙ ap (λ n. counting (suc k) m ++ n ∷ []) (let e : suc k + m ≡ k + suc m = omega arith in e))
-
-none-above : (c n : ℕ) → n ≤ suc c → filter (λ p. nat_lt c p) (below n) ≡ []
-none-above c zero low = refl
-none-above c (suc n) low =
-    filter-append (λ p. nat_lt c p) (below n) (n ∷ []) ∙ ap (λ xs. xs ++ filter (λ p. nat_lt c p) (n ∷ [])) (none-above c n (omega (arith, low)))
-    ∙ ap (λ b. cond b (n ∷ []) []) (le-ltb c n (omega (arith, low)))
-
-all-above : (c m : ℕ) → filter (λ p. nat_lt c p) (below (suc (c + m))) ≡ counting (suc c) m
-all-above c zero = none-above c (suc (c + 0)) (omega arith)
-all-above c (suc m) =
-    filter-append (λ p. nat_lt c p) (below (c + suc m)) ((c + suc m) ∷ [])
-    ∙ ap (λ n. filter (λ p. nat_lt c p) (below n) ++ filter (λ p. nat_lt c p) ((c + suc m) ∷ [])) (let e : c + suc m ≡ suc (c + m) = omega arith in e)
-    ∙ ap (λ xs. xs ++ filter (λ p. nat_lt c p) ((c + suc m) ∷ [])) (all-above c m)
-    ∙ ap (λ b. counting (suc c) m ++ cond b ((c + suc m) ∷ []) []) (lt-ltb c (c + suc m) (omega arith))
-    ∙ ap (λ n. counting (suc c) m ++ n ∷ []) (let e : c + suc m ≡ suc c + m = omega arith in e)
-    ∙ sym (counting-push (suc c) m)
-
-get-counting : (k m i : ℕ) → i < m → slice_get (counting k m) i ≡ Some (k + i)
-get-counting k zero i low = absurd (omega (arith, low))
-get-counting k (suc m) zero low = ap Some (let e : k ≡ k + 0 = omega arith in e)
-get-counting k (suc m) (suc i) low = get-counting (suc k) m i (omega (arith, low)) ∙ ap Some (let e : suc k + i ≡ k + suc i = omega arith in e)
-
-length-counting : (k m : ℕ) → length (counting k m) ≡ m
-length-counting k zero = refl
-length-counting k (suc m) = ap suc (length-counting (suc k) m)
-
-filter-member : (f : ℕ → Bool) (p : ℕ) (xs : List ℕ) → is_in p xs ≡ true → is_in p (filter f xs) ≡ f p
-filter-member f p xs m = same_test (is_in p (filter f xs)) (f p) (λ q. (is_in-filter_parts f p xs q).1) (λ q. is_in-filter f p xs m q)
+-- ---- Elements of lists
 
 get-in : (xs : List ℕ) (i t : ℕ) → slice_get xs i ≡ Some t → is_in t xs ≡ true
 get-in [] i t q = cc
@@ -96,7 +65,7 @@ get-once (x ∷ xs) (suc i) (suc j) t once a b = ap suc (get-once xs i j t once.
 
 -- ---- Clients
 
-client-back : (o : Option ℕ) → option_map (λ (k : ClientId). k.0) (option_map client_numbered o) ≡ o
+pub client-back : (o : Option ℕ) → option_map (λ (k : ClientId). k.0) (option_map client_numbered o) ≡ o
 client-back None = refl
 client-back (Some k) = refl
 
@@ -106,7 +75,7 @@ outcomes-back (Accepted p ∷ os) = ap (λ xs. Accepted p ∷ xs) (outcomes-back
 outcomes-back (Dropped chain far ∷ os) = ap (λ xs. Dropped chain far ∷ xs) (outcomes-back os)
 outcomes-back (Denied object ∷ os) = ap (λ xs. Denied object ∷ xs) (outcomes-back os)
 
-with-state : (h : List Entry) (ks : List ℕ) (k : ℕ) → client_with k (map (client_state h) ks) ≡ cond (is_in k ks) (Some (client_state h k)) None
+pub with-state : (h : List Entry) (ks : List ℕ) (k : ℕ) → client_with k (map (client_state h) ks) ≡ cond (is_in k ks) (Some (client_state h k)) None
 with-state h [] k = refl
 with-state h (j ∷ ks) k = elim (cases_eq j k) [
   | inl is ↦ cond-true (nat_eq j k) (Some (client_state h j)) (client_with k (map (client_state h) ks)) (eq-eqb j k is) ∙ ap (λ n. Some (client_state h n)) is
@@ -133,29 +102,14 @@ module _ (r : Rules) (entries : ℕ) (h : List Entry) (v : QueueView) (rows : Li
   abbrev place : ℕ → Place
   place t = place_of (open_session r h t)
 
-  commit-within : c ≤ n
-  commit-within = run_within (λ p. is_some (result_at h p)) (length (accepted h))
-
-  uncommitted-are : uncommitted h ≡ counting (suc c) (n - c)
-  uncommitted-are = ap (λ m. filter (λ p. nat_lt c p) (below (suc m))) (let e : n ≡ c + (n - c) = omega (arith, commit-within) in e) ∙ all-above c (n - c)
+  commit-low : c ≤ n
+  commit-low = commit_within h
 
   last-is : position_of (state_after r entries h) ≡ n
-  last-is =
-      (let e : length (map (above_at h) (uncommitted h)) ≡ n - c = length-map (uncommitted h) (above_at h) ∙ ap length uncommitted-are ∙ length-counting (suc c) (n - c) in
-      omega (arith, e, commit-within))
-
-  above-is : (p : ℕ) → c < p → p ≤ n → above_numbered c (map (above_at h) (uncommitted h)) p ≡ Some (above_at h p)
-  above-is p low high =
-      slice_get-map (above_at h) (uncommitted h) (p - suc c)
-      ∙ ap (λ ps. option_map (above_at h) (slice_get ps (p - suc c))) uncommitted-are
-      ∙ ap (option_map (above_at h)) (get-counting (suc c) (n - c) (p - suc c) (omega (arith, low, high)))
-      ∙ ap (λ m. Some (above_at h m)) (let e : suc c + (p - suc c) ≡ p = omega (arith, low) in e)
+  last-is = (let count = above-count h in let low = commit-low in omega (arith, count, low))
 
   raised : (p : ℕ) → c < p → p ≤ n → IsRaised v p (above_at h p)
-  raised p low high = has.raised p (above_at h p) low (above-is p low high)
-
-  in-uncommitted : (p : ℕ) → c < p → p ≤ n → is_in p (uncommitted h) ≡ true
-  in-uncommitted p low high = is_in-filter (λ m. nat_lt c m) p (below (suc n)) (is_in-below (suc n) p (omega (arith, high))) (lt-ltb c p low)
+  raised p low high = has.raised p (above_at h p) low (above-is h p low high)
 
   -- ---- Seats
 
@@ -180,7 +134,7 @@ module _ (r : Rules) (entries : ℕ) (h : List Entry) (v : QueueView) (rows : Li
   sent-same (Some t) p low high = go (client_of h t) refl
     where
       go : (k : Option ℕ) → client_of h t ≡ k → is_in p (sent_where_joined h t k) ≡ is_in p (sent_to h t)
-      go (Some k) q = filter-member (λ m. is_in m (sent_to h t)) p (uncommitted h) (in-uncommitted p low high)
+      go (Some k) q = filter-member (λ m. is_in m (sent_to h t)) p (uncommitted h) (in-uncommitted h p low high)
       go None q = ap (is_in p) (sym (is.unsent t q))
 
   given-same : (o : Option ℕ) (x : ℕ) → x < r.world.shape.objects → is_in x (given_by (option_map place o)) ≡ was_given (actions_in (accepted h)) (sent_at h o) (named_at h o x) x c

@@ -18,6 +18,7 @@ use Rattle.law_state.specs.Places.{sits, Among, AreDistinct, clash, AreOrderly}
 use Rattle.law_state.specs.OfState.{place_of, live_places, over_places}
 use Rattle.law_state.proofs.Places.{among-sits}
 use Rattle.law_state.proofs.Clients.{all-get, all-in}
+use Rattle.law_state.proofs.Uncommitted.{all-listed}
 
 -- ---- Where a place is from
 
@@ -289,6 +290,29 @@ module _ (A C : List Action) (commit n : ℕ) (agree : (i : ℕ) → 0 < i → i
       step false p false q same' ih = ih
       step true p false q same' ih = absurd (both_ways (is_in x (write_set (action_at C i))) q (sym same' ∙ p))
       step false p true q same' ih = absurd (both_ways (is_in x (write_set (action_at A (commit + i)))) p (same' ∙ q))
+
+  -- Where what was sent is closed, it is so as a state says it.
+  pub sent-listed : (sent : List ℕ) → ((p : ℕ) → is_in p sent ≡ true → (commit < p) × (p ≤ commit + n)) → SentIsClosed A commit sent → list_all (has_writers commit C sent) sent ≡ true
+  sent-listed sent within closed = all-listed (has_writers commit C sent) sent each
+    where
+      go : (p x : ℕ) → Shifts x (p - commit) → commit + (p - commit) ≡ p → is_in p sent ≡ true → is_in x (read_set (action_at A p)) ≡ true →
+          (nat_eq (last_writer C x (p - commit)) 0 || is_in (commit + last_writer C x (p - commit)) sent) ≡ true
+      go p x (inl before) at m reads = or_left (nat_eq (last_writer C x (p - commit)) 0) (is_in (commit + last_writer C x (p - commit)) sent) (eq-eqb (last_writer C x (p - commit)) 0 before.1)
+      go p x (inr is) at m reads = elim (cases_eq (last_writer C x (p - commit)) 0) [
+        | inl none ↦ or_left (nat_eq (last_writer C x (p - commit)) 0) (is_in (commit + last_writer C x (p - commit)) sent) (eq-eqb (last_writer C x (p - commit)) 0 none)
+        | inr some ↦
+            (let writer : last_writer A x p ≡ commit + last_writer C x (p - commit) = sym (ap (last_writer A x) at) ∙ is in
+            let there = closed p x m reads (omega (arith, writer, some)) in
+            or_right (nat_eq (last_writer C x (p - commit)) 0) (is_in (commit + last_writer C x (p - commit)) sent) (ap (λ w. is_in w sent) (sym writer) ∙ there))
+      ]
+
+      each : (p : ℕ) → is_in p sent ≡ true → has_writers commit C sent p ≡ true
+      each p m =
+          (let low = within p m in
+          let at : commit + (p - commit) ≡ p = omega (arith, low.0) in
+          all-listed (λ x. nat_eq (last_writer C x (p - commit)) 0 || is_in (commit + last_writer C x (p - commit)) sent) (read_set (action_at C (p - commit)))
+          (λ x reads. go p x (shifts (p - commit) x (omega (arith, low.1))) at m
+          (ap (λ (a : Action). is_in x (read_set a)) (ap (action_at A) (sym at) ∙ agree (p - commit) (omega (arith, low.0)) (omega (arith, low.1))) ∙ reads)))
 
   pub sent-closed : (sent : List ℕ) → ((p : ℕ) → is_in p sent ≡ true → (commit < p) × (p ≤ commit + n)) → list_all (has_writers commit C sent) sent ≡ true → SentIsClosed A commit sent
   sent-closed sent within all p x m reads above =

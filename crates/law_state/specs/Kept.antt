@@ -1,6 +1,7 @@
 -- A history whose state a core has is one that the core keeps.
 use Rattle.std.specs.Prelude.{◌≡◌, ℕ, ◌≤◌, nat_lt, List, [], length, None}
 use Rattle.sv_world.specs.Limits.{most_open, most_positions}
+use Rattle.sv_world.specs.Worlds.{IsGoodWorld}
 use Rattle.sv_queue.specs.Queue.{QueueView}
 use Rattle.sv_clients.specs.declared.clients.Clients.{Clients}
 use Rattle.sv_journal.specs.declared.entry.Entry.{Entry}
@@ -12,7 +13,8 @@ use Rattle.sv_journal.specs.Living.{Stewardship, heeded, living}
 use Rattle.sv_core.specs.declared.sessions.SessionRow.{SessionRow}
 use Rattle.sv_core.specs.Agreement.{IsSoundHistory}
 use Rattle.sv_core.specs.Rows.{has_entry}
-use Rattle.law_state.specs.States.{sessions_begun, unended, state_after}
+use Rattle.law_state.specs.States.{sessions_begun, unended, state_after, state_of}
+use Rattle.sv_state.specs.WellFormed.{IsWellFormed}
 use Rattle.law_state.specs.OfState.{nobody, HasState, AgreesBelow}
 
 -- What holds of each history of a world without end that a core keeps, as far as a state does not say it: its sessions begin in order, few of them are
@@ -31,6 +33,15 @@ pub record IsLivingHistory (r : Rules) (h : List Entry) : Type 0 where
 abbrev pub HistoriesOfStatesAreKept : Type 0
 HistoriesOfStatesAreKept = (r : Rules) (entries : ℕ) (h : List Entry) (v : QueueView) (rows : List SessionRow) (clients : Clients) (owed : ℕ) →
     IsLivingHistory r h → HasState r (state_after r entries h) v rows clients owed → AgreesBelow nobody r h v rows clients owed
+
+-- What a legal history leads to is well formed, so that it can be written and read.
+abbrev pub StatesOfHistoriesAreWellFormed : Type 0
+StatesOfHistoriesAreWellFormed = (w : Stewardship) (r : Rules) (entries : ℕ) (h : List Entry) → IsGoodWorld r.world → LegalFor (living w) r h →
+    IsLivingHistory r (heeded w h) → IsWellFormed r.world (state_of r w entries h)
+
+-- Of a legal history a client that never joined has no outcome.
+abbrev pub JoinedClientsAloneHaveOutcomes : Type 0
+JoinedClientsAloneHaveOutcomes = (w : Stewardship) (r : Rules) (h : List Entry) → LegalFor (living w) r h → (k : ℕ) → life_of (heeded w h) k ≡ 0 → outcomes_of (heeded w h) k ≡ []
 
 -- Of a legal history a session that was not joined was sent nothing, and no reply to it names an object.
 abbrev pub JoinedSessionsAloneAreSent : Type 0

@@ -1,9 +1,23 @@
-//! A core that has the state of a history keeps this history.
-ghost use Rattle.law_state.specs.Kept.{HistoriesOfStatesAreKept, JoinedSessionsAloneAreSent, NextSessionIsTheFirstWithoutAnEntry};
+//! Laws of the states that histories lead to.
+ghost use Rattle.law_state.specs.Kept.{HistoriesOfStatesAreKept, StatesOfHistoriesAreWellFormed, JoinedClientsAloneHaveOutcomes, JoinedSessionsAloneAreSent, NextSessionIsTheFirstWithoutAnEntry};
+
+use sv_journal::served_actions_are_good;
 
 /// A core that has what the state of a history says, of a world without end, stands where this history leads.
 pub fn histories_of_states_are_kept()
     ensures { HistoriesOfStatesAreKept }
+{}
+
+/// What a legal history of a world without end leads to is well formed: it can be written, and read again.
+pub fn states_of_histories_are_well_formed()
+    ensures { StatesOfHistoriesAreWellFormed }
+{
+    served_actions_are_good();
+}
+
+/// Of a legal history a client that never joined has no outcome. So a state need not have one that has no life.
+pub fn joined_clients_alone_have_outcomes()
+    ensures { JoinedClientsAloneHaveOutcomes }
 {}
 
 /// Of a legal history a session that was not joined was sent nothing. So a state need not say what was sent to it.
