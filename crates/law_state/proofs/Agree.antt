@@ -11,14 +11,14 @@ use Rattle.sv_clients.specs.declared.clients.Clients.{Clients}
 use Rattle.sv_world.specs.declared.action.Action.{Action}
 use Rattle.sv_queue.proofs.Members.{is_in-append}
 use Rattle.sv_journal.specs.declared.entry.Entry.{Entry}
-use Rattle.sv_journal.specs.History.{either, Authored, Outcome, Accepted, Dropped, Denied, client_of, outcomes_of, accepted, actions_of, authored_at, result_at, run_length, commit_of, reported}
+use Rattle.sv_journal.specs.History.{either, Authored, Outcome, Accepted, Dropped, Denied, client_of, outcomes_of, accepted, actions_of, authored_at, result_at, run_length, commit_of, committed_of, reported}
 use Rattle.sv_journal.specs.Sessions.{is_over, is_ended, life_of, sent_to, named_to}
 use Rattle.sv_journal.specs.Answer.{Rules}
 use Rattle.sv_core.specs.declared.sessions.SessionRow.{SessionRow}
 use Rattle.sv_core.specs.Agreement.{IsSoundHistory, IsClientRow, sent_at, named_at, FitsSeats, AreSeated}
 use Rattle.sv_core.specs.Fits.{actions_in, was_given, IsQueueEntry, QueueFits, values_after}
 use Rattle.sv_core.specs.Rows.{no_session, row_at, seat_in, has_entry, owes_end, count_rows, requests_left, IsSessionRow}
-use Rattle.sv_core.proofs.HistorySteps.{run_length-is}
+use Rattle.sv_core.proofs.HistorySteps.{run_length-is, installed-is}
 use Rattle.sv_core.proofs.AgreeNext.{get-push}
 use Rattle.sv_core.proofs.FitMarks.{was_given-named}
 use Rattle.law_state.specs.Plans.{Fate, Takes, Drops, Denies, Turn, outcome_by, taken_by, planned_outcomes, planned_actions}
@@ -126,7 +126,7 @@ module _ (r : Rules) (first : ℕ) (c : Course) (is : IsCourse r first c) where
   accepted-last : length (accepted H) ≡ c.last
   accepted-last = ap length (made-accepted first c) ∙ is.last
 
-  result-is : (p : ℕ) → 0 < p → p ≤ c.last → result_at H p ≡ c.results p
+  pub result-is : (p : ℕ) → 0 < p → p ≤ c.last → result_at H p ≡ c.results p
   result-is p low high = made-results first c p ∙ reported-is c.results c.last p low high
 
   pub commit-is : commit_of H ≡ c.commit
@@ -208,6 +208,42 @@ module _ (r : Rules) (first : ℕ) (c : Course) (is : IsCourse r first c) where
     ended = sym (made-ended first c o.session ∙ none-before o m);
   }
 
+  -- ---- Values, and what was given
+
+  values-same : (p : ℕ) → p ≤ c.last → values_after r.world.values A c.results p ≡ values_after r.world.values A (result_at H) p
+  values-same zero high = refl
+  values-same (suc p) high = rw (values-same p (omega (arith, high)), result-is (suc p) (omega arith) high) refl
+
+  -- The committed values are those of the course.
+  pub committed-is : committed_of r.world.values H ≡ values_after r.world.values A c.results c.commit
+  committed-is =
+      installed-is r.world.values H (commit_of H)
+      ∙ ap (values_after r.world.values (actions_in (accepted H)) (result_at H)) commit-is
+      ∙ ap (λ B'. values_after r.world.values (actions_in B') (result_at H) c.commit) (made-accepted first c)
+      ∙ sym (values-same c.commit is.commit)
+
+  -- Positions above the commit give nothing.
+  late-given : (x : ℕ) (ps : List ℕ) → ((p : ℕ) → is_in p ps ≡ true → c.commit < p) → was_given A ps [] x c.commit ≡ false
+  late-given x [] late = refl
+  late-given x (p ∷ ps) late = go (is_in x (write_set (action_at A p))) (late-given x ps (λ i m. late i (ap (λ b. nat_eq i p || b) m ∙ or-true (nat_eq i p))))
+    where
+      or-true : (b : Bool) → (b || true) ≡ true
+      or-true true = refl
+      or-true false = refl
+
+      T : ℕ → Bool
+      T i = nat_le (last_writer A x (suc c.commit)) i && nat_le i c.commit
+
+      go : (b : Bool) → list_any T (filter (λ i. is_in x (write_set (action_at A i))) ps) ≡ false →
+          list_any T (cond b (p ∷ filter (λ i. is_in x (write_set (action_at A i))) ps) (filter (λ i. is_in x (write_set (action_at A i))) ps)) ≡ false
+      go true ih = ap (λ b. b || list_any T (filter (λ i. is_in x (write_set (action_at A i))) ps))
+          (and_right (nat_le (last_writer A x (suc c.commit)) p) (nat_le p c.commit) (lt-leb p c.commit (late p (ap (λ b. b || is_in p ps) (eq-eqb p p refl))))) ∙ ih
+      go false ih = ih
+
+  pub given-once : (x : ℕ) (b : Bool) (ps : List ℕ) → ((p : ℕ) → is_in p ps ≡ true → c.commit < p) → was_given A ps (cond b (c.commit ∷ []) []) x c.commit ≡ b
+  given-once x true ps late = was_given-named A ps [] x c.commit
+  given-once x false ps late = late-given x ps late
+
   -- ---- The queue
 
   module _ (seats : List Place) (v : QueueView) (q : IsQueueOf r c seats v) (sit : AreSeats c seats) where
@@ -224,28 +260,6 @@ module _ (r : Rules) (first : ℕ) (c : Course) (is : IsCourse r first c) where
         go : (o : Option Place) → slice_get seats slot ≡ o → named_at H (number_of o) x ≡ cond (is_in x (given_by o)) (c.commit ∷ []) []
         go None e = refl
         go (Some o) e = made-named first c o.session x ∙ placed-named c.commit o c.places x is.distinct (sit.within o (get-among seats slot o e))
-
-    -- Positions above the commit give nothing.
-    late-given : (x : ℕ) (ps : List ℕ) → ((p : ℕ) → is_in p ps ≡ true → c.commit < p) → was_given A ps [] x c.commit ≡ false
-    late-given x [] late = refl
-    late-given x (p ∷ ps) late = go (is_in x (write_set (action_at A p))) (late-given x ps (λ i m. late i (ap (λ b. nat_eq i p || b) m ∙ or-true (nat_eq i p))))
-      where
-        or-true : (b : Bool) → (b || true) ≡ true
-        or-true true = refl
-        or-true false = refl
-
-        T : ℕ → Bool
-        T i = nat_le (last_writer A x (suc c.commit)) i && nat_le i c.commit
-
-        go : (b : Bool) → list_any T (filter (λ i. is_in x (write_set (action_at A i))) ps) ≡ false →
-            list_any T (cond b (p ∷ filter (λ i. is_in x (write_set (action_at A i))) ps) (filter (λ i. is_in x (write_set (action_at A i))) ps)) ≡ false
-        go true ih = ap (λ b. b || list_any T (filter (λ i. is_in x (write_set (action_at A i))) ps))
-            (and_right (nat_le (last_writer A x (suc c.commit)) p) (nat_le p c.commit) (lt-leb p c.commit (late p (ap (λ b. b || is_in p ps) (eq-eqb p p refl))))) ∙ ih
-        go false ih = ih
-
-    given-once : (x : ℕ) (b : Bool) (ps : List ℕ) → ((p : ℕ) → is_in p ps ≡ true → c.commit < p) → was_given A ps (cond b (c.commit ∷ []) []) x c.commit ≡ b
-    given-once x true ps late = was_given-named A ps [] x c.commit
-    given-once x false ps late = late-given x ps late
 
     slot-late : (slot p : ℕ) → is_in p (sent_by (slice_get seats slot)) ≡ true → c.commit < p
     slot-late slot p m = go (slice_get seats slot) refl m
@@ -274,10 +288,6 @@ module _ (r : Rules) (first : ℕ) (c : Course) (is : IsCourse r first c) where
           ∙ given-once x (is_in x (given_by (slice_get seats slot))) (sent_by (slice_get seats slot)) (slot-late slot));
     }
       where
-        values-same : (p : ℕ) → p ≤ c.last → values_after r.world.values A c.results p ≡ values_after r.world.values A (result_at H) p
-        values-same zero high = refl
-        values-same (suc p) high = rw (values-same p (omega (arith, high)), result-is (suc p) (omega arith) high) refl
-
         values : values_after r.world.values A c.results c.commit ≡ values_after r.world.values (actions_in (accepted H)) (result_at H) v.commit
         values = values-same c.commit is.commit
             ∙ ap (λ B'. values_after r.world.values (actions_in B') (result_at H) c.commit) (sym (made-accepted first c))

@@ -264,7 +264,7 @@ module _ (r : Rules) (w : Stewardship) (s : State) (wf : IsWellFormed r.world s)
   result-low : (p : ℕ) → p ≤ s.commit → result_in s p ≡ Some (cond (nat_eq p s.commit) s.values [])
   result-low p low = cond-true (nat_le p s.commit) (Some (cond (nat_eq p s.commit) s.values [])) (result_above (above_numbered s.commit s.above p)) (le-leb p s.commit low)
 
-  result-high : (p : ℕ) → s.commit < p → result_in s p ≡ result_above (above_numbered s.commit s.above p)
+  pub result-high : (p : ℕ) → s.commit < p → result_in s p ≡ result_above (above_numbered s.commit s.above p)
   result-high p high = cond-false (nat_le p s.commit) (Some (cond (nat_eq p s.commit) s.values [])) (result_above (above_numbered s.commit s.above p)) (lt-leb p s.commit high)
 
   waits : s.commit < position_of s → is_some (result_in s (suc s.commit)) ≡ false
@@ -308,11 +308,11 @@ module _ (r : Rules) (w : Stewardship) (s : State) (wf : IsWellFormed r.world s)
       go None m = inl (eqb-true (length q.sent) 0 (and_parts (nat_eq (length q.given) 0) (nat_eq (length q.sent) 0) m).1)
       go (Some k) m = inr (and_parts (is_in k.0 (client_numbers s.clients) && may_be_given r.world.shape.objects q.given) (may_be_sent s.commit s.above q.sent) m).1
 
-  empty-is : (xs : List ℕ) → length xs ≡ 0 → xs ≡ []
+  pub empty-is : (xs : List ℕ) → length xs ≡ 0 → xs ≡ []
   empty-is [] q = refl
   empty-is (x ∷ xs) q = absurd (omega (arith, q))
 
-  sent-within : (q : OpenSession) (p : ℕ) → is_good_open r.world.shape.objects s.sessions s.commit s.above s.clients q ≡ true → is_in p q.sent ≡ true → (s.commit < p) × (p ≤ position_of s)
+  pub sent-within : (q : OpenSession) (p : ℕ) → is_good_open r.world.shape.objects s.sessions s.commit s.above s.clients q ≡ true → is_in p q.sent ≡ true → (s.commit < p) × (p ≤ position_of s)
   sent-within q p g m = elim (sent-good q g) [
     | inl none ↦ absurd (both_ways false refl (ap (is_in p) (sym (empty-is q.sent none)) ∙ m))
     | inr may ↦

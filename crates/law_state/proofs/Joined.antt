@@ -83,7 +83,7 @@ run-full test (suc n) all =
     (let before = run-full test n (λ t low. all t (omega (arith, low))) in
     cond-true (nat_eq (run_from_zero test n) n && test n) (suc n) (run_from_zero test n) (ap (λ b. b && test n) (eq-eqb (run_from_zero test n) n before) ∙ all n (omega arith)))
 
-run-is : (test : ℕ → Bool) (n next : ℕ) → next ≤ n → ((t : ℕ) → t < next → test t ≡ true) → test next ≡ false → run_from_zero test n ≡ next
+pub run-is : (test : ℕ → Bool) (n next : ℕ) → next ≤ n → ((t : ℕ) → t < next → test t ≡ true) → test next ≡ false → run_from_zero test n ≡ next
 run-is test zero next low all stop = omega arith
 run-is test (suc n) next low all stop = elim (cases_eq next (suc n)) [
   | inl is ↦ ap (run_from_zero test) (sym is) ∙ run-full test next all

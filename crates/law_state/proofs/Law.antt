@@ -48,7 +48,7 @@ get-behind : {X : Type 0} (xs ys : List X) (j : ℕ) → slice_get (xs ++ ys) (l
 get-behind [] ys j = ap (slice_get ys) (let e : 0 + j ≡ j = omega arith in e)
 get-behind (x ∷ xs) ys j = ap (slice_get (x ∷ (xs ++ ys))) (let e : suc (length xs) + j ≡ suc (length xs + j) = omega arith in e) ∙ get-behind xs ys j
 
-drop-front : {X : Type 0} (xs ys : List X) → drop (length xs) (xs ++ ys) ≡ ys
+pub drop-front : {X : Type 0} (xs ys : List X) → drop (length xs) (xs ++ ys) ≡ ys
 drop-front [] ys = refl
 drop-front (x ∷ xs) ys = drop-front xs ys
 
@@ -130,10 +130,10 @@ module _ (r : Rules) (w : Stewardship) (s : State) (wf : IsWellFormed r.world s)
       go None q wrote = both_ways false refl wrote
       go (Some c) q wrote = (let low = in'.clients a.client.0 (with-listed a.client.0 s.clients c q) in omega (arith, low, is))
 
-  maker-is : (i : ℕ) (a : Above) → s.commit < suc i → suc i ≤ position_of s → above_numbered s.commit s.above (suc i) ≡ Some a → maker_of (get_or (planned_actions (P r w s wf in')) i nobodys) ≡ record { client = a.client.0; action = a.action }
+  pub maker-is : (i : ℕ) (a : Above) → s.commit < suc i → suc i ≤ position_of s → above_numbered s.commit s.above (suc i) ≡ Some a → maker_of (get_or (planned_actions (P r w s wf in')) i nobodys) ≡ record { client = a.client.0; action = a.action }
   maker-is i a high low f = plan-maker r w s wf in' i (omega (arith, low)) ∙ maker-high r.world s wf in' (suc i) high ∙ ap maker_above f
 
-  seq-is : (i : ℕ) (a : Above) → s.commit < suc i → suc i ≤ position_of s → above_numbered s.commit s.above (suc i) ≡ Some a → (get_or (planned_actions (P r w s wf in')) i nobodys).seq ≡ a.seq
+  pub seq-is : (i : ℕ) (a : Above) → s.commit < suc i → suc i ≤ position_of s → above_numbered s.commit s.above (suc i) ≡ Some a → (get_or (planned_actions (P r w s wf in')) i nobodys).seq ≡ a.seq
   seq-is i a high low f =
       (let count = plan-count r w s wf in' in
       let x : Authored = get_or (planned_actions (P r w s wf in')) i nobodys in
@@ -231,7 +231,7 @@ module _ (r : Rules) (w : Stewardship) (s : State) (wf : IsWellFormed r.world s)
 
   -- ---- Its sessions
 
-  listed-from : (t : ℕ) (os : List OpenSession) → is_in t (session_numbers os) ≡ true → (x : Place) × (IsFrom os x × (x.session ≡ t))
+  pub listed-from : (t : ℕ) (os : List OpenSession) → is_in t (session_numbers os) ≡ true → (x : Place) × (IsFrom os x × (x.session ≡ t))
   listed-from t [] m = absurd (both_ways false refl m)
   listed-from t (o ∷ os) m = elim (or_cases (nat_eq t o.session) (is_in t (session_numbers os)) m) [
     | inl is ↦ (place_of o, ((0, (o, (refl, refl))), sym (eqb-true t o.session is)))
@@ -297,19 +297,3 @@ module _ (r : Rules) (w : Stewardship) (s : State) (wf : IsWellFormed r.world s)
                 | inl m ↦ (let in-below = below-is_in s.sessions t (is_in-filter_parts (λ n. not (is_in n (session_numbers s.opened))) t (below s.sessions) m).0 in absurd (omega (arith, in-below, out)))
                 | inr no' ↦ no'
               ]
-
--- ---- The law
-
-pub states-have-histories : StatesHaveHistories
-states-have-histories r w s wf in' suits steward = (
-  made first_nobodys (course_of w s),
-  record {
-    counted = made-heeded first_nobodys (course_of w s) w (λ q. counted w.steward (steward q));
-    sessions = state-sessions r w s wf in' suits;
-    agrees = λ v rows' clients' owed has. state-agrees r w s wf in' suits v rows' clients' owed has;
-  },
-)
-  where
-    counted : (o : Option ℕ) → IsSome o → o ≡ Some (unwrap_or o nobody)
-    counted (Some k) is = refl
-    counted None is = absurd (both_ways false refl is)

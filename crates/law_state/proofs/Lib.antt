@@ -17,3 +17,4 @@ pub mod Coupled
 pub mod Uncommitted
 pub mod Lawful
 pub mod Formed
+pub mod Leads

@@ -184,6 +184,7 @@ module _ (world : World) (s : State) (wf : IsWellFormed world s) (in' : HasNumbe
 
   -- What is good of a client.
   pub record IsGood (c : ClientState) : Type 0 where
+    pub life : 0 < c.life
     pub next : 0 < c.next
     pub few : c.next ≤ 4294967295
     pub kept : length c.kept ≡ min (c.next - 1) 8
@@ -198,6 +199,7 @@ module _ (world : World) (s : State) (wf : IsWellFormed world s) (in' : HasNumbe
       let e4 = and_parts (nat_lt 0 c.life && nat_lt 0 c.next) (nat_le c.next 4294967295) e3.0 in
       let e5 = and_parts (nat_lt 0 c.life) (nat_lt 0 c.next) e4.0 in
       record {
+        life = ltb-true 0 c.life e5.0;
         next = ltb-true 0 c.next e5.1;
         few = leb-true c.next 4294967295 e4.1;
         kept = eqb-true (length c.kept) (min (c.next - 1) 8) e3.1;

@@ -22,6 +22,7 @@ use Rattle.sv_state.specs.declared.state.ClientState.{ClientState}
 use Rattle.sv_state.specs.declared.state.OpenSession.{OpenSession}
 use Rattle.sv_state.specs.declared.state.State.{State}
 use Rattle.sv_state.specs.WellFormed.{position_of, above_numbered, is_by, places_in, client_numbers, client_with, session_numbers, IsWellFormed}
+use Rattle.law_state.specs.States.{state_after}
 use Rattle.law_state.specs.Made.{Place}
 use Rattle.law_state.specs.Actions.{writing_all}
 use Rattle.law_state.specs.Builds.{Maker, built, turned, makers_of}
@@ -166,6 +167,7 @@ pub record AgreesBelow (most : ℕ) (r : Rules) (h : List Entry) (v : QueueView)
 -- The rules are those of a world without end, the world that a state is of.
 pub record SuitsRules (r : Rules) (s : State) : Type 0 where
   pub requests : r.requests ≡ None
+  pub clients : r.clients ≡ nobody
   pub limit : r.positions ≤ most_positions
   pub positions : position_of s ≤ r.positions
   pub objects : length r.world.values ≡ r.world.shape.objects
@@ -175,8 +177,9 @@ pub record HasSessions (s : State) (h : List Entry) : Type 0 where
   pub opened : (t : ℕ) → (has_entry h t && not (is_ended h t)) ≡ is_in t (session_numbers s.opened)
   pub begun : (t : ℕ) → t < first_nobodys → has_entry h t ≡ nat_lt t s.sessions
 
--- A history that a core keeps which has what the state says. Each of its results counts.
+-- A history that leads to the state, and that a core keeps which has what the state says. Each of its results counts.
 pub record IsOfState (r : Rules) (w : Stewardship) (s : State) (h : List Entry) : Type 0 where
+  pub leads : state_after r s.entries h ≡ s
   pub counted : heeded w h ≡ h
   pub sessions : HasSessions s h
   pub agrees : (v : QueueView) (rows : List SessionRow) (clients : Clients) (owed : ℕ) → HasState r s v rows clients owed → AgreesBelow nobody r h v rows clients owed
