@@ -358,11 +358,11 @@ module _ (r : Rules) (w : Stewardship) (s : State) (wf : IsWellFormed r.world s)
         (no-objects o.given (eqb-true (length o.given) 0 both.0), empty-is o.sent (eqb-true (length o.sent) 0 both.1)))
 
     -- The session by who joined it.
-    abbrev by : Option ClientId → OpenSession
-    by k = a_session o.session (option_map client_numbered (option_map (λ (j : ClientId). j.0) k)) (given_where_joined r H o.session (option_map (λ (j : ClientId). j.0) k))
+    abbrev joined-as : Option ClientId → OpenSession
+    joined-as k = a_session o.session (option_map client_numbered (option_map (λ (j : ClientId). j.0) k)) (given_where_joined r H o.session (option_map (λ (j : ClientId). j.0) k))
         (sent_where_joined H o.session (option_map (λ (j : ClientId). j.0) k)) (is_over H o.session)
 
-    by-is : (k : Option ClientId) → o.client ≡ k → by k ≡ a_session o.session k o.given o.sent (is_over H o.session)
+    by-is : (k : Option ClientId) → o.client ≡ k → joined-as k ≡ a_session o.session k o.given o.sent (is_over H o.session)
     by-is (Some k) q =
         ap (λ g. a_session o.session (Some k) g (sent_uncommitted H o.session) (is_over H o.session)) (given-back k q)
         ∙ ap (λ ps. a_session o.session (Some k) o.given ps (is_over H o.session)) (sent-back k q)

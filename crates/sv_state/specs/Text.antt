@@ -1,10 +1,9 @@
 -- The text of a state. Each line ends with a line feed, whose code is 10.
-use Rattle.std.specs.Prelude.{ℕ, ◌+◌, ◌-◌, ◌≤◌, Bool, true, false, ℤ, List, [], ◌∷◌, ◌++◌, length, Option, Some, None, codes}
-use Rattle.std.specs.List.{AllByRecursion, flat_map}
+use Rattle.std.specs.Prelude.{ℕ, ◌+◌, ◌-◌, Bool, true, false, ℤ, List, [], ◌∷◌, ◌++◌, length, Option, Some, None, codes}
+use Rattle.std.specs.List.{flat_map}
 use Rattle.std.specs.Fmt.{decimal}
 use Rattle.sv_world.specs.declared.world.ClientId.{ClientId}
 use Rattle.sv_world.specs.declared.world.ObjectId.{ObjectId}
-use Rattle.sv_world.specs.Limits.{most_positions}
 use Rattle.sv_text.specs.Canonical.{canonical}
 use Rattle.sv_clients.specs.declared.outcome.Outcome.{Outcome as OutcomeRow}
 use Rattle.sv_clients.specs.declared.outcome.Outcome.TheVariants as rows
@@ -91,11 +90,6 @@ open_line o = codes "session " ++ decimal o.session ++ member_part o.client o.gi
 
 abbrev pub first_lines : State → List ℕ
 first_lines s = entries_line s.entries ++ sessions_line s.sessions ++ positions_line (position_of s) s.commit
-
--- A state whose numbers leave room to count by them.
-pub record IsPrintable (s : State) : Type 0 where
-  pub positions : position_of s ≤ most_positions
-  pub kept : AllByRecursion (λ (c : ClientState). length c.kept ≤ c.next) s.clients
 
 -- All lines but the last one.
 abbrev pub state_lines : State → List ℕ

@@ -1,12 +1,11 @@
 //! Printing a state. Where memory runs out, a part of what is put may be left.
 ghost use Rattle.std.specs.Prelude.{◌≡◌, ◌≤◌, ◌<◌, ◌+◌, ◌-◌, ◌^◌, ◌∷◌, ◌++◌, length, codes, string_bytes, OnOk, IfOk};
-ghost use Rattle.std.specs.List.{AllByRecursion, flat_map};
+ghost use Rattle.std.specs.List.{flat_map};
 ghost use Rattle.std.specs.Fmt.{decimal};
 ghost use Rattle.sv_world.specs.Limits.{most_positions};
 ghost use Rattle.sv_journal.specs.Pieces.{joined};
-ghost use Rattle.sv_state.specs.declared.state.ClientState.{ClientState};
 ghost use Rattle.sv_state.specs.WellFormed.{position_of};
-ghost use Rattle.sv_state.specs.Text.{entries_line, sessions_line, positions_line, value_line, value_lines, result_part, above_line, above_lines, outcome_text, numbered_text, more_outcomes, outcome_list, client_line, positions_text, member_part, over_part, open_line, first_lines, IsPrintable, state_lines, state_text};
+ghost use Rattle.sv_state.specs.Text.{entries_line, sessions_line, positions_line, value_line, value_lines, result_part, above_line, above_lines, outcome_text, numbered_text, more_outcomes, outcome_list, client_line, positions_text, member_part, over_part, open_line, first_lines, state_lines, state_text};
 
 use crate::state::{Above, ClientState, OpenSession, State};
 use std::alloc::{AllocError, Global};
@@ -154,7 +153,6 @@ pub(crate) fn first_kept(client: &ClientState) -> u64
 }
 
 pub(crate) fn put_client(client: &ClientState, out: &mut String) -> Result<(), AllocError>
-    requires { length client.now.kept ≤ client.now.next }
     ensures { OnOk result (string_bytes out.new ≡ string_bytes out.old ++ client_line client.now) }
 {
     put_behind("client ", client.client.0 as u64, out)?;
@@ -244,7 +242,6 @@ fn put_sessions_open(opened: &[OpenSession], out: &mut String) -> Result<(), All
 // ---- The whole
 
 fn put_clients(clients: &[ClientState], out: &mut String) -> Result<(), AllocError>
-    requires { AllByRecursion (λ (c : ClientState). length c.kept ≤ c.next) clients.now }
     ensures { OnOk result (string_bytes out.new ≡ string_bytes out.old ++ flat_map client_line clients.now) }
 {
     for client in clients {
@@ -268,7 +265,7 @@ fn put_first(state: &State, out: &mut String) -> Result<(), AllocError>
 
 /// The lines of a state but the last one, which has their sum.
 pub fn append_lines(state: &State, out: &mut String) -> Result<(), AllocError>
-    requires { IsPrintable state.now }
+    requires { position_of state.now ≤ most_positions }
     ensures { OnOk result (string_bytes out.new ≡ string_bytes out.old ++ state_lines state.now) }
 {
     put_first(state, out)?;
@@ -280,7 +277,7 @@ pub fn append_lines(state: &State, out: &mut String) -> Result<(), AllocError>
 
 /// The text of a state.
 pub fn print_state(alloc: Global, state: &State) -> Result<String, AllocError>
-    requires { IsPrintable state.now }
+    requires { position_of state.now ≤ most_positions }
     ensures { IfOk result (λ text. string_bytes text ≡ state_text state.now) }
 {
     let mut text = String::new(alloc);

@@ -1,10 +1,11 @@
 //! Reading a state.
 ghost use Rattle.std.specs.Prelude.{◌≡◌, ◌≤◌, ◌+◌, ◌-◌, IfOk, length};
 ghost use Rattle.sv_world.specs.Limits.{most_positions};
-ghost use Rattle.sv_state.specs.WellFormed.{position_of};
+ghost use Rattle.sv_state.specs.WellFormed.{position_of, IsWellFormed};
 ghost use Rattle.sv_state.specs.Whole.{Answers, first_from, rest_values, rest_above, rest_clients, rest_opened, is_sum, ended_from, state_read};
 
 use crate::agree::parts_agree;
+use crate::laws::what_is_read_is_a_state_of_it;
 use crate::state::{Above, ClientState, First, State};
 use crate::stop::{StateCause, StateStop};
 use crate::whole::{
@@ -143,10 +144,18 @@ fn with_values(
     with_above(alloc, world.shape, whole, first, values, rest)
 }
 
-/// The state of a world that a text is of, or its first wrong line.
-pub fn read_state(alloc: Global, world: &World, text: &[u8]) -> Result<State, StateStop>
+fn read_whole(alloc: Global, world: &World, text: &[u8]) -> Result<State, StateStop>
     ensures { Answers (λ s. s) result (state_read world.now text.now) }
 {
     let (first, rest) = first_from(alloc, text)?;
     with_values(alloc, world, text, first, rest)
+}
+
+/// The state of a world that a text is of, or its first wrong line.
+pub fn read_state(alloc: Global, world: &World, text: &[u8]) -> Result<State, StateStop>
+    ensures read { Answers (λ s. s) result (state_read world.now text.now) }
+    ensures formed { IfOk result (λ s. IsWellFormed world.now s) }
+{
+    what_is_read_is_a_state_of_it();
+    read_whole(alloc, world, text)
 }
