@@ -240,7 +240,6 @@ module _ (r : Rules) (entries : ℕ) (h : List Entry) (known : IsKnown r h) wher
       let within = get-within (accepted h) (record { client = k; seq = suc i; action = own.1.1.0 }) own.0 own.1.1.1 in
       both-true (nat_lt 0 p) (nat_le p c || is_by k (suc i) (above_numbered c above p)) (lt-ltb 0 p (omega (arith, place)))
       (elim (cases_lt c p) [
-        | inr old ↦ or_left (nat_le p c) (is_by k (suc i) (above_numbered c above p)) (le-leb p c old)
         | inl new ↦
             (let a = author-at h p (omega (arith, place)) (omega (arith, place, within)) in
             let at : a.before ≡ own.0 = (let e = a.place in omega (arith, e, place)) in
@@ -251,6 +250,7 @@ module _ (r : Rules) (entries : ℕ) (h : List Entry) (known : IsKnown r h) wher
             (ap (is_by k (suc i)) (above-is h p new (omega (arith, place, within)))
             ∙ ap (λ (x : Authored). nat_eq x.client k && nat_eq x.seq (suc i)) is
             ∙ both-true (nat_eq k k) (nat_eq (suc i) (suc i)) (eq-eqb k k refl) (eq-eqb (suc i) (suc i) refl)))
+        | inr old ↦ or_left (nat_le p c) (is_by k (suc i) (above_numbered c above p)) (le-leb p c old)
       ]))
 
   good-outcomes : (k d : ℕ) (os : List Outcome) → ((i : ℕ) (o : Outcome) → slice_get os i ≡ Some o → slice_get (outcomes_of h k) (d + i) ≡ Some o) →

@@ -22,7 +22,7 @@ use Rattle.sv_journal.specs.declared.entry.Logged.{Logged}
 use Rattle.sv_journal.specs.declared.entry.Logged.TheVariants as logged
 use Rattle.sv_journal.specs.History.{either, is_welcome, is_relay, is_noted, joining, client_of, is_client, Authored, Outcome, Accepted, Dropped, Denied, outcome_in, outcomes_of, accepted, actions_of, next_seq, reported, reports, result_at, commit_of, entry_of}
 use Rattle.sv_journal.specs.Sessions.{is_last, welcomes, is_over, is_live, asked_in, life_in, life_of, kept_count, outcome_at, kept_outcome, sent_to}
-use Rattle.sv_journal.specs.Answer.{Rules, refused, refused_as, relay_of, committed_held, is_bad_result, is_bad_done, is_spent}
+use Rattle.sv_journal.specs.Answer.{Rules, refused, refused_as, relay_of, committed_held, is_bad_result, is_bad_done, is_spent, reply_to}
 use Rattle.sv_journal.specs.Serving.{Keeping, IsKeeping, with_last_rows, noted_after, reply_for, LegalFor, with_results}
 use Rattle.sv_journal.proofs.Commits.{accepted_grow, committed_has}
 use Rattle.sv_journal.proofs.Replies.{HoldsByEachRow, each_row, seen_now}
@@ -146,14 +146,17 @@ module _ (k : Keeping) (law : IsKeeping k) (r : Rules) where
 
   -- A client that is welcomed has a number that there may be.
   welcomed-low : (h : List Entry) (s : ℕ) (client : ClientId) (life : ℕ) (interest : List ObjectId) → is_welcome (reply_for k r h s (requests.Join client life interest)) ≡ true → client.0 < r.clients
-  welcomed-low h s client life interest =
-      cond_both (is_over (k.kept h) s) _ _ Low (λ t e. absurd (both_ways false refl e))
-      (λ t. cond_both (is_spent r.requests (asked_in (k.kept h) s)) _ _ Low (λ u e. absurd (both_ways false refl e))
-      (λ u. cond_both (is_live (k.kept h) s) _ _ Low (λ v e. absurd (both_ways false refl e))
-      (λ v. cond_both (nat_le r.clients client.0) _ _ Low (λ x e. absurd (both_ways false refl e)) (λ x e. leb-false r.clients client.0 x))))
+  welcomed-low h s client life interest = go
     where
       Low : Logged → Type 0
       Low w = is_welcome (with_last_rows k r h s (requests.Join client life interest) w) ≡ true → client.0 < r.clients
+
+      go : Low (reply_to r (k.kept h) s (requests.Join client life interest))
+      go =
+          cond_both (is_over (k.kept h) s) _ _ Low (λ t e. absurd (both_ways false refl e))
+          (λ t. cond_both (is_spent r.requests (asked_in (k.kept h) s)) _ _ Low (λ u e. absurd (both_ways false refl e))
+          (λ u. cond_both (is_live (k.kept h) s) _ _ Low (λ v e. absurd (both_ways false refl e))
+          (λ v. cond_both (nat_le r.clients client.0) _ _ Low (λ x e. absurd (both_ways false refl e)) (λ x e. leb-false r.clients client.0 x))))
 
   life-grows : (e : Entry) (h : List Entry) (j : ℕ) → life_of h j ≤ life_of (e ∷ h) j
   life-grows e h j = go (welcomes e (Some j))

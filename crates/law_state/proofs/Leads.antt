@@ -193,8 +193,8 @@ module _ (r : Rules) (w : Stewardship) (s : State) (wf : IsWellFormed r.world s)
 
   -- ---- Actions above the commit
 
-  above-back : (i : ℕ) (a : Above) → slice_get s.above i ≡ Some a → above_at H (suc s.commit + i) ≡ a
-  above-back i a f =
+  above-is : (i : ℕ) (a : Above) → slice_get s.above i ≡ Some a → above_at H (suc (s.commit + i)) ≡ a
+  above-is i a f =
       (let p : ℕ = suc (s.commit + i) in
       let at : above_numbered s.commit s.above (suc (s.commit + i)) ≡ Some a = ap (slice_get s.above) (let e : suc (s.commit + i) - suc s.commit ≡ i = omega arith in e) ∙ f in
       let low : i < length s.above = within s.above i f in
@@ -212,6 +212,9 @@ module _ (r : Rules) (w : Stewardship) (s : State) (wf : IsWellFormed r.world s)
       within [] j e = absurd (cc)
       within (x ∷ xs) zero e = omega arith
       within (x ∷ xs) (suc j) e = (let rest = within xs j e in omega (arith, rest))
+
+  above-back : (i : ℕ) (a : Above) → slice_get s.above i ≡ Some a → above_at H (suc s.commit + i) ≡ a
+  above-back i a f = ap (above_at H) (let e : suc s.commit + i ≡ suc (s.commit + i) = omega arith in e) ∙ above-is i a f
 
   above : map (above_at H) (uncommitted H) ≡ s.above
   above =
