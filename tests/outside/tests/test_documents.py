@@ -81,7 +81,7 @@ DOCUMENTS = ("README.md", "docs/ACTIONS.md", "docs/CHECK.md", "docs/EMBEDDING.md
              "docs/HOSTING.md", "docs/JAVASCRIPT.md", "docs/PATTERNS.md", "docs/PICTURE.md", "docs/TUTORIAL.md", "docs/WIRE.md",
              "docs/WITNESS.md")
 # Crates that read the lines of reports, and write none on standard error.
-READERS = ("sv_lines", "sv_entries", "sv_check")
+READERS = ("sv_lines", "sv_entries", "sv_state", "sv_check")
 LARGEST = 4_194_304
 UNSIGNED = 2 ** 64 - 1
 HELD = re.compile(r"([0-9]+)=\((-?[0-9]+(?:,-?[0-9]+)*)\)")
