@@ -231,12 +231,12 @@ module _ (r : Rules) (w : Stewardship) (s : State) (wf : IsWellFormed r.world s)
   joined = ascending_same (joined_clients r H) (client_numbers s.clients) (ascending-filter (λ k. nat_lt 0 (life_of H k)) (below r.clients) (below-ascending r.clients)) wf.clients_ascend
       (λ k m. (let alive = ltb-true 0 (life_of H k) (is_in-filter_parts (λ j. nat_lt 0 (life_of H j)) k (below r.clients) m).1 in known k (client_with k s.clients) refl alive))
       (λ k m. (let c = listed-with s.clients k m in
-          let g = client-good r.world s wf in' k c.0 c.1 in
-          let alive : life_of H k ≡ c.0.life = life k ∙ ap life_in c.1 in
-          let low = in'.clients k m in
-          let many = suits.clients in
-          let some = g.life in
-          is_in-filter (λ j. nat_lt 0 (life_of H j)) k (below r.clients) (is_in-below r.clients k (omega (arith, low, many))) (lt-ltb 0 (life_of H k) (omega (arith, alive, some)))))
+      let g = client-good r.world s wf in' k c.0 c.1 in
+      let alive : life_of H k ≡ c.0.life = life k ∙ ap life_in c.1 in
+      let low = in'.clients k m in
+      let many = suits.clients in
+      let some = g.life in
+      is_in-filter (λ j. nat_lt 0 (life_of H j)) k (below r.clients) (is_in-below r.clients k (omega (arith, low, many))) (lt-ltb 0 (life_of H k) (omega (arith, alive, some)))))
     where
       known : (k : ℕ) (o : Option ClientState) → client_with k s.clients ≡ o → 0 < life_of H k → is_in k (client_numbers s.clients) ≡ true
       known k None q alive = (let none : life_of H k ≡ 0 = life k ∙ ap life_in q in absurd (omega (arith, none, alive)))
@@ -272,16 +272,16 @@ module _ (r : Rules) (w : Stewardship) (s : State) (wf : IsWellFormed r.world s)
   opened-numbers : unended H ≡ session_numbers s.opened
   opened-numbers = ascending_same (unended H) (session_numbers s.opened) (ascending-filter (λ t. not (is_ended H t)) (below (sessions_begun H)) (below-ascending (sessions_begun H))) wf.opened_ascend
       (λ t m. (let parts = is_in-filter_parts (λ u. not (is_ended H u)) t (below (sessions_begun H)) m in
-          let low = below-is_in (sessions_begun H) t parts.0 in
-          let most = in'.sessions in
-          let begun : has_entry H t ≡ true = has.begun t (omega (arith, low, sessions, most)) ∙ lt-ltb t s.sessions (omega (arith, low, sessions)) in
-          sym (has.opened t) ∙ ap (λ b. b && not (is_ended H t)) begun ∙ parts.1))
+      let low = below-is_in (sessions_begun H) t parts.0 in
+      let most = in'.sessions in
+      let begun : has_entry H t ≡ true = has.begun t (omega (arith, low, sessions, most)) ∙ lt-ltb t s.sessions (omega (arith, low, sessions)) in
+      sym (has.opened t) ∙ ap (λ b. b && not (is_ended H t)) begun ∙ parts.1))
       (λ t m. (let parts = and_parts (has_entry H t) (not (is_ended H t)) (has.opened t ∙ m) in
-          let x = listed-from r w s wf in' t s.opened m in
-          let g = open-good r w s wf in' x.0 x.1.0 in
-          let inside = ltb-true g.0.session s.sessions (and_parts (nat_lt g.0.session s.sessions) (is_members r.world.shape.objects s.commit s.above s.clients g.0 g.0.client) g.1.1).0 in
-          let number : g.0.session ≡ t = ap (λ (y : Place). y.session) g.1.0 ∙ x.1.1 in
-          is_in-filter (λ u. not (is_ended H u)) t (below (sessions_begun H)) (is_in-below (sessions_begun H) t (omega (arith, inside, number, sessions))) parts.1))
+      let x = listed-from r w s wf in' t s.opened m in
+      let g = open-good r w s wf in' x.0 x.1.0 in
+      let inside = ltb-true g.0.session s.sessions (and_parts (nat_lt g.0.session s.sessions) (is_members r.world.shape.objects s.commit s.above s.clients g.0 g.0.client) g.1.1).0 in
+      let number : g.0.session ≡ t = ap (λ (y : Place). y.session) g.1.0 ∙ x.1.1 in
+      is_in-filter (λ u. not (is_ended H u)) t (below (sessions_begun H)) (is_in-below (sessions_begun H) t (omega (arith, inside, number, sessions))) parts.1))
 
   module _ (i : ℕ) (o : OpenSession) (f : slice_get s.opened i ≡ Some o) where
     from : IsFrom s.opened (place_of o)
@@ -334,7 +334,7 @@ module _ (r : Rules) (w : Stewardship) (s : State) (wf : IsWellFormed r.world s)
         ap (map object_numbered) (ascending_same (already_given r.world.shape.objects H o.session) (numbers_of o.given) (ascending-filter (is_given H o.session) (below r.world.shape.objects) (below-ascending r.world.shape.objects)) parts.0
         (λ x m. sym (given-is x) ∙ (is_in-filter_parts (is_given H o.session) x (below r.world.shape.objects) m).1)
         (λ x m. is_in-filter (is_given H o.session) x (below r.world.shape.objects)
-            (is_in-below r.world.shape.objects x (ltb-true x r.world.shape.objects (all-in (λ y. nat_lt y r.world.shape.objects) (numbers_of o.given) x parts.1 m))) (given-is x ∙ m)))
+        (is_in-below r.world.shape.objects x (ltb-true x r.world.shape.objects (all-in (λ y. nat_lt y r.world.shape.objects) (numbers_of o.given) x parts.1 m))) (given-is x ∙ m)))
         ∙ objects-again o.given)
 
     sent-back : (k : ClientId) → o.client ≡ Some k → sent_uncommitted H o.session ≡ o.sent
@@ -345,7 +345,7 @@ module _ (r : Rules) (w : Stewardship) (s : State) (wf : IsWellFormed r.world s)
         (ascending-filter (λ p. is_in p (sent_to H o.session)) (uncommitted H) (ascending-filter (λ p. nat_lt (commit_of H) p) (below (suc (length (accepted H)))) (below-ascending (suc (length (accepted H)))))) ascends
         (λ p m. ap (is_in p) (sym sent-is) ∙ (is_in-filter_parts (λ n. is_in n (sent_to H o.session)) p (uncommitted H) m).1)
         (λ p m. (let low = sent-low p m in
-            is_in-filter (λ n. is_in n (sent_to H o.session)) p (uncommitted H) (in-uncommitted H p (omega (arith, low.0, commit)) (omega (arith, low.1, last))) (ap (is_in p) sent-is ∙ m))))
+        is_in-filter (λ n. is_in n (sent_to H o.session)) p (uncommitted H) (in-uncommitted H p (omega (arith, low.0, commit)) (omega (arith, low.1, last))) (ap (is_in p) sent-is ∙ m))))
 
     client-is : client_of H o.session ≡ option_map (λ (k : ClientId). k.0) o.client
     client-is = place-client r first_nobodys C course (place_of o) among

@@ -13,7 +13,10 @@ use crate::print::first_kept;
 use crate::state::{Above, ClientState, OpenSession};
 use sv_clients::Outcome;
 use sv_lists::List;
-use sv_world::{Action, MOST_PENDING, MOST_POSITIONS, ObjectId, Shape, Value, World, are_below, check_action, is_ascending, is_in_mask};
+use sv_world::{
+    Action, MOST_PENDING, MOST_POSITIONS, ObjectId, Shape, Value, World, are_below, check_action,
+    is_ascending, is_in_mask,
+};
 
 /// Whether each value has so many numbers.
 fn have_attrs(attrs: u8, values: &[Value]) -> bool

@@ -11,9 +11,9 @@ use crate::state::{Above, ClientState, OpenSession, State};
 use std::alloc::{AllocError, Global};
 use sv_clients::Outcome;
 use sv_journal::{append_objects, append_value, append_values, put_behind, put_decimal};
+use sv_lists::List;
 use sv_log::sum_line;
 use sv_text::put_action;
-use sv_lists::List;
 use sv_world::{ClientId, ObjectId, Value};
 
 // ---- The first lines

@@ -8,7 +8,10 @@ ghost use Rattle.sv_state.specs.Reading.{entries_read, sessions_read, positions_
 use crate::state::{Above, ClientState, Member, OpenSession};
 use std::alloc::Global;
 use sv_clients::Outcome;
-use sv_lines::{LineFault, action_at, behind, expect, next_at, number_at, numeral_at, object_at, objects_at, plain_width, small_at, value_at, values_at};
+use sv_lines::{
+    LineFault, action_at, behind, expect, next_at, number_at, numeral_at, object_at, objects_at,
+    plain_width, small_at, value_at, values_at,
+};
 use sv_lists::List;
 use sv_world::{Action, ClientId, ObjectId, Shape, Value};
 
@@ -260,7 +263,11 @@ pub(crate) fn client_at(alloc: Global, text: &[u8]) -> Result<ClientState, LineF
 // ---- Open sessions
 
 /// One position or more, as `6 7]`.
-fn joined_positions(alloc: Global, turns: usize, text: &[u8]) -> Result<(List<u32>, &[u8]), LineFault>
+fn joined_positions(
+    alloc: Global,
+    turns: usize,
+    text: &[u8],
+) -> Result<(List<u32>, &[u8]), LineFault>
     ensures { Gives (λ x. (x.0, x.1.now)) result (joined_by (number_read (2 ^ 32)) (93 ∷ []) (32 ∷ []) turns [] text.now) }
 {
     let mut positions = List::new(alloc);

@@ -14,8 +14,8 @@ use crate::whole::{
 };
 use std::alloc::{AllocError, Global};
 use sv_lines::behind;
-use sv_log::sum_line;
 use sv_lists::List;
+use sv_log::sum_line;
 use sv_world::{Shape, Value, World};
 
 fn first_from(alloc: Global, text: &[u8]) -> Result<(First, &[u8]), StateStop>

@@ -331,7 +331,9 @@ fn open_from<'a>(
 {
     match open_at(alloc, text) {
         Ok(session) => {
-            keep_open(alloc, objects, sessions, commit, above, clients, least, session, text)
+            keep_open(
+                alloc, objects, sessions, commit, above, clients, least, session, text,
+            )
         }
         Err(why) => Err(stop_of(why, text)),
     }
@@ -357,8 +359,9 @@ pub(crate) fn opened_from<'a>(
         if !begins(b"session ", left) {
             return Ok((opened, left));
         }
-        let (session, rest) =
-            open_from(alloc, objects, sessions, commit, above, clients, least, left)?;
+        let (session, rest) = open_from(
+            alloc, objects, sessions, commit, above, clients, least, left,
+        )?;
         // A session's number is below that of the next one, so there is room for one more.
         least = session.session + 1;
         opened.push(session)?;

@@ -1075,7 +1075,10 @@ fn is_refused(rt: &impl Abort, alloc: Global, row: &Row) -> Result<(), Fail> {
             Err(Fail::from(what))
         }
         Err(StateStop::Wrong { left, cause }) => {
-            assert!(rt; line_at(row.text.as_bytes(), left) + 1 == row.line, "the line of {what}");
+            assert!(rt;
+                line_at(row.text.as_bytes(), left) + 1 == row.line,
+                "the line of {what}"
+            );
             assert!(rt; cause == row.cause, "the cause of {what}");
             Ok(())
         }
