@@ -3,7 +3,7 @@ use Rattle.std.proofs.Common.{◌≡◌, ◌≢◌, ℕ, zero, suc, ◌+◌, ◌
 use Rattle.std.specs.List.{AllByRecursion, list_all}
 use Rattle.std.proofs.lemmas.Bool.{both_ways, cases_lt, cases_eq, cases_Bool, and_parts, or_cases, or_parts, or_left, or_right, eq-eqb, eqb-true, ne_eqb, lt-ltb, le-ltb, ltb-true, le-leb, leb-true, leb-false, lt-leb, not_from_false, cond-true, cond-false, cond_both}
 use Rattle.std.proofs.lemmas.List.{length-map}
-use Rattle.std.proofs.lemmas.List.Elements.{recursion_from_All}
+use Rattle.std.proofs.lemmas.List.Elements.{recursion_from_All, All-from_recursion}
 use Rattle.std.proofs.lemmas.Option.{slice_get-map}
 use Rattle.sv_world.specs.declared.action.Action.{Action}
 use Rattle.sv_world.specs.declared.world.ClientId.{ClientId}
@@ -38,11 +38,11 @@ use Rattle.sv_state.specs.declared.state.State.{State}
 use Rattle.sv_state.specs.WellFormed.{have_attrs, is_result_of, is_good_above, lowest_waits, position_of, above_numbered, is_later, are_in_turn, is_by, is_good_outcome, are_good_outcomes, place_in, places_in, keeps_last, is_good_client, client_numbers, client_with, is_accepted_at, is_authors, have_authors, are_new, all_places, actions_above, has_writers, may_be_sent, may_be_given, is_members, is_good_open, session_numbers, is_same_client, are_apart, live_apart, IsWellFormed}
 use Rattle.law_state.specs.States.{client_numbered, sessions_begun, unended, uncommitted, sent_uncommitted, given_where_joined, sent_where_joined, open_session, joined_clients, outcome_row, client_state, above_at, state_after}
 use Rattle.law_state.specs.Actions.{counting}
-use Rattle.law_state.specs.Kept.{IsLivingHistory, StatesOfHistoriesAreWellFormed}
+use Rattle.law_state.specs.Kept.{IsLivingHistory, LeadsWell, StatesOfHistoriesAreWellFormed, LegalHistoriesLeadWell}
 use Rattle.law_state.proofs.Builds.{AreOnce}
 use Rattle.law_state.proofs.Course.{ascending-once}
 use Rattle.law_state.proofs.Coupled.{IsCoupled, coupled, IsOutcomeAt, one-author, earlier-position, get-within, some-is}
-use Rattle.law_state.proofs.Lawful.{one-live, outcome-client, lives, AreLow, lows, AreRight, rights}
+use Rattle.law_state.proofs.Lawful.{one-live, outcome-client, lives, lows, AreRight, rights}
 use Rattle.law_state.proofs.OfHistories.{with-state}
 use Rattle.law_state.proofs.Opened.{sent-listed}
 use Rattle.law_state.proofs.Uncommitted.{counting-parts, filter-member, both-true, all-mapped, all-listed, get-drop, AuthorAt, author-at, uncommitted-are, above-count, above-is, in-uncommitted, uncommitted-parts, above-acts}
@@ -115,16 +115,7 @@ all-at P [] i x all e = absurd (cc)
 all-at P (y ∷ ys) zero x all e = subst P (some-is y x e) all.0
 all-at P (y ∷ ys) (suc i) x all e = all-at P ys i x all.1 e
 
--- What is known of a history that leads to a state.
-pub record IsKnown (r : Rules) (h : List Entry) : Type 0 where
-  pub is : IsLivingHistory r h
-  pub values : HaveNumbers r.world.shape.attrs r.world.values
-  pub good : AllByRecursion (λ (a : Authored). first_fault_of_action r.world.shape a.action ≡ None) (accepted h)
-  pub joined : (t k : ℕ) → client_of h t ≡ Some k → (0 < life_of h k) × (k < r.clients)
-  pub low : AreLow r h
-  pub right : AreRight r.world.shape.attrs h
-
-module _ (r : Rules) (entries : ℕ) (h : List Entry) (known : IsKnown r h) where
+module _ (r : Rules) (entries : ℕ) (h : List Entry) (known : LeadsWell r h) where
   abbrev c : ℕ
   c = commit_of h
 
@@ -151,14 +142,13 @@ module _ (r : Rules) (entries : ℕ) (h : List Entry) (known : IsKnown r h) wher
 
   -- ---- Actions above the commit
 
-  good-at : (p : ℕ) → 0 < p → p ≤ n → is_good_above r.world.shape (above_at h p) ≡ true
-  good-at p some high =
-      (let a = author-at h p some high in
+  good-at : (p : ℕ) → c < p → p ≤ n → is_good_above r.world.shape (above_at h p) ≡ true
+  good-at p up high =
+      (let a = author-at h p (omega (arith, up)) high in
       let told = (coupled h).told a.before a.author a.get in
-      let fault : first_fault_of_action r.world.shape (authored_at (accepted h) p).action ≡ None =
-      subst (λ (x : Authored). first_fault_of_action r.world.shape x.action ≡ None) (sym a.is) (all-at (λ (x : Authored). first_fault_of_action r.world.shape x.action ≡ None) (accepted h) a.before a.author known.good a.get) in
-      let seq : 0 < (authored_at (accepted h) p).seq = (let e = ap (λ (x : Authored). x.seq) a.is in omega (arith, e, told.1.0)) in
       let acts : action_at (actions_of h) p ≡ (authored_at (accepted h) p).action = a.acts ∙ sym (ap (λ (x : Authored). x.action) a.is) in
+      let fault : first_fault_of_action r.world.shape (authored_at (accepted h) p).action ≡ None = ap (first_fault_of_action r.world.shape) (sym acts) ∙ known.good p up high in
+      let seq : 0 < (authored_at (accepted h) p).seq = (let e = ap (λ (x : Authored). x.seq) a.is in omega (arith, e, told.1.0)) in
       both-true (is_none (first_fault_of_action r.world.shape (authored_at (accepted h) p).action) && is_result_of r.world.shape.attrs (authored_at (accepted h) p).action (result_at h p)) (nat_lt 0 (authored_at (accepted h) p).seq)
       (both-true (is_none (first_fault_of_action r.world.shape (authored_at (accepted h) p).action)) (is_result_of r.world.shape.attrs (authored_at (accepted h) p).action (result_at h p)) (ap is_none fault) (result (result_at h p) refl acts))
       (lt-ltb 0 (authored_at (accepted h) p).seq seq))
@@ -166,12 +156,13 @@ module _ (r : Rules) (entries : ℕ) (h : List Entry) (known : IsKnown r h) wher
       result : (o : Option (List (List ℤ))) → result_at h p ≡ o → action_at (actions_of h) p ≡ (authored_at (accepted h) p).action → is_result_of r.world.shape.attrs (authored_at (accepted h) p).action o ≡ true
       result None q acts = refl
       result (Some values) q acts =
-          (let sized = (known.right.sized p values q).1 ∙ ap (λ (a : Action). length (write_set a)) acts in
+          (let sized = known.counts p values up q ∙ ap (λ (a : Action). length (write_set a)) acts in
           both-true (nat_eq (length values) (length (write_set (authored_at (accepted h) p).action))) (have_attrs r.world.shape.attrs values)
-          (eq-eqb (length values) (length (write_set (authored_at (accepted h) p).action)) sized) (attrs-test r.world.shape.attrs values (known.right.numbers p values q)))
+          (eq-eqb (length values) (length (write_set (authored_at (accepted h) p).action)) sized)
+          (attrs-test r.world.shape.attrs values (recursion_from_All (λ v. length v ≡ r.world.shape.attrs) values (known.attrs p values up q))))
 
   all-good : list_all (is_good_above r.world.shape) above ≡ true
-  all-good = all-mapped (is_good_above r.world.shape) (above_at h) (uncommitted h) (λ p m. (let parts = uncommitted-parts h p m in let low = parts.0 in good-at p (omega (arith, low)) parts.1))
+  all-good = all-mapped (is_good_above r.world.shape) (above_at h) (uncommitted h) (λ p m. (let parts = uncommitted-parts h p m in good-at p parts.0 parts.1))
 
   waits : lowest_waits above ≡ true
   waits = ap (λ ps. lowest_waits (map (above_at h) ps)) (uncommitted-are h) ∙ go (n - c) refl
@@ -233,7 +224,7 @@ module _ (r : Rules) (entries : ℕ) (h : List Entry) (known : IsKnown r h) wher
 
   good-outcome : (k i : ℕ) (o : Outcome) → slice_get (outcomes_of h k) i ≡ Some o → is_good_outcome r.world.shape.objects c above k (suc i) (outcome_row o) ≡ true
   good-outcome k i (Dropped chain far) f = refl
-  good-outcome k i (Denied object) f = lt-ltb object r.world.shape.objects (known.low k i object f)
+  good-outcome k i (Denied object) f = lt-ltb object r.world.shape.objects (known.denied k i object f)
   good-outcome k i (Accepted p) f =
       (let own = (coupled h).own k i p f in
       let place = own.1.0 in
@@ -264,7 +255,7 @@ module _ (r : Rules) (entries : ℕ) (h : List Entry) (known : IsKnown r h) wher
   client-good : (k : ℕ) → 0 < life_of h k → is_good_client r.world.shape.objects c above (client_state h k) ≡ true
   client-good k alive =
       (let len = length (outcomes_of h k) in
-      let few = known.is.sound.numbers k in
+      let few = known.sound.numbers k in
       let count = kept-count k in
       let first : suc len - length (map outcome_row (kept-by k)) ≡ suc (lost k) = omega (arith, count) in
       let keeps : nat_eq (length (map outcome_row (kept-by k))) (min (suc len - 1) 8) ≡ true = eq-eqb (length (map outcome_row (kept-by k))) (min (suc len - 1) 8) (omega (arith, count)) in
@@ -282,9 +273,6 @@ module _ (r : Rules) (entries : ℕ) (h : List Entry) (known : IsKnown r h) wher
 
   listed-parts : (k : ℕ) → is_in k ks ≡ true → (k < r.clients) × (0 < life_of h k)
   listed-parts k m = (let parts = is_in-filter_parts (λ j. nat_lt 0 (life_of h j)) k (below r.clients) m in (below-is_in r.clients k parts.0, ltb-true 0 (life_of h k) parts.1))
-
-  joined-listed : (t k : ℕ) → client_of h t ≡ Some k → is_in k ks ≡ true
-  joined-listed t k f = (let both = known.joined t k f in is_in-filter (λ j. nat_lt 0 (life_of h j)) k (below r.clients) (is_in-below r.clients k both.1) (lt-ltb 0 (life_of h k) both.0))
 
   clients-good : list_all (is_good_client r.world.shape.objects c above) clients ≡ true
   clients-good = all-mapped (is_good_client r.world.shape.objects c above) (client_state h) ks (λ k m. client-good k (listed-parts k m).1)
@@ -319,12 +307,11 @@ module _ (r : Rules) (entries : ℕ) (h : List Entry) (known : IsKnown r h) wher
           (let at = place-found (kept-by k) x m in
           lt-ltb p x ((coupled h).rise k i (lost k + at.0) p x (omega (arith, out, count, low)) f (kept-at k at.0 (Accepted x) at.1)))))
 
-  author-wrote : (p : ℕ) → 0 < p → p ≤ n → is_authors p (above_at h p).seq (client_with (above_at h p).client.0 clients) ≡ true
-  author-wrote p some high =
-      (let a = author-at h p some high in
+  author-wrote : (p : ℕ) → c < p → p ≤ n → is_authors p (above_at h p).seq (client_with (above_at h p).client.0 clients) ≡ true
+  author-wrote p up high =
+      (let a = author-at h p (omega (arith, up)) high in
       let t = (coupled h).told a.before a.author a.get in
-      let session = outcome-client h a.author.client t.0 (Accepted (suc a.before)) t.1.1 in
-      let listed = joined-listed session.0 a.author.client session.1 in
+      let listed : is_in a.author.client ks ≡ true = ap (λ (x : Authored). is_in x.client ks) (sym a.is) ∙ known.authors p up high in
       let there : client_with a.author.client clients ≡ Some (client_state h a.author.client) = with-state h ks a.author.client ∙ ap (λ b. cond b (Some (client_state h a.author.client)) None) listed in
       let place : suc a.before ≡ p = sym a.place in
       ap (λ (x : Authored). is_authors p x.seq (client_with x.client clients)) a.is
@@ -332,14 +319,14 @@ module _ (r : Rules) (entries : ℕ) (h : List Entry) (known : IsKnown r h) wher
       ∙ ap (λ s. is_authors p s (Some (client_state h a.author.client))) t.1.0
       ∙ wrote a.author.client t.0 p (t.1.1 ∙ ap (λ m. Some (Accepted m)) place))
 
-  have-authors : (m k : ℕ) → 0 < k → k + m ≤ suc n → have_authors clients k (map (above_at h) (counting k m)) ≡ true
-  have-authors zero k some high = refl
-  have-authors (suc m) k some high =
+  all-wrote : (m k : ℕ) → c < k → k + m ≤ suc n → have_authors clients k (map (above_at h) (counting k m)) ≡ true
+  all-wrote zero k up high = refl
+  all-wrote (suc m) k up high =
       both-true (is_authors k (above_at h k).seq (client_with (above_at h k).client.0 clients)) (have_authors clients (suc k) (map (above_at h) (counting (suc k) m)))
-      (author-wrote k some (omega (arith, high))) (have-authors m (suc k) (omega arith) (omega (arith, high)))
+      (author-wrote k up (omega (arith, high))) (all-wrote m (suc k) (omega (arith, up)) (omega (arith, high)))
 
   authors : have_authors clients (suc c) above ≡ true
-  authors = ap (λ ps. have_authors clients (suc c) (map (above_at h) ps)) (uncommitted-are h) ∙ have-authors (n - c) (suc c) (omega arith) (let low = commit_within h in omega (arith, low))
+  authors = ap (λ ps. have_authors clients (suc c) (map (above_at h) ps)) (uncommitted-are h) ∙ all-wrote (n - c) (suc c) (omega arith) (let low = commit_within h in omega (arith, low))
 
   -- ---- Positions that are named
 
@@ -376,8 +363,8 @@ module _ (r : Rules) (entries : ℕ) (h : List Entry) (known : IsKnown r h) wher
   sent-closed : (t : ℕ) → SentIsClosed (actions_of h) c (sent_uncommitted h t)
   sent-closed t p x m reads above' =
       (let parts = sent-parts t p m in
-      let there = known.is.sound.closed t p x parts.1 reads above' in
-      let most = known.is.sound.sent t _ there in
+      let there = known.sound.closed t p x parts.1 reads above' in
+      let most = known.sound.sent t _ there in
       is_in-filter (λ q. is_in q (sent_to h t)) _ (uncommitted h) (in-uncommitted h _ above' most) there)
 
   may-be-sent : (t : ℕ) → may_be_sent c above (sent_uncommitted h t) ≡ true
@@ -397,19 +384,19 @@ module _ (r : Rules) (entries : ℕ) (h : List Entry) (known : IsKnown r h) wher
       ∙ both-true (is_ascending xs) (list_all (λ x. nat_lt x r.world.shape.objects) xs) (ascending-filter (is_given h t) (below r.world.shape.objects) (below-ascending r.world.shape.objects))
       (all-listed (λ x. nat_lt x r.world.shape.objects) xs (λ x m. lt-ltb x r.world.shape.objects (below-is_in r.world.shape.objects x (is_in-filter_parts (is_given h t) x (below r.world.shape.objects) m).0))))
 
-  members : (t : ℕ) (k : Option ℕ) → client_of h t ≡ k → (over : Bool) →
+  members : (t : ℕ) → t < sessions_begun h → (k : Option ℕ) → client_of h t ≡ k → (over : Bool) →
       is_members r.world.shape.objects c above clients (record { session = t; client = option_map client_numbered k; given = given_where_joined r h t k; sent = sent_where_joined h t k; over = over }) (option_map client_numbered k) ≡ true
-  members t None q over = refl
-  members t (Some k) q over =
+  members t low None q over = refl
+  members t low (Some k) q over =
       both-true (is_in k (client_numbers clients) && may_be_given r.world.shape.objects (map object_numbered (already_given r.world.shape.objects h t))) (may_be_sent c above (sent_uncommitted h t))
       (both-true (is_in k (client_numbers clients)) (may_be_given r.world.shape.objects (map object_numbered (already_given r.world.shape.objects h t)))
-      (ap (is_in k) (numbers-are h ks) ∙ joined-listed t k q) (may-be-given t)) (may-be-sent t)
+      (ap (is_in k) (numbers-are h ks) ∙ known.joined t k low q) (may-be-given t)) (may-be-sent t)
 
   open-good : (t : ℕ) → is_in t ts ≡ true → is_good_open r.world.shape.objects (sessions_begun h) c above clients (open_session r h t) ≡ true
   open-good t m =
       (let low = below-is_in (sessions_begun h) t (is_in-filter_parts (λ u. not (is_ended h u)) t (below (sessions_begun h)) m).0 in
       both-true (nat_lt t (sessions_begun h)) (is_members r.world.shape.objects c above clients (open_session r h t) (option_map client_numbered (client_of h t)))
-      (lt-ltb t (sessions_begun h) low) (members t (client_of h t) refl (is_over h t)))
+      (lt-ltb t (sessions_begun h) low) (members t low (client_of h t) refl (is_over h t)))
 
   ts-ascend : is_ascending ts ≡ true
   ts-ascend = ascending-filter (λ u. not (is_ended h u)) (below (sessions_begun h)) (below-ascending (sessions_begun h))
@@ -441,9 +428,9 @@ module _ (r : Rules) (entries : ℕ) (h : List Entry) (known : IsKnown r h) wher
 
   pub history-formed : IsWellFormed r.world S
   history-formed = record {
-    positions = (let e = last-is in let a = known.is.sound.positions in let b = known.is.limit in omega (arith, e, a, b));
+    positions = (let e = last-is in let a = known.sound.positions in let b = known.limit in omega (arith, e, a, b));
     objects = committed_count r.world.values h;
-    attrs = attrs-test r.world.shape.attrs (committed_of r.world.values h) (committed_kept r.world.shape.attrs r.world.values h known.right.numbers known.values);
+    attrs = attrs-test r.world.shape.attrs (committed_of r.world.values h) (recursion_from_All (λ v. length v ≡ r.world.shape.attrs) (committed_of r.world.values h) known.committed);
     opening = opening c refl;
     above = all-good;
     lowest = waits;
@@ -455,26 +442,58 @@ module _ (r : Rules) (entries : ℕ) (h : List Entry) (known : IsKnown r h) wher
     opened = all-mapped (is_good_open r.world.shape.objects (sessions_begun h) c above clients) (open_session r h) ts open-good;
     opened_ascend = ap is_ascending (sessions-are r h ts) ∙ ts-ascend;
     apart = all-apart ts (ascending-once ts ts-ascend);
-    few = (let e = length-map ts (open_session r h) in let few = known.is.few in omega (arith, e, few));
+    few = (let e = length-map ts (open_session r h) in let few = known.few in omega (arith, e, few));
   }
     where
       opening : (m : ℕ) → commit_of h ≡ m → m ≡ 0 → committed_of r.world.values h ≡ r.world.values
       opening m q none = ap (installed r.world.values h) (q ∙ none)
 
--- ---- The law
+-- ---- The laws
 
-pub states-of-histories-are-well-formed : ServedActionsAreGood → StatesOfHistoriesAreWellFormed
-states-of-histories-are-well-formed goods w r entries H world legal is =
-    (let K = living w in
-    let law = living-keeping w in
-    let h = heeded w H in
-    history-formed r entries (heeded w H) (record {
-      is = is;
-      values = recursion_from_All (λ v. length v ≡ r.world.shape.attrs) r.world.values world.attrs;
-      good = subst (AllByRecursion (λ (a : Authored). first_fault_of_action r.world.shape a.action ≡ None)) (sym (accepted-kept (living w) (living-keeping w) H))
-          (recursion_from_All (λ (a : Authored). first_fault_of_action r.world.shape a.action ≡ None) (accepted H) (goods (living w) r H (living-keeping w) legal));
-      joined = λ t k f. (let both = lives (living w) (living-keeping w) r H legal t k (sym (client-kept (living w) (living-keeping w) H t) ∙ f) in
-          (subst (λ m. 0 < m) (sym (life-kept (living w) (living-keeping w) H k)) both.0, both.1));
-      low = λ j i object f. lows (living w) (living-keeping w) r H legal j i object (ap (λ (os : List Outcome). slice_get os i) (sym (outcomes-kept (living w) (living-keeping w) H j)) ∙ f);
-      right = rights (living w) (living-keeping w) r H legal;
-    }))
+pub states-of-histories-are-well-formed : StatesOfHistoriesAreWellFormed
+states-of-histories-are-well-formed r entries h known = history-formed r entries h known
+
+module _ (goods : ServedActionsAreGood) (w : Stewardship) (r : Rules) (H : List Entry) (world : IsGoodWorld r.world) (legal : LegalFor (living w) r H) (is : IsLivingHistory r (heeded w H)) where
+  abbrev K : Keeping
+  K = living w
+
+  law : IsKeeping (living w)
+  law = living-keeping w
+
+  right : AreRight r.world.shape.attrs (heeded w H)
+  right = rights (living w) law r H legal
+
+  listed : (t k : ℕ) → client_of (heeded w H) t ≡ Some k → is_in k (joined_clients r (heeded w H)) ≡ true
+  listed t k f =
+      (let both = lives (living w) law r H legal t k (sym (client-kept (living w) law H t) ∙ f) in
+      let alive : life_of (heeded w H) k ≡ life_of H k = life-kept (living w) law H k in
+      let some = both.0 in
+      is_in-filter (λ j. nat_lt 0 (life_of (heeded w H) j)) k (below r.clients) (is_in-below r.clients k both.1) (lt-ltb 0 (life_of (heeded w H) k) (omega (arith, alive, some))))
+
+  fault-none : (p : ℕ) → 0 < p → p ≤ length (accepted (heeded w H)) → first_fault_of_action r.world.shape (action_at (actions_of (heeded w H)) p) ≡ None
+  fault-none p some high =
+      (let a = author-at (heeded w H) p some high in
+      let all = recursion_from_All (λ (x : Authored). first_fault_of_action r.world.shape x.action ≡ None) (accepted H) (goods (living w) r H law legal) in
+      ap (first_fault_of_action r.world.shape) a.acts
+      ∙ all-at (λ (x : Authored). first_fault_of_action r.world.shape x.action ≡ None) (accepted H) a.before a.author all (ap (λ (A : List Authored). slice_get A a.before) (sym (accepted-kept (living w) law H)) ∙ a.get))
+
+  pub history-leads-well : LeadsWell r (heeded w H)
+  history-leads-well = record {
+    sound = is.sound;
+    limit = is.limit;
+    few = is.few;
+    committed = All-from_recursion (λ v. length v ≡ r.world.shape.attrs) (committed_of r.world.values (heeded w H))
+        (committed_kept r.world.shape.attrs r.world.values (heeded w H) right.numbers (recursion_from_All (λ v. length v ≡ r.world.shape.attrs) r.world.values world.attrs));
+    good = λ p up high. fault-none p (omega (arith, up)) high;
+    counts = λ p values up q. (right.sized p values q).1;
+    attrs = λ p values up q. All-from_recursion (λ v. length v ≡ r.world.shape.attrs) values (right.numbers p values q);
+    joined = λ t k low f. listed t k f;
+    authors = λ p up high. (let a = author-at (heeded w H) p (omega (arith, up)) high in
+        let t = (coupled (heeded w H)).told a.before a.author a.get in
+        let session = outcome-client (heeded w H) a.author.client t.0 (Accepted (suc a.before)) t.1.1 in
+        ap (λ (x : Authored). is_in x.client (joined_clients r (heeded w H))) a.is ∙ listed session.0 a.author.client session.1);
+    denied = λ j i object f. lows (living w) law r H legal j i object (ap (λ (os : List Outcome). slice_get os i) (sym (outcomes-kept (living w) law H j)) ∙ f);
+  }
+
+pub legal-histories-lead-well : ServedActionsAreGood → LegalHistoriesLeadWell
+legal-histories-lead-well goods w r h world legal is = history-leads-well goods w r h world legal is

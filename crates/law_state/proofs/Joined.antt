@@ -1,5 +1,5 @@
 -- Sessions that were not joined were sent nothing.
-use Rattle.std.proofs.Common.{◌≡◌, ℕ, zero, suc, ◌+◌, ◌<◌, ◌≤◌, Bool, true, false, ◌&&◌, cond, nat_eq, nat_lt, inl, inr, List, [], ◌∷◌, ◌++◌, length, Option, Some, None, refl, sym, ◌∙◌, ap, subst, arith}
+use Rattle.std.proofs.Common.{◌≡◌, ℕ, zero, suc, ◌+◌, ◌<◌, ◌≤◌, Bool, true, false, ◌&&◌, cond, nat_eq, nat_lt, ◌||◌, inl, inr, List, [], ◌∷◌, ◌++◌, length, Option, Some, None, refl, sym, ◌∙◌, ap, subst, arith}
 use Rattle.std.proofs.lemmas.Bool.{cases_eq, eq-eqb, eqb-true, ne_eqb, lt-ltb, le-ltb, cond-true, cond-false}
 use Rattle.sv_wire.specs.declared.message.Request.{Request}
 use Rattle.sv_journal.specs.declared.entry.Entry.{Entry}
@@ -101,5 +101,51 @@ run-is test (suc n) next low all stop = elim (cases_eq next (suc n)) [
         none true = refl
         none false = refl
 
+-- ---- A history has an entry for each session
+
+count : (ℕ → Bool) → ℕ → ℕ
+count f zero = 0
+count f (suc n) = cond (f n) 1 0 + count f n
+
+count-all : (f : ℕ → Bool) (n : ℕ) → ((t : ℕ) → t < n → f t ≡ true) → count f n ≡ n
+count-all f zero all = refl
+count-all f (suc n) all = (let here = ap (λ b. cond b 1 0) (all n (omega arith)) in let rest = count-all f n (λ t low. all t (omega (arith, low))) in omega (arith, here, rest))
+
+count-more : (f g : ℕ → Bool) (n : ℕ) → count (λ t. f t || g t) n ≤ count f n + count g n
+count-more f g zero = omega arith
+count-more f g (suc n) = go (f n) (g n) (count-more f g n)
+  where
+    go : (a b : Bool) → count (λ t. f t || g t) n ≤ count f n + count g n → cond (a || b) 1 0 + count (λ t. f t || g t) n ≤ cond a 1 0 + count f n + (cond b 1 0 + count g n)
+    go true true le = omega (arith, le)
+    go true false le = omega (arith, le)
+    go false true le = omega (arith, le)
+    go false false le = omega (arith, le)
+
+count-none : (s n : ℕ) → n ≤ s → count (λ t. nat_eq s t) n ≡ 0
+count-none s zero high = refl
+count-none s (suc n) high = (let here = ap (λ b. cond b 1 0) (ne_eqb s n (λ e. omega (arith, e, high))) in let rest = count-none s n (omega (arith, high)) in omega (arith, here, rest))
+
+count-one : (s n : ℕ) → count (λ t. nat_eq s t) n ≤ 1
+count-one s zero = omega arith
+count-one s (suc n) = elim (cases_eq s n) [
+  | inl is ↦ (let here = ap (λ b. cond b 1 0) (eq-eqb s n is) in let rest = count-none s n (omega (arith, is)) in omega (arith, here, rest))
+  | inr ne ↦ (let here = ap (λ b. cond b 1 0) (ne_eqb s n ne) in let rest = count-one s n in omega (arith, here, rest))
+]
+
+count-nothing : (n : ℕ) → count (λ t. false) n ≡ 0
+count-nothing zero = refl
+count-nothing (suc n) = count-nothing n
+
+count-entries : (h : List Entry) (n : ℕ) → count (has_entry h) n ≤ length h
+count-entries [] n = (let e = count-nothing n in omega (arith, e))
+count-entries (e ∷ h) n = (let more = count-more (λ t. nat_eq e.session t) (has_entry h) n in let one = count-one e.session n in let rest = count-entries h n in omega (arith, more, one, rest))
+
+begun-within : (h : List Entry) (n : ℕ) → ((t : ℕ) → t < n → has_entry h t ≡ true) → n ≤ length h
+begun-within h n all = (let e = count-all (has_entry h) n all in let most = count-entries h n in omega (arith, e, most))
+
 pub next-session-is : NextSessionIsTheFirstWithoutAnEntry
-next-session-is h next low begun = run-is (has_begun h) (length h) next low (λ t less. begun t ∙ lt-ltb t next less) (begun next ∙ le-ltb next next (omega arith))
+next-session-is h next low begun =
+    run-is (has_begun h) (length h) next (begun-within h next all) all (begun next low ∙ le-ltb next next (omega arith))
+  where
+    all : (t : ℕ) → t < next → has_entry h t ≡ true
+    all t less = begun t (omega (arith, less, low)) ∙ lt-ltb t next less

@@ -40,7 +40,7 @@ use Rattle.law_state.proofs.Agree.{commit-is, result-is, committed-is, given-onc
 use Rattle.law_state.proofs.Builds.{maker_of, nobodys}
 use Rattle.law_state.proofs.Clients.{all-in}
 use Rattle.law_state.proofs.Course.{life_in, P, all-turned, length-older-turned, plan-outcomes, plan-count, course-is, values-are, life-is, result-high, number-listed, open-good, sent-within, empty-is}
-use Rattle.law_state.proofs.Joined.{run-is}
+use Rattle.law_state.proofs.Joined.{next-session-is}
 use Rattle.law_state.proofs.Law.{maker-is, seq-is, drop-front, state-agrees, state-sessions, listed-from}
 use Rattle.law_state.proofs.Makers.{IsGood, client-good, with-listed, with-number, above-some}
 use Rattle.law_state.proofs.Opened.{IsFrom, from-places}
@@ -60,48 +60,6 @@ map-counting f k [] back = refl
 map-counting f k (x ∷ xs) back =
     ap (λ y. y ∷ map f (counting (suc k) (length xs))) (ap f (let e : k ≡ k + 0 = omega arith in e) ∙ back 0 x refl)
     ∙ ap (λ l. x ∷ l) (map-counting f (suc k) xs (λ i y e. ap f (let q : suc k + i ≡ k + suc i = omega arith in q) ∙ back (suc i) y e))
-
--- ---- A history has an entry for each session
-
-count : (ℕ → Bool) → ℕ → ℕ
-count f zero = 0
-count f (suc n) = cond (f n) 1 0 + count f n
-
-count-all : (f : ℕ → Bool) (n : ℕ) → ((t : ℕ) → t < n → f t ≡ true) → count f n ≡ n
-count-all f zero all = refl
-count-all f (suc n) all = (let here = ap (λ b. cond b 1 0) (all n (omega arith)) in let rest = count-all f n (λ t low. all t (omega (arith, low))) in omega (arith, here, rest))
-
-count-more : (f g : ℕ → Bool) (n : ℕ) → count (λ t. f t || g t) n ≤ count f n + count g n
-count-more f g zero = omega arith
-count-more f g (suc n) = go (f n) (g n) (count-more f g n)
-  where
-    go : (a b : Bool) → count (λ t. f t || g t) n ≤ count f n + count g n → cond (a || b) 1 0 + count (λ t. f t || g t) n ≤ cond a 1 0 + count f n + (cond b 1 0 + count g n)
-    go true true le = omega (arith, le)
-    go true false le = omega (arith, le)
-    go false true le = omega (arith, le)
-    go false false le = omega (arith, le)
-
-count-none : (s n : ℕ) → n ≤ s → count (λ t. nat_eq s t) n ≡ 0
-count-none s zero high = refl
-count-none s (suc n) high = (let here = ap (λ b. cond b 1 0) (ne_eqb s n (λ e. omega (arith, e, high))) in let rest = count-none s n (omega (arith, high)) in omega (arith, here, rest))
-
-count-one : (s n : ℕ) → count (λ t. nat_eq s t) n ≤ 1
-count-one s zero = omega arith
-count-one s (suc n) = elim (cases_eq s n) [
-  | inl is ↦ (let here = ap (λ b. cond b 1 0) (eq-eqb s n is) in let rest = count-none s n (omega (arith, is)) in omega (arith, here, rest))
-  | inr ne ↦ (let here = ap (λ b. cond b 1 0) (ne_eqb s n ne) in let rest = count-one s n in omega (arith, here, rest))
-]
-
-count-nothing : (n : ℕ) → count (λ t. false) n ≡ 0
-count-nothing zero = refl
-count-nothing (suc n) = count-nothing n
-
-count-entries : (h : List Entry) (n : ℕ) → count (has_entry h) n ≤ length h
-count-entries [] n = (let e = count-nothing n in omega (arith, e))
-count-entries (e ∷ h) n = (let more = count-more (λ t. nat_eq e.session t) (has_entry h) n in let one = count-one e.session n in let rest = count-entries h n in omega (arith, more, one, rest))
-
-begun-within : (h : List Entry) (n : ℕ) → ((t : ℕ) → t < n → has_entry h t ≡ true) → n ≤ length h
-begun-within h n all = (let e = count-all (has_entry h) n all in let most = count-entries h n in omega (arith, e, most))
 
 -- ---- Parts of a state
 
@@ -181,12 +139,7 @@ module _ (r : Rules) (w : Stewardship) (s : State) (wf : IsWellFormed r.world s)
   has = state-sessions r w s wf in' suits
 
   sessions : sessions_begun H ≡ s.sessions
-  sessions =
-      run-is (has_begun H) (length H) s.sessions (begun-within H s.sessions (λ t low. begun t low)) (λ t low. begun t low)
-      (has.begun s.sessions in'.sessions ∙ le-ltb s.sessions s.sessions (omega arith))
-    where
-      begun : (t : ℕ) → t < s.sessions → has_entry H t ≡ true
-      begun t low = (let most = in'.sessions in has.begun t (omega (arith, low, most)) ∙ lt-ltb t s.sessions low)
+  sessions = next-session-is H s.sessions in'.sessions has.begun
 
   values : committed_of r.world.values H ≡ s.values
   values = committed-is r first_nobodys C course ∙ values-are r w s wf in' wf.opening (sym wf.objects)

@@ -1,5 +1,5 @@
 //! Laws of the states that histories lead to.
-ghost use Rattle.law_state.specs.Kept.{HistoriesOfStatesAreKept, StatesOfHistoriesAreWellFormed, JoinedClientsAloneHaveOutcomes, JoinedSessionsAloneAreSent, NextSessionIsTheFirstWithoutAnEntry};
+ghost use Rattle.law_state.specs.Kept.{HistoriesOfStatesAreKept, StatesOfHistoriesAreWellFormed, LegalHistoriesLeadWell, JoinedClientsAloneHaveOutcomes, JoinedSessionsAloneAreSent, NextSessionIsTheFirstWithoutAnEntry};
 
 use sv_journal::served_actions_are_good;
 
@@ -8,9 +8,14 @@ pub fn histories_of_states_are_kept()
     ensures { HistoriesOfStatesAreKept }
 {}
 
-/// What a legal history of a world without end leads to is well formed: it can be written, and read again.
+/// What a history leads to is well formed, so that it can be written, and read again. What that needs of the history, each legal one has.
 pub fn states_of_histories_are_well_formed()
     ensures { StatesOfHistoriesAreWellFormed }
+{}
+
+/// A legal history of a world without end leads to a state that is well formed.
+pub fn legal_histories_lead_well()
+    ensures { LegalHistoriesLeadWell }
 {
     served_actions_are_good();
 }

@@ -6,7 +6,7 @@ mod made;
 
 pub use kept::{
     histories_of_states_are_kept, joined_clients_alone_have_outcomes,
-    joined_sessions_alone_are_sent, next_session_is_the_first_without_an_entry,
-    states_of_histories_are_well_formed,
+    joined_sessions_alone_are_sent, legal_histories_lead_well,
+    next_session_is_the_first_without_an_entry, states_of_histories_are_well_formed,
 };
 pub use made::states_have_histories;
