@@ -1,5 +1,5 @@
 //! What is kept of all clients.
-ghost use Rattle.std.specs.Prelude.{◌≡◌, ℕ, ◌<◌, nat_eq, List, option_map, OnOk, OnErr, if◌then◌else◌};
+ghost use Rattle.std.specs.Prelude.{◌≡◌, ℕ, ◌<◌, nat_eq, List, [], option_map, OnOk, OnErr, if◌then◌else◌};
 ghost use Rattle.sv_journal.specs.History.{Outcome as OutcomeValue};
 ghost use Rattle.sv_world.specs.Limits.{most_positions};
 ghost use Rattle.sv_clients.specs.Clients.{client_row, row_count, no_client, outcome_value, KeepsOutcomes, with_outcome, kept_among};

@@ -1,5 +1,5 @@
 //! What is kept of one client.
-ghost use Rattle.std.specs.Prelude.{◌≡◌, ◌<◌, option_map};
+ghost use Rattle.std.specs.Prelude.{◌≡◌, ◌<◌, [], option_map};
 ghost use Rattle.sv_world.specs.Limits.{most_positions};
 ghost use Rattle.sv_clients.specs.Clients.{outcome_value, view_of, no_client, with_outcome, is_told, told};
 
@@ -29,6 +29,17 @@ impl ClientRow {
         ClientRow {
             life,
             count: 0,
+            kept: ArrayVec::new(),
+        }
+    }
+
+    /// That of a client with so many outcomes, of which none is kept.
+    pub(crate) fn begun(life: u32, count: u32) -> ClientRow
+        ensures { view_of result ≡ record { life = life; count = count; kept = [] } }
+    {
+        ClientRow {
+            life,
+            count,
             kept: ArrayVec::new(),
         }
     }

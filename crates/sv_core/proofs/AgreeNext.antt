@@ -3,7 +3,7 @@ use Rattle.std.proofs.Common.{◌≡◌, ℕ, zero, suc, ◌+◌, ◌<◌, ◌�
 use Rattle.std.proofs.lemmas.Bool.{both_ways, eqb-true}
 use Rattle.sv_world.specs.declared.world.ObjectId.{ObjectId}
 use Rattle.sv_world.specs.Control.{is_in}
-use Rattle.sv_world.specs.Limits.{most_positions}
+use Rattle.sv_world.specs.Limits.{client_numbers, most_positions}
 use Rattle.sv_wire.specs.declared.message.Request.{Request}
 use Rattle.sv_journal.specs.declared.entry.Entry.{Entry}
 use Rattle.sv_journal.specs.declared.entry.Logged.{Logged}
@@ -35,22 +35,22 @@ get-push (x ∷ xs) y z (suc n) h = get-push xs y z n h
 abbrev pub row_with_outcome : (ℕ → KeptClient) → ℕ → Outcome → ℕ → KeptClient
 row_with_outcome rows k out j = cond (nat_eq k j) (with_outcome out (rows k)) (rows j)
 
-pub client-next : (h : List Entry) (e : Entry) (k seq : ℕ) (out : Outcome) (rows : ℕ → KeptClient) → IsNextSubmit h e.session e.request k seq →
+pub client-next : (h : List Entry) (e : Entry) (k seq : ℕ) (out : Outcome) (rows : ℕ → KeptClient) → IsNextSubmit h e.session e.request k seq → k < client_numbers →
     outcome_in (suc (length (accepted h))) e.reply ≡ out ∷ [] → is_welcome e.reply ≡ false →
-    ((j : ℕ) → IsClientRow h j (rows j)) → (j : ℕ) → IsClientRow (e ∷ h) j (row_with_outcome rows k out j)
-client-next h e k seq out rows is told quiet old j = record {
+    ((j : ℕ) → j < client_numbers → IsClientRow h j (rows j)) → (j : ℕ) → j < client_numbers → IsClientRow (e ∷ h) j (row_with_outcome rows k out j)
+client-next h e k seq out rows is there told quiet old j low = record {
   life = go (nat_eq k j) refl ∙ sym (life-quiet e h j quiet);
   outcomes = subst (λ os. KeepsOutcomes os (row_with_outcome rows k out j))
       (sym (outcomes-next e h k seq j is ∙ ap (λ os. cond (nat_eq k j) (outcomes_of h k ++ os) (outcomes_of h j)) told)) (at (nat_eq k j));
 }
   where
     go : (b : Bool) → nat_eq k j ≡ b → (cond b (with_outcome out (rows k)) (rows j)).life ≡ life_of h j
-    go true q = (old k).life ∙ ap (life_of h) (eqb-true k j q)
-    go false q = (old j).life
+    go true q = (old k there).life ∙ ap (life_of h) (eqb-true k j q)
+    go false q = (old j low).life
 
     at : (b : Bool) → KeepsOutcomes (cond b (outcomes_of h k ++ out ∷ []) (outcomes_of h j)) (cond b (with_outcome out (rows k)) (rows j))
-    at true = keeps_with_outcome (outcomes_of h k) (rows k) out (old k).outcomes
-    at false = (old j).outcomes
+    at true = keeps_with_outcome (outcomes_of h k) (rows k) out (old k there).outcomes
+    at false = (old j low).outcomes
 
 pub numbers-next : (h : List Entry) (e : Entry) (k seq : ℕ) (out : Outcome) → IsNextSubmit h e.session e.request k seq →
     outcome_in (suc (length (accepted h))) e.reply ≡ out ∷ [] → ((j : ℕ) → length (outcomes_of h j) ≤ most_positions) →
@@ -96,10 +96,10 @@ denied-settles seq object =
 -- A new action is not accepted.
 pub agree-settled : (r : Rules) (h : List Entry) (v : QueueView) (rows next : List SessionRow) (clients after : Clients) (owed slot s : ℕ) (request : Request) (reply : Logged)
     (k seq : ℕ) (out : Outcome) → Settles reply out →
-    Agrees r h v rows clients owed → seat_in rows slot ≡ Some s → IsNextSubmit h s request k seq → is_end request ≡ false →
+    Agrees r h v rows clients owed → seat_in rows slot ≡ Some s → IsNextSubmit h s request k seq → k < client_numbers → is_end request ≡ false →
     AreAfter slot (entry_of s request reply) rows next → ((j : ℕ) → client_row after j ≡ row_with_outcome (client_row clients) k out j) →
     Agrees r (entry_of s request reply ∷ h) v next after owed
-agree-settled r h v rows next clients after owed slot s request reply k seq out settles a at is more rows' clients' =
+agree-settled r h v rows next clients after owed slot s request reply k seq out settles a at is there more rows' clients' =
     agree-next r h e v v rows next clients after owed owed slot a at rows'
     (record {
       grows = omega (arith, ap length same);
@@ -116,7 +116,7 @@ agree-settled r h v rows next clients after owed slot s request reply k seq out 
     })
     refl (fits-quiet r h e v (sent_seats h rows) (named_seats h rows) slot same settles.noted settles.positions settles.named a.fits)
     (a.commit ∙ sym commit)
-    (λ j. subst (IsClientRow (e ∷ h) j) (sym (clients' j)) (client-next h e k seq out (client_row clients) is (settles.outcome (suc (length (accepted h)))) settles.welcome a.client_rows j))
+    (λ j low. subst (IsClientRow (e ∷ h) j) (sym (clients' j)) (client-next h e k seq out (client_row clients) is there (settles.outcome (suc (length (accepted h)))) settles.welcome a.client_rows j low))
     (a.ends ∙ sym (owed-same slot e rows next rows' more))
   where
     e : Entry

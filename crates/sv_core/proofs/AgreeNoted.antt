@@ -117,7 +117,7 @@ agree-noted r h v old next clients owed slot s request c ds asks within a at row
       ended = λ q. absurd (both_ways (is_end request) (ap is_end asks) q);
     })
     (room-reports v ds) all.0 all.1.0
-    (λ j. record { life = (a.client_rows j).life ∙ sym (life-quiet e h j refl); outcomes = subst (λ os. KeepsOutcomes os (client_row clients j)) (sym (outcomes-quiet e h j refl)) (a.client_rows j).outcomes })
+    (λ j low. record { life = (a.client_rows j low).life ∙ sym (life-quiet e h j refl); outcomes = subst (λ os. KeepsOutcomes os (client_row clients j)) (sym (outcomes-quiet e h j refl)) (a.client_rows j low).outcomes })
     (a.ends ∙ sym (owed-same slot e old next rows' (ap is_end asks)))
   where
     e : Entry

@@ -2,6 +2,7 @@
 use Rattle.std.proofs.Common.{◌≡◌, ℕ, suc, ◌+◌, ◌<◌, Bool, true, false, ◌&&◌, cond, nat_eq, max, List, [], ◌∷◌, ◌++◌, map, length, All, Some, is_some, slice_get, refl, sym, ◌∙◌, ap, subst, arith, length-append}
 use Rattle.std.proofs.lemmas.Bool.{both_ways, cond_both, cond-false, eqb-true, and_right}
 use Rattle.std.proofs.lemmas.List.{map_push}
+use Rattle.sv_world.specs.Limits.{client_numbers}
 use Rattle.sv_world.specs.Control.{is_in, IsClosed}
 use Rattle.sv_world.proofs.Members.{is_in-one}
 use Rattle.sv_influence.proofs.Places.{members-all}
@@ -90,7 +91,7 @@ agree-sent r h v old next clients owed slot s request reply head ps sends a at i
     (fits-sent r h e v (sent_seats h old) (named_seats h old) slot head ps sends within
     (subst (λ A. QueueFits r.world A (result_at h) (sent_seats h old) (named_seats h old) v) (sym same) a.fits))
     (commit-given (marked_all v ps slot) head slot ∙ commit-marked v ps slot ∙ a.commit ∙ sym commit)
-    (λ k. record { life = (a.client_rows k).life ∙ sym (life-quiet e h k sends.welcome); outcomes = subst (λ os. KeepsOutcomes os (client_row clients k)) (sym (outcomes-old e h k is)) (a.client_rows k).outcomes })
+    (λ k low. record { life = (a.client_rows k low).life ∙ sym (life-quiet e h k sends.welcome); outcomes = subst (λ os. KeepsOutcomes os (client_row clients k)) (sym (outcomes-old e h k is)) (a.client_rows k low).outcomes })
     (a.ends ∙ sym (owed-same slot e old next rows' more))
   where
     e : Entry
@@ -105,13 +106,13 @@ agree-sent r h v old next clients owed slot s request reply head ps sends a at i
 -- A new action is accepted as the last one, and sent.
 pub agree-accept : (r : Rules) (h : List Entry) (v : QueueView) (old next : List SessionRow) (clients after : Clients) (owed slot s : ℕ) (request : Request)
     (k seq c m : ℕ) (head : List ObjectValue) (ps : List ℕ) → c ≡ v.commit → m ≡ suc (last_position v) →
-    Agrees r h v old clients owed → seat_in old slot ≡ Some s → IsNextSubmit h s request k seq → length (accepted h) < r.positions → is_end request ≡ false →
+    Agrees r h v old clients owed → seat_in old slot ≡ Some s → IsNextSubmit h s request k seq → k < client_numbers → length (accepted h) < r.positions → is_end request ≡ false →
     AreAfter slot (entry_of s request (logged.Relay seq c head ps)) old next →
     ((j : ℕ) → client_row after j ≡ row_with_outcome (client_row clients) k (Accepted m) j) →
     All (IsUncommitted (with_action v (record { 0 = k }) seq (action_in request))) ps →
     IsClosed (actions_of h ++ action_in request ∷ []) (commit_of h) (sent_to h s) (λ p. is_in p ps) →
     Agrees r (entry_of s request (logged.Relay seq c head ps) ∷ h) (given_all (marked_all (with_action v (record { 0 = k }) seq (action_in request)) ps slot) head slot) next after owed
-agree-accept r h v old next clients after owed slot s request k seq c m head ps at last a seat is fewer more rows' clients' within closed =
+agree-accept r h v old next clients after owed slot s request k seq c m head ps at last a seat is there fewer more rows' clients' within closed =
     agree-next r h e v (given_all (marked_all w ps slot) head slot) old next clients after owed owed slot a seat rows'
     (record {
       grows = omega (arith, longer);
@@ -132,8 +133,8 @@ agree-accept r h v old next clients after owed slot s request k seq c m head ps 
     (fits-sent r h e w (sent_seats h old) (named_seats h old) slot head ps
     (subst (λ n. IsSending (logged.Relay seq n head ps) w.commit head ps) (sym at) (relay-sends seq v.commit head ps)) within fitted)
     (commit-given (marked_all w ps slot) head slot ∙ commit-marked w ps slot ∙ a.commit ∙ sym commit)
-    (λ j. subst (IsClientRow (e ∷ h) j) (sym (clients' j))
-    (client-next h e k seq (Accepted m) (client_row clients) is (ap (λ n. Accepted n ∷ []) (let p : suc (length (accepted h)) ≡ m = omega (arith, last, a.fits.last) in p)) refl a.client_rows j))
+    (λ j low. subst (IsClientRow (e ∷ h) j) (sym (clients' j))
+    (client-next h e k seq (Accepted m) (client_row clients) is there (ap (λ n. Accepted n ∷ []) (let p : suc (length (accepted h)) ≡ m = omega (arith, last, a.fits.last) in p)) refl a.client_rows j low))
     (a.ends ∙ sym (owed-same slot e old next rows' more))
   where
     e : Entry
@@ -172,10 +173,10 @@ joined_row rows k life j = cond (nat_eq k j) (record (rows k) { life = life }) (
 -- A session begins.
 pub agree-welcome : (r : Rules) (h : List Entry) (v : QueueView) (old next : List SessionRow) (clients after : Clients) (owed slot s : ℕ) (request : Request)
     (k life c : ℕ) (head : List ObjectValue) → c ≡ v.commit →
-    Agrees r h v old clients owed → seat_in old slot ≡ Some s → IsJoin r h request k life → is_end request ≡ false →
+    Agrees r h v old clients owed → seat_in old slot ≡ Some s → IsJoin r h request k life → k < client_numbers → is_end request ≡ false →
     AreAfter slot (entry_of s request (logged.Welcome c head)) old next → ((j : ℕ) → client_row after j ≡ joined_row (client_row clients) k life j) →
     Agrees r (entry_of s request (logged.Welcome c head) ∷ h) (given_all v head slot) next after owed
-agree-welcome r h v old next clients after owed slot s request k life c head at a seat is more rows' clients' =
+agree-welcome r h v old next clients after owed slot s request k life c head at a seat is there more rows' clients' =
     agree-next r h e v (given_all v head slot) old next clients after owed owed slot a seat rows'
     (record {
       grows = omega (arith, ap length same);
@@ -197,7 +198,7 @@ agree-welcome r h v old next clients after owed slot s request k life c head at 
     (λ t x. ap (λ n. cond (nat_eq slot t) (named_seats h old t x ++ cond (names head x) (n ∷ []) []) (named_seats h old t x)) (sym at))
     (fits-given r.world (accepted h) (result_at h) (sent_seats h old) (named_seats h old) v head slot a.fits)))
     (commit-given v head slot ∙ a.commit ∙ sym commit)
-    (λ j. subst (IsClientRow (e ∷ h) j) (sym (clients' j)) (joined j))
+    (λ j low. subst (IsClientRow (e ∷ h) j) (sym (clients' j)) (joined j low))
     (a.ends ∙ sym (owed-same slot e old next rows' more))
   where
     e : Entry
@@ -212,8 +213,8 @@ agree-welcome r h v old next clients after owed slot s request k life c head at 
     max-above : (m n : ℕ) → n < m → max m n ≡ m
     max-above m n l = omega arith
 
-    joined : (j : ℕ) → IsClientRow (e ∷ h) j (joined_row (client_row clients) k life j)
-    joined j = record {
+    joined : (j : ℕ) → j < client_numbers → IsClientRow (e ∷ h) j (joined_row (client_row clients) k life j)
+    joined j low = record {
       life = go (nat_eq k j) refl
           ∙ ap (λ b. cond b (max (life_in request) (life_of h j)) (life_of h j)) (sym (ap (λ o. is_client o j) is.client));
       outcomes = subst (λ os. KeepsOutcomes os (joined_row (client_row clients) k life j)) (sym (outcomes-quiet e h j refl)) (outs (nat_eq k j) refl);
@@ -222,9 +223,9 @@ agree-welcome r h v old next clients after owed slot s request k life c head at 
         go : (b : Bool) → nat_eq k j ≡ b → (cond b (record (client_row clients k) { life = life }) (client_row clients j)).life ≡ cond b (max (life_in request) (life_of h j)) (life_of h j)
         go true q = (let above : life_of h j < life_in request = subst (λ i. life_of h i < life_in request) (eqb-true k j q) (omega (arith, is.above, is.number)) in
             sym is.number ∙ sym (max-above (life_in request) (life_of h j) above))
-        go false q = (a.client_rows j).life
+        go false q = (a.client_rows j low).life
 
         outs : (b : Bool) → nat_eq k j ≡ b → KeepsOutcomes (outcomes_of h j) (cond b (record (client_row clients k) { life = life }) (client_row clients j))
         outs true q = subst (λ i. KeepsOutcomes (outcomes_of h i) (record (client_row clients k) { life = life })) (eqb-true k j q)
-            (record { count = (a.client_rows k).outcomes.count; kept = (a.client_rows k).outcomes.kept })
-        outs false q = (a.client_rows j).outcomes
+            (record { count = (a.client_rows k there).outcomes.count; kept = (a.client_rows k there).outcomes.kept })
+        outs false q = (a.client_rows j low).outcomes

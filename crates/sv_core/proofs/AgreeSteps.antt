@@ -2,6 +2,7 @@
 use Rattle.std.proofs.Common.{◌≡◌, ℕ, ◌+◌, ◌<◌, ◌≤◌, Bool, true, false, ◌&&◌, cond, nat_eq, max, List, [], ◌∷◌, ◌++◌, length, Some, is_some, slice_get, refl, sym, ◌∙◌, ap, subst, arith, append-nil}
 use Rattle.std.proofs.lemmas.Bool.{both_ways}
 use Rattle.sv_world.specs.Control.{is_in}
+use Rattle.sv_world.specs.Limits.{client_numbers}
 use Rattle.sv_wire.specs.declared.message.Request.{Request}
 use Rattle.sv_journal.specs.declared.entry.Entry.{Entry}
 use Rattle.sv_journal.specs.declared.entry.Logged.{Logged}
@@ -51,7 +52,7 @@ sent-within r h rows sound t = sent-all (λ ps. (p : ℕ) → is_in p ps ≡ tru
 pub agree-next : (r : Rules) (h : List Entry) (e : Entry) (v w : QueueView) (rows next : List SessionRow) (clients after : Clients) (owed left slot : ℕ) →
     Agrees r h v rows clients owed → seat_in rows slot ≡ Some e.session → AreAfter slot e rows next → IsSoundStep r h e → w.room ≡ v.room →
     QueueFits r.world (accepted (e ∷ h)) (result_at (e ∷ h)) (sent_after e slot (sent_seats h rows)) (named_after e slot (named_seats h rows)) w →
-    w.commit ≡ commit_of (e ∷ h) → ((k : ℕ) → IsClientRow (e ∷ h) k (client_row after k)) → left ≡ count_rows owes_end next → Agrees r (e ∷ h) w next after left
+    w.commit ≡ commit_of (e ∷ h) → ((k : ℕ) → k < client_numbers → IsClientRow (e ∷ h) k (client_row after k)) → left ≡ count_rows owes_end next → Agrees r (e ∷ h) w next after left
 agree-next r h e v w rows next clients after owed left slot a at rows' step rooms fits commit clients' owes = record {
   sound = sound-next r h e step a.sound;
   positions = a.positions;
@@ -116,7 +117,7 @@ agree-quiet r h v rows next clients owed left slot s request reply a at quiet la
     })
     refl (fits-quiet r h e v (sent_seats h rows) (named_seats h rows) slot same quiet.noted quiet.positions quiet.named a.fits)
     (a.commit ∙ sym commit)
-    (λ k. record { life = (a.client_rows k).life ∙ sym (life-quiet e h k quiet.welcome); outcomes = subst (λ os. KeepsOutcomes os (client_row clients k)) (sym (quiet.outcomes k)) (a.client_rows k).outcomes }) owes
+    (λ k low. record { life = (a.client_rows k low).life ∙ sym (life-quiet e h k quiet.welcome); outcomes = subst (λ os. KeepsOutcomes os (client_row clients k)) (sym (quiet.outcomes k)) (a.client_rows k low).outcomes }) owes
   where
     e : Entry
     e = entry_of s request reply

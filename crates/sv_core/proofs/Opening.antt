@@ -112,7 +112,7 @@ agree-opening r n rows clients owed most few are none owes = subst (λ rs. Agree
   };
   session_rows = λ slot s at. (let both = seat-below r.requests n slot s at in
       subst (λ row. IsSessionRow r [] s row) (sym (rows-at r.requests n slot both.0)) (subst (λ m. IsSessionRow r [] s (new_session r.requests m)) (sym both.1) (new-is r s)));
-  client_rows = λ k. subst (IsClientRow [] k) (sym (none k)) (no_client-is k);
+  client_rows = λ k low. subst (IsClientRow [] k) (sym (none k)) (no_client-is k);
   ends = owes ∙ sym (rows-count owes_end r.requests n (λ i. refl));
 })
 

@@ -1,7 +1,7 @@
 -- What a core's fields say of a history.
 use Rattle.std.specs.Prelude.{◌≡◌, ℕ, ◌<◌, ◌≤◌, true, false, List, [], length, Option, Some, None, slice_get}
 use Rattle.sv_world.specs.Control.{is_in, SentIsClosed}
-use Rattle.sv_world.specs.Limits.{most_open, most_positions}
+use Rattle.sv_world.specs.Limits.{client_numbers, most_open, most_positions}
 use Rattle.sv_queue.specs.Queue.{QueueView}
 use Rattle.sv_clients.specs.declared.clients.Clients.{Clients}
 use Rattle.sv_clients.specs.Clients.{KeptClient, client_row, KeepsOutcomes}
@@ -47,7 +47,8 @@ pub record AreSeated (h : List Entry) (rows : List SessionRow) : Type 0 where
   pub once : (i j s : ℕ) → seat_in rows i ≡ Some s → seat_in rows j ≡ Some s → i ≡ j
   pub all : (s : ℕ) → has_entry h s ≡ true → is_over h s ≡ false → (slot : ℕ) × (seat_in rows slot ≡ Some s)
 
--- The queue, the rows of sessions and clients, and the number of Ends to come are those of a history.
+-- The queue, the rows of sessions and clients, and the number of Ends to come are those of a history. The rows stand for the clients that there
+-- may be: of other numbers they say nothing.
 pub record Agrees (r : Rules) (h : List Entry) (v : QueueView) (rows : List SessionRow) (clients : Clients) (owed : ℕ) : Type 0 where
   pub sound : IsSoundHistory r h
   pub positions : r.positions ≤ most_positions
@@ -57,5 +58,5 @@ pub record Agrees (r : Rules) (h : List Entry) (v : QueueView) (rows : List Sess
   pub commit : v.commit ≡ commit_of h
   pub seats : AreSeated h rows
   pub session_rows : (slot s : ℕ) → seat_in rows slot ≡ Some s → IsSessionRow r h s (row_at rows slot)
-  pub client_rows : (k : ℕ) → IsClientRow h k (client_row clients k)
+  pub client_rows : (k : ℕ) → k < client_numbers → IsClientRow h k (client_row clients k)
   pub ends : owed ≡ count_rows owes_end rows

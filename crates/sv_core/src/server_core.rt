@@ -13,6 +13,8 @@ ghost use Rattle.sv_journal.specs.History.{Accepted, client_of, accepted, action
 ghost use Rattle.sv_journal.specs.Sessions.{is_over, asked_in, life_of, kept_outcome, is_ended};
 ghost use Rattle.sv_journal.specs.Answer.{is_bad_result, is_bad_done, is_full, is_spent, orphans};
 ghost use Rattle.sv_clients.specs.Clients.{outcome_value};
+ghost use Rattle.sv_core.specs.Agreement.{Agrees};
+ghost use Rattle.sv_core.specs.Rows.{seat_in, is_seated, count_rows};
 ghost use Rattle.sv_core.specs.Cores.{core_rules, owed_by, open_by, queue_of, session_at, first_seat, SitsAt, Keeps, IsKept};
 
 use crate::opened::Opened;
@@ -65,6 +67,31 @@ impl Core {
             clients: Clients::new(alloc),
             owed: sessions,
         })
+    }
+
+    /// A core of parts that were kept of one. It keeps each history that they agree with.
+    pub fn of_parts(
+        alloc: Global,
+        opened: Opened,
+        queue: Queue,
+        sessions: Vec<SessionRow>,
+        clients: Clients,
+        owed: u16,
+    ) -> Core
+        ensures rules { core_rules result ≡ opened }
+        ensures seats { (slot : ℕ) → session_at result slot ≡ seat_in sessions.items slot }
+        ensures count { open_by result ≡ count_rows is_seated sessions.items }
+        ensures owed { owed_by result ≡ owed }
+        ensures keeps { (h : List Entry) → Agrees opened h queue sessions.items clients owed → Keeps result h }
+    {
+        Core {
+            alloc,
+            opened,
+            queue,
+            sessions,
+            clients,
+            owed,
+        }
     }
 
     /// The greatest position up to which all results are installed.

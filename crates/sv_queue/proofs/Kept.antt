@@ -176,15 +176,15 @@ agree_install shape commit committed values e es rest writers now rows next h q 
     agree_rest shape commit committed values e rest writers now rows next (subst (λ (ds : List Queued). AgreeOn shape commit committed ds writers rows) q h)
     (first_values shape commit committed es rest writers rows e values h q is).1 changed given
 
--- A queue of a world with no action.
-pub agree_opening : (shape : Shape) (committed : List (List ℤ)) → IsGoodShape shape → length committed ≡ shape.objects → HaveAttrs shape committed →
-    AgreeOn shape 0 committed [] (replicate shape.objects []) (replicate shape.objects [])
-agree_opening shape committed limits objects attrs = record {
+-- A queue with no action above its commit.
+pub agree_opening : (shape : Shape) (commit : ℕ) (committed : List (List ℤ)) → commit < 2 ^ 32 → IsGoodShape shape → length committed ≡ shape.objects → HaveAttrs shape committed →
+    AgreeOn shape commit committed [] (replicate shape.objects []) (replicate shape.objects [])
+agree_opening shape commit committed low limits objects attrs = record {
   limits = limits;
   objects = objects;
   attrs = attrs;
   good = λ k d low. absurd (omega arith);
-  last = lit< tt;
+  last = omega (arith, low);
   lists = length-replicate shape.objects [];
   indexed = λ x low. get_or-replicate shape.objects x [] [] low;
   given = length-replicate shape.objects [];

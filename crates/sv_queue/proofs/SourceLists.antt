@@ -82,8 +82,8 @@ writer-front c bs a x p low =
     ap (λ (B : List Action). last_writer B x p) (sym (append_assoc (replicate c blank) bs (a ∷ [])))
     ∙ last_writer-same (A ++ a ∷ []) A x p (λ k some' l. action_at-front A a k (omega arith))
 
-pub sources-none : HaveSources 0 [] []
-sources-none = record { count = refl; each = λ i k low slot. absurd (omega arith) }
+pub sources-none : (commit : ℕ) → HaveSources commit [] []
+sources-none commit = record { count = refl; each = λ i k low slot. absurd (omega arith) }
 
 -- One more action at the end, whose sources are the last writers.
 pub sources-push : (c : ℕ) (bs : List Action) (a : Action) (ss : List (List ℕ)) (s : List ℕ) → HaveSources c bs ss →

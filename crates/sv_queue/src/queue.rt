@@ -80,6 +80,14 @@ impl Queue {
         requires { IsGoodWorld world }
         ensures { IfOk result (λ queue. queue ≡ opening_queue world) }
     {
+        Queue::resumed(alloc, world, 0)
+    }
+
+    /// The world's values stand as committed up to a position, with no action after it.
+    pub fn resumed(alloc: Global, world: World, commit: u32) -> Result<Queue, AllocError>
+        requires { IsGoodWorld world }
+        ensures { IfOk result (λ queue. queue ≡ record (opening_queue world) { commit = commit }) }
+    {
         let World { shape, values } = world;
         let objects = shape.objects as usize;
         let writers = Writers::new(alloc, objects)?;
@@ -88,7 +96,7 @@ impl Queue {
         Ok(Queue {
             alloc,
             shape,
-            commit: 0,
+            commit,
             room: FIRST_ROOM,
             committed: values,
             entries: VecDeque::new(alloc),

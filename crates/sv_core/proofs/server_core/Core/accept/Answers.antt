@@ -55,7 +55,7 @@ take_in-requires-clause-room g c = (let k = c.requires.0 in omega (arith, k.fits
 pub take_in-requires-clause-number : goal.take_in-requires-clause-number
 take_in-requires-clause-number g c =
     let next = c.requires.1.1.1.0 in
-    omega (arith, next.next, next.few, (c.requires.0.client_rows c.args.id.client).outcomes.count)
+    omega (arith, next.next, next.few, (c.requires.0.client_rows c.args.id.client (omega arith)).outcomes.count)
 
 pub returns-clause-ok : goal.returns-clause-ok
 returns-clause-ok g c =
@@ -108,5 +108,5 @@ returns-clause-ok g c =
     (subst (λ (u : QueueView). Agrees (core_rules a) (entry_of s q l ∷ h) u next c.take_in.new.clients a.owed)
     (sym (sent.queue ∙ ap (λ (u : QueueView). given_all (marked_all u x.positions slot) x.head slot) pushed))
     (agree-accept (core_rules a) h v a.sessions.items next a.clients c.take_in.new.clients a.owed slot s q m seq n (suc (last_position v)) x.head x.positions
-    (ap (λ (u : QueueView). u.commit) pushed) refl k at c.requires.1.1.1.0 c.requires.1.1.1.1.1.1 c.requires.1.1.0 rows c.in_ok-relayed.ensures.clients within closed))
+    (ap (λ (u : QueueView). u.commit) pushed) refl k at c.requires.1.1.1.0 (omega arith) c.requires.1.1.1.1.1.1 c.requires.1.1.0 rows c.in_ok-relayed.ensures.clients within closed))
     (sent.reply ∙ whole)

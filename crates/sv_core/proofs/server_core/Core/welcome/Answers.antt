@@ -59,5 +59,5 @@ returns-clause-ok g c =
     (subst (λ (w : QueueView). Agrees (core_rules a) (entry_of s q (logged.Welcome n head) ∷ h) w next c.join.new.self a.owed)
     (sym (c.give_all.ensures ∙ ap (λ xs. given_all v xs slot) c.as_slice-2.ensures))
     (agree-welcome (core_rules a) h v a.sessions.items next a.clients c.join.new.self a.owed slot s q c.args.client c.args.life n head c.commit-commit.ensures k c.requires.1.0
-    c.requires.1.1.1 c.requires.1.1.0 rows c.in_ok-join.ensures.ok))
+    c.requires.1.1.1 (omega arith) c.requires.1.1.0 rows c.in_ok-join.ensures.ok))
     (ap (replies.Welcome n) (c.in_ok-sent.ensures ∙ c.as_slice.ensures))
