@@ -1,6 +1,7 @@
 //! What is kept of all clients.
-ghost use Rattle.std.specs.Prelude.{◌≡◌, ℕ, ◌<◌, nat_eq, List, [], option_map, OnOk, OnErr, if◌then◌else◌};
+ghost use Rattle.std.specs.Prelude.{◌≡◌, ℕ, ◌<◌, ◌≤◌, nat_eq, List, map, length, option_map, OnOk, OnErr, if◌then◌else◌};
 ghost use Rattle.sv_journal.specs.History.{Outcome as OutcomeValue};
+ghost use Rattle.sv_journal.specs.Sessions.{kept_count};
 ghost use Rattle.sv_world.specs.Limits.{most_positions};
 ghost use Rattle.sv_clients.specs.Clients.{client_row, row_count, no_client, outcome_value, KeepsOutcomes, with_outcome, kept_among};
 
@@ -67,6 +68,23 @@ impl Clients {
             Some(row) => row.told(seq),
             None => None,
         }
+    }
+
+    /// Begins the row of a client that joined with this life at last, and has so many outcomes, of which these are the last.
+    pub fn begin(
+        &mut self,
+        client: u16,
+        life: u32,
+        count: u32,
+        last: &[Outcome],
+    ) -> Result<(), AllocError>
+        requires few { length last.now ≤ kept_count }
+        ensures ok { OnOk result ((k : ℕ) → client_row self.new k ≡ (if nat_eq client k then record { life = life; count = count; kept = map outcome_value last.now } else client_row self.old k)) }
+        ensures err { OnErr result ((k : ℕ) → client_row self.new k ≡ client_row self.old k) }
+    {
+        self.rows
+            .insert(client, ClientRow::begun(life, count, last))?;
+        Ok(())
     }
 
     /// Notes that a client joined.

@@ -1,5 +1,6 @@
 //! What is kept of one client.
-ghost use Rattle.std.specs.Prelude.{◌≡◌, ◌<◌, [], option_map};
+ghost use Rattle.std.specs.Prelude.{◌≡◌, ◌<◌, ◌≤◌, map, length, option_map};
+ghost use Rattle.sv_journal.specs.Sessions.{kept_count};
 ghost use Rattle.sv_world.specs.Limits.{most_positions};
 ghost use Rattle.sv_clients.specs.Clients.{outcome_value, view_of, no_client, with_outcome, is_told, told};
 
@@ -33,14 +34,15 @@ impl ClientRow {
         }
     }
 
-    /// That of a client with so many outcomes, of which none is kept.
-    pub(crate) fn begun(life: u32, count: u32) -> ClientRow
-        ensures { view_of result ≡ record { life = life; count = count; kept = [] } }
+    /// That of a client with so many outcomes, of which these are the last.
+    pub(crate) fn begun(life: u32, count: u32, last: &[Outcome]) -> ClientRow
+        requires { length last.now ≤ kept_count }
+        ensures { view_of result ≡ record { life = life; count = count; kept = map outcome_value last.now } }
     {
-        ClientRow {
-            life,
-            count,
-            kept: ArrayVec::new(),
+        let mut kept = ArrayVec::new();
+        match kept.try_extend_from_slice(last) {
+            Ok(()) => ClientRow { life, count, kept },
+            Err(_) => unreachable!(),
         }
     }
 

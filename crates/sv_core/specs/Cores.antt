@@ -3,6 +3,7 @@
 use Rattle.std.specs.Prelude.{◌≡◌, ℕ, ◌+◌, ◌-◌, ◌<◌, ◌≤◌, ◌==◌, nat_lt, true, List, ◌∷◌, length, Option, Some, None, IsSome, if◌then◌else◌}
 use Rattle.sv_wire.specs.declared.message.Request.{Request}
 use Rattle.sv_queue.specs.Queue.{QueueView}
+use Rattle.sv_clients.specs.declared.clients.Clients.{Clients}
 use Rattle.sv_journal.specs.declared.entry.Entry.{Entry}
 use Rattle.sv_journal.specs.History.{accepted, commit_of, full_reply}
 use Rattle.sv_journal.specs.Sessions.{is_ended}
@@ -11,6 +12,7 @@ use Rattle.sv_core.specs.declared.answer.Answer.{Answer}
 use Rattle.sv_core.specs.declared.decision.Decision.{Decision}
 use Rattle.sv_core.specs.declared.seats.Seat.{Seat}
 use Rattle.sv_core.specs.declared.server_core.Core.{Core}
+use Rattle.sv_core.specs.declared.sessions.SessionRow.{SessionRow}
 use Rattle.sv_core.specs.Agreement.{Agrees}
 use Rattle.sv_core.specs.Decisions.{reply_by}
 use Rattle.sv_core.specs.Rows.{seat_in, has_entry, is_seated, count_rows}
@@ -44,6 +46,13 @@ owed_by core = core.owed
 -- Its queue.
 abbrev pub queue_of : Core → QueueView
 queue_of core = core.queue
+
+-- What it keeps of the sessions at its slots, and of its clients.
+abbrev pub rows_of : Core → List SessionRow
+rows_of core = core.sessions.items
+
+abbrev pub clients_of : Core → Clients
+clients_of core = core.clients
 
 -- The core stands where a history leads.
 abbrev pub Keeps : Core → List Entry → Type 0

@@ -23,4 +23,4 @@ pub use deliver::reported_by;
 pub use opened::Opened;
 pub use seats::Seat;
 pub use server_core::Core;
-pub use sessions::{SessionRow, kept_session};
+pub use sessions::SessionRow;

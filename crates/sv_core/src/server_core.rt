@@ -14,8 +14,7 @@ ghost use Rattle.sv_journal.specs.Sessions.{is_over, asked_in, life_of, kept_out
 ghost use Rattle.sv_journal.specs.Answer.{is_bad_result, is_bad_done, is_full, is_spent, orphans};
 ghost use Rattle.sv_clients.specs.Clients.{outcome_value};
 ghost use Rattle.sv_core.specs.Agreement.{Agrees};
-ghost use Rattle.sv_core.specs.Rows.{seat_in, is_seated, count_rows};
-ghost use Rattle.sv_core.specs.Cores.{core_rules, owed_by, open_by, queue_of, session_at, first_seat, SitsAt, Keeps, IsKept};
+ghost use Rattle.sv_core.specs.Cores.{core_rules, owed_by, open_by, queue_of, rows_of, clients_of, session_at, first_seat, SitsAt, Keeps, IsKept};
 
 use crate::opened::Opened;
 use crate::orphans::first_orphan;
@@ -69,7 +68,7 @@ impl Core {
         })
     }
 
-    /// A core of parts that were kept of one. It keeps each history that they agree with.
+    /// A core of these parts. It keeps each history that they agree with.
     pub fn of_parts(
         alloc: Global,
         opened: Opened,
@@ -79,8 +78,9 @@ impl Core {
         owed: u16,
     ) -> Core
         ensures rules { core_rules result ≡ opened }
-        ensures seats { (slot : ℕ) → session_at result slot ≡ seat_in sessions.items slot }
-        ensures count { open_by result ≡ count_rows is_seated sessions.items }
+        ensures queue { queue_of result ≡ queue }
+        ensures rows { rows_of result ≡ sessions.items }
+        ensures clients { clients_of result ≡ clients }
         ensures owed { owed_by result ≡ owed }
         ensures keeps { (h : List Entry) → Agrees opened h queue sessions.items clients owed → Keeps result h }
     {

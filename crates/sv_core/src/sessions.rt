@@ -1,5 +1,5 @@
 //! What a core keeps of each session, and what an entry makes of it.
-ghost use Rattle.std.specs.Prelude.{◌≡◌, ℕ, ◌-◌, ◌<◌, ◌&&◌, nat_eq, false, Some, None, map, option_map, length, IfOk, IfSome, IfNone, if◌then◌else◌};
+ghost use Rattle.std.specs.Prelude.{◌≡◌, ℕ, ◌-◌, ◌<◌, ◌&&◌, nat_eq, false, None, map, option_map, length, IfOk, IfSome, IfNone, if◌then◌else◌};
 ghost use Rattle.sv_world.specs.Control.{below};
 ghost use Rattle.sv_journal.specs.History.{either, is_welcome, joining};
 ghost use Rattle.sv_journal.specs.Sessions.{is_last, welcomes};
@@ -46,19 +46,6 @@ pub fn new_session(requests: Option<u16>, session: u64) -> SessionRow
         client: None,
         over: false,
         left: requests,
-        ended: false,
-    }
-}
-
-/// The row of a session of a world without end of requests, as a state has it.
-pub fn kept_session(session: u64, client: Option<u16>, over: bool) -> SessionRow
-    ensures { result ≡ record { session = Some session; client = client; over = over; left = None; ended = false } }
-{
-    SessionRow {
-        session: Some(session),
-        client,
-        over,
-        left: None,
         ended: false,
     }
 }

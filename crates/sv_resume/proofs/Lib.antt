@@ -1,0 +1,7 @@
+-- The lemmas of this crate, file by file.
+pub mod Adds
+pub mod Clients
+pub mod Formed
+pub mod Marks
+pub mod Seating
+pub mod Standing

@@ -1,0 +1,3 @@
+-- The definitions of this crate, file by file.
+pub mod Resumed
+pub mod Standing

@@ -1,0 +1,2 @@
+-- The definitions of states.
+pub mod WellFormed
