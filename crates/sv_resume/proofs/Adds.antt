@@ -1,5 +1,5 @@
 -- A queue with more actions behind the others.
-use Rattle.std.proofs.Common.{◌≡◌, ℕ, suc, ◌+◌, ◌-◌, ◌<◌, ◌≤◌, List, [], ◌∷◌, ◌++◌, map, length, take, drop, get_or, All, Option, ℤ, Some, None, refl, sym, ◌∙◌, ap, subst, arith, append-nil, append_assoc, length-append}
+use Rattle.std.proofs.Common.{◌≡◌, ℕ, zero, suc, ◌+◌, ◌-◌, ◌<◌, ◌≤◌, List, [], ◌∷◌, ◌++◌, map, length, take, drop, get_or, All, Option, ℤ, Some, None, refl, sym, ◌∙◌, ap, subst, arith, append-nil, append_assoc, length-append}
 use Rattle.std.proofs.lemmas.List.{drop_more, take_more, get_or_push, length-map, map-append}
 use Rattle.std.specs.Prelude.{slice_set}
 use Rattle.sv_world.specs.Limits.{most_positions}
@@ -55,3 +55,13 @@ above-more v w xs i x low is made =
 
 pub last-above : (v : QueueView) (xs : List Above) → last_position (with_above v xs) ≡ last_position v + length xs
 last-above v xs = omega (arith, length-append v.entries (map queued_of xs), length-map xs queued_of)
+
+length-taken : {X : Type 0} (xs : List X) (i : ℕ) → i ≤ length xs → length (take i xs) ≡ i
+length-taken xs zero low = refl
+length-taken [] (suc i) low = absurd (omega (arith, low))
+length-taken (x ∷ xs) (suc i) low = ap suc (length-taken xs i (omega (arith, low)))
+
+-- There is room for one more.
+pub room-more : (v w : QueueView) (xs : List Above) (i : ℕ) → i < length xs → w ≡ with_above v (take i xs) → last_position v + length xs ≤ most_positions →
+    last_position w + 1 ≤ most_positions
+room-more v w xs i low is room = omega (arith, ap last_position is, last-above v (take i xs), length-taken xs i (omega (arith, low)), low, room)

@@ -1,0 +1,144 @@
+-- A well-formed state may be resumed.
+use Rattle.std.proofs.Common.{◌≡◌, ℕ, zero, suc, ◌+◌, ◌-◌, ◌<◌, ◌≤◌, Bool, true, false, ◌&&◌, ◌==◌, nat_lt, nat_le, min, List, [], ◌∷◌, map, length, get_or, All, Option, ℤ, Some, None, is_none, IfSome, refl, sym, ◌∙◌, ap, subst, arith}
+use Rattle.std.proofs.lemmas.Bool.{and_parts, eqb-true, leb-true, ltb-true}
+use Rattle.std.specs.List.{list_all}
+use Rattle.sv_world.specs.declared.world.ClientId.{ClientId}
+use Rattle.sv_world.specs.declared.world.ObjectId.{ObjectId}
+use Rattle.sv_world.specs.declared.world.Shape.{Shape}
+use Rattle.sv_world.specs.declared.world.World.{World}
+use Rattle.sv_world.specs.Faults.{first_fault_of_action, is_ascending}
+use Rattle.sv_world.specs.Sets.{write_set, numbers_of}
+use Rattle.sv_world.specs.Worlds.{IsGoodWorld, HaveAttrs}
+use Rattle.sv_world.proofs.Good.{good_of_none}
+use Rattle.sv_state.specs.declared.state.Above.{Above}
+use Rattle.sv_state.specs.declared.state.ClientState.{ClientState}
+use Rattle.sv_state.specs.declared.state.OpenSession.{OpenSession}
+use Rattle.sv_state.specs.declared.state.State.{State}
+use Rattle.sv_state.specs.WellFormed.{have_attrs, is_result_of, is_good_above, is_good_client, client_numbers, are_good_outcomes, places_in, keeps_last, has_writers, actions_above, may_be_sent, may_be_given, is_members, is_good_open, IsWellFormed}
+use Rattle.sv_resume.specs.Resumed.{CanRise, CanBegin, IsRaisedIn, MayResume}
+
+-- Each element passes.
+pub all_pass : {X : Type 0} (p : X → Bool) (xs : List X) → list_all p xs ≡ true → All (λ x. p x ≡ true) xs
+all_pass p [] e = λ k d low. absurd (omega arith)
+all_pass p (x ∷ xs) e = go
+  where
+    both : (p x ≡ true) × (list_all p xs ≡ true)
+    both = and_parts (p x) (list_all p xs) e
+
+    go : All (λ x. p x ≡ true) (x ∷ xs)
+    go zero d low = both.0
+    go (suc k) d low = all_pass p xs both.1 k d (omega arith)
+
+all_as : {X : Type 0} (p : X → Bool) (P : X → Type 0) → ((x : X) → p x ≡ true → P x) → (xs : List X) → list_all p xs ≡ true → All P xs
+all_as p P as xs e = λ k d low. as (get_or xs k d) (all_pass p xs e k d low)
+
+pub attrs-as : (shape : Shape) (values : List (List ℤ)) → have_attrs shape.attrs values ≡ true → HaveAttrs shape values
+attrs-as shape values = all_as (λ v. length v == shape.attrs) (λ v. length v ≡ shape.attrs) (λ v e. eqb-true (length v) shape.attrs e) values
+
+-- ---- Actions
+
+none_as : {X : Type 0} (o : Option X) → is_none o ≡ true → o ≡ None
+none_as None e = refl
+none_as (Some x) e = cc
+
+rise-as : (shape : Shape) (a : Above) → is_good_above shape a ≡ true → CanRise shape a
+rise-as shape a e = record {
+  action = good_of_none shape a.action (none_as (first_fault_of_action shape a.action) parts.0);
+  count = count a.result result;
+  attrs = attrs a.result result;
+}
+  where
+    parts : (is_none (first_fault_of_action shape a.action) ≡ true) × ((is_result_of shape.attrs a.action a.result && nat_lt 0 a.seq) ≡ true)
+    parts = and_parts (is_none (first_fault_of_action shape a.action)) (is_result_of shape.attrs a.action a.result && nat_lt 0 a.seq) e
+
+    result : is_result_of shape.attrs a.action a.result ≡ true
+    result = (and_parts (is_result_of shape.attrs a.action a.result) (nat_lt 0 a.seq) parts.1).0
+
+    count : (r : Option (List (List ℤ))) → is_result_of shape.attrs a.action r ≡ true → IfSome r (λ values. length values ≡ length (write_set a.action))
+    count None t = tt
+    count (Some values) t = eqb-true (length values) (length (write_set a.action)) (and_parts (length values == length (write_set a.action)) (have_attrs shape.attrs values) t).0
+
+    attrs : (r : Option (List (List ℤ))) → is_result_of shape.attrs a.action r ≡ true → IfSome r (HaveAttrs shape)
+    attrs None t = tt
+    attrs (Some values) t = attrs-as shape values (and_parts (length values == length (write_set a.action)) (have_attrs shape.attrs values) t).1
+
+-- ---- Clients
+
+begin-as : (objects commit : ℕ) (above : List Above) (c : ClientState) → is_good_client objects commit above c ≡ true → CanBegin c
+begin-as objects commit above c e = record {
+  next = ltb-true 0 c.next next.0;
+  kept = omega (arith, eqb-true (length c.kept) (min (c.next - 1) 8) kept.0);
+}
+  where
+    last : Bool
+    last = is_ascending (places_in c.kept) && are_good_outcomes objects commit above c.client.0 (c.next - length c.kept) c.kept
+
+    life : (nat_lt 0 c.life ≡ true) × ((nat_lt 0 c.next && nat_le c.next 4294967295 && keeps_last c && last) ≡ true)
+    life = and_parts (nat_lt 0 c.life) (nat_lt 0 c.next && nat_le c.next 4294967295 && keeps_last c && last) e
+
+    next : (nat_lt 0 c.next ≡ true) × ((nat_le c.next 4294967295 && keeps_last c && last) ≡ true)
+    next = and_parts (nat_lt 0 c.next) (nat_le c.next 4294967295 && keeps_last c && last) life.1
+
+    most : (nat_le c.next 4294967295 ≡ true) × ((keeps_last c && last) ≡ true)
+    most = and_parts (nat_le c.next 4294967295) (keeps_last c && last) next.1
+
+    kept : (keeps_last c ≡ true) × (last ≡ true)
+    kept = and_parts (keeps_last c) last most.1
+
+pub begin-formed : (world : World) (s : State) → IsWellFormed world s → All CanBegin s.clients
+begin-formed world s f =
+    all_as (is_good_client world.shape.objects s.commit s.above) CanBegin (begin-as world.shape.objects s.commit s.above) s.clients f.clients
+
+-- ---- Sessions
+
+no_elements : {X : Type 0} (P : X → Type 0) (xs : List X) → length xs ≡ 0 → All P xs
+no_elements P xs e = λ k d low. absurd (omega (arith, e, low))
+
+numbers-below : (n : ℕ) (xs : List ObjectId) → All (λ y. nat_lt y n ≡ true) (numbers_of xs) → All (λ (x : ObjectId). x.0 < n) xs
+numbers-below n [] all = λ k d low. absurd (omega arith)
+numbers-below n (x ∷ xs) all = go
+  where
+    go : All (λ (x : ObjectId). x.0 < n) (x ∷ xs)
+    go zero d low = ltb-true x.0 n (all 0 0 (omega arith))
+    go (suc k) d low = numbers-below n xs (λ i y short. all (suc i) y (omega arith)) k d (omega arith)
+
+sent-as : (s : State) (sent : List ℕ) → may_be_sent s.commit s.above sent ≡ true → All (IsRaisedIn s) sent
+sent-as s sent e = all_as (λ p. nat_lt s.commit p && nat_le p (s.commit + length s.above)) (IsRaisedIn s)
+    (λ p t. (let b = and_parts (nat_lt s.commit p) (nat_le p (s.commit + length s.above)) t in
+    (ltb-true s.commit p b.0, leb-true p (s.commit + length s.above) b.1))) sent
+    (and_parts (list_all (λ p. nat_lt s.commit p && nat_le p (s.commit + length s.above)) sent) (list_all (has_writers s.commit (actions_above s.above) sent) sent)
+    (and_parts (is_ascending sent)
+    (list_all (λ p. nat_lt s.commit p && nat_le p (s.commit + length s.above)) sent && list_all (has_writers s.commit (actions_above s.above) sent) sent) e).1).0
+
+given-as : (objects : ℕ) (given : List ObjectId) → may_be_given objects given ≡ true → All (λ (x : ObjectId). x.0 < objects) given
+given-as objects given e = numbers-below objects given
+    (all_pass (λ x. nat_lt x objects) (numbers_of given) (and_parts (is_ascending (numbers_of given)) (list_all (λ x. nat_lt x objects) (numbers_of given)) e).1)
+
+open-as : (objects : ℕ) (s : State) (o : OpenSession) → is_good_open objects s.sessions s.commit s.above s.clients o ≡ true →
+    All (IsRaisedIn s) o.sent × All (λ (x : ObjectId). x.0 < objects) o.given
+open-as objects s o e = go o.client (and_parts (nat_lt o.session s.sessions) (is_members objects s.commit s.above s.clients o o.client) e).1
+  where
+    go : (c : Option ClientId) → is_members objects s.commit s.above s.clients o c ≡ true → All (IsRaisedIn s) o.sent × All (λ (x : ObjectId). x.0 < objects) o.given
+    go None t = (let b = and_parts (length o.given == 0) (length o.sent == 0) t in
+        (no_elements (IsRaisedIn s) o.sent (eqb-true (length o.sent) 0 b.1), no_elements (λ (x : ObjectId). x.0 < objects) o.given (eqb-true (length o.given) 0 b.0)))
+    go (Some k) t =
+        let a = and_parts _ (may_be_given objects o.given && may_be_sent s.commit s.above o.sent) t in
+        let b = and_parts (may_be_given objects o.given) (may_be_sent s.commit s.above o.sent) a.1 in
+        (sent-as s o.sent b.1, given-as objects o.given b.0)
+
+-- ---- The whole
+
+pub resume-formed : (world : World) (s : State) → IsGoodWorld world → IsWellFormed world s → MayResume world.shape s
+resume-formed world s good f = record {
+  limits = good.shape;
+  objects = f.objects ∙ good.objects;
+  attrs = attrs-as world.shape s.values f.attrs;
+  positions = f.positions;
+  above = all_as (is_good_above world.shape) (CanRise world.shape) (rise-as world.shape) s.above f.above;
+  sent = λ k d low. (open-as world.shape.objects s (get_or s.opened k d) (opened k d low)).0;
+  given = λ k d low. (open-as world.shape.objects s (get_or s.opened k d) (opened k d low)).1;
+  few = f.few;
+}
+  where
+    opened : All (λ (o : OpenSession). is_good_open world.shape.objects s.sessions s.commit s.above s.clients o ≡ true) s.opened
+    opened = all_pass (is_good_open world.shape.objects s.sessions s.commit s.above s.clients) s.opened f.opened
