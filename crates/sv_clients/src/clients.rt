@@ -58,6 +58,16 @@ impl Clients {
         }
     }
 
+    /// The last outcomes of a client's actions, in order.
+    pub fn last(&self, client: u16) -> &[Outcome]
+        ensures { map outcome_value result.now ≡ (client_row self.now client).kept }
+    {
+        match self.rows.get(&client) {
+            Some(row) => row.kept.as_slice(),
+            None => &[],
+        }
+    }
+
     /// What came of a client's action, where it is one of the last that are kept: for all outcomes that the client's row keeps.
     #[tactic(auto, using(crate::proofs::Rows::told_is, crate::proofs::Rows::told_none))]
     pub fn kept(&self, client: u16, seq: u32) -> Option<Outcome>

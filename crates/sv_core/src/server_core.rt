@@ -144,6 +144,20 @@ impl Core {
         &self.queue
     }
 
+    /// What it keeps of the sessions at its slots.
+    pub fn session_rows(&self) -> &[SessionRow]
+        ensures { result.now ≡ rows_of self.now }
+    {
+        self.sessions.as_slice()
+    }
+
+    /// What it keeps of its clients.
+    pub fn clients(&self) -> &Clients
+        ensures { result.now ≡ clients_of self.now }
+    {
+        &self.clients
+    }
+
     /// How many Ends are to come.
     pub fn owed(&self) -> u16
         ensures { result ≡ owed_by self.now }

@@ -1,5 +1,5 @@
 //! The queue of a server: what is committed, and the actions after it.
-ghost use Rattle.std.specs.Prelude.{◌≡◌, ℕ, ◌+◌, ◌-◌, ◌^◌, ◌<◌, ◌≤◌, nat_lt, [], length, slice_index_or, is_some, IfNone, IfOk, IfSome, IsNone, OnOk, OnErr};
+ghost use Rattle.std.specs.Prelude.{◌≡◌, ℕ, ◌+◌, ◌-◌, ◌^◌, ◌<◌, ◌≤◌, nat_lt, [], length, slice_index_or, is_some, IfNone, IfOk, IfSome, IsNone, MatchOption, Some, None, OnOk, OnErr};
 ghost use Rattle.std.specs.List.{list_any};
 ghost use Rattle.sv_world.specs.Control.{is_in, last_writer, action_at};
 ghost use Rattle.sv_world.specs.Faults.{IsGoodAction};
@@ -145,6 +145,13 @@ impl Queue {
         &self.committed.as_slice()[object.0 as usize]
     }
 
+    /// The values of all objects at the commit.
+    pub fn values(&self) -> &[Value]
+        ensures { result.now ≡ self.now.committed }
+    {
+        self.committed.as_slice()
+    }
+
     /// The last writer of an object below a position where it is above the commit, else 0. One look-up.
     pub fn last_writer<L: Ledger>(&self, object: ObjectId, below: u32, steps: &mut Steps<L>) -> u32
         requires { object.0 < self.now.shape.objects }
@@ -265,6 +272,16 @@ impl Queue {
     {
         let entry = self.entry(pos, steps);
         entry.has_result
+    }
+
+    /// The result of an uncommitted position, where it has one.
+    pub fn result_at(&self, pos: u32) -> Option<&List<Value>>
+        requires { IsUncommitted self.now pos }
+        ensures { MatchOption result ((entry_at self.now pos).result ≡ None) (λ values. (entry_at self.now pos).result ≡ Some values.now) }
+    {
+        let place = (pos - self.commit - 1) as usize;
+        let entry = &self.entries[place];
+        entry.result.as_ref()
     }
 
     /// Whether a slot was given the committed value of an object.

@@ -5,7 +5,7 @@ use Rattle.std.specs.Prelude.{slice_set}
 use Rattle.sv_world.specs.Limits.{most_positions}
 use Rattle.sv_queue.specs.Queue.{Queued, QueueView, last_position, entry_at, no_entry, place_of, with_entry, with_action, with_result}
 use Rattle.sv_state.specs.declared.state.Above.{Above}
-use Rattle.sv_resume.specs.Resumed.{queued_of, with_above}
+use Rattle.sv_resume.specs.Queues.{queued_of, with_above}
 
 -- ---- Lists
 

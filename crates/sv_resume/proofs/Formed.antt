@@ -15,7 +15,8 @@ use Rattle.sv_state.specs.declared.state.ClientState.{ClientState}
 use Rattle.sv_state.specs.declared.state.OpenSession.{OpenSession}
 use Rattle.sv_state.specs.declared.state.State.{State}
 use Rattle.sv_state.specs.WellFormed.{have_attrs, is_result_of, is_good_above, is_good_client, client_numbers, are_good_outcomes, places_in, keeps_last, has_writers, actions_above, may_be_sent, may_be_given, is_members, is_good_open, IsWellFormed}
-use Rattle.sv_resume.specs.Resumed.{CanRise, CanBegin, IsRaisedIn, MayResume}
+use Rattle.sv_resume.specs.Queues.{CanRise}
+use Rattle.sv_resume.specs.Resumed.{CanBegin, IsRaisedIn, MayResume}
 
 -- Each element passes.
 pub all_pass : {X : Type 0} (p : X → Bool) (xs : List X) → list_all p xs ≡ true → All (λ x. p x ≡ true) xs

@@ -1,19 +1,29 @@
 -- What a queue has once positions were sent to a slot, and objects given to it.
-use Rattle.std.proofs.Common.{◌≡◌, ℕ, zero, suc, ◌+◌, ◌-◌, ◌<◌, ◌≤◌, Bool, true, false, ◌&&◌, ◌||◌, nat_eq, inl, inr, List, [], ◌∷◌, ◌++◌, map, length, All, Option, Some, None, ℤ, refl, sym, ◌∙◌, ap, arith}
+use Rattle.std.proofs.Common.{◌≡◌, ℕ, zero, suc, ◌+◌, ◌-◌, ◌<◌, ◌≤◌, Bool, true, false, ◌&&◌, ◌||◌, nat_eq, inl, inr, List, [], ◌∷◌, ◌++◌, map, length, All, Option, Some, None, ℤ, refl, sym, ◌∙◌, ap, arith, length-set}
 use Rattle.std.proofs.lemmas.Bool.{cases_eq, eq-eqb, ne_eqb, and_right}
+use Rattle.std.proofs.lemmas.List.{get_or-set_same, get_or-set_other}
 use mathlib.Core.Bool.{or-false, or_comm, and-true}
 use Rattle.sv_world.specs.declared.world.ObjectId.{ObjectId}
 use Rattle.sv_world.specs.declared.world.Shape.{Shape}
 use Rattle.sv_world.specs.Control.{is_in}
 use Rattle.sv_world.specs.Sets.{numbers_of}
 use Rattle.sv_queue.specs.Pairs.{is_pair}
-use Rattle.sv_queue.specs.Queue.{Queued, QueueView, IsUncommitted, last_position, entry_at, with_mark, with_given}
+use Rattle.sv_queue.specs.Queue.{Queued, QueueView, IsUncommitted, last_position, entry_at, no_entry, place_of, with_entry, with_mark, with_given}
 use Rattle.sv_queue.specs.Slots.{with_slot}
 use Rattle.sv_queue.proofs.PairSets.{is_pair-where}
 use Rattle.sv_queue.proofs.SlotSets.{in_slots}
-use Rattle.sv_core.specs.Relays.{marked_all}
-use Rattle.sv_core.proofs.FitMarks.{entry-same, entry-other, last-with_entry}
-use Rattle.sv_resume.specs.Resumed.{given_each}
+use Rattle.sv_resume.specs.Queues.{marked_each, given_each}
+
+-- ---- Entries
+
+entry-same : (v : QueueView) (p : ℕ) (e : Queued) → v.commit < p → p ≤ last_position v → entry_at (with_entry v p e) p ≡ e
+entry-same v p e low high = get_or-set_same v.entries (p - v.commit - 1) e no_entry (omega arith)
+
+entry-other : (v : QueueView) (p q : ℕ) (e : Queued) → v.commit < p → v.commit < q → (q ≡ p → ⊥) → entry_at (with_entry v p e) q ≡ entry_at v q
+entry-other v p q e low lower ne = get_or-set_other v.entries (p - v.commit - 1) (q - v.commit - 1) e no_entry (λ same. ne (omega arith))
+
+last-with_entry : (v : QueueView) (p : ℕ) (e : Queued) → last_position (with_entry v p e) ≡ last_position v
+last-with_entry v p e = ap (λ n. v.commit + n) (length-set v.entries (place_of v p) e)
 
 -- ---- What stays
 
@@ -46,9 +56,9 @@ like-mark v p slot = record {
   last = last-with_entry v p (record (entry_at v p) { marks = with_slot slot (entry_at v p).marks });
 }
 
-pub like-marked : (v : QueueView) (ps : List ℕ) (slot : ℕ) → IsLike v (marked_all v ps slot)
+pub like-marked : (v : QueueView) (ps : List ℕ) (slot : ℕ) → IsLike v (marked_each v ps slot)
 like-marked v [] slot = like-itself v
-like-marked v (p ∷ ps) slot = like-then v (with_mark v p slot) (marked_all (with_mark v p slot) ps slot) (like-mark v p slot) (like-marked (with_mark v p slot) ps slot)
+like-marked v (p ∷ ps) slot = like-then v (with_mark v p slot) (marked_each (with_mark v p slot) ps slot) (like-mark v p slot) (like-marked (with_mark v p slot) ps slot)
 
 pub like-given : (v : QueueView) (xs : List ObjectId) (slot : ℕ) → IsLike v (given_each v xs slot)
 like-given v [] slot = like-itself v
@@ -73,7 +83,7 @@ bare-mark v p slot q at low = elim (cases_eq q p) [
   | inr ne ↦ ap bare (entry-other v p q (record (entry_at v p) { marks = with_slot slot (entry_at v p).marks }) at.0 low ne)
 ]
 
-pub bare-marked : (v : QueueView) (ps : List ℕ) (slot q : ℕ) → All (IsUncommitted v) ps → v.commit < q → bare (entry_at (marked_all v ps slot) q) ≡ bare (entry_at v q)
+pub bare-marked : (v : QueueView) (ps : List ℕ) (slot q : ℕ) → All (IsUncommitted v) ps → v.commit < q → bare (entry_at (marked_each v ps slot) q) ≡ bare (entry_at v q)
 bare-marked v [] slot q all low = refl
 bare-marked v (p ∷ ps) slot q all low =
     bare-marked (with_mark v p slot) ps slot q
@@ -109,7 +119,7 @@ joined false false b c = refl
 
 -- The slots that an entry is marked for, once positions were sent to one.
 pub marks-marked : (v : QueueView) (ps : List ℕ) (slot t q : ℕ) → All (IsUncommitted v) ps → v.commit < q → t < 1024 →
-    is_in t (entry_at (marked_all v ps slot) q).marks ≡ (is_in t (entry_at v q).marks || (nat_eq slot t && is_in q ps))
+    is_in t (entry_at (marked_each v ps slot) q).marks ≡ (is_in t (entry_at v q).marks || (nat_eq slot t && is_in q ps))
 marks-marked v [] slot t q all low small =
     sym (ap (λ b. is_in t (entry_at v q).marks || b) (and_right (nat_eq slot t) false refl) ∙ or-false (is_in t (entry_at v q).marks))
 marks-marked v (p ∷ ps) slot t q all low small =
@@ -118,7 +128,7 @@ marks-marked v (p ∷ ps) slot t q all low small =
     ∙ ap (λ b. b || (nat_eq slot t && is_in q ps)) (mark-more v p slot t q (all 0 p (omega arith)) low small)
     ∙ joined (is_in t (entry_at v q).marks) (nat_eq slot t) (nat_eq q p) (is_in q ps)
 
-pub given-marked : (v : QueueView) (ps : List ℕ) (slot : ℕ) → (marked_all v ps slot).given ≡ v.given
+pub given-marked : (v : QueueView) (ps : List ℕ) (slot : ℕ) → (marked_each v ps slot).given ≡ v.given
 given-marked v [] slot = refl
 given-marked v (p ∷ ps) slot = given-marked (with_mark v p slot) ps slot
 

@@ -8,18 +8,15 @@ use Rattle.sv_world.specs.Control.{is_in}
 use Rattle.sv_world.specs.Sets.{numbers_of}
 use Rattle.sv_queue.specs.Pairs.{is_pair}
 use Rattle.sv_queue.specs.Queue.{Queued, QueueView, IsUncommitted, entry_at}
-use Rattle.sv_core.specs.Relays.{marked_all}
 use Rattle.sv_state.specs.declared.state.OpenSession.{OpenSession}
-use Rattle.law_state.specs.OfState.{place_of}
-use Rattle.law_state.specs.Stands.{sent_by, given_by}
-use Rattle.sv_resume.specs.Resumed.{given_each, with_session, with_sessions, CanSit}
+use Rattle.sv_resume.specs.Queues.{marked_each, given_each, with_session, with_sessions, CanSit}
 use Rattle.sv_resume.proofs.Marks.{IsLike, like-itself, like-then, like-marked, like-given, uncommitted-like, bare, bare-marked, marks-marked, given-marked, entry-given, pairs-given}
 
 -- ---- One session
 
 pub like-session : (v : QueueView) (slot : ℕ) (o : OpenSession) → IsLike v (with_session v slot o)
 like-session v slot o =
-    like-then v (marked_all v o.sent slot) (with_session v slot o) (like-marked v o.sent slot) (like-given (marked_all v o.sent slot) o.given slot)
+    like-then v (marked_each v o.sent slot) (with_session v slot o) (like-marked v o.sent slot) (like-given (marked_each v o.sent slot) o.given slot)
 
 -- Another may sit still.
 pub can_sit-like : (v w : QueueView) (os : List OpenSession) → IsLike v w → All (CanSit v) os → All (CanSit w) os
@@ -29,17 +26,17 @@ can_sit-like v w os like all = λ i d low. (let can = all i d low in record {
 })
 
 bare-session : (v : QueueView) (slot : ℕ) (o : OpenSession) (q : ℕ) → CanSit v o → v.commit < q → bare (entry_at (with_session v slot o) q) ≡ bare (entry_at v q)
-bare-session v slot o q can low = ap bare (entry-given (marked_all v o.sent slot) o.given slot q) ∙ bare-marked v o.sent slot q can.sent low
+bare-session v slot o q can low = ap bare (entry-given (marked_each v o.sent slot) o.given slot q) ∙ bare-marked v o.sent slot q can.sent low
 
 marks-session : (v : QueueView) (slot : ℕ) (o : OpenSession) (t q : ℕ) → CanSit v o → v.commit < q → t < 1024 →
     is_in t (entry_at (with_session v slot o) q).marks ≡ (is_in t (entry_at v q).marks || (nat_eq slot t && is_in q o.sent))
 marks-session v slot o t q can low small =
-    ap (λ (d : Queued). is_in t d.marks) (entry-given (marked_all v o.sent slot) o.given slot q) ∙ marks-marked v o.sent slot t q can.sent low small
+    ap (λ (d : Queued). is_in t d.marks) (entry-given (marked_each v o.sent slot) o.given slot q) ∙ marks-marked v o.sent slot t q can.sent low small
 
 pairs-session : (v : QueueView) (slot : ℕ) (o : OpenSession) (x t : ℕ) → x < v.shape.objects → t < 1024 →
     is_pair x t (with_session v slot o).given ≡ (is_pair x t v.given || (nat_eq slot t && is_in x (numbers_of o.given)))
 pairs-session v slot o x t low small =
-    pairs-given (marked_all v o.sent slot) o.given slot x t (omega (arith, low, ap (λ (s : Shape). s.objects) (like-marked v o.sent slot).shape)) small
+    pairs-given (marked_each v o.sent slot) o.given slot x t (omega (arith, low, ap (λ (s : Shape). s.objects) (like-marked v o.sent slot).shape)) small
     ∙ ap (λ ps. is_pair x t ps || (nat_eq slot t && is_in x (numbers_of o.given))) (given-marked v o.sent slot)
 
 -- ---- Sessions at the slots from one on
@@ -95,28 +92,10 @@ abbrev pub passes : (OpenSession → Bool) → Option OpenSession → Bool
 passes f None = false
 passes f (Some o) = f o
 
-passes_place : (f : OpenSession → Bool) (n : ℕ) (os : List OpenSession) (k t : ℕ) → t ≡ n + k → passes_at f n os t ≡ passes f (slice_get os k)
+pub passes_place : (f : OpenSession → Bool) (n : ℕ) (os : List OpenSession) (k t : ℕ) → t ≡ n + k → passes_at f n os t ≡ passes f (slice_get os k)
 passes_place f n [] k t at = refl
 passes_place f n (o ∷ os) zero t at =
     ap (λ b. (b && f o) || passes_at f (suc n) os t) (eq-eqb n t (omega (arith, at)))
     ∙ ap (λ b. f o || b) (passes_below f (suc n) os t (omega (arith, at))) ∙ or-false (f o)
 passes_place f n (o ∷ os) (suc k) t at =
     ap (λ b. (b && f o) || passes_at f (suc n) os t) (ne_eqb n t (λ e. omega (arith, e, at))) ∙ passes_place f (suc n) os k t (omega (arith, at))
-
-passes_sent : (q : ℕ) (os : List OpenSession) (k : ℕ) → passes (λ (o : OpenSession). is_in q o.sent) (slice_get os k) ≡ is_in q (sent_by (slice_get (map place_of os) k))
-passes_sent q [] k = refl
-passes_sent q (o ∷ os) zero = refl
-passes_sent q (o ∷ os) (suc k) = passes_sent q os k
-
-passes_given : (x : ℕ) (os : List OpenSession) (k : ℕ) →
-    passes (λ (o : OpenSession). is_in x (numbers_of o.given)) (slice_get os k) ≡ is_in x (given_by (slice_get (map place_of os) k))
-passes_given x [] k = refl
-passes_given x (o ∷ os) zero = refl
-passes_given x (o ∷ os) (suc k) = passes_given x os k
-
-pub sent-at : (q : ℕ) (os : List OpenSession) (t : ℕ) → passes_at (λ (o : OpenSession). is_in q o.sent) 0 os t ≡ is_in q (sent_by (slice_get (map place_of os) t))
-sent-at q os t = passes_place (λ (o : OpenSession). is_in q o.sent) 0 os t t refl ∙ passes_sent q os t
-
-pub given-at : (x : ℕ) (os : List OpenSession) (t : ℕ) →
-    passes_at (λ (o : OpenSession). is_in x (numbers_of o.given)) 0 os t ≡ is_in x (given_by (slice_get (map place_of os) t))
-given-at x os t = passes_place (λ (o : OpenSession). is_in x (numbers_of o.given)) 0 os t t refl ∙ passes_given x os t

@@ -6,6 +6,7 @@ use Rattle.sv_world.specs.declared.world.ObjectId.{ObjectId}
 use Rattle.sv_world.specs.declared.world.Shape.{Shape}
 use Rattle.sv_world.specs.declared.action.Action.{Action}
 use Rattle.sv_world.specs.Control.{is_in}
+use Rattle.sv_world.specs.Sets.{numbers_of}
 use Rattle.sv_clients.specs.declared.clients.Clients.{Clients}
 use Rattle.sv_clients.specs.Clients.{client_row}
 use Rattle.sv_queue.specs.Pairs.{is_pair}
@@ -18,9 +19,10 @@ use Rattle.sv_state.specs.declared.state.State.{State}
 use Rattle.sv_state.specs.WellFormed.{position_of, above_numbered, client_with}
 use Rattle.law_state.specs.OfState.{place_of, row_in, IsRaised, HasState}
 use Rattle.law_state.specs.Stands.{row_of, sent_by, given_by}
-use Rattle.sv_resume.specs.Resumed.{queued_of, with_sessions, CanSit, risen_queue, resumed_queue, IsRaisedIn, MayResume}
+use Rattle.sv_resume.specs.Queues.{queued_of, with_sessions, CanSit}
+use Rattle.sv_resume.specs.Resumed.{risen_queue, resumed_queue, IsRaisedIn, MayResume}
 use Rattle.sv_resume.proofs.Marks.{IsLike, bare}
-use Rattle.sv_resume.proofs.Seating.{like-sessions, bare-sessions, passes_at, marks-sessions, pairs-sessions, sent-at, given-at}
+use Rattle.sv_resume.proofs.Seating.{like-sessions, bare-sessions, passes_at, passes, passes_place, marks-sessions, pairs-sessions}
 
 risen-last : (shape : Shape) (s : State) (room : ℕ) → last_position (risen_queue shape s room) ≡ position_of s
 risen-last shape s room = ap (λ n. s.commit + n) (length-map s.above queued_of)
@@ -58,6 +60,24 @@ raised-by v p a same = record {
 }
 
 -- ---- Sessions
+
+passes_sent : (q : ℕ) (os : List OpenSession) (k : ℕ) → passes (λ (o : OpenSession). is_in q o.sent) (slice_get os k) ≡ is_in q (sent_by (slice_get (map place_of os) k))
+passes_sent q [] k = refl
+passes_sent q (o ∷ os) zero = refl
+passes_sent q (o ∷ os) (suc k) = passes_sent q os k
+
+passes_given : (x : ℕ) (os : List OpenSession) (k : ℕ) →
+    passes (λ (o : OpenSession). is_in x (numbers_of o.given)) (slice_get os k) ≡ is_in x (given_by (slice_get (map place_of os) k))
+passes_given x [] k = refl
+passes_given x (o ∷ os) zero = refl
+passes_given x (o ∷ os) (suc k) = passes_given x os k
+
+pub sent-at : (q : ℕ) (os : List OpenSession) (t : ℕ) → passes_at (λ (o : OpenSession). is_in q o.sent) 0 os t ≡ is_in q (sent_by (slice_get (map place_of os) t))
+sent-at q os t = passes_place (λ (o : OpenSession). is_in q o.sent) 0 os t t refl ∙ passes_sent q os t
+
+pub given-at : (x : ℕ) (os : List OpenSession) (t : ℕ) →
+    passes_at (λ (o : OpenSession). is_in x (numbers_of o.given)) 0 os t ≡ is_in x (given_by (slice_get (map place_of os) t))
+given-at x os t = passes_place (λ (o : OpenSession). is_in x (numbers_of o.given)) 0 os t t refl ∙ passes_given x os t
 
 pub rows-as : (os : List OpenSession) → map (λ (o : OpenSession). row_of (place_of o)) os ≡ map row_of (map place_of os)
 rows-as [] = refl

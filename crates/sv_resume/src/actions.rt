@@ -4,8 +4,7 @@ ghost use Rattle.sv_world.specs.Limits.{most_positions};
 ghost use Rattle.sv_world.specs.Sets.{write_set};
 ghost use Rattle.sv_world.specs.Worlds.{HaveAttrs};
 ghost use Rattle.sv_queue.specs.Queue.{IsUncommitted, last_position, entry_at, with_result};
-ghost use Rattle.sv_state.specs.declared.state.Above.{Above};
-ghost use Rattle.sv_resume.specs.Resumed.{CanRise, with_above};
+ghost use Rattle.sv_resume.specs.Queues.{CanRise, with_above};
 
 use std::alloc::{AllocError, Global};
 use sv_lists::List;

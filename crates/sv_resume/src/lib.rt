@@ -4,6 +4,7 @@
 mod actions;
 mod clients;
 mod resume;
+mod rows;
 mod seats;
 
 pub use resume::core_of;

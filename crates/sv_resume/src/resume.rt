@@ -8,7 +8,8 @@ ghost use Rattle.sv_resume.specs.Standing.{StandsAt};
 
 use crate::actions::add_actions;
 use crate::clients::clients_of;
-use crate::seats::{rows_of, seat_all};
+use crate::rows::rows_of;
+use crate::seats::seat_all;
 use std::alloc::{AllocError, Global};
 use sv_core::{Core, Opened};
 use sv_queue::Queue;

@@ -1,6 +1,6 @@
 -- The actions before the next one were added.
 use Rattle.std.proofs.Common.{◌≡◌, take}
-use Rattle.sv_resume.specs.Resumed.{with_above}
+use Rattle.sv_resume.specs.Queues.{with_above}
 use Rattle.sv_resume.proofs.actions.add_actions.Given as goal
 
 abbrev pub invariant-loop-action : goal.invariant-loop-action

@@ -1,6 +1,6 @@
 -- With the objects that are left the queue is that with all.
 use Rattle.std.proofs.Common.{◌≡◌, drop}
-use Rattle.sv_resume.specs.Resumed.{given_each}
+use Rattle.sv_resume.specs.Queues.{given_each}
 use Rattle.sv_resume.proofs.Marks.{IsLike}
 use Rattle.sv_resume.proofs.seats.give_each.Given as goal
 

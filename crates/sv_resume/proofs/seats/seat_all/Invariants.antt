@@ -1,6 +1,6 @@
 -- With the sessions that are left the queue is that with all.
 use Rattle.std.proofs.Common.{◌≡◌, drop}
-use Rattle.sv_resume.specs.Resumed.{with_sessions}
+use Rattle.sv_resume.specs.Queues.{with_sessions}
 use Rattle.sv_resume.proofs.Marks.{IsLike}
 use Rattle.sv_resume.proofs.seats.seat_all.Given as goal
 
