@@ -281,7 +281,10 @@ impl Queue {
     {
         let place = (pos - self.commit - 1) as usize;
         let entry = &self.entries[place];
-        entry.result.as_ref()
+        match &entry.result {
+            Some(values) => Some(values),
+            None => None,
+        }
     }
 
     /// Whether a slot was given the committed value of an object.

@@ -1,7 +1,7 @@
 -- A queue with more actions behind the others.
 use Rattle.std.proofs.Common.{◌≡◌, ℕ, zero, suc, ◌+◌, ◌-◌, ◌<◌, ◌≤◌, List, [], ◌∷◌, ◌++◌, map, length, take, drop, get_or, All, Option, ℤ, Some, None, refl, sym, ◌∙◌, ap, subst, arith, append-nil, append_assoc, length-append}
 use Rattle.std.proofs.lemmas.List.{drop_more, take_more, get_or_push, length-map, map-append}
-use Rattle.std.specs.Prelude.{slice_set}
+use Rattle.std.specs.Prelude.{slice_set, OnOk, Result, Ok, Err}
 use Rattle.sv_world.specs.Limits.{most_positions}
 use Rattle.sv_queue.specs.Queue.{Queued, QueueView, last_position, entry_at, no_entry, place_of, with_entry, with_action, with_result}
 use Rattle.sv_state.specs.declared.state.Above.{Above}
@@ -39,6 +39,11 @@ with_result-last v e p values is =
     ap (λ (d : Queued). with_entry (with_queued v e) p (record d { result = Some values })) (last-entry v e p is)
     ∙ ap (λ k. record v { entries = slice_set (v.entries ++ e ∷ []) k (record e { result = Some values }) }) (last-place v e p is)
     ∙ ap (λ es. record v { entries = es }) (set_last v.entries e (record e { result = Some values }))
+
+-- What holds where it went well, and what follows from it.
+pub then_ok : {A E P Q : Type 0} (r : Result A E) → (P → Q) → OnOk r P → OnOk r Q
+then_ok (Ok x) f p = f p
+then_ok (Err e) f p = tt
 
 -- ---- More actions
 

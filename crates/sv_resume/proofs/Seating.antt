@@ -1,5 +1,5 @@
 -- A queue with sessions at the slots from one on.
-use Rattle.std.proofs.Common.{◌≡◌, ℕ, zero, suc, ◌+◌, ◌<◌, ◌≤◌, Bool, true, false, ◌&&◌, ◌||◌, nat_eq, List, [], ◌∷◌, map, length, slice_get, All, Option, Some, None, refl, sym, ◌∙◌, ap, subst, arith}
+use Rattle.std.proofs.Common.{◌≡◌, ℕ, zero, suc, ◌+◌, ◌<◌, ◌≤◌, Bool, true, false, ◌&&◌, ◌||◌, nat_eq, List, [], ◌∷◌, map, length, drop, get_or, slice_get, All, Option, Some, None, refl, sym, ◌∙◌, ap, subst, arith}
 use Rattle.std.proofs.lemmas.Bool.{eq-eqb, ne_eqb}
 use mathlib.Core.Bool.{or-false}
 use Rattle.sv_world.specs.declared.world.ObjectId.{ObjectId}
@@ -10,6 +10,7 @@ use Rattle.sv_queue.specs.Pairs.{is_pair}
 use Rattle.sv_queue.specs.Queue.{Queued, QueueView, IsUncommitted, entry_at}
 use Rattle.sv_state.specs.declared.state.OpenSession.{OpenSession}
 use Rattle.sv_resume.specs.Queues.{marked_each, given_each, with_session, with_sessions, CanSit}
+use Rattle.sv_resume.proofs.Adds.{left_from}
 use Rattle.sv_resume.proofs.Marks.{IsLike, like-itself, like-then, like-marked, like-given, uncommitted-like, bare, bare-marked, marks-marked, given-marked, entry-given, pairs-given}
 
 -- ---- One session
@@ -19,11 +20,14 @@ like-session v slot o =
     like-then v (marked_each v o.sent slot) (with_session v slot o) (like-marked v o.sent slot) (like-given (marked_each v o.sent slot) o.given slot)
 
 -- Another may sit still.
-pub can_sit-like : (v w : QueueView) (os : List OpenSession) → IsLike v w → All (CanSit v) os → All (CanSit w) os
-can_sit-like v w os like all = λ i d low. (let can = all i d low in record {
-  sent = uncommitted-like v w _ like can.sent;
-  given = subst (λ (s : Shape). All (λ (x : ObjectId). x.0 < s.objects) _) (sym like.shape) can.given;
-})
+pub can_sit-one : (v w : QueueView) (o : OpenSession) → IsLike v w → CanSit v o → CanSit w o
+can_sit-one v w o like can = record {
+  sent = uncommitted-like v w o.sent like can.sent;
+  given = subst (λ (s : Shape). All (λ (x : ObjectId). x.0 < s.objects) o.given) (sym like.shape) can.given;
+}
+
+can_sit-like : (v w : QueueView) (os : List OpenSession) → IsLike v w → All (CanSit v) os → All (CanSit w) os
+can_sit-like v w os like all = λ i d low. can_sit-one v w (get_or os i d) like (all i d low)
 
 bare-session : (v : QueueView) (slot : ℕ) (o : OpenSession) (q : ℕ) → CanSit v o → v.commit < q → bare (entry_at (with_session v slot o) q) ≡ bare (entry_at v q)
 bare-session v slot o q can low = ap bare (entry-given (marked_each v o.sent slot) o.given slot q) ∙ bare-marked v o.sent slot q can.sent low
@@ -55,6 +59,14 @@ bare-sessions v slot [] q all low = refl
 bare-sessions v slot (o ∷ os) q all low =
     bare-sessions (with_session v slot o) (suc slot) os q (rest_can v slot o os all) (omega (arith, low, (like-session v slot o).commit))
     ∙ bare-session v slot o q (all 0 o (omega arith)) low
+
+-- One session more.
+pub sessions-more : (v w r : QueueView) (os : List OpenSession) (i : ℕ) (o : OpenSession) → i < length os → o ≡ get_or os i o → w ≡ with_session v i o →
+    with_sessions v i (drop i os) ≡ r → with_sessions w (i + 1) (drop (i + 1) os) ≡ r
+sessions-more v w r os i o low is made past =
+    ap (λ u. with_sessions u (i + 1) (drop (i + 1) os)) made
+    ∙ ap (λ n. with_sessions (with_session v i o) n (drop (i + 1) os)) (let same : i + 1 ≡ suc i = omega arith in same)
+    ∙ sym (ap (with_sessions v i) (left_from os i o low is)) ∙ past
 
 -- Of the sessions at the slots from n on, that of a slot passes a test.
 abbrev pub passes_at : (OpenSession → Bool) → ℕ → List OpenSession → ℕ → Bool
