@@ -12,7 +12,7 @@ use Rattle.sv_journal.specs.declared.entry.Entry.{Entry}
 use Rattle.sv_journal.specs.declared.entry.Logged.{Logged}
 use Rattle.sv_journal.specs.declared.entry.Logged.TheVariants as logged
 use Rattle.sv_journal.specs.Answer.{refused_as}
-use Rattle.sv_sequencer.specs.Step.{end_entry}
+use Rattle.sv_journal.specs.History.{end_entry}
 use Rattle.law_state.specs.Plans.{Fate, Takes, Drops, Denies, Turn, planned_outcomes}
 
 -- ---- Sessions that are nobody's

@@ -169,7 +169,6 @@ pub record SuitsRules (r : Rules) (s : State) : Type 0 where
   pub limit : r.positions ≤ most_positions
   pub positions : position_of s ≤ r.positions
   pub objects : length r.world.values ≡ r.world.shape.objects
-  pub opening : s.commit ≡ 0 → s.values ≡ r.world.values
 
 -- The sessions that are open by a history, and those that have an entry.
 pub record HasSessions (s : State) (h : List Entry) : Type 0 where
@@ -184,5 +183,5 @@ pub record IsOfState (r : Rules) (w : Stewardship) (s : State) (h : List Entry) 
 
 -- For each well-formed state there is one.
 abbrev pub StatesHaveHistories : Type 0
-StatesHaveHistories = (r : Rules) (w : Stewardship) (s : State) → IsWellFormed r.world.shape s → HasNumbers s → SuitsRules r s →
+StatesHaveHistories = (r : Rules) (w : Stewardship) (s : State) → IsWellFormed r.world s → HasNumbers s → SuitsRules r s →
     (w.authority ≡ true → IsSome w.steward) → (h : List Entry) × IsOfState r w s h

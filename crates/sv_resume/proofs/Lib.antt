@@ -2,6 +2,7 @@
 pub mod Adds
 pub mod Clients
 pub mod Formed
+pub mod Kept
 pub mod Marks
 pub mod Seating
 pub mod Standing

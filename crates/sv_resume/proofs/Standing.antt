@@ -10,17 +10,20 @@ use Rattle.sv_world.specs.Sets.{numbers_of}
 use Rattle.sv_clients.specs.declared.clients.Clients.{Clients}
 use Rattle.sv_clients.specs.Clients.{client_row}
 use Rattle.sv_queue.specs.Pairs.{is_pair}
-use Rattle.sv_queue.specs.Queue.{Queued, QueueView, IsUncommitted, last_position, entry_at, no_entry}
+use Rattle.sv_queue.specs.Queue.{Queued, QueueView, IsUncommitted, last_position, entry_at, no_entry, opening_queue}
 use Rattle.sv_journal.specs.Answer.{Rules}
+use Rattle.sv_core.specs.declared.server_core.Core.{Core}
 use Rattle.sv_core.specs.declared.sessions.SessionRow.{SessionRow}
+use Rattle.sv_core.specs.Cores.{core_rules, queue_of, rows_of, clients_of, owed_by}
 use Rattle.sv_state.specs.declared.state.Above.{Above}
 use Rattle.sv_state.specs.declared.state.OpenSession.{OpenSession}
 use Rattle.sv_state.specs.declared.state.State.{State}
 use Rattle.sv_state.specs.WellFormed.{position_of, above_numbered, client_with}
 use Rattle.law_state.specs.OfState.{place_of, row_in, IsRaised, HasState}
 use Rattle.law_state.specs.Stands.{row_of, sent_by, given_by}
-use Rattle.sv_resume.specs.Queues.{queued_of, with_sessions, CanSit}
+use Rattle.sv_resume.specs.Queues.{queued_of, with_above, with_sessions, CanSit}
 use Rattle.sv_resume.specs.Resumed.{risen_queue, resumed_queue, IsRaisedIn, MayResume}
+use Rattle.sv_resume.specs.Standing.{StandsAt}
 use Rattle.sv_resume.proofs.Marks.{IsLike, bare}
 use Rattle.sv_resume.proofs.Seating.{like-sessions, bare-sessions, passes_at, passes, passes_place, marks-sessions, pairs-sessions}
 
@@ -83,6 +86,18 @@ pub rows-as : (os : List OpenSession) → map (λ (o : OpenSession). row_of (pla
 rows-as [] = refl
 rows-as (o ∷ os) = ap (λ rs. row_of (place_of o) ∷ rs) (rows-as os)
 
+-- ---- The queue, as it was made
+
+pub risen-is : (shape : Shape) (s : State) (v w u : QueueView) → v ≡ record (opening_queue (record { shape = shape; values = s.values })) { commit = s.commit } →
+    w ≡ with_above v s.above → u ≡ record w { room = u.room } → u ≡ risen_queue shape s u.room
+risen-is shape s v w u begun risen roomy =
+    roomy ∙ ap (λ (x : QueueView). record x { room = u.room }) (risen ∙ ap (λ (x : QueueView). with_above x s.above) begun)
+
+pub resumed-is : (shape : Shape) (s : State) (u q : QueueView) → u ≡ risen_queue shape s u.room → q ≡ with_sessions u 0 s.opened → q ≡ resumed_queue shape s q.room
+resumed-is shape s u q is seated =
+    seated ∙ ap (λ (x : QueueView). with_sessions x 0 s.opened) is
+    ∙ ap (resumed_queue shape s) (sym (ap (λ (x : QueueView). x.room) seated ∙ (like-sessions u 0 s.opened).room))
+
 -- ---- The whole
 
 pub has_state : (r : Rules) (s : State) (room : ℕ) (rows : List SessionRow) (clients : Clients) (owed : ℕ) → MayResume r.world.shape s →
@@ -116,3 +131,13 @@ has_state r s room rows clients owed may roomy seats begun owes = record {
 
     can : All (CanSit u) s.opened
     can = may_sit r.world.shape s room may
+
+-- A core of such parts stands at the state.
+pub stands-by : (core : Core) (r : Rules) (s : State) (v : QueueView) (rows : List SessionRow) (clients : Clients) (owed : ℕ) → core_rules core ≡ r → queue_of core ≡ v →
+    rows_of core ≡ rows → clients_of core ≡ clients → owed_by core ≡ owed → HasState r s v rows clients owed → StandsAt core s
+stands-by core r s v rows clients owed rules queue seats kept owes has =
+    subst (λ x. HasState x s (queue_of core) (rows_of core) (clients_of core) (owed_by core)) (sym rules)
+    (subst (λ x. HasState r s x (rows_of core) (clients_of core) (owed_by core)) (sym queue)
+    (subst (λ x. HasState r s v x (clients_of core) (owed_by core)) (sym seats)
+    (subst (λ x. HasState r s v rows x (owed_by core)) (sym kept)
+    (subst (λ x. HasState r s v rows clients x) (sym owes) has))))

@@ -3,8 +3,10 @@
 
 mod actions;
 mod clients;
+mod kept;
 mod resume;
 mod rows;
 mod seats;
 
+pub use kept::histories_are_kept;
 pub use resume::core_of;
