@@ -6,3 +6,4 @@ pub mod Kept
 pub mod Marks
 pub mod Seating
 pub mod Standing
+pub mod Taken

@@ -2,3 +2,4 @@
 pub mod Queues
 pub mod Resumed
 pub mod Standing
+pub mod Taken

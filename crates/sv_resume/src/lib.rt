@@ -7,6 +7,8 @@ mod kept;
 mod resume;
 mod rows;
 mod seats;
+mod taken;
 
 pub use kept::histories_are_kept;
 pub use resume::core_of;
+pub use taken::state_of;

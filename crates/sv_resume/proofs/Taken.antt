@@ -1,0 +1,56 @@
+-- The lists of a state, one element more.
+use Rattle.std.proofs.Common.{◌≡◌, ℕ, zero, suc, ◌+◌, ◌-◌, ◌<◌, ◌≤◌, Bool, true, false, cond, nat_lt, List, [], ◌∷◌, ◌++◌, map, filter, length, take, get_or, refl, sym, ◌∙◌, ap, arith, append-nil, append_assoc}
+use Rattle.std.proofs.lemmas.List.{take_more, map-append}
+use Rattle.std.proofs.lemmas.List.Elements.{filter-append}
+use Rattle.sv_world.specs.declared.world.ObjectId.{ObjectId}
+use Rattle.sv_world.specs.Control.{is_in, below}
+use Rattle.sv_clients.specs.declared.outcome.Outcome.{Outcome as OutcomeRow}
+use Rattle.sv_clients.specs.declared.outcome.Outcome.TheVariants as rows
+use Rattle.sv_clients.specs.Clients.{outcome_value}
+use Rattle.sv_queue.specs.Queue.{Queued, marked_above}
+use Rattle.law_state.specs.States.{outcome_row}
+
+-- Numbers that pass a test, below the next one.
+pub passed-more : {X : Type 0} (f : ℕ → X) (p : ℕ → Bool) (n : ℕ) → map f (filter p (below (suc n))) ≡ map f (filter p (below n)) ++ cond (p n) (f n ∷ []) []
+passed-more f p n = ap (map f) (filter-append p (below n) (n ∷ [])) ∙ map-append f (filter p (below n)) (filter p (n ∷ [])) ∙ ap (λ xs. map f (filter p (below n)) ++ xs) (go (p n))
+  where
+    go : (b : Bool) → map f (cond b (n ∷ []) []) ≡ cond b (f n ∷ []) []
+    go true = refl
+    go false = refl
+
+-- Entries that are marked for a slot, with one more.
+marked-push : (n : ℕ) (es : List Queued) (e : Queued) (s : ℕ) → marked_above n (es ++ e ∷ []) s ≡ marked_above n es s ++ cond (is_in s e.marks) (suc (n + length es) ∷ []) []
+marked-push n [] e s = go (is_in s e.marks)
+  where
+    go : (b : Bool) → cond b (suc n ∷ []) [] ≡ cond b (suc (n + 0) ∷ []) []
+    go b = ap (λ m. cond b (suc m ∷ []) []) (let same : n ≡ n + 0 = omega arith in same)
+marked-push n (d ∷ es) e s = go (is_in s d.marks)
+  where
+    later : marked_above (suc n) (es ++ e ∷ []) s ≡ marked_above (suc n) es s ++ cond (is_in s e.marks) (suc (n + length (d ∷ es)) ∷ []) []
+    later = marked-push (suc n) es e s ∙ ap (λ m. marked_above (suc n) es s ++ cond (is_in s e.marks) (suc m ∷ []) []) (let same : suc n + length es ≡ n + suc (length es) = omega arith in same)
+
+    go : (b : Bool) → cond b (suc n ∷ marked_above (suc n) (es ++ e ∷ []) s) (marked_above (suc n) (es ++ e ∷ []) s)
+        ≡ cond b (suc n ∷ marked_above (suc n) es s) (marked_above (suc n) es s) ++ cond (is_in s e.marks) (suc (n + length (d ∷ es)) ∷ []) []
+    go true = ap (λ ps. suc n ∷ ps) later
+    go false = later
+
+length-taken : {X : Type 0} (xs : List X) (i : ℕ) → i ≤ length xs → length (take i xs) ≡ i
+length-taken xs zero low = refl
+length-taken [] (suc i) low = absurd (omega (arith, low))
+length-taken (x ∷ xs) (suc i) low = ap suc (length-taken xs i (omega (arith, low)))
+
+pub marked-more : (n : ℕ) (es : List Queued) (i s : ℕ) (d : Queued) → i < length es →
+    marked_above n (take (i + 1) es) s ≡ marked_above n (take i es) s ++ cond (is_in s (get_or es i d).marks) (suc (n + i) ∷ []) []
+marked-more n es i s d low =
+    ap (λ xs. marked_above n xs s) (take_more es i d low) ∙ marked-push n (take i es) (get_or es i d) s
+    ∙ ap (λ m. marked_above n (take i es) s ++ cond (is_in s (get_or es i d).marks) (suc (n + m) ∷ []) []) (length-taken es i (omega (arith, low)))
+
+-- An outcome that is taken from a row is the row's.
+pub outcomes-again : (os : List OutcomeRow) → os ≡ map outcome_row (map outcome_value os)
+outcomes-again [] = refl
+outcomes-again (o ∷ os) = ap (λ x. x ∷ os) (go o) ∙ ap (λ xs. outcome_row (outcome_value o) ∷ xs) (outcomes-again os)
+  where
+    go : (x : OutcomeRow) → x ≡ outcome_row (outcome_value x)
+    go (rows.Accepted p) = refl
+    go (rows.Dropped chain far) = refl
+    go (rows.Denied object) = refl

@@ -1,0 +1,8 @@
+-- The ghost arguments of `state_of`.
+use Rattle.sv_resume.proofs.taken.state_of.Given as goal
+
+abbrev pub ghosts-raised_of : goal.ghosts-raised_of
+ghosts-raised_of a = record { name = a.blank.name; parts = a.blank.parts }
+
+abbrev pub ghosts-members_of : goal.ghosts-members_of
+ghosts-members_of a = record { name = a.blank-2.name; parts = a.blank-2.parts }
