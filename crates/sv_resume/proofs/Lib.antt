@@ -1,9 +1,10 @@
 -- The lemmas of this crate, file by file.
 pub mod Adds
-pub mod Clients
+pub mod Agreeing
+pub mod ClientRows
 pub mod Formed
-pub mod Kept
 pub mod Marks
+pub mod OfHistory
 pub mod Seating
 pub mod Standing
-pub mod Taken
+pub mod TakenLists

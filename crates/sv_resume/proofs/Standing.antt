@@ -114,7 +114,7 @@ has_state r s room rows clients owed may roomy seats begun owes = record {
       ∙ ap (λ ms. is_in slot ms || passes_at (λ (o : OpenSession). is_in p o.sent) 0 s.opened slot) (unmarked s.above (p - s.commit - 1))
       ∙ sent-at p s.opened slot;
   given = λ x slot low small. pairs-sessions u 0 s.opened x slot low small ∙ given-at x s.opened slot;
-  room = omega (arith, roomy, like.room);
+  room = subst (λ n. length s.opened ≤ n) (sym like.room) roomy;
   session_rows = seats;
   client_rows = λ k low. begun k;
   ends = owes;

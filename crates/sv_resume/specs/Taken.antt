@@ -6,6 +6,7 @@ use Rattle.sv_world.specs.Sets.{object_numbered}
 use Rattle.sv_clients.specs.declared.clients.Clients.{Clients}
 use Rattle.sv_clients.specs.Clients.{KeptClient, client_row}
 use Rattle.sv_queue.specs.Queue.{Queued, QueueView, sent_positions, given_objects}
+use Rattle.sv_journal.specs.declared.entry.Entry.{Entry}
 use Rattle.sv_core.specs.declared.seats.Seat.{Seat}
 use Rattle.sv_core.specs.declared.server_core.Core.{Core}
 use Rattle.sv_core.specs.declared.sessions.SessionRow.{SessionRow}
@@ -15,7 +16,7 @@ use Rattle.sv_state.specs.declared.state.Above.{Above}
 use Rattle.sv_state.specs.declared.state.ClientState.{ClientState}
 use Rattle.sv_state.specs.declared.state.OpenSession.{OpenSession}
 use Rattle.sv_state.specs.declared.state.State.{State}
-use Rattle.law_state.specs.States.{client_numbered, outcome_row}
+use Rattle.law_state.specs.States.{client_numbered, outcome_row, sessions_begun, unended}
 
 -- An action above the commit, as a queue has it.
 abbrev pub above_of : Queued → Above
@@ -50,3 +51,8 @@ state_in core entries next seats = record {
   clients = clients_below (clients_of core) client_numbers;
   opened = map (session_by (queue_of core) (rows_of core)) seats;
 }
+
+-- The sessions that are open by a history, ascending, and the number of its next one.
+pub record AreOfHistory (h : List Entry) (next : ℕ) (seats : List Seat) : Type 0 where
+  pub next_is : sessions_begun h ≡ next
+  pub opened : unended h ≡ map (λ (seat : Seat). seat.session) seats

@@ -1,13 +1,15 @@
 //! The state of a core.
-ghost use Rattle.std.specs.Prelude.{◌≡◌, ℕ, ◌<◌, ◌≤◌, map, option_map, length, All, IfOk};
+ghost use Rattle.std.specs.Prelude.{◌≡◌, ℕ, ◌<◌, ◌≤◌, List, map, option_map, length, All, IfOk};
 ghost use Rattle.sv_world.specs.Limits.{client_numbers, most_positions};
 ghost use Rattle.sv_world.specs.Sets.{object_numbered};
 ghost use Rattle.sv_clients.specs.Clients.{client_row};
+ghost use Rattle.sv_journal.specs.declared.entry.Entry.{Entry};
 ghost use Rattle.sv_queue.specs.Queue.{IsUncommitted, entry_at, sent_positions, given_objects};
-ghost use Rattle.sv_core.specs.Cores.{queue_of, rows_of, clients_of, SitsAt, IsKept};
+ghost use Rattle.sv_core.specs.Cores.{core_rules, queue_of, rows_of, clients_of, SitsAt, Keeps, IsKept};
 ghost use Rattle.sv_core.specs.declared.seats.Seat.{Seat};
-ghost use Rattle.law_state.specs.States.{client_numbered};
-ghost use Rattle.sv_resume.specs.Taken.{above_of, client_by, clients_below, session_by, state_in};
+ghost use Rattle.law_state.specs.States.{client_numbered, state_after};
+ghost use Rattle.law_state.specs.Kept.{IsLivingHistory};
+ghost use Rattle.sv_resume.specs.Taken.{above_of, client_by, clients_below, session_by, state_in, AreOfHistory};
 
 use std::alloc::{AllocError, Global};
 use std::marker::Brand;
@@ -33,7 +35,8 @@ struct Members {
     opened: List<OpenSession>,
 }
 
-/// The state of a core after so many entries, where the next session has this number, and these are open, ascending.
+/// The state of a core after so many entries, where the next session has this number, and these are open, ascending. It is that of each history
+/// of a world without end that the core keeps.
 pub fn state_of(
     alloc: Global,
     core: &Core,
@@ -43,11 +46,12 @@ pub fn state_of(
 ) -> Result<State, AllocError>
     requires kept { IsKept core.now }
     requires seats { All (SitsAt core.now) seats.now }
-    ensures { IfOk result (λ state. state ≡ state_in core.now entries next seats.now) }
+    ensures state { IfOk result (λ state. state ≡ state_in core.now entries next seats.now) }
+    ensures told { IfOk result (λ state. (h : List Entry) → Keeps core.now h → IsLivingHistory (core_rules core.now) h → AreOfHistory h next seats.now →
+        state ≡ state_after (core_rules core.now) entries h) }
 {
     let Raised { values, above } = raised_of::<Brand>(alloc, core.queue(), Blank::new(1))?;
-    let members = members_of::<Brand>(alloc, core, seats, Blank::new(1))?;
-    let Members { clients, opened } = members;
+    let Members { clients, opened } = members_of::<Brand>(alloc, core, seats, Blank::new(1))?;
     Ok(State {
         entries,
         sessions: next,

@@ -1,6 +1,6 @@
 -- What the check leaves to prove of `histories_are_kept`.
 use Rattle.sv_core.specs.Cores.{core_rules, queue_of, rows_of, clients_of, owed_by}
-use Rattle.sv_resume.proofs.Kept.{agrees-all}
+use Rattle.sv_resume.proofs.Agreeing.{agrees-all}
 use Rattle.sv_resume.proofs.kept.histories_are_kept.Goals as goal
 
 pub returns : goal.returns
