@@ -2,7 +2,7 @@
 use Rattle.std.proofs.Common.{◌≡◌, ℕ, zero, suc, ◌+◌, ◌-◌, ◌<◌, ◌≤◌, Bool, true, false, ◌&&◌, ◌||◌, cond, nat_eq, nat_lt, inl, inr, List, [], ◌∷◌, ◌++◌, map, filter, length, get_or, All, Option, Some, None, option_map, ℤ, refl, sym, ◌∙◌, ap, subst, arith}
 use Rattle.std.proofs.lemmas.Bool.{both_ways, or_cases, or_left, or_right, eq-eqb, eqb-true, lt-ltb, le-ltb}
 use Rattle.std.proofs.lemmas.List.Elements.{filter-append}
-use Rattle.sv_world.specs.declared.world.ClientId.{ClientId}
+use Rattle.sv_world.specs.declared.action.Action.{Action}
 use Rattle.sv_world.specs.declared.world.ObjectId.{ObjectId}
 use Rattle.sv_world.specs.Control.{is_in, below}
 use Rattle.sv_world.specs.Sets.{object_numbered}
@@ -12,7 +12,7 @@ use Rattle.sv_clients.specs.declared.clients.Clients.{Clients}
 use Rattle.sv_clients.specs.Clients.{KeptClient, client_row, last_of}
 use Rattle.sv_queue.specs.Queue.{Queued, QueueView, entry_at, no_entry, marked_above, sent_positions, given_objects}
 use Rattle.sv_journal.specs.declared.entry.Entry.{Entry}
-use Rattle.sv_journal.specs.History.{Outcome, client_of, outcomes_of, accepted, next_seq, result_at, commit_of, committed_of}
+use Rattle.sv_journal.specs.History.{Outcome, client_of, outcomes_of, accepted, authored_at, next_seq, result_at, commit_of, committed_of}
 use Rattle.sv_journal.specs.Sessions.{kept_count, life_of, is_over, sent_to, named_to, already_given}
 use Rattle.sv_journal.specs.Answer.{Rules}
 use Rattle.sv_core.specs.declared.seats.Seat.{Seat}
@@ -100,8 +100,8 @@ marked-among n (e ∷ es) s =
 
 -- ---- A core
 
-abbrev pub as_above : ClientId → ℕ → Above → Above
-as_above client seq a = record a { client = client; seq = seq }
+abbrev pub as_above : ℕ → ℕ → Action → Option (List (List ℤ)) → Above
+as_above k seq action result = record { client = client_numbered k; seq = seq; action = action; result = result }
 
 abbrev pub as_client : ℕ → ℕ → ℕ → List Outcome → ClientState
 as_client k life next kept = record { client = client_numbered k; life = life; next = next; kept = map outcome_row kept }
@@ -124,11 +124,13 @@ module _ (r : Rules) (h : List Entry) (v : QueueView) (rows : List SessionRow) (
 
   above-told : (p : ℕ) → v.commit < p → p ≤ length (accepted h) → above_of (entry_at v p) ≡ above_at h p
   above-told p low high =
-      (let e = a.fits.entries p low high in
-      ap (λ n. record { client = record { 0 = n }; seq = (entry_at v p).seq; action = (entry_at v p).action; result = (entry_at v p).result }) e.author
-      ∙ ap (λ n. record (above_at h p) { seq = n; action = (entry_at v p).action; result = (entry_at v p).result }) e.seq
-      ∙ ap (λ x. record (above_at h p) { action = x; result = (entry_at v p).result }) e.action
-      ∙ ap (λ x. record (above_at h p) { result = x }) e.result)
+      (let is = a.fits.entries p low high in
+      let e = entry_at v p in
+      let by = authored_at (accepted h) p in
+      ap (λ n. as_above n e.seq e.action e.result) is.author
+      ∙ ap (λ n. as_above by.client n e.action e.result) is.seq
+      ∙ ap (λ x. as_above by.client by.seq x e.result) is.action
+      ∙ ap (as_above by.client by.seq by.action) is.result)
 
   pub above-are : map above_of v.entries ≡ map (above_at h) (uncommitted h)
   above-are =

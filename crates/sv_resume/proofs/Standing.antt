@@ -10,7 +10,7 @@ use Rattle.sv_world.specs.Sets.{numbers_of}
 use Rattle.sv_clients.specs.declared.clients.Clients.{Clients}
 use Rattle.sv_clients.specs.Clients.{client_row}
 use Rattle.sv_queue.specs.Pairs.{is_pair}
-use Rattle.sv_queue.specs.Queue.{Queued, QueueView, IsUncommitted, last_position, entry_at, no_entry, opening_queue}
+use Rattle.sv_queue.specs.Queue.{Queued, QueueView, IsUncommitted, last_position, entry_at, no_entry}
 use Rattle.sv_journal.specs.Answer.{Rules}
 use Rattle.sv_core.specs.declared.server_core.Core.{Core}
 use Rattle.sv_core.specs.declared.sessions.SessionRow.{SessionRow}
@@ -88,7 +88,11 @@ rows-as (o ∷ os) = ap (λ rs. row_of (place_of o) ∷ rs) (rows-as os)
 
 -- ---- The queue, as it was made
 
-pub risen-is : (shape : Shape) (s : State) (v w u : QueueView) → v ≡ record (opening_queue (record { shape = shape; values = s.values })) { commit = s.commit } →
+-- A queue of these values at a commit, with no action above it.
+abbrev pub begun_with : Shape → ℕ → List (List ℤ) → QueueView
+begun_with shape commit values = record { shape = shape; commit = commit; room = 64; committed = values; entries = []; given = [] }
+
+pub risen-is : (shape : Shape) (s : State) (v w u : QueueView) → v ≡ begun_with shape s.commit s.values →
     w ≡ with_above v s.above → u ≡ record w { room = u.room } → u ≡ risen_queue shape s u.room
 risen-is shape s v w u begun risen roomy =
     roomy ∙ ap (λ (x : QueueView). record x { room = u.room }) (risen ∙ ap (λ (x : QueueView). with_above x s.above) begun)

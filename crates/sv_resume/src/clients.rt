@@ -22,7 +22,7 @@ pub fn clients_of(alloc: Global, clients: &[ClientState]) -> Result<Clients, All
         rows.begin(
             client.client.0,
             client.life,
-            client.next - 1,
+            client.next.saturating_sub(1),
             client.kept.as_slice(),
         )?;
     }

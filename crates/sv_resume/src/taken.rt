@@ -50,6 +50,21 @@ pub fn state_of(
     ensures told { IfOk result (λ state. (h : List Entry) → Keeps core.now h → IsLivingHistory (core_rules core.now) h → AreOfHistory h next seats.now →
         state ≡ state_after (core_rules core.now) entries h) }
 {
+    let state = taken(alloc, core, entries, next, seats)?;
+    Ok(state)
+}
+
+fn taken(
+    alloc: Global,
+    core: &Core,
+    entries: u64,
+    next: u64,
+    seats: &[Seat],
+) -> Result<State, AllocError>
+    requires kept { IsKept core.now }
+    requires seats { All (SitsAt core.now) seats.now }
+    ensures { IfOk result (λ state. state ≡ state_in core.now entries next seats.now) }
+{
     let Raised { values, above } = raised_of::<Brand>(alloc, core.queue(), Blank::new(1))?;
     let Members { clients, opened } = members_of::<Brand>(alloc, core, seats, Blank::new(1))?;
     Ok(State {

@@ -1,0 +1,16 @@
+-- What the check leaves to prove of `clients_of`.
+use Rattle.std.proofs.Common.{◌≡◌, ℕ, ◌+◌, ◌-◌, ◌<◌, length, drop, get_or, sym, ◌∙◌, ap, subst, arith}
+use Rattle.std.proofs.lemmas.List.{drop_all}
+use Rattle.sv_clients.specs.Clients.{client_row, outcome_value}
+use Rattle.sv_journal.specs.History.{Outcome}
+use Rattle.sv_state.specs.declared.state.ClientState.{ClientState}
+use Rattle.sv_state.specs.WellFormed.{client_with}
+use Rattle.law_state.specs.OfState.{row_in}
+use Rattle.sv_resume.specs.Resumed.{CanBegin}
+use Rattle.sv_resume.proofs.ClientRows.{row-more}
+use Rattle.sv_resume.proofs.clients.clients_of.Goals as goal
+
+pub loop-place-init : goal.loop-place-init
+loop-place-init c =
+    let cs = c.args.clients.now in
+    λ k. c.new.ensures k ∙ ap (λ xs. row_in (client_with k xs)) (sym (drop_all (length cs - 0) cs (omega arith)))
