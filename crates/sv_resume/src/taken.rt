@@ -50,11 +50,11 @@ pub fn state_of(
     ensures told { IfOk result (λ state. (h : List Entry) → Keeps core.now h → IsLivingHistory (core_rules core.now) h → AreOfHistory h next seats.now →
         state ≡ state_after (core_rules core.now) entries h) }
 {
-    let state = taken(alloc, core, entries, next, seats)?;
+    let state = whole_state(alloc, core, entries, next, seats)?;
     Ok(state)
 }
 
-fn taken(
+fn whole_state(
     alloc: Global,
     core: &Core,
     entries: u64,

@@ -1,5 +1,5 @@
--- The ghost arguments of `taken`.
-use Rattle.sv_resume.proofs.taken.taken.Given as goal
+-- The ghost arguments of `whole_state`.
+use Rattle.sv_resume.proofs.taken.whole_state.Given as goal
 
 abbrev pub ghosts-raised_of : goal.ghosts-raised_of
 ghosts-raised_of a = record { name = a.blank.name; parts = a.blank.parts }
