@@ -19,7 +19,7 @@ use Rattle.sv_core.specs.declared.seats.Seat.{Seat}
 use Rattle.sv_core.specs.declared.server_core.Core.{Core}
 use Rattle.sv_core.specs.declared.sessions.SessionRow.{SessionRow}
 use Rattle.sv_core.specs.Agreement.{IsSoundHistory, sent_at, named_at, Agrees}
-use Rattle.sv_core.specs.Cores.{core_rules, queue_of, rows_of, clients_of, SitsAt, Keeps}
+use Rattle.sv_core.specs.Cores.{core_rules, owed_by, queue_of, rows_of, clients_of, SitsAt, Keeps}
 use Rattle.sv_core.specs.Fits.{actions_in, was_given}
 use Rattle.sv_core.specs.Rows.{row_at, seat_in, IsSessionRow}
 use Rattle.sv_core.proofs.AgreeSteps.{sent_seats, named_seats, sent-within}
@@ -126,11 +126,11 @@ module _ (r : Rules) (h : List Entry) (v : QueueView) (rows : List SessionRow) (
   above-told p low high =
       (let is = a.fits.entries p low high in
       let e = entry_at v p in
-      let by = authored_at (accepted h) p in
+      let maker = authored_at (accepted h) p in
       ap (λ n. as_above n e.seq e.action e.result) is.author
-      ∙ ap (λ n. as_above by.client n e.action e.result) is.seq
-      ∙ ap (λ x. as_above by.client by.seq x e.result) is.action
-      ∙ ap (as_above by.client by.seq by.action) is.result)
+      ∙ ap (λ n. as_above maker.client n e.action e.result) is.seq
+      ∙ ap (λ x. as_above maker.client maker.seq x e.result) is.action
+      ∙ ap (as_above maker.client maker.seq maker.action) is.result)
 
   pub above-are : map above_of v.entries ≡ map (above_at h) (uncommitted h)
   above-are =
@@ -152,13 +152,16 @@ module _ (r : Rules) (h : List Entry) (v : QueueView) (rows : List SessionRow) (
       ∙ ap (λ n. as_client k (life_of h k) n row.kept) (let next : row.count + 1 ≡ next_seq h k = omega (arith, is.outcomes.count) in next)
       ∙ ap (as_client k (life_of h k) (next_seq h k)) is.outcomes.kept)
 
+  clients-upto : (n : ℕ) → n ≤ 65536 → clients_below clients n ≡ map (client_state h) (filter (λ k. nat_lt 0 (life_of h k)) (below n))
+  unfolding clients_below
+  clients-upto n few =
+      ap (map (λ k. client_by k (client_row clients k))) (filter-ext (λ k. nat_lt 0 (client_row clients k).life) (λ k. nat_lt 0 (life_of h k)) (below n)
+      (λ k m. (let low = below-is_in n k m in ap (nat_lt 0) (a.client_rows k (omega (arith, low, few))).life)))
+      ∙ map-members (λ k. client_by k (client_row clients k)) (client_state h) (filter (λ k. nat_lt 0 (life_of h k)) (below n))
+      (λ k m. (let low = below-is_in n k (is_in-filter_parts (λ j. nat_lt 0 (life_of h j)) k (below n) m).0 in client-told k (omega (arith, low, few))))
+
   pub clients-are : clients_below clients 65536 ≡ map (client_state h) (joined_clients r h)
-  clients-are =
-      ap (map (λ k. client_by k (client_row clients k))) (filter-ext (λ k. nat_lt 0 (client_row clients k).life) (λ k. nat_lt 0 (life_of h k)) (below 65536)
-      (λ k m. ap (nat_lt 0) (a.client_rows k (below-is_in 65536 k m)).life))
-      ∙ map-members (λ k. client_by k (client_row clients k)) (client_state h) (filter (λ k. nat_lt 0 (life_of h k)) (below 65536))
-      (λ k m. client-told k (below-is_in 65536 k (is_in-filter_parts (λ j. nat_lt 0 (life_of h j)) k (below 65536) m).0))
-      ∙ ap (λ n. map (client_state h) (filter (λ k. nat_lt 0 (life_of h k)) (below n))) (sym lives.clients)
+  clients-are = ap (clients_below clients) (sym lives.clients) ∙ clients-upto r.clients (omega (arith, lives.clients))
 
   sent-told : (slot s : ℕ) → seat_in rows slot ≡ Some s → sent_positions v slot ≡ sent_uncommitted h s
   sent-told slot s at =
@@ -216,7 +219,7 @@ as_state entries next commit values above clients opened =
 
 pub state-told : (core : Core) (entries next : ℕ) (seats : List Seat) (h : List Entry) → Keeps core h → IsLivingHistory (core_rules core) h → All (SitsAt core) seats →
     AreOfHistory h next seats → state_in core entries next seats ≡ state_after (core_rules core) entries h
-state-told core entries next seats h keeps lives sit of =
+state-told core entries next seats h keeps lives sit told =
     let r = core_rules core in
     let v = queue_of core in
     let rows = rows_of core in
@@ -224,12 +227,12 @@ state-told core entries next seats h keeps lives sit of =
     let above = map above_of v.entries in
     let members = clients_below clients 65536 in
     let opened = map (session_by v rows) seats in
-    let owed = core.owed in
-    ap (λ n. as_state entries n v.commit v.committed above members opened) (sym of.next_is)
+    let owed = owed_by core in
+    ap (λ n. as_state entries n v.commit v.committed above members opened) (sym told.next_is)
     ∙ ap (λ c. as_state entries (sessions_begun h) c v.committed above members opened) keeps.commit
     ∙ ap (λ xs. as_state entries (sessions_begun h) (commit_of h) xs above members opened) (values-are r h v rows clients owed keeps lives)
     ∙ ap (λ xs. as_state entries (sessions_begun h) (commit_of h) (committed_of r.world.values h) xs members opened) (above-are r h v rows clients owed keeps lives)
     ∙ ap (λ xs. as_state entries (sessions_begun h) (commit_of h) (committed_of r.world.values h) (map (above_at h) (uncommitted h)) xs opened)
     (clients-are r h v rows clients owed keeps lives)
     ∙ ap (as_state entries (sessions_begun h) (commit_of h) (committed_of r.world.values h) (map (above_at h) (uncommitted h)) (map (client_state h) (joined_clients r h)))
-    (sessions-are r h v rows clients owed keeps lives seats sit ∙ ap (map (open_session r h)) (sym of.opened))
+    (sessions-are r h v rows clients owed keeps lives seats sit ∙ ap (map (open_session r h)) (sym told.opened))

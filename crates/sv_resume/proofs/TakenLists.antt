@@ -6,9 +6,11 @@ use Rattle.sv_world.specs.declared.world.ObjectId.{ObjectId}
 use Rattle.sv_world.specs.Control.{is_in, below}
 use Rattle.sv_clients.specs.declared.outcome.Outcome.{Outcome as OutcomeRow}
 use Rattle.sv_clients.specs.declared.outcome.Outcome.TheVariants as rows
-use Rattle.sv_clients.specs.Clients.{outcome_value}
+use Rattle.sv_clients.specs.declared.clients.Clients.{Clients}
+use Rattle.sv_clients.specs.Clients.{client_row, outcome_value}
 use Rattle.sv_queue.specs.Queue.{Queued, marked_above}
 use Rattle.law_state.specs.States.{outcome_row}
+use Rattle.sv_resume.specs.Taken.{client_by, clients_below}
 
 -- Numbers that pass a test, below the next one.
 pub passed-more : {X : Type 0} (f : ℕ → X) (p : ℕ → Bool) (n : ℕ) → map f (filter p (below (suc n))) ≡ map f (filter p (below n)) ++ cond (p n) (f n ∷ []) []
@@ -17,6 +19,17 @@ passed-more f p n = ap (map f) (filter-append p (below n) (n ∷ [])) ∙ map-ap
     go : (b : Bool) → map f (cond b (n ∷ []) []) ≡ cond b (f n ∷ []) []
     go true = refl
     go false = refl
+
+pub clients-none : (clients : Clients) → clients_below clients 0 ≡ []
+unfolding clients_below
+clients-none clients = refl
+
+pub clients-more : (clients : Clients) (n : ℕ) →
+    clients_below clients (n + 1) ≡ clients_below clients n ++ cond (nat_lt 0 (client_row clients n).life) (client_by n (client_row clients n) ∷ []) []
+unfolding clients_below
+clients-more clients n =
+    ap (λ m. map (λ k. client_by k (client_row clients k)) (filter (λ k. nat_lt 0 (client_row clients k).life) (below m))) (let same : n + 1 ≡ suc n = omega arith in same)
+    ∙ passed-more (λ k. client_by k (client_row clients k)) (λ k. nat_lt 0 (client_row clients k).life) n
 
 -- Entries that are marked for a slot, with one more.
 marked-push : (n : ℕ) (es : List Queued) (e : Queued) (s : ℕ) → marked_above n (es ++ e ∷ []) s ≡ marked_above n es s ++ cond (is_in s e.marks) (suc (n + length es) ∷ []) []

@@ -27,7 +27,7 @@ abbrev pub client_by : ℕ → KeptClient → ClientState
 client_by k row = record { client = client_numbered k; life = row.life; next = row.count + 1; kept = map outcome_row row.kept }
 
 -- The clients below a number that ever joined, ascending.
-abbrev pub clients_below : Clients → ℕ → List ClientState
+unfoldable pub clients_below : Clients → ℕ → List ClientState
 clients_below clients n = map (λ k. client_by k (client_row clients k)) (filter (λ k. nat_lt 0 (client_row clients k).life) (below n))
 
 -- A session, by its row and by what a queue has for its slot.
