@@ -92,6 +92,7 @@ fn raised_of<L: Ledger>(alloc: Global, queue: &Queue, blank: Blank) -> Result<Ra
 }
 
 /// Equal copies of the actions above the commit.
+#[tactic(auto, using(crate::proofs::TakenLists::above_next))]
 fn actions_of<L: Ledger>(
     alloc: Global,
     queue: &Queue,
@@ -158,6 +159,7 @@ fn members_of<L: Ledger>(
 }
 
 /// The clients that ever joined, ascending.
+#[tactic(auto, using(crate::proofs::TakenLists::clients_none, crate::proofs::TakenLists::clients_more))]
 fn clients_in(alloc: Global, clients: &Clients) -> Result<List<ClientState>, AllocError>
     requires { (k : ℕ) → k < client_numbers → (client_row clients.now k).count ≤ most_positions }
     ensures { IfOk result (λ list. list ≡ clients_below clients.now client_numbers) }
@@ -171,6 +173,7 @@ fn clients_in(alloc: Global, clients: &Clients) -> Result<List<ClientState>, All
     Ok(List::from_vec(found))
 }
 
+#[tactic(auto, using(crate::proofs::TakenLists::outcomes_again))]
 fn client_in(alloc: Global, clients: &Clients, client: u16) -> Result<ClientState, AllocError>
     requires { (client_row clients.now client).count ≤ most_positions }
     ensures { IfOk result (λ state. state ≡ client_by client (client_row clients.now client)) }
@@ -244,6 +247,7 @@ fn client_numbered(number: Option<u16>) -> Option<ClientId>
 }
 
 /// The objects that a slot was given.
+#[tactic(auto, using(crate::proofs::TakenLists::given_more))]
 fn given_to(alloc: Global, queue: &Queue, slot: u16) -> Result<List<ObjectId>, AllocError>
     ensures { IfOk result (λ given. given ≡ map object_numbered (given_objects queue.now slot)) }
 {
@@ -257,6 +261,7 @@ fn given_to(alloc: Global, queue: &Queue, slot: u16) -> Result<List<ObjectId>, A
 }
 
 /// The positions above the commit that a slot was sent.
+#[tactic(auto, using(crate::proofs::TakenLists::sent_next))]
 fn sent_to<L: Ledger>(
     alloc: Global,
     queue: &Queue,
