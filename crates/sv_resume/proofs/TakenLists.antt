@@ -80,7 +80,7 @@ above_next v k low =
 
 -- One position more.
 pub sent_next : (v : QueueView) (k slot : ℕ) → k < length v.entries → marked_above v.commit (take (k + 1) v.entries) slot
-    ≡ marked_above v.commit (take k v.entries) slot ++ cond (is_in slot (entry_at v (v.commit + 1 + k)).marks) (v.commit + 1 + k ∷ []) []
+    ≡ marked_above v.commit (take k v.entries) slot ++ cond (is_in slot (entry_at v (v.commit + 1 + k)).marks) ((v.commit + 1 + k) ∷ []) []
 sent_next v k slot low =
     marked_more v.commit v.entries k slot no_entry low
     ∙ ap (λ (e : Queued). marked_above v.commit (take k v.entries) slot ++ cond (is_in slot e.marks) (suc (v.commit + k) ∷ []) []) (sym (entry_place v k))
