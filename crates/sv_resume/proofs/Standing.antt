@@ -76,11 +76,11 @@ passes_given x (o ∷ os) zero = refl
 passes_given x (o ∷ os) (suc k) = passes_given x os k
 
 pub sent-at : (q : ℕ) (os : List OpenSession) (t : ℕ) → passes_at (λ (o : OpenSession). is_in q o.sent) 0 os t ≡ is_in q (sent_by (slice_get (map place_of os) t))
-sent-at q os t = passes_place (λ (o : OpenSession). is_in q o.sent) 0 os t t refl ∙ passes_sent q os t
+sent-at q os t = passes_place (λ (o : OpenSession). is_in q o.sent) 0 os t t (let same : t ≡ 0 + t = omega arith in same) ∙ passes_sent q os t
 
 pub given-at : (x : ℕ) (os : List OpenSession) (t : ℕ) →
     passes_at (λ (o : OpenSession). is_in x (numbers_of o.given)) 0 os t ≡ is_in x (given_by (slice_get (map place_of os) t))
-given-at x os t = passes_place (λ (o : OpenSession). is_in x (numbers_of o.given)) 0 os t t refl ∙ passes_given x os t
+given-at x os t = passes_place (λ (o : OpenSession). is_in x (numbers_of o.given)) 0 os t t (let same : t ≡ 0 + t = omega arith in same) ∙ passes_given x os t
 
 pub rows-as : (os : List OpenSession) → map (λ (o : OpenSession). row_of (place_of o)) os ≡ map row_of (map place_of os)
 rows-as [] = refl

@@ -39,15 +39,15 @@ marked-push n [] e s = go (is_in s e.marks)
   where
     go : (b : Bool) → cond b (suc n ∷ []) [] ≡ cond b (suc (n + 0) ∷ []) []
     go b = ap (λ m. cond b (suc m ∷ []) []) (let same : n ≡ n + 0 = omega arith in same)
-marked-push n (d ∷ es) e s = go (is_in s d.marks)
+marked-push n (d ∷ es) e s =
+    go (is_in s d.marks) (marked-push (suc n) es e s
+    ∙ ap (λ m. marked_above (suc n) es s ++ cond (is_in s e.marks) (suc m ∷ []) []) (let same : suc n + length es ≡ n + suc (length es) = omega arith in same))
   where
-    later : marked_above (suc n) (es ++ e ∷ []) s ≡ marked_above (suc n) es s ++ cond (is_in s e.marks) (suc (n + length (d ∷ es)) ∷ []) []
-    later = marked-push (suc n) es e s ∙ ap (λ m. marked_above (suc n) es s ++ cond (is_in s e.marks) (suc m ∷ []) []) (let same : suc n + length es ≡ n + suc (length es) = omega arith in same)
-
-    go : (b : Bool) → cond b (suc n ∷ marked_above (suc n) (es ++ e ∷ []) s) (marked_above (suc n) (es ++ e ∷ []) s)
+    go : (b : Bool) → marked_above (suc n) (es ++ e ∷ []) s ≡ marked_above (suc n) es s ++ cond (is_in s e.marks) (suc (n + length (d ∷ es)) ∷ []) [] →
+        cond b (suc n ∷ marked_above (suc n) (es ++ e ∷ []) s) (marked_above (suc n) (es ++ e ∷ []) s)
         ≡ cond b (suc n ∷ marked_above (suc n) es s) (marked_above (suc n) es s) ++ cond (is_in s e.marks) (suc (n + length (d ∷ es)) ∷ []) []
-    go true = ap (λ ps. suc n ∷ ps) later
-    go false = later
+    go true later = ap (λ ps. suc n ∷ ps) later
+    go false later = later
 
 length-taken : {X : Type 0} (xs : List X) (i : ℕ) → i ≤ length xs → length (take i xs) ≡ i
 length-taken xs zero low = refl
