@@ -1,4 +1,6 @@
 -- The lemmas on living worlds.
+pub mod Behind
+pub mod Counting
 pub mod Deciding
 pub mod Heeding
 pub mod Pasts

@@ -1,5 +1,5 @@
 -- What a session would be shown: nothing by the table of a living world exactly where nothing by its core.
-use Rattle.std.proofs.Common.{◌≡◌, ℕ, ◌+◌, ◌<◌, ◌≤◌, Bool, true, false, ◌&&◌, List, [], ◌∷◌, map, length, Option, Some, None, refl, sym, ◌∙◌, ap, subst, arith, true≢false}
+use Rattle.std.proofs.Common.{◌≡◌, ℕ, ◌+◌, ◌<◌, ◌≤◌, Bool, true, false, ◌&&◌, List, [], ◌∷◌, map, length, Option, Some, None, IfSome, refl, sym, ◌∙◌, ap, subst, arith, true≢false}
 use Rattle.std.specs.Prelude.{if◌then◌else◌}
 use Rattle.std.proofs.lemmas.Bool.{cond_both, and_left, and_right, and_from}
 use Rattle.sv_world.specs.Control.{needed_for}
@@ -19,7 +19,7 @@ use Rattle.sv_journal.specs.Living.{Stewardship, heeded, due_to, living}
 use Rattle.sv_journal.proofs.Sizes.{SizeWithin, sized, served_bounded}
 use Rattle.sv_journal.proofs.Stewards.{living-keeping}
 use Rattle.sv_core.specs.Seeing.{shows_nothing, RelaysFit, IsQuietAnswer}
-use Rattle.sv_living.specs.Quiet.{is_quiet, IsQuiet}
+use Rattle.sv_living.specs.Quiet.{is_quiet, IsQuiet, IsQuietIfLegal}
 use Rattle.sv_living.specs.Sessions.{is_open}
 use Rattle.sv_living.proofs.Deciding.{reply-open}
 use Rattle.sv_living.proofs.Heeding.{accepted_heeded}
@@ -85,10 +85,10 @@ module _ (w : Stewardship) (r : Rules) (h : List Entry) (s : ℕ) (q : Request) 
       ∙ rows-shown (reply_to_request r (heeded w h) s q) shown
 
   -- An open session is answered as its core would.
-  pub quiet-open : SizeWithin → LegalFor (living w) r h → is_open h s ≡ true → is_end q ≡ false → (o : Option Reply) → IsQuietAnswer r (heeded w h) s q o → IsQuiet r w h s q o
-  quiet-open size legal here more None is = λ bound.
+  pub quiet-open : SizeWithin → is_open h s ≡ true → is_end q ≡ false → (o : Option Reply) → IsQuietAnswer r (heeded w h) s q o → IsQuietIfLegal r w h s q o
+  quiet-open size here more None is = λ legal bound.
       and_right (is_open h s) (shows_nothing (reply_for (living w) r h s q)) (for-shown more (is (relays-fit size w r h bound legal)))
-  quiet-open size legal here more (Some reply) is =
+  quiet-open size here more (Some reply) is =
       let same = for-quiet more is.0 in (
         and_from (is_open h s) (shows_nothing (reply_for (living w) r h s q)) here (ap shows_nothing same ∙ is.0),
         is.1 ∙ ap (λ (A : List Authored). full_reply A (reply_to_request r (heeded w h) s q)) (accepted_heeded w h)
@@ -96,9 +96,17 @@ module _ (w : Stewardship) (r : Rules) (h : List Entry) (s : ℕ) (q : Request) 
       )
 
   -- Nothing is told of a session that is not open, or of its End.
-  pub quiet-none : is_open h s ≡ false → IsQuiet r w h s q None
-  quiet-none closed bound = and_left (is_open h s) (shows_nothing (reply_for (living w) r h s q)) closed
+  pub quiet-none : is_open h s ≡ false → IsQuietIfLegal r w h s q None
+  quiet-none closed legal bound = and_left (is_open h s) (shows_nothing (reply_for (living w) r h s q)) closed
 
-  pub quiet-end : q ≡ requests.End → IsQuiet r w h s q None
-  quiet-end end bound =
+  pub quiet-end : q ≡ requests.End → IsQuietIfLegal r w h s q None
+  quiet-end end legal bound =
       and_right (is_open h s) (shows_nothing (reply_for (living w) r h s q)) (ap (λ (x : Request). shows_nothing (reply_for (living w) r h s x)) end)
+
+  pub quiet-some : (o : Option Reply) → IsQuietIfLegal r w h s q o → IfSome o (λ (reply : Reply). IsQuiet r w h s q (Some reply))
+  quiet-some None is = tt
+  quiet-some (Some reply) is = is
+
+  pub quiet-legal : LegalFor (living w) r h → (o : Option Reply) → IsQuietIfLegal r w h s q o → IsQuiet r w h s q o
+  quiet-legal legal None is = is legal
+  quiet-legal legal (Some reply) is = is

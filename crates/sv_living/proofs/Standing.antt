@@ -1,5 +1,5 @@
 -- Where a living world's core stands, step by step.
-use Rattle.std.proofs.Common.{◌≡◌, ℕ, ◌+◌, ◌-◌, ◌<◌, inl, inr, Bool, true, false, ◌&&◌, ◌||◌, not, cond, List, [], ◌∷◌, ◌++◌, length, nat_eq, Option, Some, None, is_some, unwrap_or, refl, sym, ◌∙◌, ap, ap₂, subst, arith, eq-eqb, ne_eqb}
+use Rattle.std.proofs.Common.{◌≡◌, ℕ, ◌+◌, ◌-◌, ◌<◌, ◌≤◌, inl, inr, Bool, true, false, ◌&&◌, ◌||◌, not, cond, List, [], ◌∷◌, ◌++◌, length, nat_eq, Option, Some, None, is_some, unwrap_or, refl, sym, ◌∙◌, ap, ap₂, subst, arith, eq-eqb, ne_eqb, nat_lt, ltb-true, true≢false}
 use Rattle.std.proofs.lemmas.Bool.{cases_eq, le-ltb, and_parts, not-true}
 use Rattle.sv_world.specs.Limits.{most_open}
 use Rattle.sv_wire.specs.declared.message.Request.{Request}
@@ -11,7 +11,7 @@ use Rattle.sv_journal.specs.declared.entry.Logged.TheVariants as logged
 use Rattle.sv_journal.specs.History.{Authored, accepted, full_reply}
 use Rattle.sv_journal.specs.Sessions.{is_end, is_ended}
 use Rattle.sv_journal.specs.Answer.{Rules}
-use Rattle.sv_journal.specs.Serving.{with_results, reply_for, LegalFor}
+use Rattle.sv_journal.specs.Serving.{with_results, reply_for}
 use Rattle.sv_journal.specs.Living.{Stewardship, counts, heeded, living}
 use Rattle.sv_journal.proofs.Kept.{end-same}
 use Rattle.sv_core.specs.declared.answer.Answer.{Answer}
@@ -24,11 +24,12 @@ use Rattle.sv_journal.specs.History.{entry_of, end_entry}
 use Rattle.sv_living.specs.declared.live.Live.{Live}
 use Rattle.sv_living.specs.Deciding.{IsDecided, is_report}
 use Rattle.sv_living.specs.Keeping.{rules_at, stewardship_at, AreOpen, KeepsLiving, heard, living_entry, CarriedOn, Began, Left, Moved, StoodStill}
-use Rattle.sv_living.specs.Sessions.{is_open, next_session, may_begin, may_ask}
+use Rattle.sv_living.specs.Sessions.{is_open, most_session, is_session_number, next_session, open_sessions, may_begin, may_ask}
 use Rattle.sv_living.specs.Table.{seat_of}
 use Rattle.sv_living.proofs.Heeding.{accepted_heeded, heeded_next, heard_none}
 use Rattle.sv_living.proofs.Seats.{others, seat-some, seat-all}
-use Rattle.sv_living.proofs.Turns.{unended, open-parts, open-still, open-answered, open-unused, open-less, open-more, next-free, next-same, next-more}
+use Rattle.sv_living.proofs.Turns.{unended, open-parts, open-still, open-answered, open-unused, open-less, open-more, next-free, next-shut, next-same, next-more}
+use Rattle.sv_living.proofs.Counting.{next-counted}
 
 -- ---- What is heard of sessions
 
@@ -161,14 +162,22 @@ opened-living c r rules endless seats count keeps table next = record {
   table = subst (λ (n : ℕ). AreOpen c.core [] c.table n) (sym next) (subst (λ (t : List Seat). AreOpen c.core [] t 0) (sym table) (record {
     order = refl;
     numbers = λ s. refl;
+    low = λ s lives. absurd (true≢false (sym lives));
     sit = λ k d low. absurd (omega (arith, low));
     only = λ slot s at. absurd (nobody s (sym (seats slot ∙ ap (λ (o : Option ℕ). first_seat o slot) endless) ∙ at));
     count = count ∙ ap (λ (o : Option ℕ). unwrap_or o 0) endless;
-    entries = λ s. sym (le-ltb s 0 (omega arith));
+    entries = λ s number. sym (le-ltb s 0 (omega arith));
   }));
   next = next;
-  order = tt;
-  legal = tt;
+}
+
+-- What is live where some entries lead.
+pub resumed-living : (c : Live) (h : List Entry) → (rules_at c).sessions ≡ None → Keeps c.core (heeded (stewardship_at c) h) → AreOpen c.core h c.table c.next → c.next ≤ most_session → KeepsLiving c h
+resumed-living c h endless keeps table few = record {
+  keeps = keeps;
+  endless = endless;
+  table = table;
+  next = sym (next-counted h c.next few table.entries);
 }
   where
     nobody : (s : ℕ) → ◌≡◌ {A = Option ℕ} None (Some s) → ⊥
@@ -187,7 +196,14 @@ may-next h s is begins = ap₂ (λ (a b : Bool). is_open h s || (a && b)) (eq-eq
 
 module _ (c : Live) (h : List Entry) (was : KeepsLiving c h) where
   pub unseated-next : (s : ℕ) → s ≡ c.next → IsUnseated c.core s
-  unseated-next s is slot at = let clash : false ≡ true = sym (next-free c.core c.core h c.table c.next was.table s is) ∙ (open-parts h s (was.table.only slot s at)).0 in cc
+  unseated-next s is slot at = next-shut c.core c.core h c.table c.next was.table s is (was.table.only slot s at)
+
+  -- The next session may have its number.
+  pub next-number : (s : ℕ) → s ≡ c.next → may_begin h ≡ true → s < most_session
+  next-number s is begins =
+      let parts = and_parts (nat_lt (length (open_sessions h)) most_open) (is_session_number (next_session h)) begins in
+      let low : next_session h < most_session = ltb-true (next_session h) most_session parts.1 in
+      subst (λ (n : ℕ). n < most_session) (sym (is ∙ was.next)) low
 
   -- The same with another core, where it stands where it stood.
   pub stood-still : (core : Core) → Remained c.core core (heeded (stewardship_at c) h) → StoodStill c (record c { core = core }) h
@@ -199,21 +215,17 @@ module _ (c : Live) (h : List Entry) (was : KeepsLiving c h) where
       endless = ap (λ (x : Rules). x.sessions) still.rules ∙ was.endless;
       table = open-still c.core core h c.table c.next was.table still.seats still.count;
       next = was.next;
-      order = was.order;
-      legal = subst (λ (x : Rules). LegalFor (living (stewardship_at c)) x h) (sym still.rules) was.legal;
     };
   }
-
-  legal-next : (core : Core) (s : ℕ) (q : Request) → core_rules core ≡ core_rules c.core → LegalFor (living (stewardship_at c)) (core_rules core) (living_entry (stewardship_at c) (rules_at c) h s q ∷ h)
-  legal-next core s q rules = subst (λ (x : Rules). LegalFor (living (stewardship_at c)) x (living_entry (stewardship_at c) (rules_at c) h s q ∷ h)) (sym rules) (refl, was.legal)
 
   number-same : (s : ℕ) (q : Request) → is_open h s ≡ true → c.next ≡ next_session (living_entry (stewardship_at c) (rules_at c) h s q ∷ h)
   number-same s q here = was.next ∙ sym (next-same h s q (reply_for (living (stewardship_at c)) (rules_at c) h s q) (open-parts h s here).0)
 
-  number-more : (s : ℕ) (q : Request) → s ≡ c.next → c.next + 1 ≡ next_session (living_entry (stewardship_at c) (rules_at c) h s q ∷ h)
-  number-more s q is =
+  number-more : (s : ℕ) (q : Request) → s ≡ c.next → may_begin h ≡ true → c.next + 1 ≡ next_session (living_entry (stewardship_at c) (rules_at c) h s q ∷ h)
+  number-more s q is begins =
+      let number = next-number s is begins in
       ap (λ (n : ℕ). n + 1) was.next
-      ∙ sym (next-more h s q (reply_for (living (stewardship_at c)) (rules_at c) h s q) (next-free c.core c.core h c.table c.next was.table s is))
+      ∙ sym (next-more h s q (reply_for (living (stewardship_at c)) (rules_at c) h s q) (next-free c.core c.core h c.table c.next was.table s is number) number)
 
   pub stepped-open : (core : Core) (s : ℕ) (q : Request) (a : Answer) → CarriedOn c.core core (stewardship_at c) h s q a → is_end q ≡ false → is_open h s ≡ true → Moved c (record c { core = core }) h s q a
   stepped-open core s q a on more here = record {
@@ -224,8 +236,6 @@ module _ (c : Live) (h : List Entry) (was : KeepsLiving c h) where
       endless = ap (λ (x : Rules). x.sessions) on.rules ∙ was.endless;
       table = open-answered c.core core h c.table c.next was.table s q (reply_for (living (stewardship_at c)) (rules_at c) h s q) on.seats on.count more here;
       next = number-same s q here;
-      order = (may-open h s here, was.order);
-      legal = legal-next core s q on.rules;
     };
     logged = on.logged;
     whole = on.whole;
@@ -241,8 +251,6 @@ module _ (c : Live) (h : List Entry) (was : KeepsLiving c h) where
       endless = ap (λ (x : Rules). x.sessions) left.rules ∙ was.endless;
       table = open-less c.core core h c.table c.next was.table seat at was.keeps.seats.once left.seats left.count here;
       next = number-same seat.session requests.End here;
-      order = (may-open h seat.session here, was.order);
-      legal = legal-next core seat.session requests.End left.rules;
     };
     logged = logged';
     whole = reply;
@@ -260,9 +268,7 @@ module _ (c : Live) (h : List Entry) (was : KeepsLiving c h) where
           (subst (λ (n : ℕ). AreOpen core (entry_of n q (reply_for (living (stewardship_at c)) (rules_at c) h s q) ∷ h) (c.table ++ began.seat ∷ []) (c.next + 1)) began.number
           (open-more c.core core h c.table c.next was.table began.seat q (reply_for (living (stewardship_at c)) (rules_at c) h s q) seated.free
           (λ slot. on.seats slot ∙ seated.seats slot) (on.count ∙ seated.count) more (began.number ∙ is) (next-free c.core core h c.table c.next was.table began.seat.session (began.number ∙ is))));
-      next = number-more s q is;
-      order = (may-next h s (is ∙ was.next) begins, was.order);
-      legal = legal-next core s q (on.rules ∙ seated.rules);
+      next = number-more s q is begins;
     };
     logged = subst (λ (x : Rules). a.logged ≡ reply_for (living (stewardship_at c)) x h s q) seated.rules on.logged;
     whole = subst (λ (x : Rules). a.reply ≡ full_reply (accepted (living_entry (stewardship_at c) x h s q ∷ h)) (reply_for (living (stewardship_at c)) x h s q)) seated.rules on.whole;
@@ -285,9 +291,7 @@ module _ (c : Live) (h : List Entry) (was : KeepsLiving c h) where
       endless = ap (λ (x : Rules). x.sessions) (left.rules ∙ seated.rules) ∙ was.endless;
       table = open-unused c.core core h c.table c.next was.table s (λ slot. left.seats slot ∙ ap (λ (o : Option ℕ). cond (nat_eq seat.slot slot) None o) (seated.seats slot) ∙ freed slot)
           (let a : open_by mid ≡ open_by c.core + 1 = seated.count in let b : open_by core + 1 ≡ open_by mid = left.count in omega (arith, a, b)) is (next-free c.core core h c.table c.next was.table s is);
-      next = number-more s requests.End is;
-      order = (may-next h s (is ∙ was.next) begins, was.order);
-      legal = legal-next core s requests.End (left.rules ∙ seated.rules);
+      next = number-more s requests.End is begins;
     };
     logged = logged';
     whole = reply;

@@ -1,5 +1,5 @@
 -- Which sessions are open, entry by entry.
-use Rattle.std.proofs.Common.{◌≡◌, ℕ, zero, suc, ◌+◌, ◌<◌, inl, inr, Bool, true, false, ◌&&◌, ◌||◌, not, cond, All, List, [], ◌∷◌, ◌++◌, length, nat_eq, nat_lt, Option, Some, None, refl, sym, ◌∙◌, ap, ap₂, subst, arith, eq-eqb, ne_eqb, ltb-true}
+use Rattle.std.proofs.Common.{◌≡◌, ℕ, zero, suc, ◌+◌, ◌<◌, ◌⊎◌, inl, inr, Bool, true, false, ◌&&◌, ◌||◌, not, cond, All, List, [], ◌∷◌, ◌++◌, length, nat_eq, nat_lt, Option, Some, None, refl, sym, ◌∙◌, ap, ap₂, subst, arith, eq-eqb, ne_eqb, ltb-true}
 use Rattle.std.proofs.lemmas.Bool.{cases_lt, cases_eq, and_parts, eqb-true, or_parts, not-true, lt-ltb, le-ltb}
 use Rattle.std.proofs.lemmas.List.{length-append, length-map}
 use Rattle.std.proofs.lemmas.List.Elements.{All-weaker, All-append}
@@ -17,7 +17,7 @@ use Rattle.sv_core.specs.Cores.{open_by, session_at, SitsAt}
 use Rattle.sv_core.specs.Rows.{has_entry}
 use Rattle.sv_journal.specs.History.{entry_of, end_entry}
 use Rattle.sv_living.specs.Keeping.{AreOpen}
-use Rattle.sv_living.specs.Sessions.{is_open, next_session, open_sessions}
+use Rattle.sv_living.specs.Sessions.{is_open, most_session, is_session_number, next_session, open_sessions}
 use Rattle.sv_living.specs.Table.{numbers_in, ends_below}
 use Rattle.sv_living.proofs.Seats.{others, others-ascending, others-length, others-numbers, all-others, below-all, push-ascending, push-numbers}
 
@@ -68,10 +68,11 @@ module _ (h : List Entry) (s : ℕ) where
       go true free = ap₂ (λ (x y : Bool). not (x || y)) more (free refl)
       go false free = refl
 
-  entry-next : (q : Request) (reply : Logged) (next : ℕ) → s ≡ next → ((t : ℕ) → has_entry h t ≡ nat_lt t next) → (t : ℕ) → has_entry (entry_of s q reply ∷ h) t ≡ nat_lt t (next + 1)
-  entry-next q reply next is all t = elim (cases_eq s t) [
+  entry-next : (q : Request) (reply : Logged) (next : ℕ) → s ≡ next → ((t : ℕ) → t < most_session → has_entry h t ≡ nat_lt t next)
+      → (t : ℕ) → t < most_session → has_entry (entry_of s q reply ∷ h) t ≡ nat_lt t (next + 1)
+  entry-next q reply next is all t number = elim (cases_eq s t) [
     | inl same ↦ ap (λ (b : Bool). b || has_entry h t) (eq-eqb s t same) ∙ sym (lt-ltb t (next + 1) (omega (arith, same, is)))
-    | inr other ↦ ap (λ (b : Bool). b || has_entry h t) (ne_eqb s t other) ∙ all t ∙ elim (cases_lt t next) [
+    | inr other ↦ ap (λ (b : Bool). b || has_entry h t) (ne_eqb s t other) ∙ all t number ∙ elim (cases_lt t next) [
       | inl low ↦ lt-ltb t next low ∙ sym (lt-ltb t (next + 1) (omega (arith, low)))
       | inr high ↦ le-ltb t next high ∙ sym (le-ltb t (next + 1) (omega (arith, high, other, is)))
     ]
@@ -88,15 +89,20 @@ none-some a is = cc
 module _ (old new' : Core) (h : List Entry) (seats : List Seat) (next : ℕ) (was : AreOpen old h seats next) where
   -- All that are open are below the next one.
   pub next-below : (s : ℕ) → s ≡ next → ends_below s seats ≡ true
-  next-below s is = below-all s seats (λ j m. (let here = (open-parts h j (sym (was.numbers j) ∙ m)).0 in let low : j < next = ltb-true j next (sym (was.entries j) ∙ here) in omega (arith, low, is)))
+  next-below s is = below-all s seats (λ j m. (let low : j < next = was.low j (sym (was.numbers j) ∙ m) in omega (arith, low, is)))
 
-  pub next-free : (s : ℕ) → s ≡ next → has_entry h s ≡ false
-  next-free s is = was.entries s ∙ le-ltb s next (omega (arith, is))
+  pub next-free : (s : ℕ) → s ≡ next → s < most_session → has_entry h s ≡ false
+  next-free s is number = was.entries s number ∙ le-ltb s next (omega (arith, is))
+
+  -- It is not open.
+  pub next-shut : (s : ℕ) → s ≡ next → is_open h s ≡ true → ⊥
+  next-shut s is here = let low : s < next = was.low s here in omega (arith, low, is)
 
   pub open-still : ((slot : ℕ) → session_at new' slot ≡ session_at old slot) → open_by new' ≡ open_by old → AreOpen new' h seats next
   open-still same count = record {
     order = was.order;
     numbers = was.numbers;
+    low = was.low;
     sit = All-weaker (SitsAt old) (SitsAt new') (λ x at. same x.slot ∙ at) seats was.sit;
     only = λ slot t at. was.only slot t (sym (same slot) ∙ at);
     count = count ∙ was.count;
@@ -109,10 +115,11 @@ module _ (old new' : Core) (h : List Entry) (seats : List Seat) (next : ℕ) (wa
       let has = (open-parts h s here).0 in record {
         order = was.order;
         numbers = λ t. was.numbers t ∙ sym (open-same h s q reply more has t);
+        low = λ t lives. was.low t (sym (open-same h s q reply more has t) ∙ lives);
         sit = All-weaker (SitsAt old) (SitsAt new') (λ x at. same x.slot ∙ at) seats was.sit;
         only = λ slot t at. open-same h s q reply more has t ∙ was.only slot t (sym (same slot) ∙ at);
         count = count ∙ was.count;
-        entries = λ t. entry-same h s q reply has t ∙ was.entries t;
+        entries = λ t number. entry-same h s q reply has t ∙ was.entries t number;
       }
 
   pub open-unused : (s : ℕ) → ((slot : ℕ) → session_at new' slot ≡ session_at old slot) → open_by new' ≡ open_by old → s ≡ next → has_entry h s ≡ false
@@ -120,6 +127,7 @@ module _ (old new' : Core) (h : List Entry) (seats : List Seat) (next : ℕ) (wa
   open-unused s same count is none = record {
     order = was.order;
     numbers = λ t. was.numbers t ∙ sym (open-never h s none t);
+    low = λ t lives. (let below : t < next = was.low t (sym (open-never h s none t) ∙ lives) in omega (arith, below));
     sit = All-weaker (SitsAt old) (SitsAt new') (λ x at. same x.slot ∙ at) seats was.sit;
     only = λ slot t at. open-never h s none t ∙ was.only slot t (sym (same slot) ∙ at);
     count = count ∙ was.count;
@@ -137,6 +145,7 @@ module _ (old new' : Core) (h : List Entry) (seats : List Seat) (next : ℕ) (wa
       let before : open_by old ≡ length seats = was.count in record {
         order = others-ascending s seats was.order;
         numbers = λ t. others-numbers s t seats ∙ ap (λ (b : Bool). not (nat_eq s t) && b) (was.numbers t) ∙ sym (open-left h s t);
+        low = λ t lives. was.low t (and_parts (not (nat_eq s t)) (is_open h t) (sym (open-left h s t) ∙ lives)).1;
         sit = all-others (SitsAt old) (SitsAt new') s (λ x there apart. kept x.slot x.session there (λ same. ne x.session apart (some-same s x.session (sym at ∙ ap (session_at old) same ∙ there)))) seats was.sit;
         only = λ slot t there. elim (cases_eq seat.slot slot) [
           | inl same ↦ absurd (none-some t (sym (freed slot ∙ ap (λ (b : Bool). cond b None (session_at old slot)) (eq-eqb seat.slot slot same)) ∙ there))
@@ -144,7 +153,7 @@ module _ (old new' : Core) (h : List Entry) (seats : List Seat) (next : ℕ) (wa
               open-left h s t ∙ ap₂ (λ (b c : Bool). not b && c) (ne_eqb s t (λ same. other (once seat.slot slot t (at ∙ ap (λ (n : ℕ). Some n) same) there'))) (was.only slot t there'))
         ];
         count = omega (arith, less, before, count);
-        entries = λ t. entry-same h s (end_entry s).request (end_entry s).reply has t ∙ was.entries t;
+        entries = λ t number. entry-same h s (end_entry s).request (end_entry s).reply has t ∙ was.entries t number;
       }
     where
       kept : (slot t : ℕ) → session_at old slot ≡ Some t → (seat.slot ≡ slot → ⊥) → session_at new' slot ≡ Some t
@@ -163,6 +172,7 @@ module _ (old new' : Core) (h : List Entry) (seats : List Seat) (next : ℕ) (wa
       let longer : length (seats ++ seat ∷ []) ≡ length seats + 1 = length-append seats (seat ∷ []) in record {
         order = push-ascending seats seat was.order (next-below s is);
         numbers = λ t. push-numbers t seats seat ∙ ap₂ (λ (b c : Bool). b || c) (turned t s) (was.numbers t) ∙ sym (open-first h s q reply more none t);
+        low = λ t lives. lower t (either (nat_eq s t) (is_open h t) (sym (open-first h s q reply more none t) ∙ lives)) is;
         sit = All-append (SitsAt new') seats (seat ∷ []) (All-weaker (SitsAt old) (SitsAt new') (λ x there. kept x.slot x.session there) seats was.sit) alone;
         only = λ slot t there. open-first h s q reply more none t ∙ elim (cases_eq seat.slot slot) [
           | inl same ↦ ap (λ (b : Bool). b || is_open h t) (eq-eqb s t (some-same s t (sym (taken slot ∙ ap (λ (b : Bool). cond b (Some s) (session_at old slot)) (eq-eqb seat.slot slot same)) ∙ there)))
@@ -172,6 +182,14 @@ module _ (old new' : Core) (h : List Entry) (seats : List Seat) (next : ℕ) (wa
         entries = entry-next h s q reply next is was.entries;
       }
     where
+      either : (a b : Bool) → (a || b) ≡ true → (a ≡ true) ⊎ (b ≡ true)
+      either true b is = inl refl
+      either false b is = inr is
+
+      lower : (t : ℕ) → (nat_eq seat.session t ≡ true) ⊎ (is_open h t ≡ true) → seat.session ≡ next → t < next + 1
+      lower t (inl same) is = omega (arith, eqb-true seat.session t same, is)
+      lower t (inr lives) is = let below : t < next = was.low t lives in omega (arith, below)
+
       any : (b : Bool) → (b || true) ≡ true
       any true = refl
       any false = refl
@@ -202,7 +220,7 @@ module _ (core : Core) (h : List Entry) (seats : List Seat) (next : ℕ) (was : 
       into : (j : ℕ) → is_in j (numbers_in seats) ≡ true → is_in j (open_sessions h) ≡ true
       into j m =
           let here : is_open h j ≡ true = sym (was.numbers j) ∙ m in
-          let low : j < next = ltb-true j next (sym (was.entries j) ∙ (open-parts h j here).0) in
+          let low : j < next = was.low j here in
           is_in-filter (is_open h) j (below (next_session h)) (is_in-below (next_session h) j (subst (λ (n : ℕ). j < n) is low)) here
 
       from : (j : ℕ) → is_in j (open_sessions h) ≡ true → is_in j (numbers_in seats) ≡ true
@@ -213,7 +231,8 @@ module _ (core : Core) (h : List Entry) (seats : List Seat) (next : ℕ) (was : 
 
 -- The number of the next session, with one more entry.
 pub next-same : (h : List Entry) (s : ℕ) (q : Request) (reply : Logged) → has_entry h s ≡ true → next_session (entry_of s q reply ∷ h) ≡ next_session h
-next-same h s q reply here = ap (λ (b : Bool). cond b (next_session h) (suc (next_session h))) here
+next-same h s q reply here = ap (λ (b : Bool). cond (b || not (is_session_number s)) (next_session h) (suc (next_session h))) here
 
-pub next-more : (h : List Entry) (s : ℕ) (q : Request) (reply : Logged) → has_entry h s ≡ false → next_session (entry_of s q reply ∷ h) ≡ next_session h + 1
-next-more h s q reply none = ap (λ (b : Bool). cond b (next_session h) (suc (next_session h))) none ∙ omega arith
+pub next-more : (h : List Entry) (s : ℕ) (q : Request) (reply : Logged) → has_entry h s ≡ false → s < most_session → next_session (entry_of s q reply ∷ h) ≡ next_session h + 1
+next-more h s q reply none number =
+    ap₂ (λ (b c : Bool). cond (b || not c) (next_session h) (suc (next_session h))) none (lt-ltb s most_session number) ∙ omega arith

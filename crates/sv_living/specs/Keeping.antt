@@ -1,12 +1,12 @@
 -- What is live of a world without end, by a history of all entries, and what a step makes of both.
 -- A history is the list of entries with the latest first. What is live has none of them: the contracts name the one that it keeps.
-use Rattle.std.specs.Prelude.{◌≡◌, ℕ, ◌+◌, true, false, ◌==◌, nat_lt, List, [], ◌∷◌, ◌++◌, length, Some, None, All, if◌then◌else◌}
+use Rattle.std.specs.Prelude.{◌≡◌, ℕ, ◌+◌, true, false, ◌==◌, ◌<◌, nat_lt, List, [], ◌∷◌, ◌++◌, length, Some, None, All, if◌then◌else◌}
 use Rattle.sv_world.specs.Control.{is_in}
 use Rattle.sv_wire.specs.declared.message.Request.{Request}
 use Rattle.sv_journal.specs.declared.entry.Entry.{Entry}
 use Rattle.sv_journal.specs.History.{accepted, full_reply}
 use Rattle.sv_journal.specs.Answer.{Rules}
-use Rattle.sv_journal.specs.Serving.{with_results, reply_for, LegalFor}
+use Rattle.sv_journal.specs.Serving.{Keeping, with_results, reply_for}
 use Rattle.sv_journal.specs.Living.{Stewardship, counts, heeded, living}
 use Rattle.sv_core.specs.declared.answer.Answer.{Answer}
 use Rattle.sv_core.specs.declared.seats.Seat.{Seat}
@@ -16,7 +16,7 @@ use Rattle.sv_core.specs.Rows.{has_entry}
 use Rattle.sv_journal.specs.History.{entry_of, end_entry}
 use Rattle.sv_living.specs.declared.live.Live.{Live}
 use Rattle.sv_living.specs.declared.stewards.Stewards.{Stewards}
-use Rattle.sv_living.specs.Sessions.{is_open, next_session, AreInOrder}
+use Rattle.sv_living.specs.Sessions.{is_open, most_session, next_session}
 use Rattle.sv_living.specs.Table.{numbers_in, IsByNumber}
 
 -- What the core was opened with, and the stewardship.
@@ -34,24 +34,28 @@ pub record Course : Type 0 where
   pub w : Stewardship
   pub h : List Entry
 
--- The open sessions are those of the table, at the slots where they sit; and those below a number are the ones that have an entry.
+-- The open sessions are those of the table, at the slots where they sit; and those below a number are the ones that have an entry, of all that there
+-- may be.
 pub record AreOpen (core : Core) (h : List Entry) (seats : List Seat) (next : ℕ) : Type 0 where
   pub order : IsByNumber seats
   pub numbers : (s : ℕ) → is_in s (numbers_in seats) ≡ is_open h s
+  pub low : (s : ℕ) → is_open h s ≡ true → s < next
   pub sit : All (SitsAt core) seats
   pub only : (slot s : ℕ) → session_at core slot ≡ Some s → is_open h s ≡ true
   pub count : open_by core ≡ length seats
-  pub entries : (s : ℕ) → has_entry h s ≡ nat_lt s next
+  pub entries : (s : ℕ) → s < most_session → has_entry h s ≡ nat_lt s next
 
--- What is live stands where a history of all entries leads: its core where the results that count lead. The history is legal, and its sessions
--- began in order.
+-- What is live stands where a history of all entries leads: its core where the results that count lead.
 pub record KeepsLiving (c : Live) (h : List Entry) : Type 0 where
   pub keeps : Keeps c.core (heeded (stewardship_at c) h)
   pub endless : (rules_at c).sessions ≡ None
   pub table : AreOpen c.core h c.table c.next
   pub next : c.next ≡ next_session h
-  pub order : AreInOrder h
-  pub legal : LegalFor (living (stewardship_at c)) (rules_at c) h
+
+-- The reply of each entry is the one that the entries before it give. Others stand before all of them.
+abbrev pub AreAnswered : Keeping → Rules → List Entry → List Entry → Type 0
+AreAnswered k r before [] = Unit {0}
+AreAnswered k r before (e ∷ since) = (e.reply ≡ reply_for k r (since ++ before) e.session e.request) × AreAnswered k r before since
 
 -- A request with those of its results alone that count.
 abbrev pub heard : Stewardship → List Entry → ℕ → Request → Request

@@ -6,7 +6,7 @@ use Rattle.sv_wire.specs.declared.message.Reply.{Reply}
 use Rattle.sv_journal.specs.declared.entry.Entry.{Entry}
 use Rattle.sv_journal.specs.History.{accepted, full_reply}
 use Rattle.sv_journal.specs.Answer.{Rules}
-use Rattle.sv_journal.specs.Serving.{reply_for}
+use Rattle.sv_journal.specs.Serving.{reply_for, LegalFor}
 use Rattle.sv_journal.specs.Living.{Stewardship, living}
 use Rattle.sv_core.specs.Seeing.{shows_nothing}
 use Rattle.sv_living.specs.Sessions.{is_open, open_sessions}
@@ -25,3 +25,8 @@ is_quiet r w h s request = is_open h s && shows_nothing (reply_for (living w) r 
 abbrev pub IsQuiet : Rules → Stewardship → List Entry → ℕ → Request → Option Reply → Type 0
 IsQuiet r w h s request None = r.bound ≤ most_bound → is_quiet r w h s request ≡ false
 IsQuiet r w h s request (Some reply) = (is_quiet r w h s request ≡ true) × (reply ≡ full_reply (accepted h) (reply_for (living w) r h s request))
+
+-- The same, where that there is none is told of a legal history alone.
+abbrev pub IsQuietIfLegal : Rules → Stewardship → List Entry → ℕ → Request → Option Reply → Type 0
+IsQuietIfLegal r w h s request None = LegalFor (living w) r h → IsQuiet r w h s request None
+IsQuietIfLegal r w h s request (Some reply) = IsQuiet r w h s request (Some reply)

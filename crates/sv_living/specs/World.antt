@@ -5,19 +5,27 @@ use Rattle.sv_journal.specs.declared.entry.Entry.{Entry}
 use Rattle.sv_journal.specs.declared.entry.Logged.{Logged}
 use Rattle.sv_journal.specs.History.{accepted, full_reply}
 use Rattle.sv_journal.specs.Answer.{Rules}
-use Rattle.sv_journal.specs.Serving.{reply_for}
+use Rattle.sv_journal.specs.Serving.{reply_for, LegalFor}
 use Rattle.sv_journal.specs.Living.{Stewardship, heeded, living}
 use Rattle.sv_core.specs.declared.answer.Answer.{Answer}
 use Rattle.sv_journal.specs.History.{entry_of}
 use Rattle.sv_living.specs.declared.fault.StepFault.{StepFault}
 use Rattle.sv_living.specs.declared.fault.StepFault.TheVariants as faults
-use Rattle.sv_living.specs.Sessions.{is_open, next_session, may_begin, may_ask}
+use Rattle.sv_living.specs.Sessions.{is_open, next_session, may_begin, may_ask, AreInOrder}
 
--- What it was opened with, whose reports it goes by, and all entries so far, the latest first.
+-- What it was opened with, whose reports it goes by, and its entries, the latest first: those that stood before it was opened, none where it began anew;
+-- those since; and all of them, the latter and behind these the former.
 pub record WorldView : Type 0 where
   pub rules : Rules
   pub stewardship : Stewardship
+  pub before : List Entry
+  pub since : List Entry
   pub history : List Entry
+
+-- What stood before it was opened is legal by the answer table, and its sessions began in order. So it is where the world began anew.
+pub record BeganLawfully (v : WorldView) : Type 0 where
+  pub legal : LegalFor (living v.stewardship) v.rules v.before
+  pub order : AreInOrder v.before
 
 -- The history with those results alone that count: the commit and the committed values are those of this.
 abbrev pub heeded_in : WorldView → List Entry
@@ -27,9 +35,13 @@ heeded_in v = heeded v.stewardship v.history
 abbrev pub reply_in : WorldView → ℕ → Request → Logged
 reply_in v s request = reply_for (living v.stewardship) v.rules v.history s request
 
+-- The entry of a request of a session, with that reply.
+abbrev pub next_entry : WorldView → ℕ → Request → Entry
+next_entry v s request = entry_of s request (reply_in v s request)
+
 -- A world once a request was answered: its history has one entry more, with the reply of the table.
 abbrev pub after : WorldView → ℕ → Request → WorldView
-after v s request = record v { history = entry_of s request (reply_in v s request) ∷ v.history }
+after v s request = record v { since = next_entry v s request ∷ v.since; history = next_entry v s request ∷ v.history }
 
 -- A request was answered by the table, as its reply is kept and in full, and the world is what this entry makes of it.
 pub record Answered (old new : WorldView) (s : ℕ) (request : Request) (answer : Answer) : Type 0 where

@@ -1,6 +1,7 @@
 //! The core of a living world's server: it has no end of sessions and requests, and it may have a steward.
 #![tactic(auto)]
 
+mod before;
 mod due;
 mod fault;
 mod heard;

@@ -3,14 +3,16 @@ ghost use Rattle.std.specs.Prelude.{◌≡◌, ◌<◌, ◌≤◌, List, true, [
 ghost use Rattle.sv_world.specs.Limits.{most_open, most_positions};
 ghost use Rattle.sv_world.specs.Worlds.{IsGoodWorld};
 ghost use Rattle.sv_journal.specs.declared.entry.Entry.{Entry};
-ghost use Rattle.sv_living.specs.Keeping.{Course, rules_at, stewardship_of, stewardship_at, KeepsLiving};
-ghost use Rattle.sv_living.specs.Quiet.{IsFirstOpen, IsQuiet};
+ghost use Rattle.sv_journal.specs.Living.{heeded};
+ghost use Rattle.sv_core.specs.Cores.{core_rules, Keeps};
+ghost use Rattle.sv_living.specs.Keeping.{Course, rules_at, stewardship_of, stewardship_at, AreOpen, KeepsLiving};
+ghost use Rattle.sv_living.specs.Quiet.{IsFirstOpen, IsQuietIfLegal};
 ghost use Rattle.sv_living.specs.Sessions.{is_open, next_session, open_sessions, most_session, may_begin};
 
 use crate::stewards::Stewards;
 use crate::table::OpenSessions;
 use std::alloc::{AllocError, Global};
-use sv_core::{Core, Opened};
+use sv_core::{Core, Opened, Seat};
 use sv_wire::{Reply, Request};
 use sv_world::{MOST_OPEN, missing_influences_only_shrink};
 
@@ -44,6 +46,31 @@ impl Live {
         })
     }
 
+    /// What is live where some entries lead: `h` is the history of all so far.
+    pub fn behind(
+        alloc: Global,
+        core: Core,
+        stewards: Stewards,
+        seats: Vec<Seat>,
+        next: u64,
+    ) -> Live
+        ghost h: { List Entry }
+        requires endless { (core_rules core).sessions ≡ None }
+        requires keeps { Keeps core (heeded (stewardship_of stewards) h) }
+        requires open { AreOpen core h seats.items next }
+        ensures rules { rules_at result ≡ core_rules core }
+        ensures stewards { stewardship_at result ≡ stewardship_of stewards }
+        ensures keeps { KeepsLiving result h }
+    {
+        Live {
+            alloc,
+            core,
+            stewards,
+            table: OpenSessions::of(seats),
+            next,
+        }
+    }
+
     /// How many sessions are open.
     pub fn open_count(&self) -> usize
         ensures table { result ≡ length self.now.table }
@@ -70,7 +97,7 @@ impl Live {
         ghost g: { Course }
         requires keeps { KeepsLiving self.now g.h }
         requires stewards { g.w ≡ stewardship_at self.now }
-        ensures { IsQuiet (rules_at self.now) g.w g.h session request.now result }
+        ensures { IsQuietIfLegal (rules_at self.now) g.w g.h session request.now result }
     {
         missing_influences_only_shrink();
         let seat = self.table.seat_of(session)?;

@@ -1,5 +1,5 @@
 //! A living world's core, and what it tells.
-ghost use Rattle.std.specs.Prelude.{◌≡◌, ◌+◌, List, ◌<◌, ◌≤◌, true, [], None, length, slice_index_or, All, IfOk, IfErr, IsOk, MatchResult};
+ghost use Rattle.std.specs.Prelude.{◌≡◌, ◌+◌, ◌++◌, List, ◌<◌, ◌≤◌, true, [], None, Some, length, slice_index_or, All, IfOk, IfErr, IfSome, IsOk, MatchResult};
 ghost use Rattle.sv_world.specs.Limits.{most_positions};
 ghost use Rattle.sv_world.specs.Worlds.{IsGoodWorld};
 ghost use Rattle.sv_journal.specs.declared.entry.Entry.{Entry};
@@ -7,12 +7,13 @@ ghost use Rattle.sv_journal.specs.History.{accepted, commit_of, committed_of, fu
 ghost use Rattle.sv_journal.specs.Laws.{AreWithinLimits, IsRightful};
 ghost use Rattle.sv_journal.specs.Sessions.{is_end};
 ghost use Rattle.sv_journal.specs.Serving.{LegalFor};
-ghost use Rattle.sv_journal.specs.Living.{living};
+ghost use Rattle.sv_journal.specs.Living.{heeded, living};
 ghost use Rattle.sv_wire.specs.Grammar.{IsWireReply};
-ghost use Rattle.sv_living.specs.Keeping.{stewardship_of};
-ghost use Rattle.sv_living.specs.Quiet.{IsFirstOpen, IsQuiet};
-ghost use Rattle.sv_living.specs.Sessions.{is_open, next_session, open_sessions, may_begin, may_ask, AreInOrder};
-ghost use Rattle.sv_living.specs.World.{heeded_in, Answered, IsStepFault};
+ghost use Rattle.sv_core.specs.Cores.{core_rules, Keeps};
+ghost use Rattle.sv_living.specs.Keeping.{stewardship_of, AreOpen, AreAnswered};
+ghost use Rattle.sv_living.specs.Quiet.{IsFirstOpen, IsQuiet, IsQuietIfLegal};
+ghost use Rattle.sv_living.specs.Sessions.{is_open, next_session, open_sessions, may_begin, may_ask, AreInOrder, AreInOrderSince, HaveBegun};
+ghost use Rattle.sv_living.specs.World.{heeded_in, Answered, BeganLawfully, IsStepFault};
 
 use crate::fault::StepFault;
 use crate::live::Live;
@@ -20,14 +21,15 @@ use crate::past::Past;
 use crate::stewards::Stewards;
 use std::alloc::{AllocError, Global};
 use std::marker::Model;
-use sv_core::{Answer, Opened};
+use sv_core::{Answer, Core, Opened, Seat};
 use sv_journal::{accepted_actions_are_rightful, served_replies_are_messages};
 use sv_wire::{Reply, Request};
 use sv_world::{ClientId, ObjectId, Value};
 
 /// The core of a living world's server: it answers the requests of sessions without end, and keeps just what is live.
 ///
-/// Contracts see it with the history of all entries so far, which takes no memory. Its sessions are numbered 0, 1, 2, .. in the order of
+/// Contracts see it with the history of all entries so far, which takes no memory. It may go on behind entries of which it knows only where they
+/// led; then its caller names them. Its sessions are numbered 0, 1, 2, .. in the order of
 /// their first requests, and at most 1,024 are open at once.
 #[derive(Drop)]
 pub struct LivingCore {
@@ -57,12 +59,33 @@ impl LivingCore {
         requires world { IsGoodWorld opened.world }
         requires endless { opened.sessions ≡ None }
         requires positions { opened.positions ≤ most_positions }
-        ensures { IfOk result (λ c. c ≡ record { rules = opened; stewardship = stewardship_of stewards; history = [] }) }
+        ensures { IfOk result (λ c. c ≡ record { rules = opened; stewardship = stewardship_of stewards; before = []; since = []; history = [] }) }
     {
         Ok(LivingCore {
             live: Live::new(alloc, opened, stewards)?,
-            past: Past::new(),
+            past: Past::following(),
         })
+    }
+
+    /// Goes on with a living world that stands behind some entries, which are not at hand: `h` is any history that leads where the core stands.
+    /// The seats are those of its open sessions, in the order of their numbers, and the next session has the number `next`.
+    pub fn resumed(
+        alloc: Global,
+        core: Core,
+        stewards: Stewards,
+        seats: Vec<Seat>,
+        next: u64,
+    ) -> LivingCore
+        ghost h: { List Entry }
+        requires endless { (core_rules core).sessions ≡ None }
+        requires keeps { Keeps core (heeded (stewardship_of stewards) h) }
+        requires open { AreOpen core h seats.items next }
+        ensures { result ≡ record { rules = core_rules core; stewardship = stewardship_of stewards; before = h; since = []; history = h } }
+    {
+        LivingCore {
+            live: Live::behind(alloc, core, stewards, seats, next),
+            past: Past::following(),
+        }
     }
 
     /// Answers a request of a session that is open, or of the next one, which begins by it. The reply is the one of the answer table.
@@ -133,7 +156,8 @@ impl LivingCore {
     /// What an Observe of an open session would be answered, where that shows nothing: no head value and no item. Nothing is entered or changed:
     /// it is what the answer table gives after the entries so far.
     pub fn quiet_answer(&self, session: u64, request: &Request) -> Option<Reply>
-        ensures { IsQuiet self.now.rules self.now.stewardship self.now.history session request.now result }
+        ensures some { IfSome result (λ reply. IsQuiet self.now.rules self.now.stewardship self.now.history session request.now (Some reply)) }
+        ensures lawful { BeganLawfully self.now → IsQuiet self.now.rules self.now.stewardship self.now.history session request.now result }
     {
         self.answer_quietly(session, request)
     }
@@ -142,7 +166,7 @@ impl LivingCore {
     fn answer_quietly(&self, session: u64, request: &Request) -> Option<Reply>
         ghost h: { List Entry }
         requires { h ≡ self.now.history }
-        ensures { IsQuiet self.now.rules self.now.stewardship h session request.now result }
+        ensures { IsQuietIfLegal self.now.rules self.now.stewardship h session request.now result }
     {
         self.live.quiet_answer(session, request)
     }
@@ -181,14 +205,19 @@ impl LivingCore {
         self.live.core.committed(object)
     }
 
-    /// A law: at any time each reply is the one of the answer table, sessions began in the order of their numbers with at most 1,024 open,
-    /// and every accepted action writes only what its author may write. Where the rules are within the limits, among them a bound of at most
-    /// 32, every reply is a message.
+    /// A law: at any time each reply since it was opened is the one of the answer table, and sessions began in the order of their numbers with
+    /// at most 1,024 open. Where what stood before was lawful too, so it is of all entries, and every accepted action writes only what its
+    /// author may write. Where then the rules are within the limits, among them a bound of at most 32, every reply is a message.
     pub fn is_lawful(&self)
-        ensures legal { LegalFor (living self.now.stewardship) self.now.rules self.now.history }
-        ensures order { AreInOrder self.now.history }
-        ensures rightful { All (IsRightful self.now.rules) (accepted self.now.history) }
-        ensures messages { AreWithinLimits self.now.rules → All (λ (e : Entry). IsWireReply (full_reply (accepted self.now.history) e.reply)) self.now.history }
+        ensures whole { self.now.history ≡ self.now.since ++ self.now.before }
+        ensures answered { AreAnswered (living self.now.stewardship) self.now.rules self.now.before self.now.since }
+        ensures turns { AreInOrderSince self.now.before self.now.since }
+        ensures begun { HaveBegun self.now.history }
+        ensures legal { BeganLawfully self.now → LegalFor (living self.now.stewardship) self.now.rules self.now.history }
+        ensures order { BeganLawfully self.now → AreInOrder self.now.history }
+        ensures rightful { BeganLawfully self.now → All (IsRightful self.now.rules) (accepted self.now.history) }
+        ensures messages { BeganLawfully self.now → AreWithinLimits self.now.rules
+            → All (λ (e : Entry). IsWireReply (full_reply (accepted self.now.history) e.reply)) self.now.history }
     {
         accepted_actions_are_rightful();
         served_replies_are_messages();

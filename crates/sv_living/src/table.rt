@@ -35,6 +35,14 @@ impl OpenSessions {
         }
     }
 
+    /// These, which ascend by their numbers.
+    pub fn of(seats: Vec<Seat>) -> OpenSessions
+        requires { IsByNumber seats.items }
+        ensures { result ≡ seats.items }
+    {
+        OpenSessions { seats }
+    }
+
     pub fn len(&self) -> usize
         ensures { result ≡ length self.now }
     {

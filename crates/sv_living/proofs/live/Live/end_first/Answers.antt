@@ -1,9 +1,10 @@
 -- The session is seated, has its End, and leaves.
-use Rattle.std.proofs.Common.{ℕ, Option, sym, ◌∙◌, subst}
+use Rattle.std.proofs.Common.{ℕ, ◌<◌, Option, sym, ◌∙◌, subst}
 use Rattle.sv_journal.specs.Answer.{MayBeSession}
 use Rattle.sv_journal.specs.Living.{Stewardship, heeded}
 use Rattle.sv_core.specs.Cores.{Keeps, Remained, WasSeated}
 use Rattle.sv_living.specs.Keeping.{Left}
+use Rattle.sv_living.specs.Sessions.{most_session}
 use Rattle.sv_living.proofs.Standing.{entry-heeded, unseated-next, room-for, stood-still, stepped-unused, sits}
 use Rattle.sv_living.proofs.Told.{on-err}
 use Rattle.sv_living.proofs.Turns.{unended, next-free}
@@ -18,7 +19,7 @@ open-requires g c =
       (
         subst (λ (o : Option ℕ). MayBeSession o s) (sym k.endless) tt,
         (
-          entry-heeded g.g.w g.g.h s ∙ next-free l.core l.core g.g.h l.table l.next k.table s c.requires.1.1.0,
+          entry-heeded g.g.w g.g.h s ∙ next-free l.core l.core g.g.h l.table l.next k.table s c.requires.1.1.0 c.requires.1.1.1.1.1,
           (unseated-next l g.g.h k s c.requires.1.1.0, room-for l g.g.h k c.requires.1.1.1.1.0),
         ),
       ),
@@ -38,7 +39,7 @@ leave-requires g c =
       was.keeps,
       (
         sits l.core c.open.new.self (heeded g.g.w g.g.h) seat was,
-        unended g.g.h seat.session (next-free l.core l.core g.g.h l.table l.next c.requires.0.table seat.session (c.in_ok-seat.ensures.number ∙ c.requires.1.1.0)),
+        unended g.g.h seat.session (next-free l.core l.core g.g.h l.table l.next c.requires.0.table seat.session (c.in_ok-seat.ensures.number ∙ c.requires.1.1.0) (subst (λ (n : ℕ). n < most_session) (sym c.in_ok-seat.ensures.number) c.requires.1.1.1.1.1)),
       ),
     )
 

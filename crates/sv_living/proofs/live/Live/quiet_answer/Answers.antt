@@ -4,12 +4,11 @@ use Rattle.sv_wire.specs.declared.message.Reply.{Reply}
 use Rattle.sv_wire.specs.declared.message.Request.{Request}
 use Rattle.sv_wire.specs.declared.message.Request.TheVariants as requests
 use Rattle.sv_journal.specs.Sessions.{is_end}
-use Rattle.sv_journal.specs.Serving.{LegalFor}
-use Rattle.sv_journal.specs.Living.{Stewardship, heeded, living}
+use Rattle.sv_journal.specs.Living.{Stewardship, heeded}
 use Rattle.sv_core.specs.Cores.{Keeps}
 use Rattle.sv_core.specs.Seeing.{IsQuietAnswer}
 use Rattle.sv_living.specs.Keeping.{rules_at, stewardship_at}
-use Rattle.sv_living.specs.Quiet.{IsQuiet}
+use Rattle.sv_living.specs.Quiet.{IsQuietIfLegal}
 use Rattle.sv_living.specs.Sessions.{is_open}
 use Rattle.sv_living.proofs.Quiet.{quiet-open, quiet-none, quiet-end}
 use Rattle.sv_living.proofs.Standing.{seat-sits, seat-lacks}
@@ -29,7 +28,7 @@ no-end requests.End more = absurd (more refl)
 pub returns-in_err-seat : goal.returns-in_err-seat
 returns-in_err-seat g c =
     let l = c.args.self.now in
-    subst (λ (o : Option Reply). IsQuiet (rules_at l) g.g.w g.g.h c.args.session c.args.request.now o) (sym c.from_residual.ensures)
+    subst (λ (o : Option Reply). IsQuietIfLegal (rules_at l) g.g.w g.g.h c.args.session c.args.request.now o) (sym c.from_residual.ensures)
     (quiet-none g.g.w (rules_at l) g.g.h c.args.session c.args.request.now
     (seat-lacks l g.g.h c.requires.0 c.args.session (sym c.seat_of.ensures ∙ c.in_err-seat.was)))
 
@@ -47,5 +46,5 @@ returns-in_default g c =
     let q = c.args.request.now in
     let at = seat-sits l g.g.h c.requires.0 c.args.session c.in_ok-seat.seat (sym c.seat_of.ensures ∙ c.in_ok-seat.was) in
     quiet-open g.g.w (rules_at l) g.g.h c.args.session q c.missing_influences_only_shrink.ensures.size
-    (subst (λ (w : Stewardship). LegalFor (living w) (rules_at l) g.g.h) (sym c.requires.1) c.requires.0.legal) at.1.1 (no-end q c.in_default.not-End) c.quiet_answer.result
+    at.1.1 (no-end q c.in_default.not-End) c.quiet_answer.result
     (subst (λ (n : ℕ). IsQuietAnswer (rules_at l) (heeded g.g.w g.g.h) n q c.quiet_answer.result) at.1.0 c.quiet_answer.ensures)

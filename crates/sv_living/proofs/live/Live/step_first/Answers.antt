@@ -21,7 +21,7 @@ begin-requires g c =
         (
           k.endless,
           (
-            next-free l.core l.core g.g.h l.table l.next k.table s is,
+            next-free l.core l.core g.g.h l.table l.next k.table s is c.requires.1.1.1.1.1,
             (
               unseated-next l g.g.h k s is,
               (room-for l g.g.h k c.requires.1.1.1.1.0, (next-below l.core l.core g.g.h l.table l.next k.table s is, no-end c.args.request.now c.in_default.not-End)),

@@ -1,5 +1,5 @@
--- What is kept, and the law of rights.
-use Rattle.std.proofs.Common.{All, subst}
+-- What is kept, and the laws of legal histories.
+use Rattle.std.proofs.Common.{◌≡◌, ◌<◌, ℕ, All, nat_lt, ◌++◌, refl, ◌∙◌, ap, subst}
 use Rattle.sv_wire.specs.Grammar.{IsWireReply}
 use Rattle.sv_journal.specs.declared.entry.Entry.{Entry}
 use Rattle.sv_journal.specs.History.{accepted, full_reply}
@@ -7,25 +7,49 @@ use Rattle.sv_journal.specs.Laws.{AreWithinLimits, IsRightful}
 use Rattle.sv_journal.specs.Serving.{LegalFor}
 use Rattle.sv_journal.specs.Living.{living}
 use Rattle.sv_journal.proofs.Stewards.{living-keeping}
-use Rattle.sv_living.specs.Keeping.{rules_at, stewardship_at}
-use Rattle.sv_living.specs.Sessions.{AreInOrder}
-use Rattle.sv_living.specs.World.{WorldView}
+use Rattle.sv_living.specs.Keeping.{rules_at, stewardship_at, AreAnswered}
+use Rattle.sv_living.specs.Past.{whole}
+use Rattle.sv_living.specs.Sessions.{AreInOrder, AreInOrderSince, HaveBegun}
+use Rattle.sv_living.specs.World.{WorldView, BeganLawfully}
+use Rattle.sv_living.proofs.Behind.{legal-behind, order-behind, have-begun}
 use Rattle.sv_living.proofs.living.LivingCore.is_lawful.Goals as goal
 
+pub returns-clause-whole : goal.returns-clause-whole
+returns-clause-whole c = subst (λ (v : WorldView). v.history ≡ v.since ++ v.before) c.self.view_is refl
+
+pub returns-clause-answered : goal.returns-clause-answered
+returns-clause-answered c = subst (λ (v : WorldView). AreAnswered (living v.stewardship) v.rules v.before v.since) c.self.view_is c.self.invariant.answered
+
+pub returns-clause-turns : goal.returns-clause-turns
+returns-clause-turns c = subst (λ (v : WorldView). AreInOrderSince v.before v.since) c.self.view_is c.self.invariant.order
+
+pub returns-clause-begun : goal.returns-clause-begun
+returns-clause-begun c =
+    subst (λ (v : WorldView). HaveBegun v.history) c.self.view_is (have-begun c.self.inside.live (whole c.self.inside.past) c.self.invariant.keeps)
+
 pub returns-clause-legal : goal.returns-clause-legal
-returns-clause-legal c = subst (λ (v : WorldView). LegalFor (living v.stewardship) v.rules v.history) c.self.view_is c.self.invariant.legal
+returns-clause-legal c =
+    let a = c.self.inside in
+    subst (λ (v : WorldView). BeganLawfully v → LegalFor (living v.stewardship) v.rules v.history) c.self.view_is
+    (λ began. legal-behind (living (stewardship_at a.live)) (rules_at a.live) a.past.before a.past.since began.legal c.self.invariant.answered)
 
 pub returns-clause-order : goal.returns-clause-order
-returns-clause-order c = subst (λ (v : WorldView). AreInOrder v.history) c.self.view_is c.self.invariant.order
+returns-clause-order c =
+    let a = c.self.inside in
+    subst (λ (v : WorldView). BeganLawfully v → AreInOrder v.history) c.self.view_is (λ began. order-behind a.past.before a.past.since began.order c.self.invariant.order)
 
 pub returns-clause-rightful : goal.returns-clause-rightful
 returns-clause-rightful c =
-    let w = stewardship_at c.self.inside.live in
-    subst (λ (v : WorldView). All (IsRightful v.rules) (accepted v.history)) c.self.view_is
-    (c.accepted_actions_are_rightful.ensures.served (living w) (rules_at c.self.inside.live) c.self.inside.past (living-keeping w) c.self.invariant.legal)
+    let a = c.self.inside in
+    let w = stewardship_at a.live in
+    subst (λ (v : WorldView). BeganLawfully v → All (IsRightful v.rules) (accepted v.history)) c.self.view_is
+    (λ began. c.accepted_actions_are_rightful.ensures.served (living w) (rules_at a.live) (whole a.past) (living-keeping w)
+    (legal-behind (living w) (rules_at a.live) a.past.before a.past.since began.legal c.self.invariant.answered))
 
 pub returns-clause-messages : goal.returns-clause-messages
 returns-clause-messages c =
-    let w = stewardship_at c.self.inside.live in
-    subst (λ (v : WorldView). AreWithinLimits v.rules → All (λ (e : Entry). IsWireReply (full_reply (accepted v.history) e.reply)) v.history) c.self.view_is
-    (λ limits. c.served_replies_are_messages.ensures (living w) (rules_at c.self.inside.live) c.self.inside.past (living-keeping w) limits c.self.invariant.legal)
+    let a = c.self.inside in
+    let w = stewardship_at a.live in
+    subst (λ (v : WorldView). BeganLawfully v → AreWithinLimits v.rules → All (λ (e : Entry). IsWireReply (full_reply (accepted v.history) e.reply)) v.history) c.self.view_is
+    (λ began limits. c.served_replies_are_messages.ensures (living w) (rules_at a.live) (whole a.past) (living-keeping w) limits
+    (legal-behind (living w) (rules_at a.live) a.past.before a.past.since began.legal c.self.invariant.answered))

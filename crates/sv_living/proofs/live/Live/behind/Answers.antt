@@ -1,0 +1,12 @@
+-- What is live stands there.
+use Rattle.std.proofs.Common.{List, sym, subst}
+use Rattle.sv_core.specs.declared.seats.Seat.{Seat}
+use Rattle.sv_living.specs.Keeping.{AreOpen}
+use Rattle.sv_living.proofs.Standing.{resumed-living}
+use Rattle.sv_living.proofs.live.Live.behind.Goals as goal
+
+pub returns-clause-keeps : goal.returns-clause-keeps
+returns-clause-keeps g c =
+    let a = c.args in
+    resumed-living (record { alloc = a.alloc; core = a.core; stewards = a.stewards; table = c.of.result; next = a.next }) g.h c.requires.endless c.requires.keeps
+    (subst (λ (seats : List Seat). AreOpen a.core g.h seats a.next) (sym c.of.ensures) c.requires.open) (omega (arith))
