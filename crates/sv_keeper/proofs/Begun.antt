@@ -26,23 +26,12 @@ use Rattle.sv_keeper.proofs.Grown.{holds_first, has_all, just_all}
 
 -- ---- What was read
 
-module _ (world : List ℕ) (left : Disk) (r : Reading) (reads : Reads world (seen left) r) (stateless : r.state ≡ 0) where
+module _ (world : List ℕ) (left : Disk) (r : Reading) (reads : Reads world (seen left) r) where
   abbrev p : Picture
   p = seen left
 
-  none_by : (o : Option ℕ) → ReadsLast world p r o → r.state_bytes.items ≡ []
-  none_by None n = n.0.bytes
-  none_by (Some last) n = n.bytes ∙ ap (state_at p) stateless
-
-  pub no_state_read : read_state r ≡ no_state
-  no_state_read = state_is (read_state r) no_state stateless (none_by r.last reads)
-
-  pub stateless_holds : Holds world no_state r.text.items p
-  stateless_holds = subst (λ (s : StateFile). Holds world s r.text.items p) no_state_read (reads_holds world p r reads)
-
-  -- A log of this world without a state has the text that was read.
-  pub text_is : (text : List ℕ) → Holds world no_state text p → text ≡ r.text.items
-  text_is text holds = (holds_alone world p no_state no_state text r.text.items holds stateless_holds).1
+  pub holds_read : Holds world (read_state r) r.text.items p
+  holds_read = reads_holds world p r reads
 
   -- The line that is wrong stands where it is said to.
   module _ (start : WorldView) (file : List ℕ) (line : ℕ) (is : IsFirstWrong start r file line) where
@@ -52,62 +41,87 @@ module _ (world : List ℕ) (left : Disk) (r : Reading) (reads : Reads world (se
     stands_by : (o : Option ℕ) → r.last ≡ o → ReadsLast world p r o → StandsAt p is.number file line
     stands_by None e n = absurd (no_text n.0.text)
     stands_by (Some last) e n =
-        stands_at p r.closed.items last (subst (λ (s : ℕ). IsLog p s r.closed.items last) stateless n.log) is.number is.first line file
+        stands_at p r.state r.closed.items last n.log is.number is.first line file is.behind
         (subst (λ (o : Option ℕ). IsFirstOf r.closed.items o is.number is.first) e is.begins) is.place
 
-    pub wrong_line : IsWrongLine left world start file line
+    pub wrong_line : IsWrongLine left world (read_state r) start file line
     wrong_line = record {
       text = r.text.items;
       number = is.number;
-      read = stateless_holds;
+      read = holds_read;
       wrong = is.wrong;
       stands = stands_by r.last refl reads;
     }
 
+module _ (world : List ℕ) (left : Disk) (r : Reading) (reads : Reads world (seen left) r) (stateless : r.state ≡ 0) where
+  none_by : (o : Option ℕ) → ReadsLast world (seen left) r o → r.state_bytes.items ≡ []
+  none_by None n = n.0.bytes
+  none_by (Some last) n = n.bytes ∙ ap (state_at (seen left)) stateless
+
+  pub no_state_read : read_state r ≡ no_state
+  no_state_read = state_is (read_state r) no_state stateless (none_by r.last reads)
+
+  pub stateless_holds : Holds world no_state r.text.items (seen left)
+  stateless_holds = subst (λ (s : StateFile). Holds world s r.text.items (seen left)) no_state_read (reads_holds world (seen left) r reads)
+
+  -- A log of this world without a state has the text that was read.
+  pub text_is : (text : List ℕ) → Holds world no_state text (seen left) → text ≡ r.text.items
+  text_is text holds = (holds_alone world (seen left) no_state no_state text r.text.items holds stateless_holds).1
+
 -- A state was read.
-pub has_state : (world : List ℕ) (left : Disk) (r : Reading) → Reads world (seen left) r → (file : List ℕ) (line : ℕ) → IsStated r file line → HasState left world file line
-has_state world left r reads file line is = record {
+pub has_state : (world : List ℕ) (left : Disk) (r : Reading) → Reads world (seen left) r → (file : List ℕ) (line : ℕ) → 0 < r.state → file ≡ state_name r.state → line ≡ 1
+    → HasState left world file line
+has_state world left r reads file line some name first = record {
   state = read_state r;
   text = r.text.items;
-  some = is.0;
+  some = some;
   read = reads_holds world (seen left) r reads;
-  name = is.1;
-  line_is = is.2;
+  name = name;
+  line_is = first;
 }
+
+pub why_stated : (left now : Disk) (world : List ℕ) (start : WorldView) (r : Reading) → now ≡ left → Reads world (seen left) r → (e : OpenFault) → IsStated r e → WhyNotOpened left now world start e
+why_stated left now world start r same reads (faults.Line file line cause) is = (same, inr (has_state world left r reads (string_bytes file) line is.0 is.1 is.2))
+why_stated left now world start r same reads faults.Memory is = tt
+why_stated left now world start r same reads faults.Disk is = absurd is
+why_stated left now world start r same reads (faults.Refused refusal) is = absurd is
 
 -- ---- What a crash leaves while it is opened
 
-module _ (world : List ℕ) (left middle now : Disk) (r : Reading) (state : StateFile) (same : read_state r ≡ no_state) (newest : state ≡ read_state r)
+module _ (world : List ℕ) (left middle now : Disk) (r : Reading) (state : StateFile) (newest : state ≡ read_state r)
     (first : LeavesOnly left middle (Holds world (read_state r) r.text.items)) where
-  stateless_first : LeavesOnly left middle (Holds world no_state r.text.items)
-  stateless_first = subst (λ (s : StateFile). LeavesOnly left middle (Holds world s r.text.items)) same first
-
   -- The log was opened, and then sessions ended, or in part.
-  pub opened_all : (text : List ℕ) → text ≡ r.text.items → LeavesOnly middle now (HasAll world state text) → LeavesOnly left now (HasAll world no_state r.text.items)
+  pub opened_all : (text : List ℕ) → text ≡ r.text.items → LeavesOnly middle now (HasAll world state text) → LeavesOnly left now (HasAll world (read_state r) r.text.items)
   opened_all text is then =
-      then_only left middle now (HasAll world no_state r.text.items)
-      (weaker_only left middle (Holds world no_state r.text.items) (HasAll world no_state r.text.items) (λ p holds. just_all world no_state p r.text.items holds) stateless_first)
-      (subst (λ (s : StateFile). LeavesOnly middle now (HasAll world s r.text.items)) (newest ∙ same)
+      then_only left middle now (HasAll world (read_state r) r.text.items)
+      (weaker_only left middle (Holds world (read_state r) r.text.items) (HasAll world (read_state r) r.text.items)
+      (λ p holds. just_all world (read_state r) p r.text.items holds) first)
+      (subst (λ (s : StateFile). LeavesOnly middle now (HasAll world s r.text.items)) newest
       (subst (λ (t : List ℕ). LeavesOnly middle now (HasAll world state t)) is then))
 
   -- The log was opened, and then all sessions ended.
-  pub opened_first : (reached later : WorldView) → text_of reached ≡ r.text.items → later.rules ≡ reached.rules → GoesOn reached.history later.history
-      → (synced : ℕ) → synced ≡ length reached.history
-      → LeavesOnly middle now (HoldsFirst later.rules.world.shape world state later.history synced)
-      → LeavesOnly left now (HoldsFirst later.rules.world.shape world no_state later.history (length reached.history))
-  opened_first reached later text_is rules on synced is then =
-      then_only left middle now (HoldsFirst later.rules.world.shape world no_state later.history (length reached.history))
-      (weaker_only left middle (Holds world no_state r.text.items) (HoldsFirst later.rules.world.shape world no_state later.history (length reached.history))
-      (λ p holds. holds_first later.rules.world.shape world no_state p reached.history later.history on r.text.items
-      (sym text_is ∙ ap (λ (x : Rules). history_text x.world.shape reached.history) (sym rules)) holds) stateless_first)
-      (subst (λ (s : StateFile). LeavesOnly middle now (HoldsFirst later.rules.world.shape world s later.history (length reached.history))) (newest ∙ same)
-      (subst (λ (n : ℕ). LeavesOnly middle now (HoldsFirst later.rules.world.shape world state later.history n)) is then))
+  pub opened_first : (reached later : WorldView) → text_of reached ≡ r.text.items → footing_of later ≡ footing_of reached → GoesOn reached.since later.since
+      → (synced : ℕ) → synced ≡ length reached.since
+      → LeavesOnly middle now (HoldsFirst (footing_of later) world state later.since synced)
+      → LeavesOnly left now (HoldsFirst (footing_of later) world (read_state r) later.since (length reached.since))
+  opened_first reached later text_is footing on synced is then =
+      then_only left middle now (HoldsFirst (footing_of later) world (read_state r) later.since (length reached.since))
+      (weaker_only left middle (Holds world (read_state r) r.text.items) (HoldsFirst (footing_of later) world (read_state r) later.since (length reached.since))
+      (λ p holds. holds_first (footing_of later) world (read_state r) p reached.since later.since on r.text.items
+      (sym text_is ∙ ap (λ (f : Footing). history_text f reached.since) (sym footing)) holds) first)
+      (subst (λ (s : StateFile). LeavesOnly middle now (HoldsFirst (footing_of later) world s later.since (length reached.since))) newest
+      (subst (λ (n : ℕ). LeavesOnly middle now (HoldsFirst (footing_of later) world state later.since n)) is then))
 
 -- It was not opened.
-pub opened_not : (world : List ℕ) (left now : Disk) (r : Reading) → Reads world (seen left) r → r.state ≡ 0 → LeavesOnly left now (Holds world (read_state r) r.text.items) → LeavesOnly left now (HasAll world no_state r.text.items)
-opened_not world left now r reads stateless only =
-    weaker_only left now (Holds world no_state r.text.items) (HasAll world no_state r.text.items) (λ p holds. just_all world no_state p r.text.items holds)
-    (subst (λ (s : StateFile). LeavesOnly left now (Holds world s r.text.items)) (no_state_read world left r reads stateless) only)
+pub opened_not : (world : List ℕ) (left now : Disk) (r : Reading) → LeavesOnly left now (Holds world (read_state r) r.text.items) → LeavesOnly left now (HasAll world (read_state r) r.text.items)
+opened_not world left now r only =
+    weaker_only left now (Holds world (read_state r) r.text.items) (HasAll world (read_state r) r.text.items) (λ p holds. just_all world (read_state r) p r.text.items holds) only
+
+-- A folder that was read has what it had.
+pub read_only : (left now : Disk) (world : List ℕ) (r : Reading) → now ≡ left → IsAtRest left → Reads world (seen left) r → LeavesOnly left now (HasAll world (read_state r) r.text.items)
+read_only left now world r same rest reads =
+    subst (λ (d : Disk). LeavesOnly left d (HasAll world (read_state r) r.text.items)) (sym same)
+    (opened_not world left left r (rest_only left world (read_state r) r.text.items rest (reads_holds world (seen left) r reads)))
 
 -- A folder that was only read has what it had.
 pub only_read : (left now : Disk) (world : List ℕ) → now ≡ left → IsAtRest left → (text : List ℕ) → Holds world no_state text (seen left) → LeavesOnly left now (HasAll world no_state text)
@@ -117,24 +131,56 @@ only_read left now world same rest text holds =
 
 -- ---- Sessions end, and all is settled
 
-module _ (old mid : WorldView) (synced : ℕ) (world : List ℕ) (state : StateFile) (few : synced ≤ length old.history) (text : List ℕ)
-    (is : text ≡ history_text old.rules.world.shape (first_entries synced old.history)) (rules : mid.rules ≡ old.rules) (on : GoesOn old.history mid.history) where
-  later_text : text ≡ history_text mid.rules.world.shape (first_entries synced mid.history)
+module _ (old mid : WorldView) (synced : ℕ) (world : List ℕ) (state : StateFile) (few : synced ≤ length old.since) (text : List ℕ)
+    (is : text ≡ history_text (footing_of old) (first_entries synced old.since)) (footing : footing_of mid ≡ footing_of old) (on : GoesOn old.since mid.since) where
+  later_text : text ≡ history_text (footing_of mid) (first_entries synced mid.since)
   later_text =
-      is ∙ ap (λ (h : List Entry). history_text old.rules.world.shape h) (sym (goes_on_first synced old.history mid.history on few))
-      ∙ ap (λ (x : Rules). history_text x.world.shape (first_entries synced mid.history)) (sym rules)
+      is ∙ ap (λ (h : List Entry). history_text (footing_of old) h) (sym (goes_on_first synced old.since mid.since on few))
+      ∙ ap (λ (f : Footing). history_text f (first_entries synced mid.since)) (sym footing)
 
   -- What a crash leaves then has all that was synced before.
-  pub all_before : (a b : Disk) → LeavesOnly a b (HoldsFirst mid.rules.world.shape world state mid.history synced) → LeavesOnly a b (HasAll world state text)
+  pub all_before : (a b : Disk) → LeavesOnly a b (HoldsFirst (footing_of mid) world state mid.since synced) → LeavesOnly a b (HasAll world state text)
   all_before a b only =
-      weaker_only a b (HoldsFirst mid.rules.world.shape world state mid.history synced) (HasAll world state text)
-      (λ p held. has_all mid.rules.world.shape world state p mid.history synced text later_text held) only
+      weaker_only a b (HoldsFirst (footing_of mid) world state mid.since synced) (HasAll world state text)
+      (λ p held. has_all (footing_of mid) world state p mid.since synced text later_text held) only
 
 -- ---- Why it is not opened
 
-pub why_not : (left now : Disk) (world : List ℕ) (start : WorldView) (r : Reading) → now ≡ left → Reads world (seen left) r → (e : OpenFault) → WhyNotWalked start r e → WhyNotOpened left now world start e
-why_not left now world start r same reads (faults.Line file line cause) (inl is) = (same, inl (wrong_line world left r reads is.stateless start (string_bytes file) line is))
-why_not left now world start r same reads (faults.Line file line cause) (inr is) = (same, inr (has_state world left r reads (string_bytes file) line is))
+pub why_not : (left now : Disk) (world : List ℕ) (start : WorldView) (r : Reading) → now ≡ left → Reads world (seen left) r → (e : OpenFault) → WhyNotWalked start r e
+    → WhyNotResumed left now world (read_state r) start e
+why_not left now world start r same reads (faults.Line file line cause) is = (same, wrong_line world left r reads start (string_bytes file) line is)
 why_not left now world start r same reads faults.Memory is = tt
 why_not left now world start r same reads faults.Disk is = absurd is
 why_not left now world start r same reads (faults.Refused refusal) is = absurd is
+
+pub why_fault : (left now : Disk) (world : List ℕ) (state : StateFile) (start : WorldView) (fault : FileFault) (e : OpenFault) → IsFaultOf fault e → WhyNotResumed left now world state start e
+why_fault left now world state start causes.Failed e is = subst (λ (x : OpenFault). WhyNotResumed left now world state start x) (sym is) tt
+why_fault left now world state start causes.Memory e is = subst (λ (x : OpenFault). WhyNotResumed left now world state start x) (sym is) tt
+
+-- Where there is no state it is opened, or not, as a new world.
+pub why_stateless : (left mid now : Disk) (world : List ℕ) (state : StateFile) (start : WorldView) → mid ≡ left → state ≡ no_state → (e : OpenFault)
+    → WhyNotResumed mid now world state start e → WhyNotOpened left now world start e
+why_stateless left mid now world state start same none (faults.Line file line cause) is = (
+  is.0 ∙ same,
+  inl (subst (λ (d : Disk). IsWrongLine d world no_state start (string_bytes file) line) same
+  (subst (λ (s : StateFile). IsWrongLine mid world s start (string_bytes file) line) none is.1)),
+)
+why_stateless left mid now world state start same none faults.Memory is = tt
+why_stateless left mid now world state start same none faults.Disk is = tt
+why_stateless left mid now world state start same none (faults.Refused refusal) is = absurd is
+
+module _ {F : Type 0} (disk : F → Disk) (is_honest : F → Type 0) where
+  pub opened_stateless : (left mid : Disk) (world : List ℕ) (state : StateFile) (start : WorldView) (keeper : KeeperView F) → mid ≡ left → (is_honest keeper.log.segment.folder → state ≡ no_state)
+      → IsResumed disk is_honest mid world state start keeper → IsOpened disk is_honest left world start keeper
+  opened_stateless left mid world state start keeper same none is = record {
+    text = is.text;
+    reached = is.reached;
+    read = λ h. subst (λ (d : Disk). Holds world no_state is.text (seen d)) same (subst (λ (s : StateFile). Holds world s is.text (seen mid)) (none h) (is.read h));
+    taken = is.taken;
+    ended = is.ended;
+    settled = is.settled;
+    own = is.own;
+    crash = λ h.
+        subst (λ (d : Disk). LeavesOnly d (disk keeper.log.segment.folder) (HoldsFirst (footing_of keeper.world) world no_state keeper.world.since (length is.reached.since))) same
+        (subst (λ (s : StateFile). LeavesOnly mid (disk keeper.log.segment.folder) (HoldsFirst (footing_of keeper.world) world s keeper.world.since (length is.reached.since))) (none h) (is.crash h));
+  }

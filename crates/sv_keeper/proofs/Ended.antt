@@ -64,7 +64,8 @@ module _ (h : List Entry) (s : ℕ) (reply : Logged) (others : List ℕ) (first 
   is_first_open = first_passes (is_open h) (below (next_session h)) first
 
   same_next : next_session ended ≡ next_session h
-  same_next = ap (λ (b : Bool). cond b (next_session h) (suc (next_session h))) (and_parts (has_entry h s) (not (is_ended h s)) is_first_open).0
+  same_next =
+      ap (λ (b : Bool). cond (b || not (is_session_number s)) (next_session h) (suc (next_session h))) (and_parts (has_entry h s) (not (is_ended h s)) is_first_open).0
 
   open_before : (t : ℕ) → is_open ended t ≡ true → is_open h t ≡ true
   open_before t is = go (eqb s t) (has_entry h t) (is_ended h t) is
@@ -114,9 +115,9 @@ first_of_more n (e ∷ more) h few =
 pub goes_on_first : (n : ℕ) (h later : List Entry) → GoesOn h later → n ≤ length h → first_entries n later ≡ first_entries n h
 goes_on_first n h later is few = ap (λ (l : List Entry). first_entries n l) is.1 ∙ first_of_more n is.0 h few
 
-pub ended_on : {v w : WorldView} → AreEnded v w → (w.rules ≡ v.rules) × GoesOn v.history w.history
+pub ended_on : {v w : WorldView} → AreEnded v w → (footing_of w ≡ footing_of v) × GoesOn v.since w.since
 ended_on (AreEnded.none closed) = (refl, ([], refl))
 ended_on {v} {w} (AreEnded.some {s = s} first others) =
     let later = ended_on others in
-    let one = entry_of s requests.End (reply_in v s requests.End) in
-    (later.0, (later.1.0 ++ one ∷ [], later.1.1 ∙ sym (append_assoc later.1.0 (one ∷ []) v.history)))
+    let one = next_entry v s requests.End in
+    (later.0, (later.1.0 ++ one ∷ [], later.1.1 ∙ sym (append_assoc later.1.0 (one ∷ []) v.since)))

@@ -4,7 +4,8 @@ use Rattle.std.proofs.lemmas.Bool.{and_parts, ne_eqb, ltb-true, ltb-false, lt-lt
 use Rattle.std.proofs.lemmas.List.{append-nil, append_cancel_left}
 use Rattle.sv_world.specs.declared.world.Shape.{Shape}
 use Rattle.sv_journal.specs.declared.entry.Entry.{Entry}
-use Rattle.sv_journal.specs.History.{accepted}
+use Rattle.sv_journal.specs.History.{Authored, accepted}
+use Rattle.sv_journal.specs.Text.{entry_line}
 use Rattle.sv_log.specs.Pictures.{Picture}
 use Rattle.sv_log.specs.Texts.{has_line, whole, IsText, IsFront}
 use Rattle.sv_log.specs.Chains.{StateFile, text_at, text_of, Holds, Keeps}
@@ -12,7 +13,7 @@ use Rattle.sv_log.proofs.Texts.{text_parts, whole-append, text-append}
 use Rattle.sv_log.proofs.Chained.{text_in}
 use Rattle.sv_log.specs.Names.{segment_name}
 use Rattle.sv_lines.proofs.Splitting.{all_pass, first_is, others_are}
-use Rattle.sv_keeper.specs.Histories.{last_line, history_text, first_entries, HoldsFirst}
+use Rattle.sv_keeper.specs.Histories.{Footing, last_line, history_text, first_entries, HoldsFirst}
 use Rattle.sv_keeper.proofs.Shown.{is_shown, IsShown, bare_line, line_shown}
 
 -- ---- One line
@@ -78,24 +79,31 @@ text_behind a x is both = append_cancel_left a (whole x) x (sym (whole-append a 
 
 -- ---- Histories
 
-module _ (shape : Shape) where
+module _ (shape : Shape) (A : List Authored) (n : ℕ) (e : Entry) where
+  pub entry_text : IsText (entry_line shape A n e)
+  entry_text = shown_is_text (bare_line shape A n e) (line_shown shape A n e)
+
+  pub entry_long : 0 < length (entry_line shape A n e)
+  entry_long = let both = length-append (bare_line shape A n e) (10 ∷ []) in omega (arith, both)
+
+module _ (f : Footing) where
   abbrev text : List Entry → List ℕ
-  text h = history_text shape h
+  text h = history_text f h
 
   abbrev bare : Entry → List Entry → List ℕ
-  bare e h = bare_line shape (accepted (e ∷ h)) (suc (length h)) e
+  bare e h = bare_line f.shape (accepted (e ∷ (h ++ f.before))) (suc (f.number + length h)) e
 
   bare_shown : (e : Entry) (h : List Entry) → IsShown (bare e h)
-  bare_shown e h = line_shown shape (accepted (e ∷ h)) (suc (length h)) e
+  bare_shown e h = line_shown f.shape (accepted (e ∷ (h ++ f.before))) (suc (f.number + length h)) e
 
-  pub line_text : (e : Entry) (h : List Entry) → IsText (last_line shape e h)
+  pub line_text : (e : Entry) (h : List Entry) → IsText (last_line f e h)
   line_text e h = shown_is_text (bare e h) (bare_shown e h)
 
   pub history_is_text : (h : List Entry) → IsText (text h)
   history_is_text [] = refl
-  history_is_text (e ∷ h) = text-append (text h) (last_line shape e h) (history_is_text h) (line_text e h)
+  history_is_text (e ∷ h) = text-append (text h) (last_line f e h) (history_is_text h) (line_text e h)
 
-  pub line_long : (e : Entry) (h : List Entry) → 0 < length (last_line shape e h)
+  pub line_long : (e : Entry) (h : List Entry) → 0 < length (last_line f e h)
   line_long e h =
       let n = length-append (bare e h) (10 ∷ []) in
       omega (arith, n)
@@ -124,9 +132,9 @@ module _ (shape : Shape) where
       go (inl many) before =
           ([], sym (append-nil (text (first_entries n (e ∷ h))) ∙ ap (λ (l : List Entry). text l) (first_most n e h many)))
       go (inr few) before = (
-        before.0 ++ last_line shape e h,
-        ap (λ (l : List ℕ). l ++ last_line shape e h) before.1 ∙ append_assoc (text (first_entries n h)) before.0 (last_line shape e h)
-            ∙ ap (λ (l : List Entry). text l ++ (before.0 ++ last_line shape e h)) (sym (first_less n e h few)),
+        before.0 ++ last_line f e h,
+        ap (λ (l : List ℕ). l ++ last_line f e h) before.1 ∙ append_assoc (text (first_entries n h)) before.0 (last_line f e h)
+            ∙ ap (λ (l : List Entry). text l ++ (before.0 ++ last_line f e h)) (sym (first_less n e h few)),
       )
 
   -- The text of more entries begins with that of fewer.
@@ -155,7 +163,7 @@ module _ (shape : Shape) where
           omega (arith, all)
       go false i less =
           let same = ap (λ (l : List Entry). length (text l)) (first_less m e h (ltb-false (length h) m i)) in
-          let both = length-append (text h) (last_line shape e h) in
+          let both = length-append (text h) (last_line f e h) in
           omega (arith, same, both, less)
 
   text_grows : (m n : ℕ) (h : List Entry) → m < n → n ≤ length h → length (text (first_entries m h)) < length (text (first_entries n h))
@@ -167,7 +175,7 @@ module _ (shape : Shape) where
       go true i more =
           let all = ap (λ (l : List Entry). length (text l)) (first_most n e h (ltb-true (length h) n i)) in
           let same = ap (λ (l : List Entry). length (text l)) (first_less m e h (omega (arith, less, few))) in
-          let both = length-append (text h) (last_line shape e h) in
+          let both = length-append (text h) (last_line f e h) in
           let most = text_most m h in
           let long = line_long e h in
           omega (arith, all, same, both, most, long)
@@ -185,9 +193,9 @@ module _ (shape : Shape) where
   pub of_first : (h : List Entry) (t more : List ℕ) → IsText t → text h ≡ t ++ more → IsOfFirst h t
   of_first [] t more is e = (0, omega arith, nothing_left t more (sym e))
   of_first (e ∷ h) t more is whole_is =
-      go (split_front t more (text h) (last_line shape e h) (sym whole_is)) (λ less. of_first h t less is)
+      go (split_front t more (text h) (last_line f e h) (sym whole_is)) (λ less. of_first h t less is)
     where
-      by_line : (x : List ℕ) → t ≡ text h ++ x → (x ≡ []) ⊎ (x ≡ last_line shape e h) → IsOfFirst (e ∷ h) t
+      by_line : (x : List ℕ) → t ≡ text h ++ x → (x ≡ []) ⊎ (x ≡ last_line f e h) → IsOfFirst (e ∷ h) t
       by_line x e₁ (inl none) =
           let n = length h in
           let same : first_entries n (e ∷ h) ≡ h = first_less n e h (omega arith) ∙ first_all n h (omega arith) in
@@ -196,7 +204,7 @@ module _ (shape : Shape) where
           let same : first_entries (suc (length h)) (e ∷ h) ≡ e ∷ h = first_most (suc (length h)) e h (omega arith) in
           (suc (length h), omega arith, e₁ ∙ ap (λ (l : List ℕ). text h ++ l) all ∙ ap (λ (l : List Entry). text l) (sym same))
 
-      go : (IsFront t (text h)) ⊎ ((x : List ℕ) × (t ≡ text h ++ x) × (x ++ more ≡ last_line shape e h)) → ((less : List ℕ) → text h ≡ t ++ less → IsOfFirst h t) → IsOfFirst (e ∷ h) t
+      go : (IsFront t (text h)) ⊎ ((x : List ℕ) × (t ≡ text h ++ x) × (x ++ more ≡ last_line f e h)) → ((less : List ℕ) → text h ≡ t ++ less → IsOfFirst h t) → IsOfFirst (e ∷ h) t
       go (inl f) before =
           let found = before f.0 f.1 in
           (found.0, omega (arith, found.1), found.2 ∙ ap (λ (l : List Entry). text l) (sym (first_less found.0 e h found.1)))
@@ -227,13 +235,13 @@ held_text world state t p (inl held) =
     subst IsText (sym lines.3) (text-append (text_of p lines.0) (text_at p last) (segments_text p lines.0) (text_in (p (segment_name last))))
 held_text world state t p (inr held) = subst IsText (sym held.2) refl
 
-pub keeps_first : (shape : Shape) (world : List ℕ) (state : StateFile) (h : List Entry) (n : ℕ) (low high : List ℕ) → low ≡ history_text shape (first_entries n h)
-    → high ≡ history_text shape h → n ≤ length h → (c : Picture) → Keeps world state low high c → HoldsFirst shape world state h n c
-keeps_first shape world state h n low high low_is high_is few c kept =
+pub keeps_first : (f : Footing) (world : List ℕ) (state : StateFile) (h : List Entry) (n : ℕ) (low high : List ℕ) → low ≡ history_text f (first_entries n h)
+    → high ≡ history_text f h → n ≤ length h → (c : Picture) → Keeps world state low high c → HoldsFirst f world state h n c
+keeps_first f world state h n low high low_is high_is few c kept =
     let t = kept.0 in
     let is = held_text world state t c kept.1 in
-    let end : IsFront t (history_text shape h) = subst (λ (l : List ℕ). IsFront t l) high_is kept.3 in
-    let found = of_first shape h t end.0 is end.1 in
-    let begin : IsFront (history_text shape (first_entries n h)) (history_text shape (first_entries found.0 h)) =
-    subst (λ (l : List ℕ). IsFront l (history_text shape (first_entries found.0 h))) low_is (subst (λ (l : List ℕ). IsFront low l) found.2 kept.2) in
-    (found.0, no_fewer shape h n found.0 few begin, found.1, subst (λ (l : List ℕ). Holds world state l c) found.2 kept.1)
+    let end : IsFront t (history_text f h) = subst (λ (l : List ℕ). IsFront t l) high_is kept.3 in
+    let found = of_first f h t end.0 is end.1 in
+    let begin : IsFront (history_text f (first_entries n h)) (history_text f (first_entries found.0 h)) =
+    subst (λ (l : List ℕ). IsFront l (history_text f (first_entries found.0 h))) low_is (subst (λ (l : List ℕ). IsFront low l) found.2 kept.2) in
+    (found.0, no_fewer f h n found.0 few begin, found.1, subst (λ (l : List ℕ). Holds world state l c) found.2 kept.1)

@@ -6,7 +6,7 @@ use Rattle.sv_wire.specs.Ranges.{RequestFits}
 use Rattle.sv_wire.specs.declared.message.Request.{Request}
 use Rattle.sv_wire.specs.declared.message.Reply.{Reply}
 use Rattle.sv_living.specs.Sessions.{may_ask}
-use Rattle.sv_living.specs.World.{WorldView}
+use Rattle.sv_living.specs.World.{WorldView, entries_in}
 use Rattle.sv_lines.specs.Reading.{Gives}
 use Rattle.sv_lines.specs.Told.{asking_text}
 use Rattle.sv_lines.specs.declared.stop.Unread.{Unread}
@@ -41,7 +41,7 @@ some_none : {A : Type 0} (x : A) → Some x ≡ None → ⊥
 some_none x e = cc
 
 module _ (one : EntriesHaveOneLine) (causes : CausesAreTold) (numbers : CausesHaveNumbers) (by_faults : RepliesGoByFaults) (v : WorldView) (shape : Shape) (next : ℕ)
-    (shape_is : shape ≡ v.rules.world.shape) (next_is : next ≡ length v.history + 1) (few : next < 2 ^ 64) (text : List ℕ) where
+    (shape_is : shape ≡ v.rules.world.shape) (next_is : next ≡ entries_in v + 1) (few : next < 2 ^ 64) (text : List ℕ) where
   -- What is read of a text that begins with a line that may stand next.
   reads : (result : Result LineAsked Unread) → LineLaw shape text result → (s : ℕ) (asked : Request) (rest : List ℕ) → s < 2 ^ 64 → RequestFits asked → text ≡ next_line v s asked ++ rest
       → Gives {Y = Told} told_in result (Some (next, s, asked_of v.rules.world.shape asked (behind causes numbers by_faults v s asked rest)))
@@ -69,7 +69,7 @@ module _ (one : EntriesHaveOneLine) (causes : CausesAreTold) (numbers : CausesHa
   judged l law request stands stops.Memory not = tt
 
 -- The line that was printed is that of the request.
-pub line_printed : EntriesHaveOneLine → (v : WorldView) (s : ℕ) (request : Request) (shape : Shape) (next : ℕ) → shape ≡ v.rules.world.shape → next ≡ length v.history + 1
+pub line_printed : EntriesHaveOneLine → (v : WorldView) (s : ℕ) (request : Request) (shape : Shape) (next : ℕ) → shape ≡ v.rules.world.shape → next ≡ entries_in v + 1
     → (reply : Reply) → reply ≡ told v s request → (cleared line : List ℕ) → cleared ≡ [] → line ≡ cleared ++ living_line shape next s request reply → line ≡ next_line v s request
 line_printed law v s request shape next shape_is next_is reply whole cleared line empty put =
     put ∙ ap (λ (l : List ℕ). l ++ living_line shape next s request reply) empty ∙ ap (λ (r : Reply). living_line shape next s request r) whole

@@ -12,7 +12,7 @@ use Rattle.sv_journal.specs.Answer.{Rules}
 use Rattle.sv_journal.specs.Living.{Stewardship}
 use Rattle.sv_living.specs.Quiet.{IsQuiet}
 use Rattle.sv_living.specs.Sessions.{may_ask}
-use Rattle.sv_living.specs.World.{WorldView, after, reply_in}
+use Rattle.sv_living.specs.World.{WorldView, entries_in, next_entry, after, reply_in}
 use Rattle.sv_log.specs.Pictures.{Disk}
 use Rattle.sv_log.specs.Texts.{IsText}
 use Rattle.sv_log.specs.Logs.{HasSizes}
@@ -20,9 +20,9 @@ use Rattle.sv_log.specs.OpenLogs.{IsOpenLog, log_text, log_synced}
 use Rattle.sv_log.specs.declared.log.Log.{Log}
 use Rattle.sv_entries.specs.Lines.{living_line}
 use Rattle.sv_entries.specs.Laws.{EntriesHaveOneLine}
-use Rattle.sv_keeper.specs.Histories.{history_text, first_entries}
+use Rattle.sv_keeper.specs.Histories.{footing_of, history_text, first_entries}
 use Rattle.sv_keeper.specs.Views.{KeeperView}
-use Rattle.sv_keeper.specs.Keeping.{text_of, IsKept, Stepped, AreSettled, next_line}
+use Rattle.sv_keeper.specs.Keeping.{text_of, IsWhole, IsKept, Stepped, AreSettled, next_line}
 use Rattle.sv_keeper.specs.Invariant.{view_of, IsKeeper}
 use Rattle.sv_keeper.specs.declared.keeper.Keeper.TheInside.{Inside}
 use Rattle.sv_keeper.proofs.Entered.{told, printed, entered_as}
@@ -38,9 +38,10 @@ module _ {F : Type 0} (disk : F → Disk) (is_honest : F → Type 0) (k : Inside
   core_view core same = ap (λ (v : WorldView). view_of (record k { core = v })) same
 
   -- It is broken.
-  pub is_stuck : (core : WorldView) (log : Log F) (group : List ℕ) → core.rules ≡ k.core.rules → IsKeeper disk is_honest (record k { core = core; log = log; group = group; is_broken = true })
-  is_stuck core log group same = record {
+  pub is_stuck : (core : WorldView) (log : Log F) (group : List ℕ) → core.rules ≡ k.core.rules → IsWhole core → IsKeeper disk is_honest (record k { core = core; log = log; group = group; is_broken = true })
+  is_stuck core log group same whole = record {
     shape = is.shape ∙ sym (ap (λ r. r.world.shape) same);
+    whole = whole;
     next = λ sound. absurd (true≢false sound);
     kept = λ sound. absurd (true≢false sound);
   }
@@ -52,15 +53,19 @@ module _ {F : Type 0} (disk : F → Disk) (is_honest : F → Type 0) (k : Inside
         put ∙ ap (λ (r : Reply). k.group ++ living_line k.shape k.next s request r) whole
         ∙ ap (λ (l : List ℕ). k.group ++ l) (printed k.core s request law k.shape k.next is.shape (is.next sound))
 
+    pub whole_after : IsWhole core
+    whole_after = subst IsWhole (sym own) (ap (λ (h : List Entry). next_entry k.core s request ∷ h) is.whole)
+
     -- A line was put into the group.
     pub stepped_on : IsKeeper disk is_honest (record k { core = core; group = group; next = next })
     stepped_on = record {
       shape = is.shape ∙ ap (λ (v : WorldView). v.rules.world.shape) (sym own);
+      whole = whole_after;
       next = λ _.
-          let more = ap (λ (v : WorldView). length v.history) own in
+          let more = ap (λ (v : WorldView). entries_in v) own in
           let before = is.next sound in
           omega (arith, later, more, before);
-      kept = λ _. entered_as disk is_honest (view_of k) (is.kept sound) s request k.is_broken core group own put_line;
+      kept = λ _. entered_as disk is_honest (view_of k) (is.kept sound) is.whole s request k.is_broken core group own put_line;
     }
 
     -- The request was stepped.
@@ -75,7 +80,7 @@ module _ {F : Type 0} (disk : F → Disk) (is_honest : F → Type 0) (k : Inside
       sound = sound;
     }
 
-  module _ (log : Log F) (group : List ℕ) (synced syncs log_bytes : ℕ) (sound : k.is_broken ≡ false) (none : group ≡ []) (sizes : HasSizes log.segment) (all : synced ≡ length k.core.history)
+  module _ (log : Log F) (group : List ℕ) (synced syncs log_bytes : ℕ) (sound : k.is_broken ≡ false) (none : group ≡ []) (sizes : HasSizes log.segment) (all : synced ≡ length k.core.since)
       (before : is_honest log.segment.folder → is_honest k.log.segment.folder)
       (opened : is_honest log.segment.folder → IsOpenLog disk log)
       (text : is_honest log.segment.folder → log_text disk log ≡ log_text disk k.log ++ k.group)
@@ -87,6 +92,7 @@ module _ {F : Type 0} (disk : F → Disk) (is_honest : F → Type 0) (k : Inside
     pub settled_on : IsKeeper disk is_honest (record k { log = log; group = group; synced = synced; syncs = syncs; log_bytes = log_bytes })
     settled_on = record {
       shape = is.shape;
+      whole = is.whole;
       next = is.next;
       kept = λ _.
           subst (λ (g : List ℕ). IsKept disk is_honest (new g k.is_broken)) (sym none)
@@ -100,8 +106,8 @@ module _ {F : Type 0} (disk : F → Disk) (is_honest : F → Type 0) (k : Inside
         (are_settled disk is_honest (view_of k) (is.kept sound) log synced sizes all before opened text on_disk))
 
 -- A keeper of a world whose lines are those of a log.
-module _ {F : Type 0} (disk : F → Disk) (is_honest : F → Type 0) (k : Inside F) (shape : k.shape ≡ k.core.rules.world.shape) (next : k.next ≡ length k.core.history + 1) (none : k.group ≡ [])
-    (all : k.synced ≡ length k.core.history) (sizes : HasSizes k.log.segment) (opened : is_honest k.log.segment.folder → IsOpenLog disk k.log)
+module _ {F : Type 0} (disk : F → Disk) (is_honest : F → Type 0) (k : Inside F) (shape : k.shape ≡ k.core.rules.world.shape) (whole : IsWhole k.core) (next : k.next ≡ entries_in k.core + 1) (none : k.group ≡ [])
+    (all : k.synced ≡ length k.core.since) (sizes : HasSizes k.log.segment) (opened : is_honest k.log.segment.folder → IsOpenLog disk k.log)
     (text : is_honest k.log.segment.folder → log_text disk k.log ≡ text_of k.core) (on_disk : is_honest k.log.segment.folder → log_synced disk k.log ≡ text_of k.core) where
   kept_all : IsKept disk is_honest (view_of k)
   kept_all = record {
@@ -113,12 +119,12 @@ module _ {F : Type 0} (disk : F → Disk) (is_honest : F → Type 0) (k : Inside
     text = λ honest. ap (λ (l : List ℕ). log_text disk k.log ++ l) none ∙ append-nil (log_text disk k.log) ∙ text honest;
     on_disk = λ honest.
         on_disk honest
-        ∙ ap (λ (h : List Entry). history_text k.core.rules.world.shape h)
-        (sym (ap (λ n. first_entries n k.core.history) all ∙ first_all k.core.rules.world.shape (length k.core.history) k.core.history (omega arith)));
+        ∙ ap (λ (h : List Entry). history_text (footing_of k.core) h)
+        (sym (ap (λ n. first_entries n k.core.since) all ∙ first_all (footing_of k.core) (length k.core.since) k.core.since (omega arith)));
   }
 
   pub joined_all : IsKeeper disk is_honest k
-  joined_all = record { shape = shape; next = λ _. next; kept = λ _. kept_all }
+  joined_all = record { shape = shape; whole = whole; next = λ _. next; kept = λ _. kept_all }
 
 -- What is told where the world shows nothing.
 pub some_quiet : (r : Rules) (w : Stewardship) (h : List Entry) (s : ℕ) (request : Request) (answer : Option Reply) → IsQuiet r w h s request answer

@@ -116,7 +116,7 @@ module _ (v : WorldView) (s seq : ℕ) (a b : Action) (fault other : BadAction) 
 
   abbrev line_with : List ℕ → List ℕ → List ℕ
   line_with action reply =
-      decimal (suc (length h)) ++ codes " s" ++ decimal s ++ codes " " ++ (codes "submit " ++ decimal seq ++ codes " " ++ action) ++ codes " -> " ++ reply ++ 10 ∷ []
+      decimal (suc (entries_in v)) ++ codes " s" ++ decimal s ++ codes " " ++ (codes "submit " ++ decimal seq ++ codes " " ++ action) ++ codes " -> " ++ reply ++ 10 ∷ []
 
   abbrev list_by : Logged → Action → List Authored
   list_by reply x = accepted (entry_of s (requests.Submit seq x) reply ∷ h)
@@ -209,7 +209,7 @@ module _ (causes : CausesAreTold) (numbers : CausesHaveNumbers) (by_faults : Rep
   asked_line requests.End rest request is = ap (λ (q : Request). next_line v s q) is
 
   -- A text that begins with the line of a request, as it is read.
-  pub line_parts : EntriesHaveOneLine → (next : ℕ) → next ≡ length v.history + 1 → (asked : Request) (rest text : List ℕ) → text ≡ next_line v s asked ++ rest
+  pub line_parts : EntriesHaveOneLine → (next : ℕ) → next ≡ entries_in v + 1 → (asked : Request) (rest text : List ℕ) → text ≡ next_line v s asked ++ rest
       → text ≡ asking_text own_shape next s asked ++ behind asked rest
   line_parts law next is asked rest text begins =
       let front = asking_text own_shape next s asked in

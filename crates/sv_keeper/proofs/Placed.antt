@@ -130,14 +130,23 @@ some_is : (a b : ℕ) → Some a ≡ Some b → a ≡ b
 some_is a b e = ap (λ (o : Option ℕ). unwrap_or o 0) e
 
 -- The line of a number stands in the segment that begins last at or before it.
-module _ (p : Picture) (closed : List ℕ) (last : ℕ) (log : IsLog p 0 closed last) (number first line : ℕ) (file : List ℕ)
+module _ (p : Picture) (state : ℕ) (closed : List ℕ) (last : ℕ) (log : IsLog p state closed last) (number first line : ℕ) (file : List ℕ) (behind : state < number)
     (is : IsFirstOf closed (Some last) number first) (place : IsPlaceIn first number file line) where
   abbrev ends : IsLast p last
-  ends = last_of p 0 closed last log
+  ends = last_of p state closed last log
+
+  -- The segments behind the state begin with the line behind it.
+  begins_by : (n : ℕ) (ms : List ℕ) → IsClosed p n ms last → Begins ms (Some last) n
+  begins_by n [] chain = inr (ap (λ (m : ℕ). Some m) (sym chain))
+  begins_by n (m ∷ ms) chain = inl (subst (λ (k : ℕ). Contains (m ∷ ms) k) chain.0 (has_first m ms))
+
+  low : state + 1 ≤ first
+  low = is.greatest (state + 1) (begins_by (state + 1) closed log.chain) (omega (arith, behind))
 
   there_by : (first ≡ 1) ⊎ Begins closed (Some last) first → (bytes : List ℕ) × (p (segment_name first) ≡ Some bytes)
-  there_by (inl e) = subst (λ (n : ℕ). (bytes : List ℕ) × (p (segment_name n) ≡ Some bytes)) (sym e) (first_there p last ends 1 closed log.chain)
-  there_by (inr (inl i)) = closed_there p last ends 1 closed log.chain first i
+  there_by (inl e) =
+      subst (λ (n : ℕ). (bytes : List ℕ) × (p (segment_name n) ≡ Some bytes)) (omega (arith, e, low)) (first_there p last ends (state + 1) closed log.chain)
+  there_by (inr (inl i)) = closed_there p last ends (state + 1) closed log.chain first i
   there_by (inr (inr e)) = subst (λ (n : ℕ). (bytes : List ℕ) × (p (segment_name n) ≡ Some bytes)) (some_is last first e) ends.1
 
   none_by : (m : ℕ) → first + 1 ≤ m → m < number + 1 → (Contains closed m ⊎ (m ≡ last)) ⊎ (p (segment_name m) ≡ None) → p (segment_name m) ≡ None
@@ -154,5 +163,5 @@ module _ (p : Picture) (closed : List ℕ) (last : ℕ) (log : IsLog p 0 closed 
     within = is.within;
     place = place;
     there = (found.0, ap p place.name ∙ found.1);
-    none = λ m n low high. none_by m low high (one_or_none p last ends 1 closed log.chain m n (omega (arith, low, is.some)));
+    none = λ m n from high. none_by m from high (one_or_none p last ends (state + 1) closed log.chain m n (omega (arith, from, low)));
   }

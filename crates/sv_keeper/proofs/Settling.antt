@@ -25,17 +25,17 @@ module _ {F : Type 0} (disk : F → Disk) (is_honest : F → Type 0) (old : Keep
   abbrev v : WorldView
   v = old.world
 
-  abbrev shape : Shape
-  shape = v.rules.world.shape
+  abbrev f : Footing
+  f = footing_of v
 
   -- A log of this world with the lines of some first entries, at least of those that are synced.
   abbrev pub Holds : List ℕ → Picture → Type 0
-  Holds world = HoldsFirst shape world (newest disk old.log) v.history old.synced
+  Holds world = HoldsFirst f world (newest disk old.log) v.since old.synced
 
   module _ (honest : is_honest old.log.segment.folder) (world : List ℕ) where
     pub first_of : (c : Picture) → KeepsLines world (newest disk old.log) (log_synced disk old.log) (log_text disk old.log ++ old.group) c → Holds world c
     first_of c kept =
-        keeps_first shape world (newest disk old.log) v.history old.synced (log_synced disk old.log) (log_text disk old.log ++ old.group)
+        keeps_first f world (newest disk old.log) v.since old.synced (log_synced disk old.log) (log_text disk old.log ++ old.group)
         (is.on_disk honest) (is.text honest) is.part c kept
 
     -- Nothing was asked of the folder.
@@ -53,7 +53,7 @@ module _ {F : Type 0} (disk : F → Disk) (is_honest : F → Type 0) (old : Keep
         (KeepsLines world (newest disk old.log) (log_synced disk old.log) (log_text disk old.log ++ old.group)) (Holds world) first_of only
 
   -- All that was appended is synced.
-  module _ (log : Log F) (synced : ℕ) (sizes : HasSizes log.segment) (all : synced ≡ length v.history)
+  module _ (log : Log F) (synced : ℕ) (sizes : HasSizes log.segment) (all : synced ≡ length v.since)
       (before : is_honest log.segment.folder → is_honest old.log.segment.folder)
       (opened : is_honest log.segment.folder → IsOpenLog disk log)
       (text : is_honest log.segment.folder → log_text disk log ≡ log_text disk old.log ++ old.group)
@@ -74,7 +74,7 @@ module _ {F : Type 0} (disk : F → Disk) (is_honest : F → Type 0) (old : Keep
       text = λ honest. append-nil (log_text disk log) ∙ text honest ∙ is.text (before honest);
       on_disk = λ honest.
           settled_text honest
-          ∙ ap (λ (h : List Entry). history_text shape h) (sym (ap (λ n. first_entries n v.history) all ∙ first_all shape (length v.history) v.history (omega arith)));
+          ∙ ap (λ (h : List Entry). history_text f h) (sym (ap (λ n. first_entries n v.since) all ∙ first_all f (length v.since) v.since (omega arith)));
     }
 
     pub are_settled : AreSettled disk is_honest (new false)
@@ -87,6 +87,6 @@ module _ {F : Type 0} (disk : F → Disk) (is_honest : F → Type 0) (old : Keep
     none = none;
     all = is.settled none;
     on_disk = λ honest.
-        is.on_disk honest ∙ ap (λ n. history_text shape (first_entries n v.history)) (is.settled none)
-        ∙ ap (λ (h : List Entry). history_text shape h) (first_all shape (length v.history) v.history (omega arith));
+        is.on_disk honest ∙ ap (λ n. history_text f (first_entries n v.since)) (is.settled none)
+        ∙ ap (λ (h : List Entry). history_text f h) (first_all f (length v.since) v.since (omega arith));
   }

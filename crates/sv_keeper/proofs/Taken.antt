@@ -18,7 +18,8 @@ then_taken (AreTaken.some first others) one = AreTaken.some first (then_taken ot
 -- What is left is shorter.
 pub taken_shorter : {v w : WorldView} {text rest : List ℕ} → IsTaken v w text rest → length rest < length text
 taken_shorter {v} {w} {text} {rest} one =
-    let long = line_long v.rules.world.shape (entry_of one.session one.request (reply_in v one.session one.request)) v.history in
+    let e = next_entry v one.session one.request in
+    let long = entry_long v.rules.world.shape (accepted (e ∷ v.history)) (suc (entries_in v)) e in
     let both = ap length one.line ∙ length-append (next_line v one.session one.request) rest in
     omega (arith, long, both)
 
@@ -30,22 +31,22 @@ taken_nothing (AreTaken.some one others) empty =
     let zero_long = ap length empty in
     absurd (omega (arith, less, zero_long))
 
--- The lines that are taken are those of the history, and the rules stay.
-pub taken_text : {v w : WorldView} {text rest : List ℕ} → AreTaken v w text rest → (w.rules ≡ v.rules) × (text_of v ++ text ≡ text_of w ++ rest)
-taken_text AreTaken.none = (refl, refl)
-taken_text {v} {w} {text} {rest} (AreTaken.some {w = x} {middle = middle} one others) =
-    let later = taken_text others in
+-- The lines that are taken are those of the history.
+pub taken_text : {v w : WorldView} {text rest : List ℕ} → IsWhole v → AreTaken v w text rest → text_of v ++ text ≡ text_of w ++ rest
+taken_text whole AreTaken.none = refl
+taken_text {v} {w} {text} {rest} whole (AreTaken.some {w = x} {middle = middle} one others) =
     let line = next_line v one.session one.request in
-    let rules : x.rules ≡ v.rules = ap (λ (u : WorldView). u.rules) one.world in (
-      later.0 ∙ rules,
-      ap (λ (l : List ℕ). text_of v ++ l) one.line ∙ sym (append_assoc (text_of v) line middle) ∙ ap (λ (u : WorldView). text_of u ++ middle) (sym one.world) ∙ later.1,
-    )
+    let e = next_entry v one.session one.request in
+    let longer : IsWhole x = subst IsWhole (sym one.world) (ap (λ (h : List Entry). e ∷ h) whole) in
+    ap (λ (l : List ℕ). text_of v ++ l) one.line ∙ sym (append_assoc (text_of v) line middle)
+    ∙ ap (λ (l : List ℕ). (text_of v ++ l) ++ middle) (line_since v one.session one.request whole)
+    ∙ ap (λ (u : WorldView). text_of u ++ middle) (sym one.world) ∙ taken_text longer others
 
--- All lines of a text are taken from its beginning: the text is that of the history.
-pub taken_all : {v w : WorldView} {text : List ℕ} → v.history ≡ [] → AreTaken v w text [] → text_of w ≡ text
-taken_all {v} {w} {text} empty all =
-    sym (ap (λ (h : List Entry). history_text v.rules.world.shape h ++ text) (sym empty) ∙ (taken_text all).1 ∙ append-nil (text_of w))
+-- All lines of a text are taken from its beginning: the text is that of the entries since.
+pub taken_all : {v w : WorldView} {text : List ℕ} → IsWhole v → v.since ≡ [] → AreTaken v w text [] → text_of w ≡ text
+taken_all {v} {w} {text} whole empty all =
+    sym (ap (λ (h : List Entry). history_text (footing_of v) h ++ text) (sym empty) ∙ taken_text whole all ∙ append-nil (text_of w))
 
 -- Some lines are taken, and the next one is not right.
-pub stopped : {v w : WorldView} {text rest : List ℕ} (number : ℕ) → AreTaken v w text rest → IsNoLine w rest → rest ≢ [] → number ≡ length w.history + 1 → IsWrong v text number
+pub stopped : {v w : WorldView} {text rest : List ℕ} (number : ℕ) → AreTaken v w text rest → IsNoLine w rest → rest ≢ [] → number ≡ entries_in w + 1 → IsWrong v text number
 stopped {v} {w} {text} {rest} number right wrong more is = record { reached = w; rest = rest; right = right; wrong = wrong; more = more; number_is = is }

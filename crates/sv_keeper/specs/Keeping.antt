@@ -1,28 +1,32 @@
 -- A kept world: its entries stand in its log, and nothing is sent before it is settled.
-use Rattle.std.specs.Prelude.{◌≡◌, ◌⊎◌, ℕ, ◌≤◌, true, false, List, [], ◌++◌, length}
+use Rattle.std.specs.Prelude.{◌≡◌, ◌⊎◌, ℕ, suc, ◌≤◌, true, false, List, [], ◌∷◌, ◌++◌, length}
 use Rattle.sv_wire.specs.declared.message.Request.{Request}
 use Rattle.sv_wire.specs.declared.message.Reply.{Reply}
 use Rattle.sv_journal.specs.History.{accepted, full_reply}
-use Rattle.sv_journal.specs.History.{entry_of}
+use Rattle.sv_journal.specs.Text.{entry_line}
 use Rattle.sv_living.specs.Sessions.{may_ask}
-use Rattle.sv_living.specs.World.{WorldView, after, reply_in, IsStepFault}
+use Rattle.sv_living.specs.World.{WorldView, entries_in, next_entry, after, reply_in, IsStepFault}
 use Rattle.sv_living.specs.declared.fault.StepFault.TheVariants as causes
 use Rattle.sv_log.specs.Pictures.{Disk}
 use Rattle.sv_log.specs.Texts.{IsText}
 use Rattle.sv_log.specs.Logs.{HasSizes}
 use Rattle.sv_log.specs.OpenLogs.{IsOpenLog, log_text, log_synced}
-use Rattle.sv_keeper.specs.Histories.{last_line, history_text, first_entries}
+use Rattle.sv_keeper.specs.Histories.{footing_of, history_text, first_entries}
 use Rattle.sv_keeper.specs.Views.{KeeperView}
 use Rattle.sv_keeper.specs.declared.fault.KeepFault.{KeepFault}
 use Rattle.sv_keeper.specs.declared.fault.KeepFault.TheVariants as faults
 
--- The text of all entries.
+-- The text of all entries since it was opened.
 abbrev pub text_of : WorldView → List ℕ
-text_of v = history_text v.rules.world.shape v.history
+text_of v = history_text (footing_of v) v.since
+
+-- Its history has the entries since it was opened, and before them those that it was opened behind.
+abbrev pub IsWhole : WorldView → Type 0
+IsWhole v = v.history ≡ v.since ++ v.before
 
 -- The line of a request that a session makes next, by the answer table.
 abbrev pub next_line : WorldView → ℕ → Request → List ℕ
-next_line v s request = last_line v.rules.world.shape (entry_of s request (reply_in v s request)) v.history
+next_line v s request = entry_line v.rules.world.shape (accepted (next_entry v s request ∷ v.history)) (suc (entries_in v)) (next_entry v s request)
 
 -- How many entries there may be: the next one has a number then.
 abbrev pub most_entries : ℕ
@@ -51,24 +55,24 @@ module _ {F : Type 0} where
   WasNotStepped old new s request faults.NoRoom = (new ≡ old) × IsStepFault old.world.history s causes.NoRoom
   WasNotStepped old new s request faults.Memory = (new ≡ old) × IsStepFault old.world.history s causes.Memory
   WasNotStepped old new s request faults.Broken =
-      ((old.is_broken ≡ true) × (new ≡ old)) ⊎ (((length old.world.history ≡ most_entries) × (new ≡ old)) ⊎ IsStuck old new s request)
+      ((old.is_broken ≡ true) × (new ≡ old)) ⊎ (((entries_in old.world ≡ most_entries) × (new ≡ old)) ⊎ IsStuck old new s request)
 
 module _ {F : Type 0} (disk : F → Disk) (is_honest : F → Type 0) where
-  -- What is so of a keeper that is not broken: its log has the lines of all entries but those of the group, and these are the group's. Those of
-  -- the first `synced` entries are on the disk.
+  -- What is so of a keeper that is not broken: its log has the lines of all entries since it was opened but those of the group, and these are the
+  -- group's. Those of the first `synced` of them are on the disk.
   pub record IsKept (keeper : KeeperView F) : Type 0 where
     pub sizes : HasSizes keeper.log.segment
     pub lines : IsText keeper.group
-    pub part : keeper.synced ≤ length keeper.world.history
-    pub settled : keeper.group ≡ [] → keeper.synced ≡ length keeper.world.history
+    pub part : keeper.synced ≤ length keeper.world.since
+    pub settled : keeper.group ≡ [] → keeper.synced ≡ length keeper.world.since
     pub opened : is_honest keeper.log.segment.folder → IsOpenLog disk keeper.log
     pub text : is_honest keeper.log.segment.folder → log_text disk keeper.log ++ keeper.group ≡ text_of keeper.world
     pub on_disk : is_honest keeper.log.segment.folder
-        → log_synced disk keeper.log ≡ history_text keeper.world.rules.world.shape (first_entries keeper.synced keeper.world.history)
+        → log_synced disk keeper.log ≡ history_text (footing_of keeper.world) (first_entries keeper.synced keeper.world.since)
 
   -- All lines are on the disk.
   pub record AreSettled (keeper : KeeperView F) : Type 0 where
     pub sound : keeper.is_broken ≡ false
     pub none : keeper.group ≡ []
-    pub all : keeper.synced ≡ length keeper.world.history
+    pub all : keeper.synced ≡ length keeper.world.since
     pub on_disk : is_honest keeper.log.segment.folder → log_synced disk keeper.log ≡ text_of keeper.world

@@ -18,7 +18,7 @@ use Rattle.sv_log.specs.Chains.{StateFile, no_state, Holds}
 use Rattle.sv_log.specs.OpenLogs.{shown}
 use Rattle.sv_log.specs.declared.reading.Reading.{Reading}
 use Rattle.sv_log.specs.Refusals.{CauseCount, IsWhy, HasNoLog}
-use Rattle.sv_keeper.specs.Histories.{HoldsFirst}
+use Rattle.sv_keeper.specs.Histories.{footing_of, HoldsFirst}
 use Rattle.sv_keeper.specs.Places.{IsFirstOf, IsPlaceIn, StandsAt}
 use Rattle.sv_keeper.specs.Views.{KeeperView}
 use Rattle.sv_keeper.specs.Keeping.{AreSettled}
@@ -28,7 +28,7 @@ use Rattle.sv_keeper.specs.declared.fault.OpenFault.TheVariants as faults
 
 -- A world in which nobody has asked anything.
 abbrev pub start_of : Rules → Stewards → WorldView
-start_of rules stewards = record { rules = rules; stewardship = stewardship_of stewards; history = [] }
+start_of rules stewards = record { rules = rules; stewardship = stewardship_of stewards; number = 0; before = []; since = []; history = [] }
 
 -- Each session that is open has its End, the least first, and then none is open.
 pub data AreEnded : WorldView → WorldView → Type 0 where
@@ -40,25 +40,29 @@ abbrev pub HasAll : List ℕ → StateFile → List ℕ → Picture → Type 0
 HasAll world state text p = (longer : List ℕ) × Holds world state longer p × IsFront text longer
 
 module _ {F : Type 0} (disk : F → Disk) (is_honest : F → Type 0) where
-  -- A keeper was opened over what a folder had: it took all lines that were read, and then the sessions that were open had their Ends. All is
-  -- settled. A crash at any moment left a log with the lines that were read, and maybe some of the Ends.
-  pub record IsOpened (left : Disk) (world : List ℕ) (start : WorldView) (keeper : KeeperView F) : Type 0 where
+  -- A keeper was opened over what a folder had behind its newest state: it took all lines that were read, and then the sessions that were open had
+  -- their Ends. All is settled. A crash at any moment left a log with the lines that were read, and maybe some of the Ends.
+  pub record IsResumed (left : Disk) (world : List ℕ) (state : StateFile) (start : WorldView) (keeper : KeeperView F) : Type 0 where
     pub text : List ℕ
     pub reached : WorldView
-    pub read : is_honest keeper.log.segment.folder → Holds world no_state text (seen left)
+    pub read : is_honest keeper.log.segment.folder → Holds world state text (seen left)
     pub taken : AreTaken start reached text []
     pub ended : AreEnded reached keeper.world
     pub settled : AreSettled disk is_honest keeper
     pub own : is_honest keeper.log.segment.folder → shown disk keeper.log world_name ≡ Some world
     pub crash : is_honest keeper.log.segment.folder
         → LeavesOnly left (disk keeper.log.segment.folder)
-        (HoldsFirst keeper.world.rules.world.shape world no_state keeper.world.history (length reached.history))
+        (HoldsFirst (footing_of keeper.world) world state keeper.world.since (length reached.since))
+
+  -- The same where there is no state.
+  abbrev pub IsOpened : Disk → List ℕ → WorldView → KeeperView F → Type 0
+  IsOpened left world start keeper = IsResumed left world no_state start keeper
 
 -- A line that was read is not right: all before it are taken, and it is none that may stand there.
-pub record IsWrongLine (left : Disk) (world : List ℕ) (start : WorldView) (file : List ℕ) (line : ℕ) : Type 0 where
+pub record IsWrongLine (left : Disk) (world : List ℕ) (state : StateFile) (start : WorldView) (file : List ℕ) (line : ℕ) : Type 0 where
   pub text : List ℕ
   pub number : ℕ
-  pub read : Holds world no_state text (seen left)
+  pub read : Holds world state text (seen left)
   pub wrong : IsWrong start text number
   pub stands : StandsAt (seen left) number file line
 
@@ -75,9 +79,16 @@ pub record HasState (left : Disk) (world : List ℕ) (file : List ℕ) (line : �
 abbrev pub WhyNotOpened : Disk → Disk → List ℕ → WorldView → OpenFault → Type 0
 WhyNotOpened left now world start (faults.Refused refusal) = (now ≡ left) × IsWhy (HasNoLog world (seen left)) refusal.cause
 WhyNotOpened left now world start (faults.Line file line cause) =
-    (now ≡ left) × (IsWrongLine left world start (string_bytes file) line ⊎ HasState left world (string_bytes file) line)
+    (now ≡ left) × (IsWrongLine left world no_state start (string_bytes file) line ⊎ HasState left world (string_bytes file) line)
 WhyNotOpened left now world start faults.Disk = Unit {0}
 WhyNotOpened left now world start faults.Memory = Unit {0}
+
+-- The same where it was to go on behind a state.
+abbrev pub WhyNotResumed : Disk → Disk → List ℕ → StateFile → WorldView → OpenFault → Type 0
+WhyNotResumed left now world state start (faults.Refused refusal) = ⊥
+WhyNotResumed left now world state start (faults.Line file line cause) = (now ≡ left) × IsWrongLine left world state start (string_bytes file) line
+WhyNotResumed left now world state start faults.Disk = Unit {0}
+WhyNotResumed left now world state start faults.Memory = Unit {0}
 
 -- The count of faults: it rose just where the disk failed.
 abbrev pub OpenCause : ℕ → ℕ → OpenFault → Type 0
@@ -91,18 +102,20 @@ OpenCause before now _ = now ≡ before
 pub record IsFirstWrong (start : WorldView) (reading : Reading) (file : List ℕ) (line : ℕ) : Type 0 where
   pub number : ℕ
   pub first : ℕ
-  pub stateless : reading.state ≡ 0
+  pub behind : reading.state < number
   pub wrong : IsWrong start reading.text.items number
   pub begins : IsFirstOf reading.closed.items reading.last number first
   pub place : IsPlaceIn first number file line
 
 -- A state was read.
-abbrev pub IsStated : Reading → List ℕ → ℕ → Type 0
-IsStated reading file line = (0 < reading.state) × (file ≡ state_name reading.state) × (line ≡ 1)
+abbrev pub IsStated : Reading → OpenFault → Type 0
+IsStated reading (faults.Line file line cause) = (0 < reading.state) × (string_bytes file ≡ state_name reading.state) × (line ≡ 1)
+IsStated reading faults.Memory = Unit {0}
+IsStated reading _ = ⊥
 
 -- Why not all of the lines are taken, unless memory was wanting.
 abbrev pub WhyNotWalked : WorldView → Reading → OpenFault → Type 0
-WhyNotWalked start reading (faults.Line file line cause) = IsFirstWrong start reading (string_bytes file) line ⊎ IsStated reading (string_bytes file) line
+WhyNotWalked start reading (faults.Line file line cause) = IsFirstWrong start reading (string_bytes file) line
 WhyNotWalked start reading faults.Memory = Unit {0}
 WhyNotWalked start reading _ = ⊥
 

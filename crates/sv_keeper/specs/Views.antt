@@ -8,7 +8,7 @@ pub record KeeperView (F : Type 0) : Type 0 where
   pub world : WorldView
   pub log : Log F
   pub group : List ℕ
-  -- how many entries have lines that are synced
+  -- how many of the entries since it was opened have lines that are synced
   pub synced : ℕ
   -- the log is not what the world says it is
   pub is_broken : Bool

@@ -1,5 +1,5 @@
 -- A walk over the lines of a log.
-use Rattle.std.specs.Prelude.{◌≡◌, ◌≢◌, ℕ, ◌+◌, ◌<◌, ◌^◌, true, List, [], ◌++◌, length, Some}
+use Rattle.std.specs.Prelude.{◌≡◌, ◌≢◌, ℕ, ◌+◌, ◌<◌, ◌^◌, true, List, [], ◌++◌, Some}
 use Rattle.std.specs.Option.{unwrap_or}
 use Rattle.sv_world.specs.declared.world.Shape.{Shape}
 use Rattle.sv_world.specs.declared.action.Action.{Action}
@@ -10,10 +10,10 @@ use Rattle.sv_wire.specs.Ranges.{RequestFits}
 use Rattle.sv_wire.specs.declared.message.Request.{Request}
 use Rattle.sv_wire.specs.declared.message.Request.TheVariants as requests
 use Rattle.sv_living.specs.Sessions.{may_ask}
-use Rattle.sv_living.specs.World.{WorldView, after}
+use Rattle.sv_living.specs.World.{WorldView, entries_in, after}
 use Rattle.sv_entries.specs.declared.read.LineRequest.{LineRequest}
 use Rattle.sv_entries.specs.declared.read.LineRequest.TheVariants as asked
-use Rattle.sv_keeper.specs.Keeping.{next_line}
+use Rattle.sv_keeper.specs.Keeping.{IsWhole, next_line}
 use Rattle.sv_keeper.specs.declared.walking.Walk.{Walk}
 use Rattle.sv_keeper.specs.declared.walking.WalkStop.{WalkStop}
 use Rattle.sv_keeper.specs.declared.walking.WalkStop.TheVariants as stops
@@ -45,11 +45,12 @@ IsAskedBy shape (asked.Whole told) request = request ≡ told
 IsAskedBy shape (asked.BadSubmit seq cause) request =
     (action : Action) × (request ≡ requests.Submit seq action) × (first_fault_of_action shape action ≡ Some (unwrap_or cause NoReads))
 
--- What a walk is: its shape is that of its core, whose next entry has the next number.
+-- What a walk is: its shape is that of its core, whose next entry has the next number, and whose history is whole.
 pub record IsWalk (walk : Walk) : Type 0 where
   pub shape : walk.shape ≡ walk.core.rules.world.shape
   pub good : IsGoodShape walk.shape
-  pub next : walk.next ≡ length walk.core.history + 1
+  pub next : walk.next ≡ entries_in walk.core + 1
+  pub whole : IsWhole walk.core
   pub few : walk.next < 2 ^ 64
 
 -- Why the line of this request is not taken, unless memory was wanting.
@@ -69,7 +70,7 @@ pub record IsWrong (v : WorldView) (text : List ℕ) (number : ℕ) : Type 0 whe
   pub right : AreTaken v reached text rest
   pub wrong : IsNoLine reached rest
   pub more : rest ≢ []
-  pub number_is : number ≡ length reached.history + 1
+  pub number_is : number ≡ entries_in reached + 1
 
 abbrev pub WhyStopped : WorldView → List ℕ → ℕ → WalkStop → Type 0
 WhyStopped v text number (stops.Wrong cause) = IsWrong v text number

@@ -4,14 +4,15 @@ ghost use Rattle.sv_bytes.specs.Faults.{ReadAllCause};
 ghost use Rattle.sv_journal.specs.History.{accepted, commit_of, committed_of, next_seq};
 ghost use Rattle.sv_journal.specs.Serving.{LegalFor};
 ghost use Rattle.sv_journal.specs.Living.{living};
+ghost use Rattle.sv_living.specs.Keeping.{AreAnswered};
 ghost use Rattle.sv_living.specs.Quiet.{IsFirstOpen, IsQuiet};
-ghost use Rattle.sv_living.specs.Sessions.{next_session, open_sessions, AreInOrder};
-ghost use Rattle.sv_living.specs.World.{heeded_in};
+ghost use Rattle.sv_living.specs.Sessions.{next_session, open_sessions, AreInOrder, AreInOrderSince, HaveBegun};
+ghost use Rattle.sv_living.specs.World.{heeded_in, entries_in, BeganLawfully};
 ghost use Rattle.sv_log.specs.Crashes.{LeavesOnly};
 ghost use Rattle.sv_log.specs.Names.{world_name};
 ghost use Rattle.sv_log.specs.OpenLogs.{shown, newest};
-ghost use Rattle.sv_keeper.specs.Histories.{HoldsFirst};
-ghost use Rattle.sv_keeper.specs.Keeping.{IsKept, Stepped, WasNotStepped, AreSettled};
+ghost use Rattle.sv_keeper.specs.Histories.{footing_of, HoldsFirst};
+ghost use Rattle.sv_keeper.specs.Keeping.{IsKept, IsWhole, Stepped, WasNotStepped, AreSettled};
 ghost use Rattle.sv_keeper.specs.declared.fault.KeepFault.TheVariants as faults;
 
 use crate::fault::KeepFault;
@@ -38,7 +39,7 @@ pub struct Keeper<F: Folder> {
     pub(crate) group: LineBuffer,
     /// The number of the next line.
     pub(crate) next: u64,
-    /// How many entries have lines that are synced.
+    /// How many of the entries since it was opened have lines that are synced.
     pub(crate) synced: u64,
     pub(crate) syncs: u64,
     pub(crate) log_bytes: u64,
@@ -110,7 +111,7 @@ impl<F: Folder> Keeper<F> {
         ensures any_moment { F.is_honest self.new.log.segment.folder → self.old.is_broken ≡ false → (world : List ℕ)
             → shown F.disk self.old.log world_name ≡ Some world
             → LeavesOnly (F.disk self.old.log.segment.folder) (F.disk self.new.log.segment.folder)
-            (HoldsFirst self.old.world.rules.world.shape world (newest F.disk self.old.log) self.old.world.history self.old.synced) }
+            (HoldsFirst (footing_of self.old.world) world (newest F.disk self.old.log) self.old.world.since self.old.synced) }
         ensures newest { F.is_honest self.new.log.segment.folder → OnOk result (newest F.disk self.new.log ≡ newest F.disk self.old.log) }
         ensures own { F.is_honest self.new.log.segment.folder
             → OnOk result (shown F.disk self.new.log world_name ≡ shown F.disk self.old.log world_name) }
@@ -131,7 +132,7 @@ impl<F: Folder> Keeper<F> {
         ensures any_moment { F.is_honest self.new.log.segment.folder → self.old.is_broken ≡ false → (world : List ℕ)
             → shown F.disk self.old.log world_name ≡ Some world
             → LeavesOnly (F.disk self.old.log.segment.folder) (F.disk self.new.log.segment.folder)
-            (HoldsFirst self.old.world.rules.world.shape world (newest F.disk self.old.log) self.old.world.history self.old.synced) }
+            (HoldsFirst (footing_of self.old.world) world (newest F.disk self.old.log) self.old.world.since self.old.synced) }
         ensures newest { F.is_honest self.new.log.segment.folder → OnOk result (newest F.disk self.new.log ≡ newest F.disk self.old.log) }
         ensures own { F.is_honest self.new.log.segment.folder
             → OnOk result (shown F.disk self.new.log world_name ≡ shown F.disk self.old.log world_name) }
@@ -150,7 +151,7 @@ impl<F: Folder> Keeper<F> {
                 self.log_bytes = self.log_bytes.saturating_add(self.group.len() as u64);
                 self.syncs = self.syncs.saturating_add(1);
                 self.group.clear();
-                self.synced = self.next.saturating_sub(1);
+                self.synced = self.next.saturating_sub(1).saturating_sub(self.core.number());
                 Ok(())
             }
             Err(fault) => {
@@ -160,16 +161,22 @@ impl<F: Folder> Keeper<F> {
         }
     }
 
-    /// A law: a keeper that is not broken is kept. Its history is legal by the answer table, its sessions began in the order of their numbers,
-    /// and what a crash leaves of its log is a log with the lines of some first entries, at least of those that are synced.
+    /// A law: a keeper that is not broken is kept. The entries since it was opened are answered by the table, and their sessions began in the
+    /// order of their numbers; where what stood before was lawful, its whole history is legal. What a crash leaves of its log is a log with the
+    /// lines of some first entries, at least of those that are synced.
     pub fn is_lawful(&self)
         ensures kept { self.now.is_broken ≡ false → IsKept F.disk F.is_honest self.now }
-        ensures legal { LegalFor (living self.now.world.stewardship) self.now.world.rules self.now.world.history }
-        ensures order { AreInOrder self.now.world.history }
+        ensures whole { IsWhole self.now.world }
+        ensures answered { AreAnswered (living self.now.world.stewardship) self.now.world.rules self.now.world.before self.now.world.since }
+        ensures turns { AreInOrderSince self.now.world.before self.now.world.since }
+        ensures begun { HaveBegun self.now.world.history }
+        ensures legal { BeganLawfully self.now.world → LegalFor (living self.now.world.stewardship) self.now.world.rules self.now.world.history }
+        ensures order { BeganLawfully self.now.world → AreInOrder self.now.world.history }
+        ensures count { BeganLawfully self.now.world → entries_in self.now.world ≡ length self.now.world.history }
         ensures any_moment { F.is_honest self.now.log.segment.folder → self.now.is_broken ≡ false → (world : List ℕ)
             → shown F.disk self.now.log world_name ≡ Some world
             → LeavesOnly (F.disk self.now.log.segment.folder) (F.disk self.now.log.segment.folder)
-            (HoldsFirst self.now.world.rules.world.shape world (newest F.disk self.now.log) self.now.world.history self.now.synced) }
+            (HoldsFirst (footing_of self.now.world) world (newest F.disk self.now.log) self.now.world.since self.now.synced) }
     {
         self.core.is_lawful();
     }
@@ -185,7 +192,7 @@ impl<F: Folder> Keeper<F> {
 
     /// The leave to send, where all lines are settled. Nothing can be stepped while it lives.
     pub fn settled(&self) -> Option<Settled<'_>>
-        ensures some { IfSome result (λ s. AreSettled F.disk F.is_honest self.now × (s ≡ length self.now.world.history)) }
+        ensures some { IfSome result (λ s. AreSettled F.disk F.is_honest self.now × (s ≡ length self.now.world.since)) }
         ensures none { self.now.is_broken ≡ false → self.now.group ≡ [] → IsSome result }
     {
         if self.is_broken || !self.group.is_empty() {
@@ -210,9 +217,9 @@ impl<F: Folder> Keeper<F> {
         self.log.segment.name.as_str()
     }
 
-    /// How many lines there are, of all segments.
+    /// How many lines there are, of all segments that there ever were.
     pub fn entries(&self) -> u64
-        ensures { self.now.is_broken ≡ false → result ≡ length self.now.world.history }
+        ensures { self.now.is_broken ≡ false → result ≡ entries_in self.now.world }
     {
         self.next.saturating_sub(1)
     }
@@ -282,7 +289,7 @@ impl<F: Folder> Keeper<F> {
     /// What an Observe of an open session would be answered, where that shows nothing. It is no entry. Where the keeper is broken nothing is told.
     pub fn quiet_answer(&self, session: u64, request: &Request) -> Option<Reply>
         ensures some { IfSome result (λ reply. IsQuiet self.now.world.rules self.now.world.stewardship self.now.world.history session request.now (Some reply)) }
-        ensures none { self.now.is_broken ≡ false
+        ensures none { self.now.is_broken ≡ false → BeganLawfully self.now.world
             → IsQuiet self.now.world.rules self.now.world.stewardship self.now.world.history session request.now result }
         ensures broken { self.now.is_broken ≡ true → result ≡ None }
     {

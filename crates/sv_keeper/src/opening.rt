@@ -1,9 +1,9 @@
 //! Opening a world that is kept on a log.
-ghost use Rattle.std.specs.Prelude.{◌≡◌, ◌≢◌, ◌≤◌, ℕ, List, [], length, true, false, Some, None, IfOk, IfErr, OnOk};
+ghost use Rattle.std.specs.Prelude.{◌≡◌, ◌≢◌, ◌<◌, ◌≤◌, ℕ, List, [], length, true, false, Some, None, IfOk, IfErr, IfSome, OnOk};
 ghost use Rattle.sv_bytes.specs.Faults.{ReadAllCause};
 ghost use Rattle.sv_bytes.specs.declared.reading.FileFault.TheVariants as fault;
 ghost use Rattle.sv_world.specs.Limits.{most_positions};
-ghost use Rattle.sv_world.specs.Worlds.{IsGoodWorld};
+ghost use Rattle.sv_world.specs.Worlds.{IsGoodWorld, IsGoodShape};
 ghost use Rattle.sv_living.specs.World.{WorldView};
 ghost use Rattle.sv_log.specs.Pictures.{seen};
 ghost use Rattle.sv_log.specs.Crashes.{LeavesOnly};
@@ -13,17 +13,17 @@ ghost use Rattle.sv_log.specs.Logs.{HasSizes};
 ghost use Rattle.sv_log.specs.Names.{world_name};
 ghost use Rattle.sv_log.specs.Chains.{no_state, Holds};
 ghost use Rattle.sv_log.specs.OpenLogs.{IsOpenLog, shown, newest, log_text, log_synced};
-ghost use Rattle.sv_log.specs.Readings.{Reads};
-ghost use Rattle.sv_keeper.specs.Histories.{HoldsFirst};
+ghost use Rattle.sv_log.specs.Readings.{Reads, read_state};
+ghost use Rattle.sv_keeper.specs.Histories.{footing_of, HoldsFirst};
 ghost use Rattle.sv_keeper.specs.Keeping.{text_of, AreSettled};
 ghost use Rattle.sv_keeper.specs.Walks.{AreTaken, IsWalk, IsWrong};
-ghost use Rattle.sv_keeper.specs.Opened.{start_of, AreEnded, HasAll, IsOpened, WhyNotOpened, OpenCause, WhyNotWalked, IsFaultOf};
+ghost use Rattle.sv_keeper.specs.Opened.{start_of, AreEnded, HasAll, IsOpened, IsResumed, IsStated, WhyNotOpened, WhyNotResumed, OpenCause, WhyNotWalked, IsFaultOf};
 
 use crate::fault::{LineCause, OpenFault};
 use crate::keeper::Keeper;
 use crate::place::{first_of, place_in};
 use crate::walking::{Walk, WalkStop};
-use std::alloc::{AllocError, Global};
+use std::alloc::Global;
 use sv_bytes::FileFault;
 use sv_core::Opened;
 use sv_entries::LineBuffer;
@@ -42,20 +42,21 @@ pub struct Opening<'a> {
     pub spare: usize,
 }
 
-// A walk at the beginning of a log: nobody has asked anything.
-fn begun(alloc: Global, opened: Opened, stewards: Stewards) -> Result<Walk, AllocError>
-    requires world { IsGoodWorld opened.world }
-    requires endless { opened.sessions ≡ None }
-    requires positions { opened.positions ≤ most_positions }
-    ensures { IfOk result (λ walk. IsWalk walk × (walk.core ≡ start_of opened stewards)) }
+// A walk that begins where a core stands.
+fn begun(alloc: Global, core: LivingCore, shape: Shape) -> Option<Walk>
+    requires shape { shape ≡ core.rules.world.shape }
+    requires good { IsGoodShape shape }
+    requires none { core.since ≡ [] }
+    ensures { IfSome result (λ walk. IsWalk walk × (walk.core ≡ core)) }
 {
-    let shape = opened.world().shape;
-    let core = LivingCore::new(alloc, opened, stewards)?;
-    Ok(Walk {
+    core.is_lawful();
+    // No log has as many lines as that.
+    let next = core.number().checked_add(1)?;
+    Some(Walk {
         alloc,
         shape,
         core,
-        next: 1,
+        next,
         line: LineBuffer::new(alloc),
     })
 }
@@ -63,27 +64,21 @@ fn begun(alloc: Global, opened: Opened, stewards: Stewards) -> Result<Walk, Allo
 // Takes all lines that were read.
 fn walked(
     alloc: Global,
-    opened: Opened,
-    stewards: Stewards,
+    core: LivingCore,
+    shape: Shape,
     reading: &Reading,
 ) -> Result<Walk, OpenFault>
-    requires world { IsGoodWorld opened.world }
-    requires endless { opened.sessions ≡ None }
-    requires positions { opened.positions ≤ most_positions }
+    requires shape { shape ≡ core.rules.world.shape }
+    requires good { IsGoodShape shape }
+    requires none { core.since ≡ [] }
+    requires number { core.number ≡ reading.now.state }
     ensures walk { IfOk result IsWalk }
-    ensures stateless { OnOk result (reading.now.state ≡ 0) }
-    ensures taken { IfOk result (λ walk. AreTaken (start_of opened stewards) walk.core reading.now.text.items []) }
-    ensures why { IfErr result (WhyNotWalked (start_of opened stewards) reading.now) }
+    ensures taken { IfOk result (λ walk. AreTaken core walk.core reading.now.text.items []) }
+    ensures why { IfErr result (WhyNotWalked core reading.now) }
 {
-    // What a core holds is not read from a state, so nothing that stands behind one can be judged.
-    if reading.state != 0 {
-        return Err(OpenFault::Line {
-            file: state_name(alloc, reading.state)?,
-            line: 1,
-            cause: LineCause::Unread,
-        });
-    }
-    let mut walk = begun(alloc, opened, stewards)?;
+    let Some(mut walk) = begun(alloc, core, shape) else {
+        return Err(OpenFault::Memory);
+    };
     match walk.take_all(&reading.text) {
         Ok(()) => Ok(walk),
         Err(WalkStop::Memory) => Err(OpenFault::Memory),
@@ -91,10 +86,24 @@ fn walked(
     }
 }
 
+// A state is in the way.
+fn stated(alloc: Global, reading: &Reading) -> OpenFault
+    requires { 0 < reading.now.state }
+    ensures { IsStated reading.now result }
+{
+    match state_name(alloc, reading.state) {
+        Ok(file) => OpenFault::Line {
+            file,
+            line: 1,
+            cause: LineCause::Unread,
+        },
+        Err(_) => OpenFault::Memory,
+    }
+}
+
 // The line of this number is wrong.
 fn wrong_line(alloc: Global, reading: &Reading, number: u64, cause: LineCause) -> OpenFault
-    requires stateless { reading.now.state ≡ 0 }
-    requires some { 1 ≤ number }
+    requires behind { reading.now.state < number }
     ensures { (start : WorldView) → IsWrong start reading.now.text.items number → WhyNotWalked start reading.now result }
 {
     let first = first_of(&reading.closed, reading.last, number);
@@ -119,7 +128,7 @@ fn fault_of(fault: FileFault) -> OpenFault
 
 impl<F: Folder> Keeper<F> {
     /// Opens the world of a folder: reads its log, takes all its lines, mends what a crash left, enters an End for each session that has none,
-    /// and settles.
+    /// and settles. A log that has a state is not opened: who reads it goes on behind it with `resume`.
     ///
     /// All lines are judged before anything of the folder is changed. An `Err` hands the folder back.
     pub fn open(
@@ -151,7 +160,47 @@ impl<F: Folder> Keeper<F> {
             Ok(reading) => reading,
             Err(refusal) => return Err((OpenFault::Refused(refusal), folder)),
         };
-        let walk = match walked(alloc, opened, stewards, &reading) {
+        if reading.state != 0 {
+            return Err((stated(alloc, &reading), folder));
+        }
+        let shape = opened.world().shape;
+        let Ok(core) = LivingCore::new(alloc, opened, stewards) else {
+            return Err((OpenFault::Memory, folder));
+        };
+        Keeper::resume(alloc, folder, reading, core, shape, world, spare)
+    }
+
+    /// Goes on with the world of a folder behind what was read of its log, from where the core stands behind its newest state: takes all lines that
+    /// were read, mends what a crash left, enters an End for each session that has none, and settles.
+    ///
+    /// All lines are judged before anything of the folder is changed. An `Err` hands the folder back.
+    pub fn resume(
+        alloc: Global,
+        folder: F,
+        reading: Reading,
+        core: LivingCore,
+        shape: Shape,
+        world: &[u8],
+        spare: usize,
+    ) -> Result<Keeper<F>, (OpenFault, F)>
+        requires shape { shape ≡ core.rules.world.shape }
+        requires good { IsGoodShape shape }
+        requires none { core.since ≡ [] }
+        requires number { core.number ≡ reading.state }
+        requires read { F.is_honest folder → Reads world.now (seen (F.disk folder)) reading }
+        requires rest { F.is_honest folder → IsAtRest (F.disk folder) }
+        ensures ok { IfOk result (IsResumed F.disk F.is_honest (F.disk folder) world.now (read_state reading.entry) core) }
+        ensures honest { IfOk result (λ keeper. F.is_honest keeper.log.segment.folder → F.is_honest folder) }
+        ensures calm { IfOk result (λ keeper. F.faults keeper.log.segment.folder ≡ F.faults folder) }
+        ensures err { IfErr result (λ e. F.is_honest e.1
+            → WhyNotResumed (F.disk folder) (F.disk e.1) world.now (read_state reading.entry) core e.0) }
+        ensures any_moment_err { IfErr result (λ e. F.is_honest e.1
+            → LeavesOnly (F.disk folder) (F.disk e.1) (HasAll world.now (read_state reading.entry) reading.entry.text.items)) }
+        ensures honest_err { IfErr result (λ e. F.is_honest e.1 → F.is_honest folder) }
+        ensures cause { IfErr result (λ e. OpenCause (F.faults folder) (F.faults e.1) e.0) }
+    {
+        core.is_lawful();
+        let walk = match walked(alloc, core, shape, &reading) {
             Ok(walk) => walk,
             Err(fault) => return Err((fault, folder)),
         };
@@ -172,15 +221,14 @@ impl<F: Folder> Keeper<F> {
     ) -> Result<Keeper<F>, (FileFault, F)>
         requires rest { F.is_honest folder → IsAtRest (F.disk folder) }
         requires read { F.is_honest folder → Reads world.now (seen (F.disk folder)) reading }
-        requires stateless { reading.state ≡ 0 }
         requires walk { IsWalk walk }
         requires text { text_of walk.core ≡ reading.text.items }
         ensures ok { (start : WorldView) → AreTaken start walk.core reading.text.items []
-            → IfOk result (IsOpened F.disk F.is_honest (F.disk folder) world.now start) }
+            → IfOk result (IsResumed F.disk F.is_honest (F.disk folder) world.now (read_state reading) start) }
         ensures honest { IfOk result (λ keeper. F.is_honest keeper.log.segment.folder → F.is_honest folder) }
         ensures calm { IfOk result (λ keeper. F.faults keeper.log.segment.folder ≡ F.faults folder) }
         ensures any_moment_err { IfErr result (λ e. F.is_honest e.1
-            → LeavesOnly (F.disk folder) (F.disk e.1) (HasAll world.now no_state reading.text.items)) }
+            → LeavesOnly (F.disk folder) (F.disk e.1) (HasAll world.now (read_state reading) reading.text.items)) }
         ensures honest_err { IfErr result (λ e. F.is_honest e.1 → F.is_honest folder) }
         ensures cause { IfErr result (λ e. FaultCause (F.faults folder) (F.faults e.1) e.0) }
     {
@@ -203,7 +251,7 @@ impl<F: Folder> Keeper<F> {
         requires open { F.is_honest log.segment.folder → IsOpenLog F.disk log }
         requires text { F.is_honest log.segment.folder → log_text F.disk log ≡ text_of walk.core }
         requires synced { F.is_honest log.segment.folder → log_synced F.disk log ≡ text_of walk.core }
-        ensures { result ≡ record { world = walk.core; log = log; group = []; synced = length walk.core.history; is_broken = false } }
+        ensures { result ≡ record { world = walk.core; log = log; group = []; synced = length walk.core.since; is_broken = false } }
     {
         let Walk {
             shape,
@@ -211,13 +259,14 @@ impl<F: Folder> Keeper<F> {
             next,
             ..
         } = walk;
+        let synced = (next - 1).saturating_sub(core.number());
         Keeper {
             core,
             shape,
             log,
             group: LineBuffer::new(alloc),
             next,
-            synced: next - 1,
+            synced,
             syncs: 0,
             log_bytes,
             is_broken: false,
@@ -234,7 +283,7 @@ impl<F: Folder> Keeper<F> {
             (HasAll world (newest F.disk self.old.log) (log_synced F.disk self.old.log)) }
         ensures any_moment_ok { F.is_honest self.new.log.segment.folder → (world : List ℕ) → shown F.disk self.old.log world_name ≡ Some world
             → OnOk result (LeavesOnly (F.disk self.old.log.segment.folder) (F.disk self.new.log.segment.folder)
-            (HoldsFirst self.new.world.rules.world.shape world (newest F.disk self.old.log) self.new.world.history self.old.synced)) }
+            (HoldsFirst (footing_of self.new.world) world (newest F.disk self.old.log) self.new.world.since self.old.synced)) }
         ensures own { F.is_honest self.new.log.segment.folder
             → OnOk result (shown F.disk self.new.log world_name ≡ shown F.disk self.old.log world_name) }
         ensures honest { F.is_honest self.new.log.segment.folder → F.is_honest self.old.log.segment.folder }

@@ -10,6 +10,7 @@ abbrev pub world_of : Inside → WorldView
 world_of a = record {
   rules = rules_at a.live;
   stewardship = stewardship_at a.live;
+  number = a.number;
   before = a.past.before;
   since = a.past.since;
   history = whole a.past;

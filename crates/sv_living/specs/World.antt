@@ -1,5 +1,5 @@
 -- A world without end as its callers see it, and one step of it.
-use Rattle.std.specs.Prelude.{◌≡◌, ℕ, true, false, ◌==◌, List, ◌∷◌, Result, Ok, Err}
+use Rattle.std.specs.Prelude.{◌≡◌, ℕ, ◌+◌, true, false, ◌==◌, List, ◌∷◌, length, Result, Ok, Err}
 use Rattle.sv_wire.specs.declared.message.Request.{Request}
 use Rattle.sv_journal.specs.declared.entry.Entry.{Entry}
 use Rattle.sv_journal.specs.declared.entry.Logged.{Logged}
@@ -14,18 +14,25 @@ use Rattle.sv_living.specs.declared.fault.StepFault.TheVariants as faults
 use Rattle.sv_living.specs.Sessions.{is_open, next_session, may_begin, may_ask, AreInOrder}
 
 -- What it was opened with, whose reports it goes by, and its entries, the latest first: those that stood before it was opened, none where it began anew;
--- those since; and all of them, the latter and behind these the former.
+-- those since; and all of them, the latter and behind these the former. How many stood before is told by whoever opened it.
 pub record WorldView : Type 0 where
   pub rules : Rules
   pub stewardship : Stewardship
+  pub number : ℕ
   pub before : List Entry
   pub since : List Entry
   pub history : List Entry
 
--- What stood before it was opened is legal by the answer table, and its sessions began in order. So it is where the world began anew.
+-- How many entries there are, as far as it is told. The next one has the number behind this.
+abbrev pub entries_in : WorldView → ℕ
+entries_in v = v.number + length v.since
+
+-- What stood before it was opened is legal by the answer table, its sessions began in order, and it is told how many entries these are. So it is where
+-- the world began anew.
 pub record BeganLawfully (v : WorldView) : Type 0 where
   pub legal : LegalFor (living v.stewardship) v.rules v.before
   pub order : AreInOrder v.before
+  pub count : v.number ≡ length v.before
 
 -- The history with those results alone that count: the commit and the committed values are those of this.
 abbrev pub heeded_in : WorldView → List Entry

@@ -13,7 +13,7 @@ ghost use Rattle.sv_core.specs.Cores.{core_rules, Keeps};
 ghost use Rattle.sv_living.specs.Keeping.{stewardship_of, AreOpen, AreAnswered};
 ghost use Rattle.sv_living.specs.Quiet.{IsFirstOpen, IsQuiet, IsQuietIfLegal};
 ghost use Rattle.sv_living.specs.Sessions.{is_open, next_session, open_sessions, may_begin, may_ask, AreInOrder, AreInOrderSince, HaveBegun};
-ghost use Rattle.sv_living.specs.World.{heeded_in, Answered, BeganLawfully, IsStepFault};
+ghost use Rattle.sv_living.specs.World.{heeded_in, entries_in, Answered, BeganLawfully, IsStepFault};
 
 use crate::fault::StepFault;
 use crate::live::Live;
@@ -35,6 +35,8 @@ use sv_world::{ClientId, ObjectId, Value};
 pub struct LivingCore {
     pub(crate) live: Live,
     pub(crate) past: Past,
+    /// How many entries stood before it was opened.
+    pub(crate) number: u64,
 }
 
 impl Model for LivingCore {
@@ -59,32 +61,36 @@ impl LivingCore {
         requires world { IsGoodWorld opened.world }
         requires endless { opened.sessions ≡ None }
         requires positions { opened.positions ≤ most_positions }
-        ensures { IfOk result (λ c. c ≡ record { rules = opened; stewardship = stewardship_of stewards; before = []; since = []; history = [] }) }
+        ensures { IfOk result (λ c. c ≡ record { rules = opened; stewardship = stewardship_of stewards; number = 0; before = []; since = []; history = [] }) }
     {
         Ok(LivingCore {
             live: Live::new(alloc, opened, stewards)?,
             past: Past::following(),
+            number: 0,
         })
     }
 
     /// Goes on with a living world that stands behind some entries, which are not at hand: `h` is any history that leads where the core stands.
-    /// The seats are those of its open sessions, in the order of their numbers, and the next session has the number `next`.
+    /// The seats are those of its open sessions, in the order of their numbers, the next session has the number `next`, and `number` tells how many
+    /// the entries are.
     pub fn resumed(
         alloc: Global,
         core: Core,
         stewards: Stewards,
         seats: Vec<Seat>,
         next: u64,
+        number: u64,
     ) -> LivingCore
         ghost h: { List Entry }
         requires endless { (core_rules core).sessions ≡ None }
         requires keeps { Keeps core (heeded (stewardship_of stewards) h) }
         requires open { AreOpen core h seats.items next }
-        ensures { result ≡ record { rules = core_rules core; stewardship = stewardship_of stewards; before = h; since = []; history = h } }
+        ensures { result ≡ record { rules = core_rules core; stewardship = stewardship_of stewards; number = number; before = h; since = []; history = h } }
     {
         LivingCore {
             live: Live::behind(alloc, core, stewards, seats, next),
             past: Past::following(),
+            number,
         }
     }
 
@@ -116,6 +122,13 @@ impl LivingCore {
             }
             Err(fault) => Err(fault),
         }
+    }
+
+    /// How many entries stood before it was opened, as it was told.
+    pub fn number(&self) -> u64
+        ensures { result ≡ self.now.number }
+    {
+        self.number
     }
 
     /// The number of the next session: the least one without an entry.
@@ -206,7 +219,7 @@ impl LivingCore {
     }
 
     /// A law: at any time each reply since it was opened is the one of the answer table, and sessions began in the order of their numbers with
-    /// at most 1,024 open. Where what stood before was lawful too, so it is of all entries, and every accepted action writes only what its
+    /// at most 1,024 open. Where what stood before was lawful too, so it is of all entries, these are as many as is told, and every accepted action writes only what its
     /// author may write. Where then the rules are within the limits, among them a bound of at most 32, every reply is a message.
     pub fn is_lawful(&self)
         ensures whole { self.now.history ≡ self.now.since ++ self.now.before }
@@ -215,6 +228,7 @@ impl LivingCore {
         ensures begun { HaveBegun self.now.history }
         ensures legal { BeganLawfully self.now → LegalFor (living self.now.stewardship) self.now.rules self.now.history }
         ensures order { BeganLawfully self.now → AreInOrder self.now.history }
+        ensures count { BeganLawfully self.now → entries_in self.now ≡ length self.now.history }
         ensures rightful { BeganLawfully self.now → All (IsRightful self.now.rules) (accepted self.now.history) }
         ensures messages { BeganLawfully self.now → AreWithinLimits self.now.rules
             → All (λ (e : Entry). IsWireReply (full_reply (accepted self.now.history) e.reply)) self.now.history }

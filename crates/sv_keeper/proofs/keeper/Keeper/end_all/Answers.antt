@@ -4,7 +4,7 @@ use Rattle.sv_log.specs.Crashes.{LeavesOnly}
 use Rattle.sv_log.specs.Names.{world_name}
 use Rattle.sv_log.specs.OpenLogs.{shown, newest, log_synced}
 use Rattle.sv_log.specs.declared.log.Log.{Log}
-use Rattle.sv_keeper.specs.Histories.{HoldsFirst}
+use Rattle.sv_keeper.specs.Histories.{footing_of, HoldsFirst}
 use Rattle.sv_keeper.specs.Opened.{HasAll}
 use Rattle.sv_keeper.proofs.Ended.{ended_on}
 use Rattle.sv_keeper.proofs.Begun.{all_before}
@@ -32,7 +32,7 @@ returns-clause-any_moment g c = λ h world own.
     let kept = c.is_lawful.ensures.kept c.requires.sound in
     let on = ended_on c.in_ok-end_sessions.ensures.ended in
     let only = c.settle_group.ensures.any_moment h c.in_ok-end_sessions.ensures.sound world (ap (λ (l : Log g.row.F.Denot). shown disk l world_name) log ∙ own) in
-    let only_old = subst (λ (l : Log g.row.F.Denot). LeavesOnly (disk l.segment.folder) (disk new.log.segment.folder) (HoldsFirst mid.world.rules.world.shape world (newest disk l) mid.world.history mid.synced)) log only in
+    let only_old = subst (λ (l : Log g.row.F.Denot). LeavesOnly (disk l.segment.folder) (disk new.log.segment.folder) (HoldsFirst (footing_of mid.world) world (newest disk l) mid.world.since mid.synced)) log only in
     all_before old.world mid.world old.synced world (newest disk old.log) kept.part (log_synced disk old.log) (kept.on_disk before) on.0 on.1
     (disk old.log.segment.folder) (disk new.log.segment.folder)
-    (subst (λ (n : ℕ). LeavesOnly (disk old.log.segment.folder) (disk new.log.segment.folder) (HoldsFirst mid.world.rules.world.shape world (newest disk old.log) mid.world.history n)) c.in_ok-end_sessions.ensures.synced only_old)
+    (subst (λ (n : ℕ). LeavesOnly (disk old.log.segment.folder) (disk new.log.segment.folder) (HoldsFirst (footing_of mid.world) world (newest disk old.log) mid.world.since n)) c.in_ok-end_sessions.ensures.synced only_old)

@@ -4,7 +4,7 @@ use Rattle.sv_log.specs.Crashes.{LeavesOnly}
 use Rattle.sv_log.specs.Names.{world_name}
 use Rattle.sv_log.specs.Chains.{Keeps as KeepsLines}
 use Rattle.sv_log.specs.OpenLogs.{shown, newest, log_text, log_synced}
-use Rattle.sv_keeper.specs.Histories.{HoldsFirst}
+use Rattle.sv_keeper.specs.Histories.{footing_of, HoldsFirst}
 use Rattle.sv_keeper.specs.Views.{KeeperView}
 use Rattle.sv_keeper.specs.Keeping.{AreSettled}
 use Rattle.sv_keeper.specs.Invariant.{view_of}
@@ -23,14 +23,14 @@ returns-then-is_empty-clause-any_moment g c =
     let disk = g.F.Folder.disk in
     let honest = g.F.Folder.is_honest in
     subst (λ (v : KeeperView g.row.F.Denot). honest v.log.segment.folder → v.is_broken ≡ false → (world : List ℕ) → shown disk v.log world_name ≡ Some world
-    → LeavesOnly (disk v.log.segment.folder) (disk v.log.segment.folder) (HoldsFirst v.world.rules.world.shape world (newest disk v.log) v.world.history v.synced))
+    → LeavesOnly (disk v.log.segment.folder) (disk v.log.segment.folder) (HoldsFirst (footing_of v.world) world (newest disk v.log) v.world.since v.synced))
     c.self.view_is (λ h sound world own. calm disk honest (view_of c.self.inside) (c.self.invariant.kept sound) h world own)
 
 pub invariant_of-self : goal.invariant_of-self
 invariant_of-self g c =
     let k = c.self.inside in
     let next = c.self.invariant.next c.if-self.false in
-    settled_on g.F.Folder.disk g.F.Folder.is_honest k c.self.invariant c.put_group.new.log c.clear.new.self c.saturating_sub-self-inside.result
+    settled_on g.F.Folder.disk g.F.Folder.is_honest k c.self.invariant c.put_group.new.log c.clear.new.self c.saturating_sub-saturating_sub.result
     c.saturating_add-self-inside-in-Ok.result c.saturating_add-self-inside.result c.if-self.false c.clear.ensures c.put_group.ensures.sizes
     (omega (arith, c.saturating_sub-self-inside.ensures, next)) c.put_group.ensures.honest c.in-Ok.ensures.open
     (λ h. c.in-Ok.ensures.text h ∙ ap (λ (t : List ℕ). log_text g.F.Folder.disk k.log ++ t) c.as_bytes.ensures) c.in-Ok.ensures.synced
@@ -42,7 +42,7 @@ returns-in-Ok-clause-any_moment g c =
     let k = c.self.inside in
     let new = c.put_group.new.log in
     subst (λ (v : KeeperView g.row.F.Denot). honest new.segment.folder → v.is_broken ≡ false → (world : List ℕ) → shown disk v.log world_name ≡ Some world
-    → LeavesOnly (disk v.log.segment.folder) (disk new.segment.folder) (HoldsFirst v.world.rules.world.shape world (newest disk v.log) v.world.history v.synced))
+    → LeavesOnly (disk v.log.segment.folder) (disk new.segment.folder) (HoldsFirst (footing_of v.world) world (newest disk v.log) v.world.since v.synced))
     c.self.view_is
     (λ h sound world own. appended disk honest (view_of k) (c.self.invariant.kept sound) (c.put_group.ensures.honest h) world (disk new.segment.folder)
     (subst (λ (t : List ℕ). LeavesOnly (disk k.log.segment.folder) (disk new.segment.folder) (KeepsLines world (newest disk k.log) (log_synced disk k.log) (log_text disk k.log ++ t)))
@@ -55,7 +55,7 @@ returns-in-Err-clause-any_moment g c =
     let k = c.self.inside in
     let new = c.put_group.new.log in
     subst (λ (v : KeeperView g.row.F.Denot). honest new.segment.folder → v.is_broken ≡ false → (world : List ℕ) → shown disk v.log world_name ≡ Some world
-    → LeavesOnly (disk v.log.segment.folder) (disk new.segment.folder) (HoldsFirst v.world.rules.world.shape world (newest disk v.log) v.world.history v.synced))
+    → LeavesOnly (disk v.log.segment.folder) (disk new.segment.folder) (HoldsFirst (footing_of v.world) world (newest disk v.log) v.world.since v.synced))
     c.self.view_is
     (λ h sound world own. appended disk honest (view_of k) (c.self.invariant.kept sound) (c.put_group.ensures.honest h) world (disk new.segment.folder)
     (subst (λ (t : List ℕ). LeavesOnly (disk k.log.segment.folder) (disk new.segment.folder) (KeepsLines world (newest disk k.log) (log_synced disk k.log) (log_text disk k.log ++ t)))

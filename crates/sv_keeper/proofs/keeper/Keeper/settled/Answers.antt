@@ -10,4 +10,4 @@ use Rattle.sv_keeper.proofs.keeper.Keeper.settled.Goals as goal
 pub returns-clause-some : goal.returns-clause-some
 returns-clause-some g c =
     let all = all_settled g.F.Folder.disk g.F.Folder.is_honest (view_of c.self.inside) (c.self.invariant.kept c.if-self.false) c.if-self.false (none_long c.self.inside.group (sym c.is_empty.ensures ∙ c.if-not-is_empty.false)) in
-    subst (λ (v : KeeperView g.row.F.Denot). AreSettled g.F.Folder.disk g.F.Folder.is_honest v × (c.self.inside.synced ≡ length v.world.history)) c.self.view_is (all, all.all)
+    subst (λ (v : KeeperView g.row.F.Denot). AreSettled g.F.Folder.disk g.F.Folder.is_honest v × (c.self.inside.synced ≡ length v.world.since)) c.self.view_is (all, all.all)

@@ -25,4 +25,4 @@ returns-in-Ok-take_line-clause-taken c =
 pub returns-in-Err-NoRoom-clause-why : goal.returns-in-Err-NoRoom-clause-why
 returns-in-Err-NoRoom-clause-why c = λ asks rest begins.
     let h = c.args.self.now.core.history in
-    no_room h c.is_lawful.ensures.order c.args.session (subst (λ (e : StepFault). IsStepFault h c.args.session e) c.in-Err-NoRoom.field-0-is c.in-Err-NoRoom.ensures.cause) asks
+    no_room h c.is_lawful.ensures.begun c.args.session (subst (λ (e : StepFault). IsStepFault h c.args.session e) c.in-Err-NoRoom.field-0-is c.in-Err-NoRoom.ensures.cause) asks

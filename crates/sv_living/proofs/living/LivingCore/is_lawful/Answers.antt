@@ -1,5 +1,5 @@
 -- What is kept, and the laws of legal histories.
-use Rattle.std.proofs.Common.{◌≡◌, ◌<◌, ℕ, All, nat_lt, ◌++◌, refl, ◌∙◌, ap, subst}
+use Rattle.std.proofs.Common.{◌≡◌, ◌+◌, ℕ, All, ◌++◌, length, refl, subst, arith, length-append}
 use Rattle.sv_wire.specs.Grammar.{IsWireReply}
 use Rattle.sv_journal.specs.declared.entry.Entry.{Entry}
 use Rattle.sv_journal.specs.History.{accepted, full_reply}
@@ -10,7 +10,7 @@ use Rattle.sv_journal.proofs.Stewards.{living-keeping}
 use Rattle.sv_living.specs.Keeping.{rules_at, stewardship_at, AreAnswered}
 use Rattle.sv_living.specs.Past.{whole}
 use Rattle.sv_living.specs.Sessions.{AreInOrder, AreInOrderSince, HaveBegun}
-use Rattle.sv_living.specs.World.{WorldView, BeganLawfully}
+use Rattle.sv_living.specs.World.{WorldView, entries_in, BeganLawfully}
 use Rattle.sv_living.proofs.Behind.{legal-behind, order-behind, have-begun}
 use Rattle.sv_living.proofs.living.LivingCore.is_lawful.Goals as goal
 
@@ -37,6 +37,13 @@ pub returns-clause-order : goal.returns-clause-order
 returns-clause-order c =
     let a = c.self.inside in
     subst (λ (v : WorldView). BeganLawfully v → AreInOrder v.history) c.self.view_is (λ began. order-behind a.past.before a.past.since began.order c.self.invariant.order)
+
+pub returns-clause-count : goal.returns-clause-count
+returns-clause-count c =
+    let a = c.self.inside in
+    subst (λ (v : WorldView). BeganLawfully v → entries_in v ≡ length v.history) c.self.view_is
+    (λ began. (let longer : length (a.past.since ++ a.past.before) ≡ length a.past.since + length a.past.before = length-append a.past.since a.past.before in
+    let told : a.number ≡ length a.past.before = began.count in omega (arith, longer, told)))
 
 pub returns-clause-rightful : goal.returns-clause-rightful
 returns-clause-rightful c =

@@ -7,4 +7,4 @@ use Rattle.sv_living.proofs.living.LivingCore.resumed.Goals as goal
 
 pub returns : goal.returns
 returns g c =
-    view-behind c.behind.result c.following.result g.h (core_rules c.args.core) (stewardship_of c.args.stewards) c.following.ensures c.behind.ensures.rules c.behind.ensures.stewards
+    view-behind c.behind.result c.following.result c.args.number g.h (core_rules c.args.core) (stewardship_of c.args.stewards) c.following.ensures c.behind.ensures.rules c.behind.ensures.stewards
