@@ -1,11 +1,8 @@
 -- Why a session may not ask.
-use Rattle.std.proofs.Common.{◌≡◌, ◌≢◌, ◌⊎◌, inl, inr, ℕ, suc, ◌≤◌, Bool, true, false, cond, eqb, ◌&&◌, ◌||◌, List, [], ◌∷◌, refl, sym, subst, ap, ◌∙◌, arith}
-use Rattle.std.specs.Prelude.{not}
-use Rattle.std.proofs.lemmas.Bool.{true≢false, eqb-true, ne_eqb, cases_Bool, and_left, and_right, or_from, and_parts, and_cases}
+use Rattle.std.proofs.Common.{◌≡◌, ℕ, ◌<◌, Bool, true, false, eqb, ◌&&◌, List, refl, sym, ap, ◌∙◌, arith}
+use Rattle.std.proofs.lemmas.Bool.{true≢false, eqb-true, and_left, and_right, or_from}
 use Rattle.sv_journal.specs.declared.entry.Entry.{Entry}
-use Rattle.sv_journal.specs.Sessions.{is_ended}
-use Rattle.sv_core.specs.Rows.{has_entry}
-use Rattle.sv_living.specs.Sessions.{is_open, next_session, may_begin, may_ask, AreInOrder}
+use Rattle.sv_living.specs.Sessions.{is_open, next_session, may_begin, may_ask, HaveBegun}
 use Rattle.sv_living.specs.World.{IsStepFault}
 use Rattle.sv_living.specs.declared.fault.StepFault.TheVariants as causes
 

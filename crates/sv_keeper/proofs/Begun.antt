@@ -1,22 +1,25 @@
 -- A world that is opened over what was read of its log.
-use Rattle.std.proofs.Common.{◌≡◌, inl, inr, ℕ, ◌≤◌, List, [], length, Option, Some, None, refl, sym, subst, ap, ◌∙◌, arith}
+use Rattle.std.proofs.Common.{◌≡◌, inl, inr, ℕ, ◌<◌, ◌≤◌, List, [], length, Option, Some, None, refl, sym, subst, ap, ◌∙◌, arith}
 use Rattle.std.specs.String.{string_bytes}
 use Rattle.sv_journal.specs.declared.entry.Entry.{Entry}
-use Rattle.sv_journal.specs.Answer.{Rules}
+use Rattle.sv_bytes.specs.declared.reading.FileFault.{FileFault}
+use Rattle.sv_bytes.specs.declared.reading.FileFault.TheVariants as causes
+use Rattle.sv_log.specs.Names.{state_name}
 use Rattle.sv_living.specs.World.{WorldView}
 use Rattle.sv_log.specs.Pictures.{Picture, Disk, seen}
 use Rattle.sv_log.specs.Crashes.{LeavesOnly}
 use Rattle.sv_log.specs.Rests.{IsAtRest}
-use Rattle.sv_log.specs.Chains.{StateFile, no_state, state_at, Holds, IsLog}
+use Rattle.sv_log.specs.Chains.{StateFile, no_state, state_at, Holds}
 use Rattle.sv_log.specs.Readings.{read_state, Reads, ReadsLast}
 use Rattle.sv_log.specs.declared.reading.Reading.{Reading}
 use Rattle.sv_log.proofs.Alone.{state_is, holds_alone}
 use Rattle.sv_log.proofs.Moments.{then_only, weaker_only}
 use Rattle.sv_log.proofs.Opened.{reads_holds, rest_only}
-use Rattle.sv_keeper.specs.Histories.{history_text, first_entries, HoldsFirst}
+use Rattle.sv_keeper.specs.Histories.{Footing, footing_of, history_text, first_entries, HoldsFirst}
 use Rattle.sv_keeper.specs.Keeping.{text_of}
 use Rattle.sv_keeper.specs.Places.{IsFirstOf, StandsAt}
-use Rattle.sv_keeper.specs.Opened.{HasAll, IsWrongLine, HasState, IsFirstWrong, IsStated, WhyNotWalked, WhyNotOpened}
+use Rattle.sv_keeper.specs.Opened.{HasAll, IsWrongLine, HasState, IsFirstWrong, IsStated, IsOpened, IsResumed, IsFaultOf, WhyNotWalked, WhyNotOpened, WhyNotResumed}
+use Rattle.sv_keeper.specs.Views.{KeeperView}
 use Rattle.sv_keeper.specs.declared.fault.OpenFault.{OpenFault}
 use Rattle.sv_keeper.specs.declared.fault.OpenFault.TheVariants as faults
 use Rattle.sv_keeper.proofs.Taken.{taken_nothing}

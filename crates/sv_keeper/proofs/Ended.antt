@@ -6,14 +6,13 @@ use Rattle.sv_world.specs.Control.{below, is_in}
 use Rattle.sv_wire.specs.declared.message.Request.TheVariants as requests
 use Rattle.sv_journal.specs.declared.entry.Entry.{Entry}
 use Rattle.sv_journal.specs.declared.entry.Logged.{Logged}
-use Rattle.sv_journal.specs.Answer.{Rules}
 use Rattle.sv_journal.specs.Sessions.{is_ended}
 use Rattle.sv_core.specs.Rows.{has_entry}
 use Rattle.sv_journal.specs.History.{entry_of}
-use Rattle.sv_living.specs.Sessions.{is_open, next_session, open_sessions}
-use Rattle.sv_living.specs.World.{WorldView, after, reply_in}
+use Rattle.sv_living.specs.Sessions.{is_open, is_session_number, next_session, open_sessions}
+use Rattle.sv_living.specs.World.{WorldView, next_entry, after}
 use Rattle.sv_lines.proofs.Splitting.{first_is}
-use Rattle.sv_keeper.specs.Histories.{first_entries}
+use Rattle.sv_keeper.specs.Histories.{footing_of, first_entries}
 use Rattle.sv_keeper.specs.Opened.{AreEnded, AreEnded.none, AreEnded.some}
 
 -- ---- One session fewer is open

@@ -68,6 +68,7 @@ module _ {F : Type 0} (disk : F → Disk) (is_honest : F → Type 0) (old : Keep
     part = omega (arith, is.part);
     settled = λ none. absurd (some none);
     opened = is.opened;
+    number = is.number;
     text = λ honest.
         sym (append_assoc (log_text disk old.log) old.group line) ∙ ap (λ (l : List ℕ). l ++ line) (is.text honest)
         ∙ ap (λ (l : List ℕ). history_text (footing_of v) v.since ++ l) (line_since v s request whole);

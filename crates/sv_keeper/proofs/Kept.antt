@@ -1,22 +1,18 @@
 -- What a keeper's fields keep, as they change.
 use Rattle.std.proofs.Common.{◌≡◌, ℕ, ◌+◌, Bool, true, false, List, [], ◌∷◌, ◌++◌, length, Option, Some, None, refl, sym, subst, ap, ◌∙◌, arith}
-use Rattle.std.specs.Prelude.{IfSome, ◌==◌}
+use Rattle.std.specs.Prelude.{◌==◌}
 use Rattle.std.proofs.lemmas.Bool.{true≢false, eqb-true}
 use Rattle.std.proofs.lemmas.List.{append-nil}
-use Rattle.sv_world.specs.declared.world.Shape.{Shape}
 use Rattle.sv_wire.specs.declared.message.Request.{Request}
 use Rattle.sv_wire.specs.declared.message.Reply.{Reply}
 use Rattle.sv_journal.specs.declared.entry.Entry.{Entry}
 use Rattle.sv_journal.specs.History.{accepted, full_reply}
-use Rattle.sv_journal.specs.Answer.{Rules}
-use Rattle.sv_journal.specs.Living.{Stewardship}
-use Rattle.sv_living.specs.Quiet.{IsQuiet}
 use Rattle.sv_living.specs.Sessions.{may_ask}
 use Rattle.sv_living.specs.World.{WorldView, entries_in, next_entry, after, reply_in}
 use Rattle.sv_log.specs.Pictures.{Disk}
 use Rattle.sv_log.specs.Texts.{IsText}
 use Rattle.sv_log.specs.Logs.{HasSizes}
-use Rattle.sv_log.specs.OpenLogs.{IsOpenLog, log_text, log_synced}
+use Rattle.sv_log.specs.OpenLogs.{IsOpenLog, newest, log_text, log_synced}
 use Rattle.sv_log.specs.declared.log.Log.{Log}
 use Rattle.sv_entries.specs.Lines.{living_line}
 use Rattle.sv_entries.specs.Laws.{EntriesHaveOneLine}
@@ -83,6 +79,7 @@ module _ {F : Type 0} (disk : F → Disk) (is_honest : F → Type 0) (k : Inside
   module _ (log : Log F) (group : List ℕ) (synced syncs log_bytes : ℕ) (sound : k.is_broken ≡ false) (none : group ≡ []) (sizes : HasSizes log.segment) (all : synced ≡ length k.core.since)
       (before : is_honest log.segment.folder → is_honest k.log.segment.folder)
       (opened : is_honest log.segment.folder → IsOpenLog disk log)
+      (same : is_honest log.segment.folder → newest disk log ≡ newest disk k.log)
       (text : is_honest log.segment.folder → log_text disk log ≡ log_text disk k.log ++ k.group)
       (on_disk : is_honest log.segment.folder → log_synced disk log ≡ log_text disk log) where
     abbrev new : List ℕ → Bool → KeeperView F
@@ -96,18 +93,19 @@ module _ {F : Type 0} (disk : F → Disk) (is_honest : F → Type 0) (k : Inside
       next = is.next;
       kept = λ _.
           subst (λ (g : List ℕ). IsKept disk is_honest (new g k.is_broken)) (sym none)
-          (settled disk is_honest (view_of k) (is.kept sound) log synced sizes all before opened text on_disk k.is_broken);
+          (settled disk is_honest (view_of k) (is.kept sound) log synced sizes all before opened same text on_disk k.is_broken);
     }
 
     pub settled_all : AreSettled disk is_honest (new group k.is_broken)
     settled_all =
         subst (λ (b : Bool). AreSettled disk is_honest (new group b)) (sym sound)
         (subst (λ (g : List ℕ). AreSettled disk is_honest (new g false)) (sym none)
-        (are_settled disk is_honest (view_of k) (is.kept sound) log synced sizes all before opened text on_disk))
+        (are_settled disk is_honest (view_of k) (is.kept sound) log synced sizes all before opened same text on_disk))
 
 -- A keeper of a world whose lines are those of a log.
 module _ {F : Type 0} (disk : F → Disk) (is_honest : F → Type 0) (k : Inside F) (shape : k.shape ≡ k.core.rules.world.shape) (whole : IsWhole k.core) (next : k.next ≡ entries_in k.core + 1) (none : k.group ≡ [])
     (all : k.synced ≡ length k.core.since) (sizes : HasSizes k.log.segment) (opened : is_honest k.log.segment.folder → IsOpenLog disk k.log)
+    (number : k.log.state ≡ k.core.number)
     (text : is_honest k.log.segment.folder → log_text disk k.log ≡ text_of k.core) (on_disk : is_honest k.log.segment.folder → log_synced disk k.log ≡ text_of k.core) where
   kept_all : IsKept disk is_honest (view_of k)
   kept_all = record {
@@ -116,6 +114,7 @@ module _ {F : Type 0} (disk : F → Disk) (is_honest : F → Type 0) (k : Inside
     part = omega (arith, all);
     settled = λ _. all;
     opened = opened;
+    number = λ honest. number;
     text = λ honest. ap (λ (l : List ℕ). log_text disk k.log ++ l) none ∙ append-nil (log_text disk k.log) ∙ text honest;
     on_disk = λ honest.
         on_disk honest
@@ -125,12 +124,6 @@ module _ {F : Type 0} (disk : F → Disk) (is_honest : F → Type 0) (k : Inside
 
   pub joined_all : IsKeeper disk is_honest k
   joined_all = record { shape = shape; whole = whole; next = λ _. next; kept = λ _. kept_all }
-
--- What is told where the world shows nothing.
-pub some_quiet : (r : Rules) (w : Stewardship) (h : List Entry) (s : ℕ) (request : Request) (answer : Option Reply) → IsQuiet r w h s request answer
-    → IfSome answer (λ reply. IsQuiet r w h s request (Some reply))
-some_quiet r w h s request None is = tt
-some_quiet r w h s request (Some reply) is = is
 
 pub none_long : (l : List ℕ) → (length l == 0) ≡ true → l ≡ []
 none_long [] is = refl

@@ -13,3 +13,4 @@ pub mod Placed
 pub mod Ended
 pub mod Grown
 pub mod Begun
+pub mod Stated

@@ -21,7 +21,7 @@ use Rattle.sv_journal.specs.History.{Authored, authored_at, accepted, full_reply
 use Rattle.sv_journal.specs.Pieces.{joined, bracketed, head_text}
 use Rattle.sv_journal.specs.Text.{item_text, action_text, request_text, reply_text, entry_line}
 use Rattle.sv_journal.specs.History.{entry_of}
-use Rattle.sv_living.specs.World.{WorldView, after, reply_in}
+use Rattle.sv_living.specs.World.{WorldView, entries_in, reply_in}
 use Rattle.sv_lines.specs.Told.{asking_text}
 use Rattle.sv_entries.specs.Lines.{sent_text, living_line}
 use Rattle.sv_entries.specs.Asking.{cause_numbered, cause_in, cause_read, asked_of}

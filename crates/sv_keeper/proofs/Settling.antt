@@ -2,7 +2,6 @@
 use Rattle.std.proofs.Common.{◌≡◌, ℕ, ◌+◌, ◌≤◌, List, [], ◌++◌, length, Bool, false, refl, sym, subst, ap, ◌∙◌, arith}
 use Rattle.std.specs.Prelude.{Some}
 use Rattle.std.proofs.lemmas.List.{append-nil}
-use Rattle.sv_world.specs.declared.world.Shape.{Shape}
 use Rattle.sv_journal.specs.declared.entry.Entry.{Entry}
 use Rattle.sv_living.specs.World.{WorldView}
 use Rattle.sv_log.specs.Pictures.{Picture, Disk}
@@ -16,7 +15,7 @@ use Rattle.sv_log.specs.declared.log.Log.{Log}
 use Rattle.sv_log.proofs.Texts.{front_then}
 use Rattle.sv_log.proofs.Moments.{then_only, weaker_only}
 use Rattle.sv_log.proofs.Logged.{log_calm}
-use Rattle.sv_keeper.specs.Histories.{history_text, first_entries, HoldsFirst}
+use Rattle.sv_keeper.specs.Histories.{Footing, footing_of, history_text, first_entries, HoldsFirst}
 use Rattle.sv_keeper.specs.Views.{KeeperView}
 use Rattle.sv_keeper.specs.Keeping.{text_of, IsKept, AreSettled}
 use Rattle.sv_keeper.proofs.Fronts.{first_all, keeps_first}
@@ -56,6 +55,7 @@ module _ {F : Type 0} (disk : F → Disk) (is_honest : F → Type 0) (old : Keep
   module _ (log : Log F) (synced : ℕ) (sizes : HasSizes log.segment) (all : synced ≡ length v.since)
       (before : is_honest log.segment.folder → is_honest old.log.segment.folder)
       (opened : is_honest log.segment.folder → IsOpenLog disk log)
+      (same : is_honest log.segment.folder → newest disk log ≡ newest disk old.log)
       (text : is_honest log.segment.folder → log_text disk log ≡ log_text disk old.log ++ old.group)
       (on_disk : is_honest log.segment.folder → log_synced disk log ≡ log_text disk log) where
     abbrev new : Bool → KeeperView F
@@ -71,6 +71,7 @@ module _ {F : Type 0} (disk : F → Disk) (is_honest : F → Type 0) (old : Keep
       part = omega (arith, all);
       settled = λ _. all;
       opened = opened;
+      number = λ honest. ap (λ (s : StateFile). s.0) (same honest) ∙ is.number (before honest);
       text = λ honest. append-nil (log_text disk log) ∙ text honest ∙ is.text (before honest);
       on_disk = λ honest.
           settled_text honest

@@ -2,13 +2,13 @@
 use Rattle.std.proofs.Common.{◌≡◌, ◌≢◌, ℕ, suc, ◌+◌, ◌<◌, List, [], ◌∷◌, ◌++◌, length, length-append, refl, sym, subst, ap, ◌∙◌, arith, append_assoc}
 use Rattle.std.proofs.lemmas.List.{append-nil}
 use Rattle.sv_journal.specs.declared.entry.Entry.{Entry}
-use Rattle.sv_journal.specs.Answer.{Rules}
-use Rattle.sv_journal.specs.History.{entry_of}
-use Rattle.sv_living.specs.World.{WorldView, after, reply_in}
-use Rattle.sv_keeper.specs.Histories.{history_text}
-use Rattle.sv_keeper.specs.Keeping.{text_of, next_line}
+use Rattle.sv_journal.specs.History.{accepted}
+use Rattle.sv_living.specs.World.{WorldView, entries_in, next_entry, after}
+use Rattle.sv_keeper.specs.Histories.{footing_of, history_text}
+use Rattle.sv_keeper.specs.Keeping.{text_of, IsWhole, next_line}
 use Rattle.sv_keeper.specs.Walks.{IsTaken, AreTaken, AreTaken.none, AreTaken.some, IsNoLine, IsWrong}
-use Rattle.sv_keeper.proofs.Fronts.{line_long}
+use Rattle.sv_keeper.proofs.Entered.{line_since}
+use Rattle.sv_keeper.proofs.Fronts.{entry_long}
 
 -- One more is taken behind others.
 pub then_taken : {v w x : WorldView} {text middle rest : List ℕ} → AreTaken v w text middle → IsTaken w x middle rest → AreTaken v x text rest
@@ -41,6 +41,11 @@ taken_text {v} {w} {text} {rest} whole (AreTaken.some {w = x} {middle = middle} 
     ap (λ (l : List ℕ). text_of v ++ l) one.line ∙ sym (append_assoc (text_of v) line middle)
     ∙ ap (λ (l : List ℕ). (text_of v ++ l) ++ middle) (line_since v one.session one.request whole)
     ∙ ap (λ (u : WorldView). text_of u ++ middle) (sym one.world) ∙ taken_text longer others
+
+-- How many entries stand before stays.
+pub taken_number : {v w : WorldView} {text rest : List ℕ} → AreTaken v w text rest → w.number ≡ v.number
+taken_number AreTaken.none = refl
+taken_number (AreTaken.some one others) = taken_number others ∙ ap (λ (u : WorldView). u.number) one.world
 
 -- All lines of a text are taken from its beginning: the text is that of the entries since.
 pub taken_all : {v w : WorldView} {text : List ℕ} → IsWhole v → v.since ≡ [] → AreTaken v w text [] → text_of w ≡ text

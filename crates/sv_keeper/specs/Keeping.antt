@@ -58,14 +58,15 @@ module _ {F : Type 0} where
       ((old.is_broken ≡ true) × (new ≡ old)) ⊎ (((entries_in old.world ≡ most_entries) × (new ≡ old)) ⊎ IsStuck old new s request)
 
 module _ {F : Type 0} (disk : F → Disk) (is_honest : F → Type 0) where
-  -- What is so of a keeper that is not broken: its log has the lines of all entries since it was opened but those of the group, and these are the
-  -- group's. Those of the first `synced` of them are on the disk.
+  -- What is so of a keeper that is not broken: the newest state of its log stands behind the entries that it was opened behind, and the log has the
+  -- lines of all since but those of the group, which are the group's. Those of the first `synced` of them are on the disk.
   pub record IsKept (keeper : KeeperView F) : Type 0 where
     pub sizes : HasSizes keeper.log.segment
     pub lines : IsText keeper.group
     pub part : keeper.synced ≤ length keeper.world.since
     pub settled : keeper.group ≡ [] → keeper.synced ≡ length keeper.world.since
     pub opened : is_honest keeper.log.segment.folder → IsOpenLog disk keeper.log
+    pub number : is_honest keeper.log.segment.folder → keeper.log.state ≡ keeper.world.number
     pub text : is_honest keeper.log.segment.folder → log_text disk keeper.log ++ keeper.group ≡ text_of keeper.world
     pub on_disk : is_honest keeper.log.segment.folder
         → log_synced disk keeper.log ≡ history_text (footing_of keeper.world) (first_entries keeper.synced keeper.world.since)

@@ -6,3 +6,4 @@ pub mod Invariant
 pub mod Walks
 pub mod Places
 pub mod Opened
+pub mod Stating

@@ -8,6 +8,7 @@ mod opening;
 mod place;
 mod putting;
 mod settled;
+mod stating;
 mod walking;
 
 pub use fault::{KeepFault, LineCause, OpenFault};

@@ -73,6 +73,7 @@ fn walked(
     requires none { core.since ≡ [] }
     requires number { core.number ≡ reading.now.state }
     ensures walk { IfOk result IsWalk }
+    ensures number { IfOk result (λ walk. walk.core.number ≡ reading.now.state) }
     ensures taken { IfOk result (λ walk. AreTaken core walk.core reading.now.text.items []) }
     ensures why { IfErr result (WhyNotWalked core reading.now) }
 {
@@ -222,6 +223,7 @@ impl<F: Folder> Keeper<F> {
         requires rest { F.is_honest folder → IsAtRest (F.disk folder) }
         requires read { F.is_honest folder → Reads world.now (seen (F.disk folder)) reading }
         requires walk { IsWalk walk }
+        requires number { walk.core.number ≡ reading.state }
         requires text { text_of walk.core ≡ reading.text.items }
         ensures ok { (start : WorldView) → AreTaken start walk.core reading.text.items []
             → IfOk result (IsResumed F.disk F.is_honest (F.disk folder) world.now (read_state reading) start) }
@@ -247,6 +249,7 @@ impl<F: Folder> Keeper<F> {
     // The keeper of a world whose lines are those of a log.
     fn joined(alloc: Global, walk: Walk, log: Log<F>, log_bytes: u64) -> Keeper<F>
         requires walk { IsWalk walk }
+        requires number { log.state ≡ walk.core.number }
         requires sizes { HasSizes log.segment }
         requires open { F.is_honest log.segment.folder → IsOpenLog F.disk log }
         requires text { F.is_honest log.segment.folder → log_text F.disk log ≡ text_of walk.core }

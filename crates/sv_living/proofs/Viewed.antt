@@ -14,7 +14,7 @@ use Rattle.sv_living.specs.Invariant.{world_of, IsLiving}
 use Rattle.sv_living.specs.Keeping.{rules_at, stewardship_at, AreAnswered, Moved, KeepsLiving, living_entry, StoodStill}
 use Rattle.sv_living.specs.Past.{PastView, whole}
 use Rattle.sv_living.specs.Sessions.{may_ask, AreInOrderSince}
-use Rattle.sv_living.specs.World.{WorldView, Answered}
+use Rattle.sv_living.specs.World.{WorldView, entries_in, behind_all, Answered}
 
 abbrev viewed : Rules → Stewardship → ℕ → List Entry → List Entry → WorldView
 viewed r w n before since = record { rules = r; stewardship = w; number = n; before = before; since = since; history = since ++ before }
@@ -83,3 +83,14 @@ pub living-behind : (live : Live) (past : PastView) (number : ℕ) (h : List Ent
     → IsLiving (record { live = live; past = past; number = number })
 living-behind live past number h same keeps =
     subst (λ (p : PastView). IsLiving (record { live = live; past = p; number = number })) (sym same) (record { keeps = keeps; answered = tt; order = tt })
+
+-- All entries stand before.
+pub all-behind : (a : Inside) (past : PastView) (number : ℕ) → IsLiving a → past ≡ record { before = whole a.past; since = [] } → IsLiving (record a { past = past; number = number })
+all-behind a past number was same =
+    subst (λ (p : PastView). IsLiving (record a { past = p; number = number })) (sym same) (record { keeps = was.keeps; answered = tt; order = tt })
+
+pub view-all-behind : (a : Inside) (v : WorldView) → world_of a ≡ v → (past : PastView) (number : ℕ) → past ≡ record { before = whole a.past; since = [] } → number ≡ entries_in v
+    → world_of (record a { past = past; number = number }) ≡ behind_all v
+view-all-behind a v is past number same told =
+    ap₂ (λ (p : PastView) (n : ℕ). viewed (rules_at a.live) (stewardship_at a.live) n p.before p.since) same told
+    ∙ ap (λ (u : WorldView). record u { number = entries_in v; before = u.history; since = [] }) is

@@ -1,5 +1,5 @@
 -- A world without end as its callers see it, and one step of it.
-use Rattle.std.specs.Prelude.{◌≡◌, ℕ, ◌+◌, true, false, ◌==◌, List, ◌∷◌, length, Result, Ok, Err}
+use Rattle.std.specs.Prelude.{◌≡◌, ℕ, ◌+◌, true, false, ◌==◌, List, [], ◌∷◌, length, Result, Ok, Err}
 use Rattle.sv_wire.specs.declared.message.Request.{Request}
 use Rattle.sv_journal.specs.declared.entry.Entry.{Entry}
 use Rattle.sv_journal.specs.declared.entry.Logged.{Logged}
@@ -49,6 +49,10 @@ next_entry v s request = entry_of s request (reply_in v s request)
 -- A world once a request was answered: its history has one entry more, with the reply of the table.
 abbrev pub after : WorldView → ℕ → Request → WorldView
 after v s request = record v { since = next_entry v s request ∷ v.since; history = next_entry v s request ∷ v.history }
+
+-- The same world, opened behind all its entries.
+abbrev pub behind_all : WorldView → WorldView
+behind_all v = record v { number = entries_in v; before = v.history; since = [] }
 
 -- A request was answered by the table, as its reply is kept and in full, and the world is what this entry makes of it.
 pub record Answered (old new : WorldView) (s : ℕ) (request : Request) (answer : Answer) : Type 0 where

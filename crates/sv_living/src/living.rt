@@ -13,7 +13,7 @@ ghost use Rattle.sv_core.specs.Cores.{core_rules, Keeps};
 ghost use Rattle.sv_living.specs.Keeping.{stewardship_of, AreOpen, AreAnswered};
 ghost use Rattle.sv_living.specs.Quiet.{IsFirstOpen, IsQuiet, IsQuietIfLegal};
 ghost use Rattle.sv_living.specs.Sessions.{is_open, next_session, open_sessions, may_begin, may_ask, AreInOrder, AreInOrderSince, HaveBegun};
-ghost use Rattle.sv_living.specs.World.{heeded_in, entries_in, Answered, BeganLawfully, IsStepFault};
+ghost use Rattle.sv_living.specs.World.{heeded_in, entries_in, behind_all, Answered, BeganLawfully, IsStepFault};
 
 use crate::fault::StepFault;
 use crate::live::Live;
@@ -104,6 +104,15 @@ impl LivingCore {
         ensures end { is_end request.now ≡ true → is_open self.old.history session ≡ true → IsOk result }
     {
         self.answer(session, request)
+    }
+
+    /// From now on all entries so far stand before: a state was taken of them. `number` tells how many they are.
+    pub fn stand_behind(&mut self, number: u64)
+        requires { number ≡ entries_in self.old }
+        ensures { self.new ≡ behind_all self.old }
+    {
+        self.past.close();
+        self.number = number;
     }
 
     /// Answers a request. `h` is the history so far.

@@ -2,6 +2,7 @@
 ghost use Rattle.std.specs.Prelude.{◌≡◌, List, [], ◌∷◌};
 ghost use Rattle.sv_journal.specs.declared.entry.Entry.{Entry};
 ghost use Rattle.sv_journal.specs.History.{entry_of};
+ghost use Rattle.sv_living.specs.Past.{whole};
 
 use crate::before::Before;
 use http_server::Log;
@@ -52,5 +53,12 @@ impl Past {
     {
         self.asked = self.asked.and(&session, request);
         self.replied = self.replied.and(&session, reply);
+    }
+
+    /// All of them stand before what comes.
+    pub fn close(&mut self)
+        ensures { self.new ≡ record { before = whole self.old; since = [] } }
+    {
+        *self = Past::following();
     }
 }
