@@ -6,7 +6,7 @@ use Rattle.sv_core.specs.Rows.{has_entry}
 use Rattle.sv_living.specs.Sessions.{most_session, next_session}
 
 -- How many numbers below one pass a test.
-tally : (ℕ → Bool) → ℕ → ℕ
+abbrev tally : (ℕ → Bool) → ℕ → ℕ
 tally f zero = 0
 tally f (suc n) = cond (f n) (suc (tally f n)) (tally f n)
 
@@ -33,7 +33,7 @@ module _ (f g : ℕ → Bool) (x : ℕ) (more : (t : ℕ) → g t ≡ (nat_eq x 
   tally-one zero fails low = absurd (omega (arith, low))
   tally-one (suc n) fails low = elim (cases_eq x n) [
     | inl same ↦ ap₂ (λ (b : Bool) (m : ℕ). cond b (suc m) m) (more n ∙ ap (λ (b : Bool). b || f n) (eq-eqb x n same)) (tally-above n (omega (arith, same)))
-        ∙ ap (λ (b : Bool). suc (cond b (suc (tally f n)) (tally f n))) (sym fails ∙ ap f same) ∙ refl
+        ∙ ap (λ (b : Bool). suc (cond b (suc (tally f n)) (tally f n))) (sym fails ∙ ap f same)
     | inr other ↦ ap₂ (λ (b : Bool) (m : ℕ). cond b (suc m) m) (other-same n other) (tally-one n fails (omega (arith, low, other))) ∙ out (f n) (tally f n)
   ]
     where
@@ -51,7 +51,7 @@ module _ (f g : ℕ → Bool) (x : ℕ) (more : (t : ℕ) → g t ≡ (nat_eq x 
   ]
 
 -- How many sessions below a number have an entry.
-counted : ℕ → List Entry → ℕ
+abbrev counted : ℕ → List Entry → ℕ
 counted n [] = 0
 counted n (e ∷ h) = cond (has_entry h e.session || not (nat_lt e.session n)) (counted n h) (suc (counted n h))
 

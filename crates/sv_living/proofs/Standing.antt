@@ -267,7 +267,7 @@ module _ (c : Live) (h : List Entry) (was : KeepsLiving c h) where
       table = subst (λ (t : List Seat). AreOpen core (living_entry (stewardship_at c) (rules_at c) h s q ∷ h) t (c.next + 1)) (sym began.table)
           (subst (λ (n : ℕ). AreOpen core (entry_of n q (reply_for (living (stewardship_at c)) (rules_at c) h s q) ∷ h) (c.table ++ began.seat ∷ []) (c.next + 1)) began.number
           (open-more c.core core h c.table c.next was.table began.seat q (reply_for (living (stewardship_at c)) (rules_at c) h s q) seated.free
-          (λ slot. on.seats slot ∙ seated.seats slot) (on.count ∙ seated.count) more (began.number ∙ is) (next-free c.core core h c.table c.next was.table began.seat.session (began.number ∙ is))));
+          (λ slot. on.seats slot ∙ seated.seats slot) (on.count ∙ seated.count) more (began.number ∙ is) (next-free c.core core h c.table c.next was.table began.seat.session (began.number ∙ is) (next-number began.seat.session (began.number ∙ is) begins))));
       next = number-more s q is begins;
     };
     logged = subst (λ (x : Rules). a.logged ≡ reply_for (living (stewardship_at c)) x h s q) seated.rules on.logged;
@@ -290,7 +290,7 @@ module _ (c : Live) (h : List Entry) (was : KeepsLiving c h) where
       keeps = subst (λ (n : ℕ). Keeps core (heeded (stewardship_at c) (end_entry n ∷ h))) number left.keeps;
       endless = ap (λ (x : Rules). x.sessions) (left.rules ∙ seated.rules) ∙ was.endless;
       table = open-unused c.core core h c.table c.next was.table s (λ slot. left.seats slot ∙ ap (λ (o : Option ℕ). cond (nat_eq seat.slot slot) None o) (seated.seats slot) ∙ freed slot)
-          (let a : open_by mid ≡ open_by c.core + 1 = seated.count in let b : open_by core + 1 ≡ open_by mid = left.count in omega (arith, a, b)) is (next-free c.core core h c.table c.next was.table s is);
+          (let a : open_by mid ≡ open_by c.core + 1 = seated.count in let b : open_by core + 1 ≡ open_by mid = left.count in omega (arith, a, b)) is (next-free c.core core h c.table c.next was.table s is (next-number s is begins));
       next = number-more s requests.End is begins;
     };
     logged = logged';

@@ -1,5 +1,7 @@
 //! Entries that stand before all others.
 ghost use Rattle.std.specs.Prelude.{◌≡◌, List};
+ghost use Rattle.std.specs.Coded.{coded_list};
+ghost use Rattle.sv_journal.specs.contracts.entry.Entry as entry;
 ghost use Rattle.sv_journal.specs.declared.entry.Entry.{Entry};
 
 use std::marker::{Model, PhantomData};
@@ -7,7 +9,7 @@ use std::marker::{Model, PhantomData};
 /// Entries that only contracts know: whichever a caller names. It takes no memory.
 pub struct Before {
     marker: PhantomData<()>,
-    pub ghost entries: { List Entry },
+    pub ghost entries: { List Entry } by { coded_list entry.the_row.coded },
 }
 
 impl Model for Before {
