@@ -13,23 +13,23 @@ use Rattle.sv_client.specs.Traces.{makes, requests_of}
 use Rattle.sv_client.specs.Taking.{Identity}
 use Rattle.sv_client.specs.Proper.{AreProper, Proper, most_made, identity_of}
 use Rattle.law_system.specs.Fits.{has_session}
-use Rattle.law_system.specs.Within.{IsWithin, LivesLeapWithin, KeepsLimits}
+use Rattle.law_system.specs.Within.{IsWithinLimit, LivesLeapWithin, KeepsLimits}
 use Rattle.law_system.proofs.Histories.{IsEarlier, same, after}
 
 -- ---- Limits that may be none
 
-pub not-above : (limit : Option ℕ) (n : ℕ) → IsWithin limit n → is_above limit n ≡ false
+pub not-above : (limit : Option ℕ) (n : ℕ) → IsWithinLimit limit n → is_above limit n ≡ false
 not-above None n w = refl
 not-above (Some most) n w = le-ltb most n w
 
-pub not-spent : (limit : Option ℕ) (n m : ℕ) → n < m → IsWithin limit m → is_spent limit n ≡ false
+pub not-spent : (limit : Option ℕ) (n m : ℕ) → n < m → IsWithinLimit limit m → is_spent limit n ≡ false
 not-spent None n m l w = refl
 not-spent (Some most) n m l w = lt-leb most n (omega (arith, l, w))
 
 -- ---- Lives
 
 pub leap-at : (leap : Option ℕ) (L : Trace) (e : Entry) (h H : List Entry) → IsEarlier (e ∷ h) H → LivesLeapWithin leap H L → has_session L e.session ≡ true →
-    IsWithin leap (life_in e.request - life_of h L.client.0)
+    IsWithinLimit leap (life_in e.request - life_of h L.client.0)
 leap-at leap L e h H same l has = l.0 has
 leap-at leap L e h H (after {g} d b) l has = leap-at leap L e h g b l.1 has
 

@@ -35,7 +35,7 @@ use Rattle.sv_player.proofs.Linking.{frames_append}
 use Rattle.law_system.specs.Records.{ends_in}
 use Rattle.law_system.proofs.Every.{each-left}
 use Rattle.law_traffic.specs.Sessions.{Over, transcript, IsSessionDone}
-use Rattle.law_traffic.specs.Traffic.{reply_frames, EndsWithStop, TookAll, IsTraffic}
+use Rattle.law_traffic.specs.Traffic.{reply_frames, EndsWithStop, CameWhole, IsTraffic}
 use Rattle.law_traffic.proofs.Ours.{mine, end_is_last}
 use Rattle.law_traffic.proofs.Dues.{full_over}
 use Rattle.law_traffic.proofs.Loops.{stopped_by}
@@ -132,7 +132,7 @@ module _ (stay : FullRepliesStay) (name : LegalRelaysNameAccepted) (journal : Li
       no_fault (omega (arith, none))
 
   ending : (out : SessionOut) → out ≢ outs.LinkFault → out ≢ outs.Memory → ExplainsOut out d.served.served.received answered d.served.served.sent (due_frames d.served.after.seen answered) →
-      EndsWithStop all ⊎ TookAll (ended_by out false) d.served.served.received steps
+      EndsWithStop all ⊎ CameWhole (ended_by out false) d.served.served.received steps
   ending outs.Closed l m e =
       inr (record { ended_is = refl; items = came.items ∙ ap (λ (qs : List Request). map Payload (map request_bytes qs)) (sym came.came ∙ sym e.0.all) })
   ending outs.Left l m e = inl (stopped_by journal answered outs.Left e.0)
@@ -142,10 +142,10 @@ module _ (stay : FullRepliesStay) (name : LegalRelaysNameAccepted) (journal : Li
   ending outs.LinkFault l m e = absurd (l refl)
   ending outs.Memory l m e = absurd (m refl)
 
-  pub how_ended : x.out ≢ outs.LinkFault → EndsWithStop all ⊎ TookAll x.server.ended x.server.received steps
+  pub how_ended : x.out ≢ outs.LinkFault → EndsWithStop all ⊎ CameWhole x.server.ended x.server.received steps
   how_ended faultless =
-      subst (λ (l : List ℕ). EndsWithStop all ⊎ TookAll x.server.ended l steps) (sym server_received)
-      (subst (λ (b : Bool). EndsWithStop all ⊎ TookAll b d.served.served.received steps) (sym (loops.ended_is journal s x.out x.server x.server_faults d.served)) (ending x.out faultless d.served.memory d.served.served.cause))
+      subst (λ (l : List ℕ). EndsWithStop all ⊎ CameWhole x.server.ended l steps) (sym server_received)
+      (subst (λ (b : Bool). EndsWithStop all ⊎ CameWhole b d.served.served.received steps) (sym (loops.ended_is journal s x.out x.server x.server_faults d.served)) (ending x.out faultless d.served.memory d.served.served.cause))
 
   pub received_part : IsPrefix x.client.received (reply_frames all)
   received_part = prefix_trans x.client.received x.server.sent (reply_frames all) d.settled.arrived.to_client.part sent_part
@@ -165,8 +165,8 @@ module _ (stay : FullRepliesStay) (name : LegalRelaysNameAccepted) (journal : Li
           whole = λ open_is. sent_whole (no_fault_open open_is) ∙ ap reply_frames (sym all_are);
           returned = d.settled.arrived.to_client.part;
           got = (d.carried.rest, sym got.whole);
-          end = λ faultless. subst (λ (ws : List Reply). EndsWithStop ws ⊎ TookAll x.server.ended x.server.received (requests_in history s)) (sym all_are)
-              (subst (λ (qs : List Request). EndsWithStop all ⊎ TookAll x.server.ended x.server.received qs) (sym steps_are)
+          end = λ faultless. subst (λ (ws : List Reply). EndsWithStop ws ⊎ CameWhole x.server.ended x.server.received (requests_in history s)) (sym all_are)
+              (subst (λ (qs : List Request). EndsWithStop all ⊎ CameWhole x.server.ended x.server.received qs) (sym steps_are)
               (how_ended (no_fault (let none = ltb-false 0 x.server_faults faultless in omega (arith, none)))));
         }
 

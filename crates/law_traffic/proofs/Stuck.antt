@@ -34,7 +34,7 @@ use Rattle.sv_player.specs.Carried.{BeginsWithReplies}
 use Rattle.sv_player.specs.Stops.{NoneCame, is_cut}
 use Rattle.sv_player.specs.Played.{replies_of}
 use Rattle.law_traffic.specs.Sessions.{Over, IsSessionDone}
-use Rattle.law_traffic.specs.Traffic.{reply_frames, EndsWithStop, TookAll}
+use Rattle.law_traffic.specs.Traffic.{reply_frames, EndsWithStop, CameWhole}
 use Rattle.law_traffic.specs.Stuck.{IsTakeable}
 use Rattle.law_traffic.proofs.Cuts.{empty_short}
 use Rattle.law_traffic.proofs.Messages.{requests_fit, request_frames_are, reply_frames_both, AreGot, got_first}
@@ -115,7 +115,7 @@ module _ (stay : FullRepliesStay) (name : LegalRelaysNameAccepted) (journal : Li
     got_all : whole_all ≡ replies_of L s
     got_all = g.are ∙ (ap (λ (l : List Reply). replies_of L s ++ l) (no_more g.more rest more_fine rest_is none.0) ∙ append-nil (replies_of L s))
 
-    asked_all : TookAll x.server.ended x.server.received own_steps → length own_steps ≡ length (requests_of L s)
+    asked_all : CameWhole x.server.ended x.server.received own_steps → length own_steps ≡ length (requests_of L s)
     asked_all t =
         let came = d.settled.arrived.to_server.whole t.ended_is ∙ (d.carried.sent ∙ request_frames_are (requests_of L s)) in
         let items = sym t.items ∙ (ap incoming_items came ∙ whole_items (map request_bytes (requests_of L s)) (requests_fit (requests_of L s) (messages stay name journal L s x d))) in

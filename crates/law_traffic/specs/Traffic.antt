@@ -31,7 +31,7 @@ pub record EndsWithStop (all : List Reply) : Type 0 where
   pub stop : IsSome (stop_of (logged_of last))
 
 -- The end was told that no more will come, and each payload that it received is that of one of these requests, in order.
-pub record TookAll (ended : Bool) (received : List ℕ) (requests : List Request) : Type 0 where
+pub record CameWhole (ended : Bool) (received : List ℕ) (requests : List Request) : Type 0 where
   pub ended_is : ended ≡ true
   pub items : incoming_items received ≡ map Payload (map request_bytes requests)
 
@@ -44,4 +44,4 @@ pub record IsTraffic (h : List Entry) (L : Trace) (s : ℕ) (x : Transcript) : T
   pub whole : is_cut (reverse L.events) s ≡ false → x.server_sent ≡ reply_frames (replies_in (accepted h) h s)
   pub returned : IsPrefix x.client_received x.server_sent
   pub got : IsPrefix (reply_frames (replies_of L s)) x.client_received
-  pub end : x.server_faulty ≡ false → EndsWithStop (replies_in (accepted h) h s) ⊎ TookAll x.server_ended x.server_received (requests_in h s)
+  pub end : x.server_faulty ≡ false → EndsWithStop (replies_in (accepted h) h s) ⊎ CameWhole x.server_ended x.server_received (requests_in h s)

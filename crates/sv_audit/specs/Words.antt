@@ -1,9 +1,10 @@
 -- What the words that the call is given ask for.
-use Rattle.std.specs.Prelude.{ℕ, List, [], ◌∷◌, Option, Some, None, option_map, codes, if◌then◌else◌}
+use Rattle.std.specs.Prelude.{ℕ, ◌-◌, ◌^◌, List, [], ◌∷◌, Option, Some, None, option_map, codes, if◌then◌else◌}
 use Rattle.std.specs.Str.{bytes_eq}
+use Rattle.sv_world.specs.Limits.{most_objects}
 use Rattle.sv_ending.specs.Numbers.{number_between}
 use Rattle.sv_audit.specs.declared.words.Audit.{Audit}
-use Rattle.sv_audit.specs.declared.words.Place.{Place}
+use Rattle.sv_audit.specs.declared.words.ObjectAtPosition.{ObjectAtPosition}
 use Rattle.sv_audit.specs.declared.words.Question.{Question as Asks}
 use Rattle.sv_audit.specs.declared.words.Question.TheVariants as asks
 
@@ -24,7 +25,7 @@ pub record Asked : Type 0 where
   pub report : List ℕ
   pub question : Question
 
-abbrev pub place_by : Place → Asking
+abbrev pub place_by : ObjectAtPosition → Asking
 place_by place = record { object = place.object.0; pos = place.pos }
 
 abbrev pub question_by : Asks → Question
@@ -55,7 +56,7 @@ plain_question word = if bytes_eq word (codes "check") then Some Right else (if 
 abbrev pub asked_of : List (List ℕ) → Option Asked
 asked_of (word ∷ scenario ∷ report ∷ []) = asked_if (plain_question word) scenario report
 asked_of (word ∷ scenario ∷ report ∷ object ∷ pos ∷ []) = if bytes_eq word (codes "why")
-    then why_if scenario report (place_if (number_between 0 65535 object) (number_between 0 4294967295 pos)) else None
+    then why_if scenario report (place_if (number_between 0 most_objects object) (number_between 0 (2 ^ 32 - 1) pos)) else None
 asked_of _ = None
 
 abbrev pub scenario_named : Option Asked → Option (List ℕ)

@@ -6,7 +6,7 @@ ghost use Rattle.sv_audit.specs.Words.{Why, place_by, question_by};
 
 use crate::ending::AuditEnding;
 use crate::texts::why_text;
-use crate::words::{Place, Question};
+use crate::words::{ObjectAtPosition, Question};
 use law_system::Played;
 use std::alloc::{AllocError, Global};
 use sv_check::{Verdict, check};
@@ -43,7 +43,7 @@ fn explained(
     alloc: Global,
     scenario: &Scenario,
     played: &Played,
-    place: Place,
+    place: ObjectAtPosition,
 ) -> Result<String, AuditEnding>
     ensures { AnswersOrEnds scenario.now played.now (Why (place_by place)) result }
 {

@@ -1,18 +1,19 @@
 //! What the words of a call ask for.
-ghost use Rattle.std.specs.Prelude.{◌≡◌, map, string_bytes, option_map};
+ghost use Rattle.std.specs.Prelude.{◌≡◌, ◌-◌, ◌^◌, map, string_bytes, option_map};
 ghost use Rattle.std.specs.Option.{option_copied};
+ghost use Rattle.sv_world.specs.Limits.{most_objects};
 ghost use Rattle.sv_ending.specs.Numbers.{number_between};
 ghost use Rattle.sv_audit.specs.Words.{asked_by, asked_if, asked_of, line_for, place_by, place_if, plain_question, question_by, report_named, scenario_named, why_if, words_line};
 
 use sv_ending::number_in;
-use sv_world::ObjectId;
+use sv_world::{MOST_OBJECTS, ObjectId};
 
 /// The line that tells which words there are.
 const WORDS_LINE: &[u8] = b"words: check SCENARIO REPORT\n";
 
 /// An object, and a position among the accepted actions.
 #[derive(Clone, Copy, Debug, Drop)]
-pub(crate) struct Place {
+pub(crate) struct ObjectAtPosition {
     pub(crate) object: ObjectId,
     pub(crate) pos: u32,
 }
@@ -25,7 +26,7 @@ pub(crate) enum Question {
     /// The world at its end.
     World,
     /// Why the object has its value at the position.
-    Why(Place),
+    Why(ObjectAtPosition),
 }
 
 /// What is asked for, of a scenario and a report.
@@ -36,18 +37,22 @@ pub(crate) struct Audit<'a> {
     pub(crate) question: Question,
 }
 
-fn place_of(object: &str, pos: &str) -> Option<Place>
-    ensures { option_map place_by result ≡ place_if (number_between 0 65535 object.now) (number_between 0 4294967295 pos.now) }
+fn place_of(object: &str, pos: &str) -> Option<ObjectAtPosition>
+    ensures { option_map place_by result ≡ place_if (number_between 0 most_objects object.now) (number_between 0 (2 ^ 32 - 1) pos.now) }
 {
-    let object = number_in(object, 0, 65_535)?;
+    let object = number_in(object, 0, MOST_OBJECTS as u32)?;
     let pos = number_in(pos, 0, u32::MAX)?;
-    Some(Place {
+    Some(ObjectAtPosition {
         object: ObjectId(object as u16),
         pos,
     })
 }
 
-fn why_of<'a>(scenario: &'a str, report: &'a str, place: Option<Place>) -> Option<Audit<'a>>
+fn why_of<'a>(
+    scenario: &'a str,
+    report: &'a str,
+    place: Option<ObjectAtPosition>,
+) -> Option<Audit<'a>>
     ensures { option_map asked_by result ≡ why_if scenario.entry.now report.entry.now (option_map place_by place) }
 {
     Some(Audit {

@@ -21,8 +21,8 @@ use Rattle.sv_scenario.specs.declared.scenario.Scenario.{Scenario}
 use Rattle.sv_scenario.specs.Sessions.{session_count}
 use Rattle.law_system.specs.Records.{rules_of}
 use Rattle.sv_lines.specs.declared.request.Asked.{Asked}
-use Rattle.sv_lines.specs.declared.stop.Unread.{Unread}
-use Rattle.sv_lines.specs.declared.stop.Unread.TheVariants as unread
+use Rattle.sv_lines.specs.declared.stop.LineFault.{LineFault}
+use Rattle.sv_lines.specs.declared.stop.LineFault.TheVariants as unread
 use Rattle.sv_lines.specs.declared.stop.LineStop.{LineStop}
 use Rattle.sv_lines.specs.declared.stop.LineStop.TheVariants as stop
 use Rattle.sv_lines.specs.Lines.{line_width, after_lines, Differs, StopsAt}
@@ -139,12 +139,12 @@ serving_more scenario old new text rest next count is so_far g so has drops =
 -- ---- What a line asks
 
 -- What is read of the text, which tells the request of an entry with whose line it begins.
-abbrev pub ReadsAsked : Shape → List ℕ → Result Asked Unread → Type 0
+abbrev pub ReadsAsked : Shape → List ℕ → Result Asked LineFault → Type 0
 ReadsAsked shape text read = (n session : ℕ) (request : Request) (reply : List ℕ) → n < 2 ^ 32 → session < 2 ^ 16 → IsTold shape request →
     text ≡ asking_text shape n session request ++ reply → Gives {Y = ℕ × Request} (λ (asked : Asked). (asked.session, asked.request)) read (Some (session, request))
 
 module _ (scenario : Scenario) (few : session_count scenario ≤ 64) (entries : List Entry) (small : 1 + length entries < 2 ^ 32) (text : List ℕ) where
-  read_of : (read : Result Asked Unread) → ReadsAsked scenario.world.shape text read → (e : Entry) (rest : List ℕ) → IsEntryAfter scenario (reverse entries) e →
+  read_of : (read : Result Asked LineFault) → ReadsAsked scenario.world.shape text read → (e : Entry) (rest : List ℕ) → IsEntryAfter scenario (reverse entries) e →
       text ≡ line_after scenario.world.shape entries e ++ rest → Gives {Y = ℕ × Request} (λ (asked : Asked). (asked.session, asked.request)) read (Some (e.session, e.request))
   read_of read reads e rest right is =
       let shape = scenario.world.shape in
@@ -180,9 +180,9 @@ module _ (scenario : Scenario) (few : session_count scenario ≤ 64) (entries : 
       refused (subst (λ (r : Rules). MayBeSession r.sessions asked.session) (sym of_it) it.0) it.1
 
   -- Where nothing was read, the text tells no entry.
-  pub unread_none : (read : Result Asked Unread) (e : Unread) → read ≡ Err e → e ≡ unread.Wrong → ReadsAsked scenario.world.shape text read → NoEntry scenario entries text
+  pub unread_none : (read : Result Asked LineFault) (e : LineFault) → read ≡ Err e → e ≡ unread.Wrong → ReadsAsked scenario.world.shape text read → NoEntry scenario entries text
   unread_none read e failed wrong reads d rest right is =
-      let missing : Result Asked Unread → Type 0 = λ (r : Result Asked Unread).
+      let missing : Result Asked LineFault → Type 0 = λ (r : Result Asked LineFault).
       Gives {Y = ℕ × Request} (λ (asked : Asked). (asked.session, asked.request)) r (Some (d.session, d.request)) in
       let one : ℕ × Request = (d.session, d.request) in
       none-some one (sym (subst missing failed (read_of read reads d rest right is) wrong))

@@ -14,7 +14,7 @@ use Rattle.sv_journal.specs.Laws.{FullRepliesStay, LegalRelaysNameAccepted}
 use Rattle.sv_journal.specs.Text.{NamesAccepted, RelaysNameAccepted}
 use Rattle.sv_journal.specs.Answer.{Rules, MayBeSession, Legal, reply_to}
 use Rattle.sv_journal.specs.History.{entry_of}
-use Rattle.sv_sequencer.specs.Step.{SequencerView, history, Answered}
+use Rattle.sv_sequencer.specs.Step.{SequencerView, history, StepAnswered}
 use Rattle.sv_scenario.specs.declared.scenario.Scenario.{Scenario}
 use Rattle.sv_scenario.specs.Limits.{IsGoodScenario}
 use Rattle.sv_scenario.specs.Sessions.{session_count}
@@ -77,7 +77,7 @@ replies_more stay names r entries e legal =
 -- It answered one request more.
 pub answered : (scenario : Scenario) (old new : Served) (s : ℕ) (request : Request) (reply : Reply) → FullRepliesStay → LegalRelaysNameAccepted → IsServed scenario old →
     Legal old.sequencer.rules (history old.sequencer) → MayBeSession old.sequencer.rules.sessions s → IsTold scenario.world.shape request → (is_end request ≡ true → is_ended (history old.sequencer) s ≡ false) →
-    Answered old.sequencer new.sequencer s request reply → new.replies.items ≡ old.replies.items ++ reply ∷ [] → IsServed scenario new
+    StepAnswered old.sequencer new.sequencer s request reply → new.replies.items ≡ old.replies.items ++ reply ∷ [] → IsServed scenario new
 answered scenario old new s request reply stay names g legal l told first a pushed =
     let e = entry_of s request (reply_to old.sequencer.rules (history old.sequencer) s request) in
     let turned : history new.sequencer ≡ e ∷ history old.sequencer = ap reverse a.grew.entries ∙ reverse-append old.sequencer.journal.entries (e ∷ []) in
@@ -103,7 +103,7 @@ answered scenario old new s request reply stay names g legal l told first a push
     }
 
 -- The entry that it has more.
-pub one_more : (scenario : Scenario) (old : Served) (new : SequencerView) (s : ℕ) (request : Request) (reply : Reply) → IsServed scenario old → Answered old.sequencer new s request reply →
+pub one_more : (scenario : Scenario) (old : Served) (new : SequencerView) (s : ℕ) (request : Request) (reply : Reply) → IsServed scenario old → StepAnswered old.sequencer new s request reply →
     new.journal.entries ≡ entries_of old ++ entry_of s request (reply_to (rules_of scenario) (history old.sequencer) s request) ∷ []
 one_more scenario old new s request reply g a =
     a.grew.entries ∙ ap (λ (r : Rules). entries_of old ++ entry_of s request (reply_to r (history old.sequencer) s request) ∷ []) g.rules

@@ -19,7 +19,7 @@ use crate::runs::laws_of_runs;
 use std::alloc::{AllocError, Global};
 use sv_journal::{full_replies_stay, legal_relays_name_accepted, print_journal};
 use sv_lines::{
-    Asked, LineStop, Unread, asked_at, expect, line_length, number_at, take_line, take_lines,
+    Asked, LineFault, LineStop, asked_at, expect, line_length, number_at, take_line, take_lines,
 };
 use sv_replay::{are_ended, open_sequencer};
 use sv_scenario::Scenario;
@@ -140,8 +140,8 @@ impl Served {
                 self.answer(scenario, asked)?;
                 Ok(true)
             }
-            Err(Unread::Wrong) => Ok(false),
-            Err(Unread::Memory) => Err(AllocError),
+            Err(LineFault::Wrong) => Ok(false),
+            Err(LineFault::Memory) => Err(AllocError),
         }
     }
 

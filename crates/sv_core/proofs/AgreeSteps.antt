@@ -13,7 +13,7 @@ use Rattle.sv_clients.specs.declared.clients.Clients.{Clients}
 use Rattle.sv_core.specs.declared.sessions.SessionRow.{SessionRow}
 use Rattle.sv_core.specs.Agreement.{sent_at, named_at, IsClientRow, IsSoundHistory, Agrees}
 use Rattle.sv_clients.specs.Clients.{client_row, KeepsOutcomes}
-use Rattle.sv_core.specs.Decisions.{IsQuiet}
+use Rattle.sv_core.specs.Decisions.{IsQuietEntry}
 use Rattle.sv_core.specs.Fits.{QueueFits}
 use Rattle.sv_core.specs.Rows.{seat_in, owes_end, count_rows}
 use Rattle.sv_journal.specs.History.{entry_of}
@@ -98,7 +98,7 @@ none : (p : ℕ) {xs : List ℕ} → xs ≡ [] → is_in p xs ≡ true → ⊥
 none p q m = (let no' : false ≡ true = ap (is_in p) (sym q) ∙ m in cc)
 
 pub agree-quiet : (r : Rules) (h : List Entry) (v : QueueView) (rows next : List SessionRow) (clients : Clients) (owed left slot s : ℕ) (request : Request) (reply : Logged) →
-    Agrees r h v rows clients owed → seat_in rows slot ≡ Some s → IsQuiet h s request reply → (is_end request ≡ true → is_last reply ≡ true) →
+    Agrees r h v rows clients owed → seat_in rows slot ≡ Some s → IsQuietEntry h s request reply → (is_end request ≡ true → is_last reply ≡ true) →
     AreAfter slot (entry_of s request reply) rows next → left ≡ count_rows owes_end next → Agrees r (entry_of s request reply ∷ h) v next clients left
 agree-quiet r h v rows next clients owed left slot s request reply a at quiet last after owes =
     agree-next r h e v v rows next clients clients owed left slot a at after

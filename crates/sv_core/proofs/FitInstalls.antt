@@ -15,7 +15,7 @@ use Rattle.sv_queue.proofs.Installs.{installed-first, installed-none}
 use Rattle.sv_queue.proofs.Members.{is_in-append, is_in-filtered}
 use Rattle.sv_queue.proofs.PairSets.{is_pair-where}
 use Rattle.sv_journal.specs.History.{Authored}
-use Rattle.sv_core.specs.Fits.{actions_in, values_after, was_given, IsEntry, QueueFits}
+use Rattle.sv_core.specs.Fits.{actions_in, values_after, was_given, IsQueueEntry, QueueFits}
 use Rattle.sv_core.proofs.FitPush.{authored-action}
 
 any-same : (p q : ℕ → Bool) (xs : List ℕ) → ((k : ℕ) → is_in k xs ≡ true → p k ≡ q k) → list_any p xs ≡ list_any q xs
@@ -100,7 +100,7 @@ fits-first w A R S N shape c room committed e es given early f = record {
       ∙ ap (λ (a : Action). put_all (values_after w.values (actions_in A) R c) (write_set a) (unwrap_or e.result [])) action
       ∙ ap (λ o. put_all (values_after w.values (actions_in A) R c) (write_set (action_at (actions_in A) (suc c))) (unwrap_or o [])) here.result
       ∙ ap (values_after w.values (actions_in A) R) (sym (add-one c));
-  entries = λ p low high. subst (IsEntry A R S p) (ap (λ n. get_or (e ∷ es) n no_entry) (place p low)) (f.entries p (omega arith) high);
+  entries = λ p low high. subst (IsQueueEntry A R S p) (ap (λ n. get_or (e ∷ es) n no_entry) (place p low)) (f.entries p (omega arith) high);
   given = λ x t low small.
       is_pair-where (λ y u. cond (is_in y (write_set e.action)) (is_in u e.marks) (is_pair y u given)) x t shape.objects (omega (arith, low, ap (λ (d : Shape). d.objects) f.shape)) small
       ∙ ap (λ b. cond (is_in x (write_set e.action)) b (is_pair x t given)) (here.marks t small)
@@ -113,8 +113,8 @@ fits-first w A R S N shape c room committed e es given early f = record {
     first : entry_at (view_by shape c room committed (e ∷ es) given) (suc c) ≡ e
     first = ap (λ n. get_or (e ∷ es) n no_entry) (let zero' : suc c - c - 1 ≡ 0 = omega arith in zero')
 
-    here : IsEntry A R S (suc c) e
-    here = subst (IsEntry A R S (suc c)) first (f.entries (suc c) (omega arith) (omega (arith, f.last)))
+    here : IsQueueEntry A R S (suc c) e
+    here = subst (IsQueueEntry A R S (suc c)) first (f.entries (suc c) (omega arith) (omega (arith, f.last)))
 
     action : e.action ≡ action_at (actions_in A) (suc c)
     action = here.action ∙ authored-action A (suc c)

@@ -21,7 +21,7 @@ use Rattle.sv_queue.proofs.PairSets.{is_pair-where}
 use Rattle.sv_queue.proofs.SlotSets.{in_slots}
 use Rattle.sv_journal.specs.History.{Authored}
 use Rattle.sv_journal.specs.Sessions.{names}
-use Rattle.sv_core.specs.Fits.{actions_in, values_after, was_given, IsEntry, QueueFits}
+use Rattle.sv_core.specs.Fits.{actions_in, values_after, was_given, IsQueueEntry, QueueFits}
 use Rattle.sv_core.specs.Relays.{marked_all, given_all}
 
 pub entry-same : (v : QueueView) (p : ℕ) (e : Queued) → v.commit < p → p ≤ last_position v → entry_at (with_entry v p e) p ≡ e
@@ -123,8 +123,8 @@ is_sent_also s p S t q = go (nat_eq s t)
     go true = is_in-append q (S t) (p ∷ []) ∙ ap (λ d. is_in q (S t) || d) (or-false (nat_eq q p))
     go false = sym (or-false (is_in q (S t)))
 
-marked-entry : (A : List Authored) (R : ℕ → Option (List (List ℤ))) (S : ℕ → List ℕ) (p s : ℕ) (q : Queued) → IsEntry A R S p q →
-    IsEntry A R (sent_also s (p ∷ []) S) p (record q { marks = with_slot s q.marks })
+marked-entry : (A : List Authored) (R : ℕ → Option (List (List ℤ))) (S : ℕ → List ℕ) (p s : ℕ) (q : Queued) → IsQueueEntry A R S p q →
+    IsQueueEntry A R (sent_also s (p ∷ []) S) p (record q { marks = with_slot s q.marks })
 marked-entry A R S p s q e = record {
   author = e.author;
   seq = e.seq;
@@ -138,8 +138,8 @@ marked-entry A R S p s q e = record {
       ∙ sym (is_sent_also s p S t p ∙ ap (λ b. is_in p (S t) || b) (ap (λ b. nat_eq s t && b) (eq-eqb p p refl) ∙ and-true (nat_eq s t)));
 }
 
-other-entry : (A : List Authored) (R : ℕ → Option (List (List ℤ))) (S : ℕ → List ℕ) (p k s : ℕ) (q : Queued) → (k ≡ p → ⊥) → IsEntry A R S k q →
-    IsEntry A R (sent_also s (p ∷ []) S) k q
+other-entry : (A : List Authored) (R : ℕ → Option (List (List ℤ))) (S : ℕ → List ℕ) (p k s : ℕ) (q : Queued) → (k ≡ p → ⊥) → IsQueueEntry A R S k q →
+    IsQueueEntry A R (sent_also s (p ∷ []) S) k q
 other-entry A R S p k s q ne e = record {
   author = e.author;
   seq = e.seq;
@@ -156,9 +156,9 @@ fits-mark w A R S N v p s is f = record {
   last = last-with_entry v p e ∙ f.last;
   committed = f.committed;
   entries = λ k low high. elim (cases_eq k p) [
-    | inl same ↦ subst (λ n. IsEntry A R (sent_also s (p ∷ []) S) n (entry_at (with_mark v p s) n)) (sym same)
-        (subst (IsEntry A R (sent_also s (p ∷ []) S) p) (sym (entry-same v p e is.0 is.1)) (marked-entry A R S p s (entry_at v p) (f.entries p is.0 (omega (arith, is.1, f.last)))))
-    | inr ne ↦ subst (IsEntry A R (sent_also s (p ∷ []) S) k) (sym (entry-other v p k e is.0 low ne)) (other-entry A R S p k s (entry_at v k) ne (f.entries k low high))
+    | inl same ↦ subst (λ n. IsQueueEntry A R (sent_also s (p ∷ []) S) n (entry_at (with_mark v p s) n)) (sym same)
+        (subst (IsQueueEntry A R (sent_also s (p ∷ []) S) p) (sym (entry-same v p e is.0 is.1)) (marked-entry A R S p s (entry_at v p) (f.entries p is.0 (omega (arith, is.1, f.last)))))
+    | inr ne ↦ subst (IsQueueEntry A R (sent_also s (p ∷ []) S) k) (sym (entry-other v p k e is.0 low ne)) (other-entry A R S p k s (entry_at v k) ne (f.entries k low high))
   ];
   given = λ x t low small. f.given x t low small ∙ late (nat_eq s t) x t;
 }
@@ -227,7 +227,7 @@ fits-given w A R S N v head s f = record {
   shape = (same head v).0 ∙ f.shape;
   last = (same head v).1.0 ∙ f.last;
   committed = (same head v).1.1.0 ∙ f.committed ∙ ap (values_after w.values (actions_in A) R) (sym (same head v).1.1.1.0);
-  entries = λ k low high. subst (IsEntry A R S k) (sym ((same head v).1.1.1.1 k)) (f.entries k (omega (arith, low, (same head v).1.1.1.0)) high);
+  entries = λ k low high. subst (IsQueueEntry A R S k) (sym ((same head v).1.1.1.1 k)) (f.entries k (omega (arith, low, (same head v).1.1.1.0)) high);
   given = λ x t low small.
       given-all-pair v head s x t (omega (arith, low, ap (λ (d : Shape). d.objects) f.shape)) small
       ∙ ap (λ b. b || (nat_eq s t && names head x)) (f.given x t low small)

@@ -14,7 +14,7 @@ use Rattle.sv_world.proofs.Members.{filter-ext}
 use Rattle.sv_queue.specs.Queue.{Queued, QueueView, entry_at, no_entry, with_action}
 use Rattle.sv_journal.specs.History.{Authored, authored_at}
 use Rattle.sv_journal.proofs.Stays.{authored_stays, authored_last}
-use Rattle.sv_core.specs.Fits.{actions_in, values_after, was_given, IsEntry, QueueFits}
+use Rattle.sv_core.specs.Fits.{actions_in, values_after, was_given, IsQueueEntry, QueueFits}
 
 abbrev pub no_author : Authored
 no_author = record { client = 0; seq = 0; action = blank }
@@ -68,7 +68,7 @@ fits-pushed w A R S N v author seq action none within f = record {
     unsent : (t : ℕ) → is_in (suc (length A)) (S t) ≡ false
     unsent t = false_from_ne_true (is_in (suc (length A)) (S t)) (λ h. (let l : suc (length A) ≤ length A = within t (suc (length A)) h in omega arith))
 
-    new_entry : IsEntry (A ++ a ∷ []) R S (suc (length A)) e
+    new_entry : IsQueueEntry (A ++ a ∷ []) R S (suc (length A)) e
     new_entry = record {
       author = ap (λ (b : Authored). b.client) (sym (authored_last A a));
       seq = ap (λ (b : Authored). b.seq) (sym (authored_last A a));
@@ -77,7 +77,7 @@ fits-pushed w A R S N v author seq action none within f = record {
       marks = λ s small. sym (unsent s);
     }
 
-    old_entry : (p : ℕ) (q : Queued) → p ≤ length A → IsEntry A R S p q → IsEntry (A ++ a ∷ []) R S p q
+    old_entry : (p : ℕ) (q : Queued) → p ≤ length A → IsQueueEntry A R S p q → IsQueueEntry (A ++ a ∷ []) R S p q
     old_entry p q low h = record {
       author = h.author ∙ ap (λ (b : Authored). b.client) (sym (authored_stays A (a ∷ []) p low));
       seq = h.seq ∙ ap (λ (b : Authored). b.seq) (sym (authored_stays A (a ∷ []) p low));
@@ -86,11 +86,11 @@ fits-pushed w A R S N v author seq action none within f = record {
       marks = h.marks;
     }
 
-    entries : (p : ℕ) → v.commit < p → p ≤ length (A ++ a ∷ []) → IsEntry (A ++ a ∷ []) R S p (entry_at (with_action v author seq action) p)
+    entries : (p : ℕ) → v.commit < p → p ≤ length (A ++ a ∷ []) → IsQueueEntry (A ++ a ∷ []) R S p (entry_at (with_action v author seq action) p)
     entries p low high = elim (cases_eq p (suc (length A))) [
-      | inl same ↦ subst (λ n. IsEntry (A ++ a ∷ []) R S n (entry_at (with_action v author seq action) n)) (sym same)
-          (subst (IsEntry (A ++ a ∷ []) R S (suc (length A))) (sym (get_or_push v.entries e no_entry (suc (length A) - v.commit - 1) (omega (arith, f.last)))) new_entry)
+      | inl same ↦ subst (λ n. IsQueueEntry (A ++ a ∷ []) R S n (entry_at (with_action v author seq action) n)) (sym same)
+          (subst (IsQueueEntry (A ++ a ∷ []) R S (suc (length A))) (sym (get_or_push v.entries e no_entry (suc (length A) - v.commit - 1) (omega (arith, f.last)))) new_entry)
       | inr ne ↦ (let old : p ≤ length A = omega (arith, length-append A (a ∷ [])) in
-          subst (IsEntry (A ++ a ∷ []) R S p) (sym (get_or_append_left v.entries (e ∷ []) no_entry (p - v.commit - 1) (omega (arith, f.last))))
+          subst (IsQueueEntry (A ++ a ∷ []) R S p) (sym (get_or_append_left v.entries (e ∷ []) no_entry (p - v.commit - 1) (omega (arith, f.last))))
           (old_entry p (entry_at v p) old (f.entries p low old)))
     ]

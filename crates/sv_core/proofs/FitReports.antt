@@ -8,7 +8,7 @@ use Rattle.sv_wire.specs.declared.message.Done1.{Done1}
 use Rattle.sv_queue.specs.Queue.{Queued, QueueView, last_position, entry_at, with_result}
 use Rattle.sv_journal.specs.History.{Authored, either, reported}
 use Rattle.sv_journal.proofs.Results.{either_none}
-use Rattle.sv_core.specs.Fits.{actions_in, IsEntry, QueueFits}
+use Rattle.sv_core.specs.Fits.{actions_in, IsQueueEntry, QueueFits}
 use Rattle.sv_core.specs.Relays.{with_report, with_reports, CanReport}
 use Rattle.sv_core.proofs.FitMarks.{entry-same, entry-other, last-with_entry, fits-same, values-same}
 
@@ -55,17 +55,17 @@ fits-report w A R S N v d done high f = go (nat_lt v.commit d.pos) refl (is_none
       committed = f.committed ∙ values-same w.values (actions_in A) R (result_also d R) v.commit
           (λ p some most. sym (either-some (R p) (cond (nat_eq d.pos p) (Some d.values) None) (done p some most)));
       entries = λ k lower most. elim (cases_eq k d.pos) [
-        | inl is ↦ subst (λ n. IsEntry A (result_also d R) S n (entry_at (with_result v d.pos d.values) n)) (sym is)
-            (subst (IsEntry A (result_also d R) S d.pos) (sym (entry-same v d.pos e low high)) here)
-        | inr ne ↦ subst (IsEntry A (result_also d R) S k) (sym (entry-other v d.pos k e low lower ne)) (other k ne (f.entries k lower most))
+        | inl is ↦ subst (λ n. IsQueueEntry A (result_also d R) S n (entry_at (with_result v d.pos d.values) n)) (sym is)
+            (subst (IsQueueEntry A (result_also d R) S d.pos) (sym (entry-same v d.pos e low high)) here)
+        | inr ne ↦ subst (IsQueueEntry A (result_also d R) S k) (sym (entry-other v d.pos k e low lower ne)) (other k ne (f.entries k lower most))
       ];
       given = f.given;
     }
       where
-        old : IsEntry A R S d.pos (entry_at v d.pos)
+        old : IsQueueEntry A R S d.pos (entry_at v d.pos)
         old = f.entries d.pos low (omega (arith, high, f.last))
 
-        here : IsEntry A (result_also d R) S d.pos e
+        here : IsQueueEntry A (result_also d R) S d.pos e
         here = record {
           author = old.author;
           seq = old.seq;
@@ -75,7 +75,7 @@ fits-report w A R S N v d done high f = go (nat_lt v.commit d.pos) refl (is_none
               ∙ cond-true (nat_eq d.pos d.pos) (Some d.values) None (eq-eqb d.pos d.pos refl));
         }
 
-        other : (k : ℕ) → (k ≡ d.pos → ⊥) → IsEntry A R S k (entry_at v k) → IsEntry A (result_also d R) S k (entry_at v k)
+        other : (k : ℕ) → (k ≡ d.pos → ⊥) → IsQueueEntry A R S k (entry_at v k) → IsQueueEntry A (result_also d R) S k (entry_at v k)
         other k ne h = record {
           author = h.author;
           seq = h.seq;

@@ -9,11 +9,11 @@ use Rattle.sv_journal.specs.declared.entry.Logged.TheVariants as logged
 use Rattle.sv_journal.specs.Answer.{Rules}
 use Rattle.sv_core.specs.declared.decision.Decision.{Decision}
 use Rattle.sv_core.specs.declared.decision.Decision.TheVariants as decisions
-use Rattle.sv_core.specs.Decisions.{reply_by, changes_nothing, IsOld, Holds, IsQuiet}
+use Rattle.sv_core.specs.Decisions.{reply_by, changes_nothing, IsOld, DecisionHolds, IsQuietEntry}
 use Rattle.sv_journal.specs.History.{entry_of}
 use Rattle.sv_core.proofs.HistorySteps.{outcomes-quiet, outcomes-old}
 
-quiet-refused : (h : List Entry) (s : ℕ) (request : Request) (code detail : ℕ) → IsQuiet h s request (logged.Refused code detail)
+quiet-refused : (h : List Entry) (s : ℕ) (request : Request) (code detail : ℕ) → IsQuietEntry h s request (logged.Refused code detail)
 quiet-refused h s request code detail = record {
   relay = refl;
   noted = refl;
@@ -23,7 +23,7 @@ quiet-refused h s request code detail = record {
   outcomes = λ k. outcomes-quiet (entry_of s request (logged.Refused code detail)) h k refl;
 }
 
-quiet-settled : (h : List Entry) (s : ℕ) (request : Request) (seq pos : ℕ) → IsQuiet h s request (logged.Settled seq pos)
+quiet-settled : (h : List Entry) (s : ℕ) (request : Request) (seq pos : ℕ) → IsQuietEntry h s request (logged.Settled seq pos)
 quiet-settled h s request seq pos = record {
   relay = refl;
   noted = refl;
@@ -33,7 +33,7 @@ quiet-settled h s request seq pos = record {
   outcomes = λ k. outcomes-quiet (entry_of s request (logged.Settled seq pos)) h k refl;
 }
 
-quiet-idle : (h : List Entry) (s : ℕ) (request : Request) → IsQuiet h s request logged.Idle
+quiet-idle : (h : List Entry) (s : ℕ) (request : Request) → IsQuietEntry h s request logged.Idle
 quiet-idle h s request = record {
   relay = refl;
   noted = refl;
@@ -43,7 +43,7 @@ quiet-idle h s request = record {
   outcomes = λ k. outcomes-quiet (entry_of s request logged.Idle) h k refl;
 }
 
-pub quiet-bye : (h : List Entry) (s : ℕ) (request : Request) → IsQuiet h s request logged.Bye
+pub quiet-bye : (h : List Entry) (s : ℕ) (request : Request) → IsQuietEntry h s request logged.Bye
 quiet-bye h s request = record {
   relay = refl;
   noted = refl;
@@ -53,7 +53,7 @@ quiet-bye h s request = record {
   outcomes = λ k. outcomes-quiet (entry_of s request logged.Bye) h k refl;
 }
 
-quiet-dropped : (h : List Entry) (s : ℕ) (request : Request) (seq chain far : ℕ) → IsOld h s request → IsQuiet h s request (logged.Dropped seq chain far)
+quiet-dropped : (h : List Entry) (s : ℕ) (request : Request) (seq chain far : ℕ) → IsOld h s request → IsQuietEntry h s request (logged.Dropped seq chain far)
 quiet-dropped h s request seq chain far old = record {
   relay = refl;
   noted = refl;
@@ -63,7 +63,7 @@ quiet-dropped h s request seq chain far old = record {
   outcomes = λ k. outcomes-old (entry_of s request (logged.Dropped seq chain far)) h k old;
 }
 
-quiet-denied : (h : List Entry) (s : ℕ) (request : Request) (seq : ℕ) (object : ObjectId) → IsOld h s request → IsQuiet h s request (logged.Denied seq object)
+quiet-denied : (h : List Entry) (s : ℕ) (request : Request) (seq : ℕ) (object : ObjectId) → IsOld h s request → IsQuietEntry h s request (logged.Denied seq object)
 quiet-denied h s request seq object old = record {
   relay = refl;
   noted = refl;
@@ -74,8 +74,8 @@ quiet-denied h s request seq object old = record {
 }
 
 -- The reply to what changes nothing is such a one.
-pub quiet-decided : (r : Rules) (h : List Entry) (s : ℕ) (request : Request) (d : Decision) → changes_nothing d ≡ true → Holds r h s request d →
-    IsQuiet h s request (reply_by r h s request d)
+pub quiet-decided : (r : Rules) (h : List Entry) (s : ℕ) (request : Request) (d : Decision) → changes_nothing d ≡ true → DecisionHolds r h s request d →
+    IsQuietEntry h s request (reply_by r h s request d)
 quiet-decided r h s request (decisions.Refuse refusal detail) plain holds = quiet-refused h s request (code_of refusal) detail
 quiet-decided r h s request (decisions.Repeat seq chain far) plain holds = quiet-dropped h s request seq chain far holds
 quiet-decided r h s request (decisions.RepeatDenied seq object) plain holds = quiet-denied h s request seq object holds

@@ -14,7 +14,7 @@ use Rattle.sv_journal.specs.declared.entry.Logged.TheVariants as logged
 use Rattle.sv_journal.specs.History.{Authored, authored_at, item_at, accepted, actions_of, result_at, commit_of, committed_of}
 use Rattle.sv_journal.specs.Sessions.{sent_to, named_to}
 use Rattle.sv_journal.specs.Answer.{Rules, committed_held, relay_of}
-use Rattle.sv_core.specs.Fits.{actions_in, values_after, was_given, IsEntry, QueueFits}
+use Rattle.sv_core.specs.Fits.{actions_in, values_after, was_given, IsQueueEntry, QueueFits}
 use Rattle.sv_core.specs.Relays.{held_in, item_in}
 use Rattle.sv_core.proofs.FitPush.{length-actions}
 use Rattle.sv_core.proofs.FitRelays.{lacking-is, bases-are, given-are}
@@ -109,7 +109,7 @@ items-are w A R S N v (p ∷ ps) f within =
     both : (v.commit < p) × (p ≤ length A)
     both = within p (is_in-head p ps)
 
-    e : IsEntry A R S p (entry_at v p)
+    e : IsQueueEntry A R S p (entry_at v p)
     e = f.entries p both.0 both.1
 
     author : (entry_at v p).author ≡ record { 0 = (authored_at A p).client }

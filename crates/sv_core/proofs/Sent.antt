@@ -5,7 +5,7 @@ use Rattle.sv_lists.proofs.list.List.TheSendSync as lists
 use Rattle.sv_world.specs.contracts.action.Action as action
 use Rattle.sv_world.proofs.short.Short.TheSendSync as shorts
 use Rattle.sv_world.proofs.body.Body.TheSendSync as bodies
-use Rattle.sv_queue.specs.contracts.waiting.Waiting as queued
+use Rattle.sv_queue.specs.contracts.waiting.WaitingAction as queued
 use Rattle.sv_queue.specs.contracts.queue.Queue as queue
 use Rattle.sv_queue.proofs.sources.Sources.TheSendSync as sources
 use Rattle.sv_queue.proofs.writers.Writers.TheSendSync as writers

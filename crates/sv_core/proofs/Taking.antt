@@ -19,7 +19,7 @@ use Rattle.sv_queue.proofs.Members.{is_in-filtered}
 use Rattle.sv_core.specs.declared.sessions.SessionRow.{SessionRow}
 use Rattle.sv_core.specs.Agreement.{sent_at, named_at, FitsSeats, AreSeated, Agrees}
 use Rattle.sv_core.specs.Cores.{MayClose}
-use Rattle.sv_core.specs.Fits.{was_given, actions_in, IsEntry, QueueFits}
+use Rattle.sv_core.specs.Fits.{was_given, actions_in, IsQueueEntry, QueueFits}
 use Rattle.sv_core.specs.Rows.{row_at, seat_in, no_session, new_session, has_entry, is_seated, owes_end, count_rows, IsSessionRow}
 use Rattle.sv_core.proofs.FitMarks.{fits-same}
 use Rattle.sv_core.proofs.Seating.{seat-low, count-set}
@@ -270,7 +270,7 @@ fits-forgotten w A R S N v slot f = record {
   shape = f.shape;
   last = ap (λ n. v.commit + n) (length-map v.entries (unmarked slot)) ∙ f.last;
   committed = f.committed;
-  entries = λ p low high. subst (IsEntry A R (sent_but slot S) p) (sym (entry-without v slot p)) (entry p (entry_at v p) (f.entries p low high));
+  entries = λ p low high. subst (IsQueueEntry A R (sent_but slot S) p) (sym (entry-without v slot p)) (entry p (entry_at v p) (f.entries p low high));
   given = λ x t low small. forgotten-pair x t slot v.given ∙ ap (λ b. is_pair x t v.given && not b) (nat_eq_swap t slot)
       ∙ ap (λ b. b && not (nat_eq slot t)) (f.given x t low small) ∙ gave (nat_eq slot t) x t;
 }
@@ -283,7 +283,7 @@ fits-forgotten w A R S N v slot f = record {
     marked true p t = and_right (is_in p (S t)) false refl
     marked false p t = and-true (is_in p (S t))
 
-    entry : (p : ℕ) (q : Queued) → IsEntry A R S p q → IsEntry A R (sent_but slot S) p (unmarked slot q)
+    entry : (p : ℕ) (q : Queued) → IsQueueEntry A R S p q → IsQueueEntry A R (sent_but slot S) p (unmarked slot q)
     entry p q e = record {
       author = e.author;
       seq = e.seq;

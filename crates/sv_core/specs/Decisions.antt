@@ -83,24 +83,24 @@ pub record IsJoin (r : Rules) (h : List Entry) (request : Request) (k life : ℕ
   pub interest : All (λ x. x < r.world.shape.objects) (interest_in request)
 
 -- What holds where something was decided. Results may be noted where none of them is bad, also where there are none.
-abbrev pub Holds : Rules → List Entry → ℕ → Request → Decision → Type 0
-Holds r h s request (decisions.Refuse refusal detail) = Unit {0}
-Holds r h s request (decisions.Welcome client life) = IsJoin r h request client life
-Holds r h s request (decisions.Drop client seq chain far) = IsNextSubmit h s request client seq
-Holds r h s request (decisions.Repeat seq chain far) = IsOld h s request
-Holds r h s request (decisions.Deny client seq object) = IsNextSubmit h s request client seq
-Holds r h s request (decisions.RepeatDenied seq object) = IsOld h s request
-Holds r h s request (decisions.Settle seq pos) = Unit {0}
-Holds r h s request (decisions.Relay seq pos) = IsOld h s request × ((commit_of h < pos) × (pos ≤ length (accepted h)))
-Holds r h s request (decisions.Accept client seq) = IsNextSubmit h s request client seq
+abbrev pub DecisionHolds : Rules → List Entry → ℕ → Request → Decision → Type 0
+DecisionHolds r h s request (decisions.Refuse refusal detail) = Unit {0}
+DecisionHolds r h s request (decisions.Welcome client life) = IsJoin r h request client life
+DecisionHolds r h s request (decisions.Drop client seq chain far) = IsNextSubmit h s request client seq
+DecisionHolds r h s request (decisions.Repeat seq chain far) = IsOld h s request
+DecisionHolds r h s request (decisions.Deny client seq object) = IsNextSubmit h s request client seq
+DecisionHolds r h s request (decisions.RepeatDenied seq object) = IsOld h s request
+DecisionHolds r h s request (decisions.Settle seq pos) = Unit {0}
+DecisionHolds r h s request (decisions.Relay seq pos) = IsOld h s request × ((commit_of h < pos) × (pos ≤ length (accepted h)))
+DecisionHolds r h s request (decisions.Accept client seq) = IsNextSubmit h s request client seq
     × ((first_fault_of_action r.world.shape (action_in request) ≡ None) × (length (accepted h) < r.positions))
-Holds r h s request decisions.See = IsOld h s request × (may_be_observed r.world.shape.objects (observed_in request) ≡ true)
-Holds r h s request decisions.Note = (request ≡ requests.Done (results_in request)) × (list_any (is_bad_result r h s) (results_in request) ≡ false)
-Holds r h s request decisions.Idle = Unit {0}
-Holds r h s request decisions.Leave = Unit {0}
+DecisionHolds r h s request decisions.See = IsOld h s request × (may_be_observed r.world.shape.objects (observed_in request) ≡ true)
+DecisionHolds r h s request decisions.Note = (request ≡ requests.Done (results_in request)) × (list_any (is_bad_result r h s) (results_in request) ≡ false)
+DecisionHolds r h s request decisions.Idle = Unit {0}
+DecisionHolds r h s request decisions.Leave = Unit {0}
 
 -- The reply accepts, sends, names and reports nothing, and the request gives no client a new outcome by it.
-pub record IsQuiet (h : List Entry) (s : ℕ) (request : Request) (reply : Logged) : Type 0 where
+pub record IsQuietEntry (h : List Entry) (s : ℕ) (request : Request) (reply : Logged) : Type 0 where
   pub relay : is_relay reply ≡ false
   pub noted : is_noted reply ≡ false
   pub welcome : is_welcome reply ≡ false

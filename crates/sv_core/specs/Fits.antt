@@ -27,7 +27,7 @@ was_given acts sent named x commit = list_any (λ q. nat_le (last_writer acts x 
     (named ++ filter (λ p. is_in x (write_set (action_at acts p))) sent)
 
 -- The queue's entry of a position.
-pub record IsEntry (A : List Authored) (R : ℕ → Option (List (List ℤ))) (S : ℕ → List ℕ) (p : ℕ) (q : Queued) : Type 0 where
+pub record IsQueueEntry (A : List Authored) (R : ℕ → Option (List (List ℤ))) (S : ℕ → List ℕ) (p : ℕ) (q : Queued) : Type 0 where
   pub author : q.author.0 ≡ (authored_at A p).client
   pub seq : q.seq ≡ (authored_at A p).seq
   pub action : q.action ≡ (authored_at A p).action
@@ -38,5 +38,5 @@ pub record QueueFits (w : World) (A : List Authored) (R : ℕ → Option (List (
   pub shape : v.shape ≡ w.shape
   pub last : last_position v ≡ length A
   pub committed : v.committed ≡ values_after w.values (actions_in A) R v.commit
-  pub entries : (p : ℕ) → v.commit < p → p ≤ length A → IsEntry A R S p (entry_at v p)
+  pub entries : (p : ℕ) → v.commit < p → p ≤ length A → IsQueueEntry A R S p (entry_at v p)
   pub given : (x s : ℕ) → x < w.shape.objects → s < most_open → is_pair x s v.given ≡ was_given (actions_in A) (S s) (N s x) x v.commit

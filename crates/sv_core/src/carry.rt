@@ -6,7 +6,7 @@ ghost use Rattle.sv_journal.specs.History.{Authored, full_reply};
 ghost use Rattle.sv_journal.specs.Sessions.{is_end, is_ended};
 ghost use Rattle.sv_journal.specs.Answer.{Rules};
 ghost use Rattle.sv_core.specs.Cores.{core_rules, owed_by, open_by, session_at, SitsAt, Keeps, CarriedOut, Remained};
-ghost use Rattle.sv_core.specs.Decisions.{reply_by, changes_nothing, Holds};
+ghost use Rattle.sv_core.specs.Decisions.{reply_by, changes_nothing, DecisionHolds};
 ghost use Rattle.sv_journal.specs.History.{end_entry};
 
 use crate::answer::Answer;
@@ -34,7 +34,7 @@ impl Core {
         requires keeps { Keeps self.old h }
         requires seat { SitsAt self.old seat }
         requires more { is_end request.now ≡ false }
-        requires holds { Holds (core_rules self.old) h seat.session request.now decision }
+        requires holds { DecisionHolds (core_rules self.old) h seat.session request.now decision }
         ensures ok { IfOk result (CarriedOut self.old self.new h seat.session request.now decision) }
         ensures err { OnErr result (Remained self.old self.new h) }
     {
@@ -89,7 +89,7 @@ impl Core {
         requires keeps { Keeps self.old h }
         requires seat { SitsAt self.old seat }
         requires more { is_end request.now ≡ false }
-        requires holds { Holds (core_rules self.old) h seat.session request.now decision }
+        requires holds { DecisionHolds (core_rules self.old) h seat.session request.now decision }
         requires plain { changes_nothing decision ≡ true }
         ensures { CarriedOut self.old self.new h seat.session request.now decision result }
     {

@@ -8,7 +8,7 @@ ghost use Rattle.sv_journal.specs.declared.entry.Entry.{Entry};
 ghost use Rattle.sv_journal.specs.History.{Accepted, accepted, client_of, next_seq};
 ghost use Rattle.sv_journal.specs.Sessions.{is_live, kept_outcome};
 ghost use Rattle.sv_journal.specs.Answer.{reply_to_request, reply_to_open, reply_to_join, reply_to_member, reply_to_submit, reply_to_new, reply_to_good, reply_to_allowed, is_full, reply_to_done, reply_to_poll, reply_to_observe, orphans, is_good_interest};
-ghost use Rattle.sv_core.specs.Decisions.{reply_by, Holds};
+ghost use Rattle.sv_core.specs.Decisions.{reply_by, DecisionHolds};
 ghost use Rattle.sv_core.specs.Cores.{core_rules, SitsAt, Keeps};
 
 use crate::decision::{ActionId, Decision};
@@ -29,7 +29,7 @@ impl Core {
         requires keeps { Keeps self.now h }
         requires seat { SitsAt self.now seat }
         ensures reply { reply_by (core_rules self.now) h seat.session request.now result ≡ reply_to_request (core_rules self.now) h seat.session request.now }
-        ensures holds { Holds (core_rules self.now) h seat.session request.now result }
+        ensures holds { DecisionHolds (core_rules self.now) h seat.session request.now result }
     {
         if self.is_over(seat) {
             return Decision::Refuse {
@@ -52,7 +52,7 @@ impl Core {
         requires keeps { Keeps self.now h }
         requires seat { SitsAt self.now seat }
         ensures reply { reply_by (core_rules self.now) h seat.session request.now result ≡ reply_to_open (core_rules self.now) h seat.session request.now }
-        ensures holds { Holds (core_rules self.now) h seat.session request.now result }
+        ensures holds { DecisionHolds (core_rules self.now) h seat.session request.now result }
     {
         match request {
             Request::Bad => Decision::Refuse {
@@ -80,7 +80,7 @@ impl Core {
         requires keeps { Keeps self.now h }
         requires seat { SitsAt self.now seat }
         ensures reply { reply_by (core_rules self.now) h seat.session (requests.Join client life interest.now) result ≡ reply_to_join (core_rules self.now) h seat.session client.0 life (map (λ (o : ObjectId). o.0) interest.now) }
-        ensures holds { Holds (core_rules self.now) h seat.session (requests.Join client life interest.now) result }
+        ensures holds { DecisionHolds (core_rules self.now) h seat.session (requests.Join client life interest.now) result }
     {
         if self.is_live(seat) {
             return Decision::Refuse {
@@ -131,7 +131,7 @@ impl Core {
         requires keeps { Keeps self.now h }
         requires seat { SitsAt self.now seat }
         ensures reply { reply_by (core_rules self.now) h seat.session request.now result ≡ reply_to_member (core_rules self.now) h seat.session (client_of h seat.session) request.now }
-        ensures holds { Holds (core_rules self.now) h seat.session request.now result }
+        ensures holds { DecisionHolds (core_rules self.now) h seat.session request.now result }
     {
         let Some(client) = self.client_of(seat) else {
             return Decision::Refuse {
@@ -155,7 +155,7 @@ impl Core {
         requires seat { SitsAt self.now seat }
         requires client { client_of h seat.session ≡ Some client }
         ensures reply { reply_by (core_rules self.now) h seat.session (requests.Submit seq action.now) result ≡ reply_to_submit (core_rules self.now) h seat.session client seq action.now (kept_outcome h client seq) }
-        ensures holds { Holds (core_rules self.now) h seat.session (requests.Submit seq action.now) result }
+        ensures holds { DecisionHolds (core_rules self.now) h seat.session (requests.Submit seq action.now) result }
     {
         match self.kept_outcome(client, seq) {
             Some(Outcome::Dropped { chain, far }) => Decision::Repeat { seq, chain, far },
@@ -176,7 +176,7 @@ impl Core {
         requires earlier { id.seq < next_seq h id.client }
         requires placed { pos ≤ length (accepted h) }
         ensures reply { reply_by (core_rules self.now) h seat.session (requests.Submit id.seq action.now) result ≡ reply_to_submit (core_rules self.now) h seat.session id.client id.seq action.now (Some (Accepted pos)) }
-        ensures holds { Holds (core_rules self.now) h seat.session (requests.Submit id.seq action.now) result }
+        ensures holds { DecisionHolds (core_rules self.now) h seat.session (requests.Submit id.seq action.now) result }
     {
         let seq = id.seq;
         if self.is_committed(pos) {
@@ -191,7 +191,7 @@ impl Core {
         requires keeps { Keeps self.now h }
         requires client { client_of h seat.session ≡ Some client }
         ensures reply { reply_by (core_rules self.now) h seat.session (requests.Submit seq action.now) result ≡ reply_to_new (core_rules self.now) h seat.session client seq action.now }
-        ensures holds { Holds (core_rules self.now) h seat.session (requests.Submit seq action.now) result }
+        ensures holds { DecisionHolds (core_rules self.now) h seat.session (requests.Submit seq action.now) result }
     {
         let next = self.next_seq(client);
         if seq != next {
@@ -218,7 +218,7 @@ impl Core {
         requires good { IsGoodAction (core_rules self.now).world.shape action.now }
         requires fault { first_fault_of_action (core_rules self.now).world.shape action.now ≡ None }
         ensures reply { reply_by (core_rules self.now) h seat.session (requests.Submit seq action.now) result ≡ reply_to_good (core_rules self.now) h seat.session client seq action.now }
-        ensures holds { Holds (core_rules self.now) h seat.session (requests.Submit seq action.now) result }
+        ensures holds { DecisionHolds (core_rules self.now) h seat.session (requests.Submit seq action.now) result }
     {
         if self.is_full(seq) {
             return Decision::Refuse {
@@ -246,7 +246,7 @@ impl Core {
         requires good { IsGoodAction (core_rules self.now).world.shape action.now }
         requires fault { first_fault_of_action (core_rules self.now).world.shape action.now ≡ None }
         ensures reply { reply_by (core_rules self.now) h seat.session (requests.Submit seq action.now) result ≡ reply_to_allowed (core_rules self.now) h seat.session seq action.now }
-        ensures holds { Holds (core_rules self.now) h seat.session (requests.Submit seq action.now) result }
+        ensures holds { DecisionHolds (core_rules self.now) h seat.session (requests.Submit seq action.now) result }
     {
         let found = self.chain_of(action);
         if self.opened.is_dropped(found.count, found.far) {
@@ -266,7 +266,7 @@ impl Core {
         requires keeps { Keeps self.now h }
         requires seat { SitsAt self.now seat }
         ensures reply { reply_by (core_rules self.now) h seat.session (requests.Done results.now) result ≡ reply_to_done (core_rules self.now) h seat.session results.now }
-        ensures holds { Holds (core_rules self.now) h seat.session (requests.Done results.now) result }
+        ensures holds { DecisionHolds (core_rules self.now) h seat.session (requests.Done results.now) result }
     {
         if self.is_bad_done(seat, results.as_slice()) {
             Decision::Refuse {
@@ -283,7 +283,7 @@ impl Core {
         requires keeps { Keeps self.now h }
         requires client { client_of h seat.session ≡ Some client }
         ensures reply { reply_by (core_rules self.now) h seat.session requests.Poll result ≡ reply_to_poll (core_rules self.now) h seat.session (orphans h) }
-        ensures holds { Holds (core_rules self.now) h seat.session requests.Poll result }
+        ensures holds { DecisionHolds (core_rules self.now) h seat.session requests.Poll result }
     {
         match self.orphan() {
             Some(pos) => Decision::Relay { seq: 0, pos },
@@ -307,7 +307,7 @@ impl Core {
         requires keeps { Keeps self.now h }
         requires seat { SitsAt self.now seat }
         ensures reply { reply_by (core_rules self.now) h seat.session (requests.Observe objects.now wait) result ≡ reply_to_observe (core_rules self.now) h seat.session (numbers_of objects.now) }
-        ensures holds { Holds (core_rules self.now) h seat.session (requests.Observe objects.now wait) result }
+        ensures holds { DecisionHolds (core_rules self.now) h seat.session (requests.Observe objects.now wait) result }
     {
         let shape = self.shape();
         if may_be_observed(shape.objects, objects.as_slice()) {

@@ -17,6 +17,19 @@ pub struct Seat {
     pub session: u64,
 }
 
+impl Seat {
+    /// Where a session of a scenario sits: at the slot of its own number.
+    #[inline(always)]
+    pub fn own(session: u16) -> Seat
+        ensures { result ≡ record { slot = session; session = session } }
+    {
+        Seat {
+            slot: session,
+            session: session as u64,
+        }
+    }
+}
+
 impl Core {
     /// How many sessions sit at slots.
     pub fn open_sessions(&self) -> u16

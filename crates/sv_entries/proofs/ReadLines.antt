@@ -15,7 +15,7 @@ use Rattle.sv_wire.specs.declared.message.Reply.TheVariants as replies
 use Rattle.sv_wire.specs.Nodes.{among}
 use Rattle.sv_text.specs.Canonical.{canonical}
 use Rattle.sv_journal.specs.Text.{action_text, request_text}
-use Rattle.sv_lines.specs.declared.stop.Unread.{Unread}
+use Rattle.sv_lines.specs.declared.stop.LineFault.{LineFault}
 use Rattle.sv_lines.specs.Reading.{Gives, behind_front}
 use Rattle.sv_lines.specs.Asking.{request_read}
 use Rattle.sv_lines.specs.Told.{IsTold, asking_text}
@@ -183,5 +183,5 @@ line_is_read shape n session r reply f g h =
     ) refl
 
 -- What a reader gives of a text, it gives of an equal one.
-pub gives_on : {X Y : Type 0} (view : X → Y) (r : Result X Unread) (o p : Option Y) → o ≡ p → Gives view r o → Gives view r p
+pub gives_on : {X Y : Type 0} (view : X → Y) (r : Result X LineFault) (o p : Option Y) → o ≡ p → Gives view r o → Gives view r p
 gives_on view r o p e g = subst (Gives view r) e g

@@ -8,7 +8,7 @@ ghost use Rattle.sv_entries.specs.Asking.{cause_numbered, refusal_read, cause_re
 ghost use Rattle.sv_entries.specs.declared.read.LineRequest.{LineRequest};
 
 use std::alloc::Global;
-use sv_lines::{Unread, expect, number_at, numeral_at, request_at};
+use sv_lines::{LineFault, expect, number_at, numeral_at, request_at};
 use sv_wire::Request;
 use sv_world::{BadAction, Shape};
 
@@ -30,13 +30,13 @@ pub struct LineAsked {
 
 /// The number of 64 bits that the text begins with, and what comes after it.
 #[tactic(auto, unfolding(sv_lines::specs::Reading::number_read))]
-fn wide_at(text: &[u8]) -> Result<(u64, &[u8]), Unread>
+fn wide_at(text: &[u8]) -> Result<(u64, &[u8]), LineFault>
     ensures { seen (λ x. (x.0, x.1.now)) result ≡ number_read (2 ^ 64) text.now }
 {
     let (digits, rest) = numeral_at(text);
     match digits.parse::<u64>() {
         Ok(number) => Ok((number, rest)),
-        Err(_) => Err(Unread::Wrong),
+        Err(_) => Err(LineFault::Wrong),
     }
 }
 
@@ -62,7 +62,7 @@ fn cause_numbered(number: u32) -> Option<BadAction>
 
 /// The code and the detail of a refusal.
 #[tactic(auto, unfolding(crate::specs::Asking::refusal_read))]
-fn refusal_at(text: &[u8]) -> Result<(u32, u32), Unread>
+fn refusal_at(text: &[u8]) -> Result<(u32, u32), LineFault>
     ensures { seen (λ x. x) result ≡ refusal_read text.now }
 {
     let rest = expect(text, b"refused ")?;
@@ -90,7 +90,7 @@ fn cause_at(text: &[u8]) -> Option<BadAction>
 }
 
 #[tactic(auto, unfolding(crate::specs::Asking::bad_submit_read))]
-fn bad_submit_at(text: &[u8]) -> Result<LineRequest, Unread>
+fn bad_submit_at(text: &[u8]) -> Result<LineRequest, LineFault>
     ensures { seen (λ found. found) result ≡ bad_submit_read text.now }
 {
     let rest = expect(text, b"submit ")?;
@@ -101,7 +101,7 @@ fn bad_submit_at(text: &[u8]) -> Result<LineRequest, Unread>
 }
 
 #[tactic(auto, unfolding(crate::specs::Asking::whole_read))]
-fn whole_at(alloc: Global, shape: Shape, text: &[u8]) -> Result<LineRequest, Unread>
+fn whole_at(alloc: Global, shape: Shape, text: &[u8]) -> Result<LineRequest, LineFault>
     ensures { Gives (λ found. found) result (whole_read shape text.now) }
 {
     let request = request_at(alloc, shape, text)?;
@@ -109,7 +109,7 @@ fn whole_at(alloc: Global, shape: Shape, text: &[u8]) -> Result<LineRequest, Unr
 }
 
 #[tactic(auto, unfolding(crate::specs::Asking::line_request_read))]
-fn line_request_at(alloc: Global, shape: Shape, text: &[u8]) -> Result<LineRequest, Unread>
+fn line_request_at(alloc: Global, shape: Shape, text: &[u8]) -> Result<LineRequest, LineFault>
     ensures { Gives (λ found. found) result (line_request_read shape text.now) }
 {
     if let Ok(_) = expect(text, b"bad") {
@@ -122,7 +122,7 @@ fn line_request_at(alloc: Global, shape: Shape, text: &[u8]) -> Result<LineReque
 }
 
 #[tactic(auto, unfolding(crate::specs::Asking::line_read))]
-fn read_line(alloc: Global, shape: Shape, line: &[u8]) -> Result<LineAsked, Unread>
+fn read_line(alloc: Global, shape: Shape, line: &[u8]) -> Result<LineAsked, LineFault>
     ensures { Gives (λ l. (l.number, l.session, l.asked)) result (line_read shape line.now) }
 {
     let (number, rest) = wide_at(line)?;
@@ -141,7 +141,7 @@ fn read_line(alloc: Global, shape: Shape, line: &[u8]) -> Result<LineAsked, Unre
 /// the reply is the refusal for it.
 ///
 /// It may take more than is ever printed.
-pub fn line_at(alloc: Global, shape: Shape, line: &[u8]) -> Result<LineAsked, Unread>
+pub fn line_at(alloc: Global, shape: Shape, line: &[u8]) -> Result<LineAsked, LineFault>
     ensures { (n session : ℕ) (request : Request) (reply : List ℕ) → n < 2 ^ 64 → session < 2 ^ 64 → RequestFits request → line.now ≡ asking_text shape n session request ++ reply →
         Gives {Y = ℕ × ℕ × LineRequest} (λ l. (l.number, l.session, l.asked)) result (Some (n, session, asked_of shape request reply)) }
 {

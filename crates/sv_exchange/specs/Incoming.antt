@@ -2,8 +2,8 @@
 use Rattle.std.specs.Prelude.{◌≡◌, ℕ, ◌<◌, List, length, Option, None, Some, option_map, IsSome, Result, Ok, Err}
 use Rattle.sv_frame.specs.Frames.{greatest_frame, first_frame, too_long}
 use Rattle.sv_frame.specs.Answers.{Skips}
-use Rattle.sv_frame.specs.declared.reader.Next.{Next}
-use Rattle.sv_frame.specs.declared.reader.Next.TheVariants as nexts
+use Rattle.sv_frame.specs.declared.reader.NextFrame.{NextFrame}
+use Rattle.sv_frame.specs.declared.reader.NextFrame.TheVariants as nexts
 use Rattle.sv_wire.specs.declared.fault.Malformed.{Malformed}
 use Rattle.sv_wire.specs.declared.message.Request.{Request}
 use Rattle.sv_wire.specs.declared.message.Request.TheVariants as requests
@@ -35,7 +35,7 @@ module _ {M : Type 0} (read_at : List ℕ → Result M Malformed) where
   ReadsFirst incoming.Memory bytes = IsSome (first_payload_of bytes)
 
   -- what an answer of a frame reader becomes
-  abbrev pub IsReadAs : Next → Incoming M → Type 0
+  abbrev pub IsReadAs : NextFrame → Incoming M → Type 0
   IsReadAs (nexts.Frame payload) (incoming.Whole m) = read_at payload.now ≡ Ok m
   IsReadAs (nexts.Frame payload) incoming.NotYet = ⊥
   IsReadAs (nexts.Frame payload) (incoming.Malformed fault) = read_at payload.now ≡ Err fault

@@ -11,7 +11,7 @@ use crate::filling::fill;
 use crate::message::Message;
 use std::alloc::{AllocError, Global};
 use std::marker::Model;
-use sv_frame::{FrameReader, Next};
+use sv_frame::{FrameReader, NextFrame};
 use sv_link::{End, EndRead, MemLink, Side};
 use sv_wire::{Malformed, WireFault};
 
@@ -99,9 +99,9 @@ impl Inbox {
         ensures { option_map (λ payload. payload.now) result ≡ first_payload_of self.now }
     {
         match self.reader.first() {
-            Next::Frame(payload) => Some(payload),
-            Next::NotYet => None,
-            Next::TooLong(_) => None,
+            NextFrame::Frame(payload) => Some(payload),
+            NextFrame::NotYet => None,
+            NextFrame::TooLong(_) => None,
         }
     }
 
@@ -115,16 +115,16 @@ impl Inbox {
 }
 
 /// What a frame at the front is read as.
-fn read_first<M: Message>(alloc: Global, first: Next<'_>) -> Incoming<M>
+fn read_first<M: Message>(alloc: Global, first: NextFrame<'_>) -> Incoming<M>
     ensures { IsReadAs M.read_at first.entry result }
 {
     match first {
-        Next::Frame(payload) => match M::decode(alloc, payload) {
+        NextFrame::Frame(payload) => match M::decode(alloc, payload) {
             Ok(message) => Incoming::Whole(message),
             Err(WireFault::Malformed(fault)) => Incoming::Malformed(fault),
             Err(WireFault::Memory) => Incoming::Memory,
         },
-        Next::NotYet => Incoming::NotYet,
-        Next::TooLong(size) => Incoming::TooLong(size),
+        NextFrame::NotYet => Incoming::NotYet,
+        NextFrame::TooLong(size) => Incoming::TooLong(size),
     }
 }

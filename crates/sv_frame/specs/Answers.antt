@@ -6,33 +6,33 @@ use Rattle.sv_frame.specs.Frames.{greatest_frame, frame, first_frame, too_long}
 use Rattle.sv_frame.specs.Streams.{TakesOff, split_frames}
 use Rattle.sv_frame.specs.declared.reader.Front.{Front}
 use Rattle.sv_frame.specs.declared.reader.Front.TheVariants.{Whole, Partial, Oversize}
-use Rattle.sv_frame.specs.declared.reader.Next.{Next}
-use Rattle.sv_frame.specs.declared.reader.Next.TheVariants.{Frame, NotYet, TooLong}
+use Rattle.sv_frame.specs.declared.reader.NextFrame.{NextFrame}
+use Rattle.sv_frame.specs.declared.reader.NextFrame.TheVariants.{Frame, NotYet, TooLong}
 use Rattle.sv_frame.specs.contracts.reader.FrameReader.{the_row}
 use Rattle.sv_link.specs.Ends.{Told, receiving}
 use Rattle.sv_link.specs.declared.ends.EndRead.{EndRead}
 use Rattle.sv_link.specs.declared.ends.EndRead.TheVariants as read
 
 -- the first payload of the rest; or there is neither a whole frame nor a length over the limit; or that length
-abbrev pub IsAnswer : Next → List ℕ → Type 0
+abbrev pub IsAnswer : NextFrame → List ℕ → Type 0
 IsAnswer (Frame payload) rest = option_map (λ first. first.0) (first_frame rest) ≡ Some payload.now
 IsAnswer NotYet rest = (first_frame rest ≡ None) × (too_long rest ≡ None)
 IsAnswer (TooLong n) rest = too_long rest ≡ Some n
 
 -- a rest with no whole frame leaves room for another byte
-abbrev pub LeavesRoom : Next → List ℕ → Type 0
+abbrev pub LeavesRoom : NextFrame → List ℕ → Type 0
 LeavesRoom (Frame payload) rest = Unit {0}
 LeavesRoom NotYet rest = length rest < greatest_frame
 LeavesRoom (TooLong n) rest = Unit {0}
 
 -- A frame is taken off. Any other answer takes nothing off, and there was no payload to split off
-abbrev pub IsRestAfter : Next → List ℕ → List ℕ → Type 0
+abbrev pub IsRestAfter : NextFrame → List ℕ → List ℕ → Type 0
 IsRestAfter (Frame payload) old new = TakesOff payload.now old new
 IsRestAfter NotYet old new = (new ≡ old) × (split_frames old ≡ ([], old))
 IsRestAfter (TooLong n) old new = (new ≡ old) × (split_frames old ≡ ([], old))
 
 -- what the reader is once the answer is gone
-abbrev pub LeavesRest : MutBor (List ℕ) → Next → Fml
+abbrev pub LeavesRest : MutBor (List ℕ) → NextFrame → Fml
 LeavesRest reader answer =
     follows_so the_row the_row reader.ghost_name none (λ _ _. ⊤) (λ new. IsRestAfter answer reader.now new)
 

@@ -9,5 +9,5 @@ mod reader;
 mod writing;
 
 pub use limits::{GREATEST_FRAME, GREATEST_PAYLOAD, PREFIX};
-pub use reader::{FrameReader, Next};
+pub use reader::{FrameReader, NextFrame};
 pub use writing::put_frame;

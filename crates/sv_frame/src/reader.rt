@@ -14,7 +14,7 @@ use sv_link::{End, EndRead};
 
 /// What a reader finds at the front of what it was fed.
 #[derive(Clone, Copy, Debug, PartialEq, Eq)]
-pub enum Next<'a> {
+pub enum NextFrame<'a> {
     /// The payload of a whole frame, which is taken off the stream.
     Frame(&'a [u8]),
 
@@ -100,15 +100,15 @@ impl FrameReader {
     }
 
     /// Tells what `next` would answer, and takes nothing off.
-    pub fn first(&self) -> Next<'_>
+    pub fn first(&self) -> NextFrame<'_>
         ensures answer { IsAnswer result self.now }
         ensures room { LeavesRoom result self.now }
     {
         let rest = &self.room[self.start..self.end];
         match front_of(rest) {
-            Front::Whole(length) => Next::Frame(&rest[PREFIX..PREFIX + length]),
-            Front::Partial => Next::NotYet,
-            Front::Oversize(length) => Next::TooLong(length),
+            Front::Whole(length) => NextFrame::Frame(&rest[PREFIX..PREFIX + length]),
+            Front::Partial => NextFrame::NotYet,
+            Front::Oversize(length) => NextFrame::TooLong(length),
         }
     }
 
@@ -125,7 +125,7 @@ impl FrameReader {
     }
 
     /// Gives the next frame's payload, and takes the frame off the stream. Any other answer takes nothing off.
-    pub fn next(&mut self) -> Next<'_>
+    pub fn next(&mut self) -> NextFrame<'_>
         ensures answer { IsAnswer result self.old }
         ensures room { LeavesRoom result self.old }
         ensures* rest { sem 𝓛 (LeavesRest self.entry result) }
@@ -134,10 +134,10 @@ impl FrameReader {
         match front_of(&self.room[start..self.end]) {
             Front::Whole(length) => {
                 self.start = start + PREFIX + length;
-                Next::Frame(&self.room[start + PREFIX..start + PREFIX + length])
+                NextFrame::Frame(&self.room[start + PREFIX..start + PREFIX + length])
             }
-            Front::Partial => Next::NotYet,
-            Front::Oversize(length) => Next::TooLong(length),
+            Front::Partial => NextFrame::NotYet,
+            Front::Oversize(length) => NextFrame::TooLong(length),
         }
     }
 }

@@ -1,9 +1,9 @@
 //! Acts that move an amount from one object to another.
 
-ghost use Rattle.std.specs.Prelude.{◌≡◌, ◌≤◌, ◌<◌, ◌++◌, min, max, [], ◌∷◌, IfOk, OnOk};
+ghost use Rattle.std.specs.Prelude.{◌≡◌, ◌≤◌, ◌<◌, ◌*◌, ◌++◌, min, max, [], ◌∷◌, IfOk, OnOk};
 ghost use Rattle.sv_world.specs.Spelled.{stmt_spelled};
 ghost use Rattle.sv_world.specs.Sets.{object_numbered};
-ghost use Rattle.sv_gen.specs.Generated.{slot_of, taken, added, transfer, act};
+ghost use Rattle.sv_gen.specs.Generated.{slot_of, taken, added, transfer, act, most_load};
 ghost use Rattle.sv_gen.specs.Changes.{change};
 
 use std::alloc::{AllocError, Global};
@@ -73,7 +73,7 @@ fn transfer(alloc: Global, from: u16, to: u16, amount: u16) -> Result<Action, Al
 /// Act `index` among the four objects from `base` on, of a pair's client `half`.
 pub(crate) fn act(alloc: Global, half: u16, base: u16, index: u16) -> Result<Action, AllocError>
     requires half { half ≤ 1 }
-    requires base { base ≤ 768 }
+    requires base { base ≤ 4 * most_load }
     requires index { index < 16 }
     ensures { IfOk result (λ a. a ≡ act half base index) }
 {

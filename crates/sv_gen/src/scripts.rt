@@ -1,6 +1,6 @@
 //! The scripts of the generated clients.
 
-ghost use Rattle.std.specs.Prelude.{◌≡◌, ◌≤◌, ◌<◌, ◌+◌, ◌++◌, IfOk, OnOk};
+ghost use Rattle.std.specs.Prelude.{◌≡◌, ◌≤◌, ◌<◌, ◌+◌, ◌*◌, ◌++◌, IfOk, OnOk};
 ghost use Rattle.sv_world.specs.Limits.{most_clients};
 ghost use Rattle.sv_gen.specs.Generated.{round_steps, script, interest, plan, most_load};
 
@@ -13,7 +13,7 @@ use sv_world::ObjectId;
 /// Appends sixteen acts among four objects, and a sync.
 fn put_round(alloc: Global, half: u16, base: u16, steps: &mut Vec<Step>) -> Result<(), AllocError>
     requires half { half ≤ 1 }
-    requires base { base ≤ 768 }
+    requires base { base ≤ 4 * most_load }
     ensures { OnOk result (steps.new.items ≡ steps.old.items ++ round_steps half base) }
 {
     for index in 0..16u16 {

@@ -6,7 +6,7 @@ use Rattle.std.specs.Bool.{one_answer}
 use Rattle.std.proofs.lemmas.Bool.{true≢false, eqb-true, eq-eqb}
 use Rattle.std.proofs.lemmas.Slice.Eq.{bytes_eq-Decides}
 use Rattle.std.specs.Prelude.{MatchBool}
-use Rattle.sv_ports.specs.Told.{Told, nothing_told}
+use Rattle.sv_ports.specs.Traffic.{Traffic, nothing_told}
 use Rattle.sv_host.specs.Inputs.{IsAtLine, IsReadTo, WasToldToStop, behind, has_stop, is_nothing, unended}
 use Rattle.sv_host.specs.Rooms.{LeftInput}
 use Rattle.sv_host.specs.declared.input.InputLines.{InputLines}
@@ -120,7 +120,7 @@ unended_more line (byte ∷ front) more = go (byte == 10) (unended_more [] front
     go true next same = next
     go false next same = same
 
-pub read_on : (old new : Told) (piece : List ℕ) (input next : InputLines) (stops : Bool)
+pub read_on : (old new : Traffic) (piece : List ℕ) (input next : InputLines) (stops : Bool)
     → ((line : List ℕ) → IsAtLine input line → stops ≡ has_stop line piece)
     → ((line : List ℕ) → IsAtLine input line → stops ≡ false → IsAtLine next (unended line piece))
     → new.input ≡ old.input ++ piece → IsReadTo old input → MatchBool stops (WasToldToStop new) (IsReadTo new next)
@@ -139,12 +139,12 @@ match_false A true is m = absurd (true≢false is)
 match_false A false is m = m
 
 -- Nothing was read yet.
-pub read_nothing : (told : Told) (input : InputLines) → IsAtLine input [] → told ≡ nothing_told → IsReadTo told input
-read_nothing told input at fresh = subst (λ (t : Told). IsReadTo t input) (sym fresh) at
+pub read_nothing : (told : Traffic) (input : InputLines) → IsAtLine input [] → told ≡ nothing_told → IsReadTo told input
+read_nothing told input at fresh = subst (λ (t : Traffic). IsReadTo t input) (sym fresh) at
 
-pub read_as : (old new : Told) (input : InputLines) → LeftInput old new → IsReadTo old input → IsReadTo new input
+pub read_as : (old new : Traffic) (input : InputLines) → LeftInput old new → IsReadTo old input → IsReadTo new input
 read_as old new input left read = subst (λ (bytes : List ℕ). IsAtLine input (unended [] bytes)) (sym left.input) read
 
-pub told_as : (old new : Told) → LeftInput old new → WasToldToStop old → WasToldToStop new
+pub told_as : (old new : Traffic) → LeftInput old new → WasToldToStop old → WasToldToStop new
 told_as old new left (inl ended) = inl (left.ended ∙ ended)
 told_as old new left (inr stops) = inr (ap (has_stop []) left.input ∙ stops)

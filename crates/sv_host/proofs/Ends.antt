@@ -18,26 +18,26 @@ use Rattle.sv_living.specs.World.{WorldView}
 use Rattle.sv_living.proofs.Turns.{open-parts}
 use Rattle.sv_keeper.specs.Opened.{AreEnded}
 use Rattle.sv_keeper.specs.Views.{KeeperView}
-use Rattle.sv_ports.specs.declared.numbered.Place.{Place}
-use Rattle.sv_office.specs.Entering.{AreAdded, GoesOn, IsEntry}
+use Rattle.sv_ports.specs.declared.numbered.NumberedPlace.{NumberedPlace}
+use Rattle.sv_office.specs.Entering.{AreAdded, GoesOn, IsEntryOf}
 use Rattle.sv_office.specs.Knowing.{IsTrusted, IsUpToDate}
-use Rattle.sv_office.specs.Telling.{IsServedIn, IsTold, WereTold}
+use Rattle.sv_office.specs.Telling.{IsServedIn, WasTold, WereTold}
 use Rattle.sv_office.specs.declared.guest.Guest.{Guest}
 use Rattle.sv_office.specs.declared.steward.Steward.{Steward}
 use Rattle.sv_office.proofs.Adding.{goes_as, goes_nowhere, goes_then}
 use Rattle.sv_office.proofs.Orders.{above_next}
 use Rattle.sv_office.proofs.Served.{ended_stays}
-use Rattle.sv_host.specs.Rooms.{AreServed, AreTold, IsAnEnd, WasToldIn}
+use Rattle.sv_host.specs.Rooms.{AreServed, AllWereTold, IsAnEnd, WasToldIn}
 use Rattle.sv_host.proofs.Places.{same_or_not}
 
-ends : (s : ℕ) (e : Entry) → IsEntry s requests.End e → IsAnEnd e
+ends : (s : ℕ) (e : Entry) → IsEntryOf s requests.End e → IsAnEnd e
 ends s e is = ap is_end is.1
 
 pub no_end : (v : WorldView) → GoesOn IsAnEnd v v
 no_end v = goes_nowhere refl
 
 -- A step entered an End, or nothing.
-pub end_stepped : {v w x : WorldView} (s : ℕ) → GoesOn IsAnEnd v w → GoesOn (IsEntry s requests.End) w x → GoesOn IsAnEnd v x
+pub end_stepped : {v w x : WorldView} (s : ℕ) → GoesOn IsAnEnd v w → GoesOn (IsEntryOf s requests.End) w x → GoesOn IsAnEnd v x
 end_stepped s on next = goes_then on (goes_as (ends s) next)
 
 pub limits_stay : {may : Entry → Type 0} {v w : WorldView} → GoesOn may v w → AreWithinLimits v.rules → AreWithinLimits w.rules
@@ -80,7 +80,7 @@ told_ends {r} {w} {s} {told = told} (AreAdded.one {g = g} {e = e} before m) t = 
     go (inr differ) rest = WereTold.other (unlike differ) rest
 
 module _ {v w : WorldView} (on : GoesOn IsAnEnd v w) where
-  is_told : (s : ℕ) (guest : Guest) → IsTold v s guest → IsTold w s guest
+  is_told : (s : ℕ) (guest : Guest) → WasTold v s guest → WasTold w s guest
   is_told s guest t = record {
     rest = t.rest;
     replies = subst (λ (r : Rules). WereTold r w.stewardship s w.history (guest.peer.told ++ t.rest)) (sym on.rules)
@@ -93,5 +93,5 @@ module _ {v w : WorldView} (on : GoesOn IsAnEnd v w) where
   was_told guest None (inl nothing) = inl nothing
   was_told guest None (inr (shut, (s, over, t))) = inr (s, ended_stays on.added s over, is_told s guest t)
 
-  pub all_told : {steward : Option ℕ} {guests : List (Place Guest)} → AreServed v steward guests → AreTold w guests
+  pub all_told : {steward : Option ℕ} {guests : List (NumberedPlace Guest)} → AreServed v steward guests → AllWereTold w guests
   all_told are = record { told = λ n guest at. was_told guest guest.session (are.served n guest at) }

@@ -9,24 +9,24 @@ use Rattle.sv_keys.specs.Keeping.{KeysView, AreHeld, has_key}
 use Rattle.sv_keeper.specs.Views.{KeeperView}
 use Rattle.sv_log.specs.Pictures.{Disk}
 use Rattle.sv_log.specs.declared.folder.Folder.{Ghosts}
-use Rattle.sv_ports.specs.Told.{Told}
+use Rattle.sv_ports.specs.Traffic.{Traffic}
 use Rattle.sv_office.specs.Admitting.{is_admitted, is_observe, is_stewards_number, number_in, shows_key, steward_number}
-use Rattle.sv_office.specs.Entering.{AreAdded, CameOfHeld, GoesOn, IsEndOf, IsReport, IsStewards, MayEnter, is_report}
+use Rattle.sv_office.specs.Entering.{AreAdded, CameOfHeld, GoesOn, IsEndOf, IsReport, IsStewards, MayEnter, is_steward_ask}
 use Rattle.sv_office.specs.Renewing.{AreHeldFor, KeepsKeys}
 use Rattle.sv_office.specs.declared.guest.Held.{Held}
 use Rattle.sv_office.specs.declared.office.Office.{Office}
 use Rattle.sv_office.proofs.Adding.{added_as, added_then}
 use Rattle.sv_office.proofs.Renewed.{held_as, kept_same, kept_then}
-use Rattle.sv_host.specs.Joining.{IsNoJoin, JoinByKeys, LetsIn, LetsNobodyIn, LetsStewardIn, MayJoin, MayJoinAs}
+use Rattle.sv_host.specs.Joining.{IsNoJoin, JoinByKeys, LetsIn, LetsNobodyIn, LetsStewardIn, MayJoinByKeys, MayJoinAs}
 use Rattle.sv_host.specs.Causes.{HasStopped}
 use Rattle.sv_host.specs.Rooms.{IsAnEnd}
-use Rattle.sv_host.specs.Served.{BreaksOff}
+use Rattle.sv_host.specs.Served.{HostBreaksOff}
 use Rattle.sv_host.specs.Staffing.{AreKeysFor, AreRead}
 use Rattle.sv_host.specs.declared.ending.Stopped.{Stopped}
 
 -- ---- What is no Join
 
-pub no_join_reports : (r : Request) → is_report r ≡ true → number_in r ≡ None
+pub no_join_reports : (r : Request) → is_steward_ask r ≡ true → number_in r ≡ None
 no_join_reports (requests.Join client life interest) is = let clash : false ≡ true = is in cc
 no_join_reports (requests.Submit seq action) is = refl
 no_join_reports (requests.Done results) is = refl
@@ -116,7 +116,7 @@ pub lets_same : {before now : List ℕ → Option (List ℕ)} {old new : Option 
     → LetsIn before now old new v w
 lets_same {before} {now} {old} {new} {v} {w} files same stays = record {
   kept = kept_same (λ name. subst (λ (f : List ℕ → Option (List ℕ)). f name ≡ before name) (sym files) refl) same;
-  join = record { added = λ named held. subst (λ (x : WorldView). AreAdded (MayJoin before named) v.history x.history) (sym stays) AreAdded.none };
+  join = record { added = λ named held. subst (λ (x : WorldView). AreAdded (MayJoinByKeys before named) v.history x.history) (sym stays) AreAdded.none };
 }
 
 pub lets_then : {first mid last : List ℕ → Option (List ℕ)} {a b c : Option KeysView} {u v w : WorldView} → LetsIn first mid a b u v → LetsIn mid last b c v w
@@ -168,7 +168,7 @@ pub lets_steward : (contents : List ℕ → Option (List ℕ)) {old new : Option
     → LetsIn contents contents old new v w
 lets_steward contents same on = record { kept = kept_same (λ name. refl) same; join = record { added = λ named held. added_as (go named) on } }
   where
-    go : (named : Option (List ℕ)) (e : Entry) → IsNoJoin e ⊎ (number_in e.request ≡ Some steward_number) → MayJoin contents named e
+    go : (named : Option (List ℕ)) (e : Entry) → IsNoJoin e ⊎ (number_in e.request ≡ Some steward_number) → MayJoinByKeys contents named e
     go named e (inl none) = no_join_may contents named (number_in e.request) none
     go named e (inr is) = stewards_number_may contents named (number_in e.request) is
 
@@ -187,7 +187,7 @@ admitted_may contents name keys (Some digest) (Some client) held is =
     inr (record { keys = keys; held = held; digest = digest; has = second (not (is_stewards_number (Some client))) (has_key keys client digest) is })
 
 entered_may : (contents : List ℕ → Option (List ℕ)) (named : Option (List ℕ)) (h : List Entry) (steward mine : Option ℕ) (keys : Option KeysView) (key : Option (List ℕ))
-    → AreHeldFor contents named keys → (e : Entry) → MayEnter h steward mine keys key e → MayJoin contents named e
+    → AreHeldFor contents named keys → (e : Entry) → MayEnter h steward mine keys key e → MayJoinByKeys contents named e
 entered_may contents named h steward mine keys key held e (inl report) =
     no_join_may contents named (number_in e.request) (no_join_reports e.request report.1)
 entered_may contents named h steward mine keys key held e (inr (asks, inl ends)) =
@@ -211,7 +211,7 @@ join_then one two = record { added = λ named held. added_then (one.join.added n
 
 pub join_same : {contents : List ℕ → Option (List ℕ)} {keys : Option KeysView} {v w : WorldView} → w ≡ v → JoinByKeys contents keys v w
 join_same {contents} {keys} {v} same =
-    record { added = λ named held. subst (λ (x : WorldView). AreAdded (MayJoin contents named) v.history x.history) (sym same) AreAdded.none }
+    record { added = λ named held. subst (λ (x : WorldView). AreAdded (MayJoinByKeys contents named) v.history x.history) (sym same) AreAdded.none }
 
 -- The keys that were read are those of the file.
 pub keys_held : (contents : List ℕ → Option (List ℕ)) (named : Option (List ℕ)) (keys : Option KeysView) → AreKeysFor contents named keys
@@ -235,11 +235,11 @@ held_now {contents} {now} named keys read = held_as {before = contents} {now = n
 
 -- The files had the same before.
 module _ {contents now : List ℕ → Option (List ℕ)} (named : Option (List ℕ)) (files : (name : List ℕ) → now name ≡ contents name) where
-  may_before : (e : Entry) → MayJoin now named e → MayJoin contents named e
+  may_before : (e : Entry) → MayJoinByKeys now named e → MayJoinByKeys contents named e
   may_before e may = may_as files named (number_in e.request) may
 
-  pub stopped_before : {F : Type 0} (disk : F → Disk) (is_honest : F → Type 0) (first : KeeperView F) (before after : Told) (name : List ℕ) (stopped : Stopped)
-      → HasStopped disk is_honest (MayJoin now named) first before after name stopped → HasStopped disk is_honest (MayJoin contents named) first before after name stopped
+  pub stopped_before : {F : Type 0} (disk : F → Disk) (is_honest : F → Type 0) (first : KeeperView F) (before after : Traffic) (name : List ℕ) (stopped : Stopped)
+      → HasStopped disk is_honest (MayJoinByKeys now named) first before after name stopped → HasStopped disk is_honest (MayJoinByKeys contents named) first before after name stopped
   stopped_before disk is_honest first before after name stopped was = record {
     keeper = was.keeper;
     goes = was.goes;
@@ -253,7 +253,7 @@ module _ {contents now : List ℕ → Option (List ℕ)} (named : Option (List �
     commit = was.commit;
   }
 
-  pub broke_before : (before after : Told) (first : WorldView) → BreaksOff (MayJoin now named) before after first → BreaksOff (MayJoin contents named) before after first
+  pub broke_before : (before after : Traffic) (first : WorldView) → HostBreaksOff (MayJoinByKeys now named) before after first → HostBreaksOff (MayJoinByKeys contents named) before after first
   broke_before before after first broke = record {
     last = broke.last;
     goes = broke.goes;

@@ -2,7 +2,7 @@
 use Rattle.std.proofs.Common.{◌≡◌, ◌≢◌, ◌⊎◌, inl, inr, ℕ, suc, ◌<◌, Bool, true, false, ◌||◌, nat_eq, not, List, [], ◌∷◌, ◌++◌, length, Option, Some, None, refl, sym, ap, ◌∙◌, arith, ne_eqb}
 use Rattle.std.specs.Prelude.{if◌then◌else◌}
 use Rattle.std.proofs.lemmas.Bool.{eqb-true, eq-eqb, true≢false}
-use Rattle.sv_ports.specs.declared.numbered.Place.{Place}
+use Rattle.sv_ports.specs.declared.numbered.NumberedPlace.{NumberedPlace}
 use Rattle.sv_ports.specs.Numbered.{has_number, IsAbove, item_of, with_item, without}
 
 clash : {A : Type 0} {b : Bool} → b ≡ true → b ≡ false → A
@@ -16,11 +16,11 @@ same_or_not n m = go (nat_eq n m) refl
     go false e = inr e
 
 module _ {T : Type 0} where
-  pub other_item : (n m : ℕ) (item : Option T) (ps : List (Place T)) → nat_eq m n ≡ false → item_of m (with_item n item ps) ≡ item_of m ps
+  pub other_item : (n m : ℕ) (item : Option T) (ps : List (NumberedPlace T)) → nat_eq m n ≡ false → item_of m (with_item n item ps) ≡ item_of m ps
   other_item n m item [] differ = refl
   other_item n m item (p ∷ ps) differ = go (nat_eq n p.number) refl (other_item n m item ps differ)
     where
-      put : Bool → Place T
+      put : Bool → NumberedPlace T
       put b = if b then record p { item = item } else p
 
       go : (b : Bool) → nat_eq n p.number ≡ b → item_of m (with_item n item ps) ≡ item_of m ps
@@ -32,11 +32,11 @@ module _ {T : Type 0} where
           inner false f = rest
           inner true f = clash (eq-eqb m n (eqb-true m p.number f ∙ sym (eqb-true n p.number e))) differ
 
-  pub own_item : (n : ℕ) (item : Option T) (ps : List (Place T)) → (item_of n (with_item n item ps) ≡ item) ⊎ (item_of n (with_item n item ps) ≡ None)
+  pub own_item : (n : ℕ) (item : Option T) (ps : List (NumberedPlace T)) → (item_of n (with_item n item ps) ≡ item) ⊎ (item_of n (with_item n item ps) ≡ None)
   own_item n item [] = inr refl
   own_item n item (p ∷ ps) = go (nat_eq n p.number) refl (own_item n item ps)
     where
-      put : Bool → Place T
+      put : Bool → NumberedPlace T
       put b = if b then record p { item = item } else p
 
       go : (b : Bool) → nat_eq n p.number ≡ b → (item_of n (with_item n item ps) ≡ item) ⊎ (item_of n (with_item n item ps) ≡ None)
@@ -46,7 +46,7 @@ module _ {T : Type 0} where
       go false e (inl rest) = inl (ap (λ (c : Bool). if c then p.item else item_of n (with_item n item ps)) e ∙ rest)
       go false e (inr rest) = inr (ap (λ (c : Bool). if c then p.item else item_of n (with_item n item ps)) e ∙ rest)
 
-  pub pushed_item : (m : ℕ) (q : Place T) (ps : List (Place T)) (x : T) → item_of m (ps ++ q ∷ []) ≡ Some x
+  pub pushed_item : (m : ℕ) (q : NumberedPlace T) (ps : List (NumberedPlace T)) (x : T) → item_of m (ps ++ q ∷ []) ≡ Some x
       → (item_of m ps ≡ Some x) ⊎ ((m ≡ q.number) × (q.item ≡ Some x))
   pushed_item m q [] x e = go (nat_eq m q.number) refl e
     where
@@ -61,7 +61,7 @@ module _ {T : Type 0} where
       go true is rest = inl is
       go false is rest = rest is
 
-  pub left_item : (n m : ℕ) (ps : List (Place T)) → nat_eq m n ≡ false → item_of m (without n ps) ≡ item_of m ps
+  pub left_item : (n m : ℕ) (ps : List (NumberedPlace T)) → nat_eq m n ≡ false → item_of m (without n ps) ≡ item_of m ps
   left_item n m [] differ = refl
   left_item n m (p ∷ ps) differ = go (nat_eq n p.number) refl (left_item n m ps differ)
     where
@@ -74,7 +74,7 @@ module _ {T : Type 0} where
           inner false f = rest
           inner true f = clash (eq-eqb m n (eqb-true m p.number f ∙ sym (eqb-true n p.number e))) differ
 
-  pub none_left : (n : ℕ) (ps : List (Place T)) → item_of n (without n ps) ≡ None
+  pub none_left : (n : ℕ) (ps : List (NumberedPlace T)) → item_of n (without n ps) ≡ None
   none_left n [] = refl
   none_left n (p ∷ ps) = go (nat_eq n p.number) refl (none_left n ps)
     where
@@ -84,7 +84,7 @@ module _ {T : Type 0} where
 
   -- ---- Numbers with places
 
-  pub number_of_item : (n : ℕ) (ps : List (Place T)) (x : T) → item_of n ps ≡ Some x → has_number n ps ≡ true
+  pub number_of_item : (n : ℕ) (ps : List (NumberedPlace T)) (x : T) → item_of n ps ≡ Some x → has_number n ps ≡ true
   number_of_item n [] x is = let never : None ≡ Some x = is in cc
   number_of_item n (p ∷ ps) x is = go (nat_eq n p.number) is (number_of_item n ps x)
     where
@@ -92,11 +92,11 @@ module _ {T : Type 0} where
       go true is rest = refl
       go false is rest = rest is
 
-  pub kept_number : (n : ℕ) (item : Option T) (ps : List (Place T)) → has_number n (with_item n item ps) ≡ has_number n ps
+  pub kept_number : (n : ℕ) (item : Option T) (ps : List (NumberedPlace T)) → has_number n (with_item n item ps) ≡ has_number n ps
   kept_number n item [] = refl
   kept_number n item (p ∷ ps) = go (nat_eq n p.number) refl (kept_number n item ps)
     where
-      put : Bool → Place T
+      put : Bool → NumberedPlace T
       put b = if b then record p { item = item } else p
 
       go : (b : Bool) → nat_eq n p.number ≡ b → has_number n (with_item n item ps) ≡ has_number n ps
@@ -105,11 +105,11 @@ module _ {T : Type 0} where
       go false e rest = ap (λ (b : Bool). nat_eq n p.number || b) rest
 
   -- What is put into a place lies there.
-  pub put_item : (n : ℕ) (item : Option T) (ps : List (Place T)) → has_number n ps ≡ true → item_of n (with_item n item ps) ≡ item
+  pub put_item : (n : ℕ) (item : Option T) (ps : List (NumberedPlace T)) → has_number n ps ≡ true → item_of n (with_item n item ps) ≡ item
   put_item n item [] has = clash has refl
   put_item n item (p ∷ ps) has = go (nat_eq n p.number) refl has (put_item n item ps)
     where
-      put : Bool → Place T
+      put : Bool → NumberedPlace T
       put b = if b then record p { item = item } else p
 
       go : (b : Bool) → nat_eq n p.number ≡ b → (b || has_number n ps) ≡ true → (has_number n ps ≡ true → item_of n (with_item n item ps) ≡ item)
@@ -117,7 +117,7 @@ module _ {T : Type 0} where
       go true e has rest = ap (λ (c : Bool). if c then item else item_of n (with_item n item ps)) e
       go false e has rest = ap (λ (c : Bool). if c then p.item else item_of n (with_item n item ps)) e ∙ rest has
 
-  pub pushed_own : (n : ℕ) (item : Option T) (ps : List (Place T)) → IsAbove n ps → item_of n (ps ++ record { number = n; item = item } ∷ []) ≡ item
+  pub pushed_own : (n : ℕ) (item : Option T) (ps : List (NumberedPlace T)) → IsAbove n ps → item_of n (ps ++ record { number = n; item = item } ∷ []) ≡ item
   pushed_own n item [] above = ap (λ (c : Bool). if c then item else None) (eq-eqb n n refl)
   pushed_own n item (p ∷ ps) above =
       ap (λ (c : Bool). if c then p.item else item_of n (ps ++ record { number = n; item = item } ∷ [])) (ne_eqb n p.number unlike)
@@ -126,7 +126,7 @@ module _ {T : Type 0} where
       unlike : n ≡ p.number → ⊥
       unlike same = let less : p.number < n = above 0 p (omega arith) in omega (arith, less, same)
 
-  pub pushed_none : (m n : ℕ) (item : Option T) (ps : List (Place T)) → nat_eq m n ≡ false → item_of m (ps ++ record { number = n; item = item } ∷ []) ≡ None → item_of m ps ≡ None
+  pub pushed_none : (m n : ℕ) (item : Option T) (ps : List (NumberedPlace T)) → nat_eq m n ≡ false → item_of m (ps ++ record { number = n; item = item } ∷ []) ≡ None → item_of m ps ≡ None
   pushed_none m n item [] differ none = refl
   pushed_none m n item (p ∷ ps) differ none = go (nat_eq m p.number) none (pushed_none m n item ps differ)
     where

@@ -11,14 +11,14 @@ use Rattle.sv_living.specs.World.{WorldView}
 use Rattle.sv_log.specs.Pictures.{Disk}
 use Rattle.sv_keeper.specs.Opened.{AreEnded, IsOpened, start_of}
 use Rattle.sv_keeper.specs.Views.{KeeperView}
-use Rattle.sv_keeper.specs.Walks.{AreTaken}
+use Rattle.sv_keeper.specs.Walks.{TakesLines}
 use Rattle.sv_worldfile.specs.declared.world_file.WorldFile.{WorldFile}
 use Rattle.sv_worldfile.specs.Limits.{IsGoodWorldFile}
 use Rattle.sv_host.specs.Causes.{start_in, stewards_in}
 
-taken_rules : {v w : WorldView} {text rest : List ℕ} → AreTaken v w text rest → w.rules ≡ v.rules
-taken_rules AreTaken.none = refl
-taken_rules (AreTaken.some first more) = taken_rules more ∙ ap (λ (x : WorldView). x.rules) first.world
+taken_rules : {v w : WorldView} {text rest : List ℕ} → TakesLines v w text rest → w.rules ≡ v.rules
+taken_rules TakesLines.none = refl
+taken_rules (TakesLines.some first more) = taken_rules more ∙ ap (λ (x : WorldView). x.rules) first.world
 
 ended_rules : {v w : WorldView} → AreEnded v w → w.rules ≡ v.rules
 ended_rules (AreEnded.none e) = refl

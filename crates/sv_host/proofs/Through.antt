@@ -8,8 +8,8 @@ use Rattle.sv_core.specs.Rows.{has_entry}
 use Rattle.sv_living.specs.Sessions.{AreInOrder, is_open, open_sessions}
 use Rattle.sv_living.specs.World.{WorldView}
 use Rattle.sv_living.proofs.Turns.{open-parts}
-use Rattle.sv_ports.specs.Told.{Told, nothing_told}
-use Rattle.sv_ports.specs.declared.numbered.Place.{Place}
+use Rattle.sv_ports.specs.Traffic.{Traffic, nothing_told}
+use Rattle.sv_ports.specs.declared.numbered.NumberedPlace.{NumberedPlace}
 use Rattle.sv_office.specs.declared.guest.Guest.{Guest}
 use Rattle.sv_keeper.specs.Views.{KeeperView}
 use Rattle.sv_office.specs.Entering.{AreAdded}
@@ -18,15 +18,15 @@ use Rattle.sv_office.proofs.Adding.{goes_nowhere}
 use Rattle.sv_office.proofs.Served.{ended_stays}
 use Rattle.sv_host.specs.Inputs.{WasToldToStop}
 use Rattle.sv_host.specs.Rooms.{AnyEntry, AreWritten, Continues, HaveBegun, WereWritten}
-use Rattle.sv_host.specs.Served.{BreaksOff, OnlyWrote}
+use Rattle.sv_host.specs.Served.{HostBreaksOff, OnlyWrote}
 use Rattle.sv_host.proofs.Ends.{none_open}
 use Rattle.sv_host.proofs.Guests.{never}
 use Rattle.sv_host.proofs.Written.{were_since}
 
 -- Nobody is there, and nobody was.
-pub none_written : (v : WorldView) (told : Told) (guests : List (Place Guest)) → told ≡ nothing_told → guests ≡ [] → AreWritten v told guests
+pub none_written : (v : WorldView) (told : Traffic) (guests : List (NumberedPlace Guest)) → told ≡ nothing_told → guests ≡ [] → AreWritten v told guests
 none_written v told guests nothing none =
-    subst (λ (t : Told). AreWritten v t guests) (sym nothing) (subst (λ (ps : List (Place Guest)). AreWritten v nothing_told ps) (sym none) (record {
+    subst (λ (t : Traffic). AreWritten v t guests) (sym nothing) (subst (λ (ps : List (NumberedPlace Guest)). AreWritten v nothing_told ps) (sym none) (record {
       sent = λ n guest at. never at;
       in_step = λ n guest at. never at;
       known = λ n guest at. never at;
@@ -35,8 +35,8 @@ none_written v told guests nothing none =
     }))
 
 -- Nothing was told.
-pub nothing_wrote : {may : Entry → Type 0} (v w : WorldView) (before after : Told) → after ≡ before → Continues v w → OnlyWrote may before after v w
-nothing_wrote {may} v w before after same on fresh = subst (λ (t : Told). WereWritten may t v w) (sym (same ∙ fresh)) (record {
+pub nothing_wrote : {may : Entry → Type 0} (v w : WorldView) (before after : Traffic) → after ≡ before → Continues v w → OnlyWrote may before after v w
+nothing_wrote {may} v w before after same on fresh = subst (λ (t : Traffic). WereWritten may t v w) (sym (same ∙ fresh)) (record {
   before = w;
   since = on;
   written = record {
@@ -47,25 +47,25 @@ nothing_wrote {may} v w before after same on fresh = subst (λ (t : Told). WereW
   goes = goes_nowhere refl;
 })
 
-pub between_asked : (before first last after : Told) → (before ≡ nothing_told → first ≡ nothing_told) → (first ≡ nothing_told → WasToldToStop last) → after ≡ last
+pub between_asked : (before first last after : Traffic) → (before ≡ nothing_told → first ≡ nothing_told) → (first ≡ nothing_told → WasToldToStop last) → after ≡ last
     → before ≡ nothing_told → WasToldToStop after
 between_asked before first last after new asked is fresh = subst WasToldToStop (sym is) (asked (new fresh))
 
 -- What was lent came back.
-pub told_at : {A : Type 0} {may : Entry → Type 0} {v w : WorldView} (told : A → Told) (a b : A) → WereWritten may (told a) v w → b ≡ a → WereWritten may (told b) v w
+pub told_at : {A : Type 0} {may : Entry → Type 0} {v w : WorldView} (told : A → Traffic) (a b : A) → WereWritten may (told a) v w → b ≡ a → WereWritten may (told b) v w
 told_at {A} {may} {v} {w} told a b were same = subst (λ (x : A). WereWritten may (told x) v w) (sym same) were
 
 -- A world went on before.
-pub wrote_since : {may : Entry → Type 0} {u v w : WorldView} (before after : Told) → Continues u v → OnlyWrote may before after v w → OnlyWrote may before after u w
+pub wrote_since : {may : Entry → Type 0} {u v w : WorldView} (before after : Traffic) → Continues u v → OnlyWrote may before after v w → OnlyWrote may before after u w
 wrote_since before after on wrote fresh = were_since on (wrote fresh)
 
 -- A door was opened, and closed.
-pub between_wrote : {may : Entry → Type 0} {v w : WorldView} (before first last after : Told) → (before ≡ nothing_told → first ≡ nothing_told)
+pub between_wrote : {may : Entry → Type 0} {v w : WorldView} (before first last after : Traffic) → (before ≡ nothing_told → first ≡ nothing_told)
     → OnlyWrote may first last v w → after ≡ last → OnlyWrote may before after v w
-between_wrote {may} {v} {w} before first last after new wrote is fresh = subst (λ (t : Told). WereWritten may t v w) (sym is) (wrote (new fresh))
+between_wrote {may} {v} {w} before first last after new wrote is fresh = subst (λ (t : Traffic). WereWritten may t v w) (sym is) (wrote (new fresh))
 
 -- Where no session was open before, those that are had no entry then.
-pub begun_since : {may : Entry → Type 0} {told : Told} {v w : WorldView} → AreInOrder v.history → open_sessions v.history ≡ [] → (were : WereWritten may told v w) → HaveBegun were
+pub begun_since : {may : Entry → Type 0} {told : Traffic} {v w : WorldView} → AreInOrder v.history → open_sessions v.history ≡ [] → (were : WereWritten may told v w) → HaveBegun were
 begun_since {told = told} {v = v} order none were n s low has = go (has_entry v.history s) (is_ended v.history s) refl refl
   where
     guest : Guest
@@ -84,10 +84,10 @@ begun_since {told = told} {v = v} order none were n s low has = go (has_entry v.
     go true false here over = absurd (none_open v.history s order none (open_by here over))
 
 -- It was served from this world on, and broke off.
-pub broke_of : {F : Type 0} {may_join : Entry → Type 0} (before after : Told) (keeper kept : KeeperView F) (last : WorldView) → kept ≡ keeper
+pub broke_of : {F : Type 0} {may_join : Entry → Type 0} (before after : Traffic) (keeper kept : KeeperView F) (last : WorldView) → kept ≡ keeper
     → Continues kept.world last → AreAdded may_join kept.world.history last.history → LegalFor (living last.stewardship) last.rules last.history → AreInOrder last.history
     → OnlyWrote AnyEntry before after kept.world last → AreInOrder keeper.world.history → open_sessions keeper.world.history ≡ []
-    → BreaksOff may_join before after keeper.world
+    → HostBreaksOff may_join before after keeper.world
 broke_of {F} {may_join} before after keeper kept last same goes joins legal order wrote first none = record {
   last = last;
   goes = subst (λ (k : KeeperView F). Continues k.world last) same goes;

@@ -11,16 +11,16 @@ use Rattle.sv_keeper.specs.Opened.{IsOpened, OpenCause, WhyNotOpened}
 use Rattle.sv_keeper.specs.Views.{KeeperView}
 use Rattle.sv_keeper.specs.declared.fault.OpenFault.{OpenFault}
 use Rattle.sv_keeper.specs.declared.fault.OpenFault.TheVariants as faults
-use Rattle.sv_ports.specs.Told.{Told}
-use Rattle.sv_ports.specs.declared.numbered.Place.{Place}
+use Rattle.sv_ports.specs.Traffic.{Traffic}
+use Rattle.sv_ports.specs.declared.numbered.NumberedPlace.{NumberedPlace}
 use Rattle.sv_office.specs.declared.guest.Guest.{Guest}
 use Rattle.sv_worldfile.specs.declared.world_file.WorldFile.{WorldFile}
 use Rattle.sv_worldfile.specs.WorldFiles.{world_file_of}
-use Rattle.sv_host.specs.Causes.{file_place, is_authority, line_place, IsFileFront, IsPrepared, IsWrongLine, WhyBefore, WhyFaulty, WhyNoKeys, WhyUnread}
+use Rattle.sv_host.specs.Causes.{file_place, is_authority, line_place, IsFileFront, IsPrepared, IsWrongKeyLine, WhyBefore, WhyFaulty, WhyNoKeys, WhyUnread}
 use Rattle.sv_host.specs.Causes.{start_in, EndsUnopened, HasOpened, HasStopped, IsHalted, IsOfDisk, WasServed, WasServedFirst, WhyBehind, WhyNoFolder, WhyStopped, WhyUnopened, WroteFirst}
-use Rattle.sv_host.specs.Joining.{MayJoin}
+use Rattle.sv_host.specs.Joining.{MayJoinByKeys}
 use Rattle.sv_host.specs.Rooms.{AreServed}
-use Rattle.sv_host.specs.Served.{BreaksOff}
+use Rattle.sv_host.specs.Served.{HostBreaksOff}
 use Rattle.sv_host.specs.Statuses.{IsEarly}
 use Rattle.sv_host.specs.Words.{Asked}
 use Rattle.sv_host.specs.declared.ending.HostEnd.{HostEnd}
@@ -33,7 +33,7 @@ none_some : {A : Type 0} {x : A} → None ≡ Some x → ⊥
 none_some e = cc
 
 -- Where nobody is there, all are served.
-pub none_served : (v : WorldView) (steward : Option ℕ) (guests : List (Place Guest)) → guests ≡ [] → AreServed v steward guests
+pub none_served : (v : WorldView) (steward : Option ℕ) (guests : List (NumberedPlace Guest)) → guests ≡ [] → AreServed v steward guests
 none_served v steward guests none = subst (AreServed v steward) (sym none) (record {
   served = λ n guest at. never at;
   apart = λ n guest at. never at;
@@ -107,7 +107,7 @@ module _ (contents : List ℕ → Option (List ℕ)) (rose : Type 0) (asked : As
   -- The files were read from since.
   pub keys_before : (now : List ℕ → Option (List ℕ)) (e : HostEnd) → ((n : List ℕ) → now n ≡ contents n) → WhyNoKeys now asked.keys e
       → WhyBefore contents rose asked e
-  keys_before now (endings.Keys file line) same why = (why.0, subst (λ (held : Option (List ℕ)). IsWrongLine held line) (same (string_bytes file)) why.1)
+  keys_before now (endings.Keys file line) same why = (why.0, subst (λ (held : Option (List ℕ)). IsWrongKeyLine held line) (same (string_bytes file)) why.1)
   keys_before now (endings.File file) same why = inr why
   keys_before now endings.Memory same why = tt
   keys_before now (endings.Done stopped) same why = absurd why
@@ -164,20 +164,20 @@ module _ {F : Type 0} (disk : F → Disk) (is_honest : F → Type 0) where
       begun = begun;
     }
 
-    module _ (before after : Told) (file : WorldFile) (bytes : List ℕ) (folder : F) (first : KeeperView F) (read : IsPrepared (contents asked.world) asked file bytes)
+    module _ (before after : Traffic) (file : WorldFile) (bytes : List ℕ) (folder : F) (first : KeeperView F) (read : IsPrepared (contents asked.world) asked file bytes)
         (opened : opens asked.folder folder) (begun : IsOpened disk is_honest (disk folder) bytes (start_in file) first) where
-      pub served_as : (stopped : Stopped) → HasStopped disk is_honest (MayJoin contents asked.keys) first before after asked.folder stopped
+      pub served_as : (stopped : Stopped) → HasStopped disk is_honest (MayJoinByKeys contents asked.keys) first before after asked.folder stopped
           → WasServed disk is_honest opens contents before after asked stopped
       served_as stopped last = record { log = log_opened file bytes folder first read opened begun; last = last }
 
       -- What was written until it broke off.
-      broke_first : BreaksOff (MayJoin contents asked.keys) before after first.world → WasServedFirst disk is_honest opens contents before after asked
+      broke_first : HostBreaksOff (MayJoinByKeys contents asked.keys) before after first.world → WasServedFirst disk is_honest opens contents before after asked
       broke_first broke = record { log = log_opened file bytes folder first read opened begun; broke = broke }
 
-      pub broke_as : BreaksOff (MayJoin contents asked.keys) before after first.world → WroteFirst disk is_honest opens contents before after asked
+      pub broke_as : HostBreaksOff (MayJoinByKeys contents asked.keys) before after first.world → WroteFirst disk is_honest opens contents before after asked
       broke_as broke = inr (broke_first broke)
 
-    module _ (before after : Told) (count : F → ℕ) (closed_by : List ℕ → FolderFault → Type 0) (barred_by : List ℕ → DoorFault → Type 0) where
+    module _ (before after : Traffic) (count : F → ℕ) (closed_by : List ℕ → FolderFault → Type 0) (barred_by : List ℕ → DoorFault → Type 0) where
       pub log_behind : (file : WorldFile) (bytes : List ℕ) (folder : F) (e : HostEnd) → IsPrepared (contents asked.world) asked file bytes → opens asked.folder folder
           → WhyUnopened disk is_honest count folder file bytes asked.folder e → WhyBehind disk is_honest opens contents before after count closed_by barred_by asked e
       log_behind file bytes folder (endings.Log line) read opened why =
@@ -209,7 +209,7 @@ module _ {F : Type 0} (disk : F → Disk) (is_honest : F → Type 0) where
 
       -- It was served first.
       pub stopped_behind : (file : WorldFile) (bytes : List ℕ) (folder : F) (first : KeeperView F) → IsPrepared (contents asked.world) asked file bytes
-          → opens asked.folder folder → IsOpened disk is_honest (disk folder) bytes (start_in file) first → BreaksOff (MayJoin contents asked.keys) before after first.world
+          → opens asked.folder folder → IsOpened disk is_honest (disk folder) bytes (start_in file) first → HostBreaksOff (MayJoinByKeys contents asked.keys) before after first.world
           → (e : HostEnd) → WhyStopped (barred_by asked.at) asked.at e → WhyBehind disk is_honest opens contents before after count closed_by barred_by asked e
       stopped_behind file bytes folder first read opened begun broke (endings.Busy which) why =
           inr (why, broke_first before after file bytes folder first read opened begun broke)

@@ -19,7 +19,7 @@ use Rattle.sv_log.specs.declared.reading.Cause.{Cause}
 use Rattle.sv_log.specs.declared.reading.Cause.TheVariants as causes
 use Rattle.sv_keys.specs.KeyLines.{IsWrongAt}
 use Rattle.sv_keeper.specs.Histories.{HoldsFirst}
-use Rattle.sv_keeper.specs.Keeping.{AreSettled}
+use Rattle.sv_keeper.specs.Keeping.{AreDurable}
 use Rattle.sv_keeper.specs.Opened.{start_of, IsOpened, WhyNotOpened}
 use Rattle.sv_keeper.specs.Views.{KeeperView}
 use Rattle.sv_keeper.specs.declared.fault.LineCause.{LineCause}
@@ -30,13 +30,13 @@ use Rattle.sv_worldfile.specs.declared.world_file.Results.{Results}
 use Rattle.sv_worldfile.specs.declared.world_file.Results.TheVariants as results
 use Rattle.sv_worldfile.specs.declared.world_file.WorldFile.{WorldFile}
 use Rattle.sv_worldfile.specs.WorldFiles.{most_bytes, world_file_of}
-use Rattle.sv_ports.specs.Told.{Told, nothing_told}
+use Rattle.sv_ports.specs.Traffic.{Traffic, nothing_told}
 use Rattle.sv_office.specs.Admitting.{steward_number}
 use Rattle.sv_office.specs.Entering.{AreAdded}
 use Rattle.sv_host.specs.Inputs.{WasToldToStop}
-use Rattle.sv_host.specs.Joining.{MayJoin}
+use Rattle.sv_host.specs.Joining.{MayJoinByKeys}
 use Rattle.sv_host.specs.Rooms.{Continues, HaveBegun, IsAnEnd}
-use Rattle.sv_host.specs.Served.{BreaksOff, OnlyWrote}
+use Rattle.sv_host.specs.Served.{HostBreaksOff, OnlyWrote}
 use Rattle.sv_host.specs.Words.{Asked, Ask, AsksNothing}
 use Rattle.sv_host.specs.declared.ending.HostEnd.{HostEnd}
 use Rattle.sv_host.specs.declared.ending.HostEnd.TheVariants as endings
@@ -93,8 +93,8 @@ pub record LacksSteward (held : Option (List ℕ)) (asked : Asked) : Type 0 wher
   pub none : asked.has_steward ≡ false
 
 -- The first wrong line of a file of keys is this one.
-abbrev pub IsWrongLine : Option (List ℕ) → ℕ → Type 0
-IsWrongLine held n = (all : List ℕ) → held ≡ Some all → IsWrongAt all n
+abbrev pub IsWrongKeyLine : Option (List ℕ) → ℕ → Type 0
+IsWrongKeyLine held n = (all : List ℕ) → held ≡ Some all → IsWrongAt all n
 
 -- ---- Why nothing is opened
 
@@ -112,7 +112,7 @@ WhyFaulty bytes _ = ⊥
 
 -- Why there are no keys.
 abbrev pub WhyNoKeys : (List ℕ → Option (List ℕ)) → Option (List ℕ) → HostEnd → Type 0
-WhyNoKeys contents named (endings.Keys file line) = (named ≡ Some (string_bytes file)) × IsWrongLine (contents (string_bytes file)) line
+WhyNoKeys contents named (endings.Keys file line) = (named ≡ Some (string_bytes file)) × IsWrongKeyLine (contents (string_bytes file)) line
 WhyNoKeys contents named (endings.File file) = named ≡ Some (string_bytes file)
 WhyNoKeys contents named endings.Memory = Unit {0}
 WhyNoKeys contents named _ = ⊥
@@ -121,7 +121,7 @@ WhyNoKeys contents named _ = ⊥
 abbrev pub WhyBefore : (List ℕ → Option (List ℕ)) → Type 0 → Asked → HostEnd → Type 0
 WhyBefore contents rose asked endings.Words = LacksSteward (contents asked.world) asked
 WhyBefore contents rose asked (endings.World line) = IsNoWorld (contents asked.world) (string_bytes line)
-WhyBefore contents rose asked (endings.Keys file line) = (asked.keys ≡ Some (string_bytes file)) × IsWrongLine (contents (string_bytes file)) line
+WhyBefore contents rose asked (endings.Keys file line) = (asked.keys ≡ Some (string_bytes file)) × IsWrongKeyLine (contents (string_bytes file)) line
 WhyBefore contents rose asked (endings.File file) = ((string_bytes file ≡ asked.world) × rose) ⊎ (asked.keys ≡ Some (string_bytes file))
 WhyBefore contents rose asked endings.Memory = Unit {0}
 WhyBefore contents rose asked _ = ⊥
@@ -244,7 +244,7 @@ module _ {F : Type 0} (disk : F → Disk) (is_honest : F → Type 0) where
   -- lines.
   pub record IsAtEnd (keeper : KeeperView F) : Type 0 where
     pub ended : open_sessions keeper.world.history ≡ []
-    pub settled : AreSettled disk is_honest keeper
+    pub durable : AreDurable disk is_honest keeper
     pub legal : LegalFor (living keeper.world.stewardship) keeper.world.rules keeper.world.history
     pub order : AreInOrder keeper.world.history
     pub crash : is_honest keeper.log.segment.folder → (world : List ℕ) → shown disk keeper.log world_name ≡ Some world
@@ -253,7 +253,7 @@ module _ {F : Type 0} (disk : F → Disk) (is_honest : F → Type 0) where
 
   -- The world was served until the input told to stop: it went on, who joined might, and what was written is what connections were told before the last
   -- Ends. This is told of it: the folder's name, how many entries there are, and the commit.
-  pub record HasStopped (may_join : Entry → Type 0) (first : KeeperView F) (before after : Told) (name : List ℕ) (stopped : Stopped) : Type 0 where
+  pub record HasStopped (may_join : Entry → Type 0) (first : KeeperView F) (before after : Traffic) (name : List ℕ) (stopped : Stopped) : Type 0 where
     pub keeper : KeeperView F
     pub goes : Continues first.world keeper.world
     pub joins : AreAdded may_join first.world.history keeper.world.history
@@ -290,16 +290,16 @@ module _ {F : Type 0} (disk : F → Disk) (is_honest : F → Type 0) where
       pub first : KeeperView F
       pub begun : IsOpened disk is_honest (disk over.folder) over.bytes (start_in over.file) first
 
-    module _ (before after : Told) where
+    module _ (before after : Traffic) where
       -- The log of the folder was opened, and its world served until it was to stop.
       pub record WasServed (asked : Asked) (stopped : Stopped) : Type 0 where
         pub log : HasOpened asked
-        pub last : HasStopped (MayJoin contents asked.keys) log.first before after asked.folder stopped
+        pub last : HasStopped (MayJoinByKeys contents asked.keys) log.first before after asked.folder stopped
 
       -- The log of the folder was opened, and its world served until it broke off.
       pub record WasServedFirst (asked : Asked) : Type 0 where
         pub log : HasOpened asked
-        pub broke : BreaksOff (MayJoin contents asked.keys) before after log.first.world
+        pub broke : HostBreaksOff (MayJoinByKeys contents asked.keys) before after log.first.world
 
       -- What was written where it was not told to stop: nothing through any door, or what connections of the folder's world were told.
       abbrev pub WroteFirst : Asked → Type 0

@@ -2,7 +2,7 @@
 use Rattle.std.specs.Prelude.{◌≡◌, ◌⊎◌, ℕ, ◌==◌, ◌||◌, Bool, true, false, List, [], ◌∷◌, ◌++◌, Option, Some, None, codes, if◌then◌else◌}
 use Rattle.std.specs.Str.{bytes_eq}
 use Rattle.std.specs.Option.{option_copied}
-use Rattle.sv_ports.specs.Told.{Told}
+use Rattle.sv_ports.specs.Traffic.{Traffic}
 use Rattle.sv_host.specs.declared.input.InputLines.{InputLines}
 
 -- The line that has no end yet, once these bytes came behind the front of one.
@@ -28,7 +28,7 @@ is_nothing (Some (byte ∷ rest)) = false
 is_nothing None = false
 
 -- The input ended, or one of its lines was `stop`.
-abbrev pub WasToldToStop : Told → Type 0
+abbrev pub WasToldToStop : Traffic → Type 0
 WasToldToStop told = (told.input_ended ≡ true) ⊎ (has_stop [] told.input ≡ true)
 
 -- The line that has no end yet is this.
@@ -36,5 +36,5 @@ pub record IsAtLine (input : InputLines) (line : List ℕ) : Type 0 where
   pub wanted_is : option_copied input.wanted ≡ behind line (codes "stop")
 
 -- It stands where the input was read to.
-abbrev pub IsReadTo : Told → InputLines → Type 0
+abbrev pub IsReadTo : Traffic → InputLines → Type 0
 IsReadTo told input = IsAtLine input (unended [] told.input)

@@ -21,12 +21,12 @@ MayJoinAs contents (Some name) None = Unit {0}
 MayJoinAs contents (Some name) (Some client) = (client ≡ steward_number) ⊎ HasKeyFor contents name client
 
 -- An entry is no Join, or one under such a number.
-abbrev pub MayJoin : (List ℕ → Option (List ℕ)) → Option (List ℕ) → Entry → Type 0
-MayJoin contents named e = MayJoinAs contents named (number_in e.request)
+abbrev pub MayJoinByKeys : (List ℕ → Option (List ℕ)) → Option (List ℕ) → Entry → Type 0
+MayJoinByKeys contents named e = MayJoinAs contents named (number_in e.request)
 
 -- Whichever file these keys are those of, who joins between the two worlds may join by it.
 pub record JoinByKeys (contents : List ℕ → Option (List ℕ)) (keys : Option KeysView) (v w : WorldView) : Type 0 where
-  pub added : (named : Option (List ℕ)) → AreHeldFor contents named keys → AreAdded (MayJoin contents named) v.history w.history
+  pub added : (named : Option (List ℕ)) → AreHeldFor contents named keys → AreAdded (MayJoinByKeys contents named) v.history w.history
 
 -- Files and keys stay what they are, and who joins may join by them.
 pub record LetsIn (before now : List ℕ → Option (List ℕ)) (old new : Option KeysView) (v w : WorldView) : Type 0 where

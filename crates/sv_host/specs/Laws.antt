@@ -1,7 +1,7 @@
 -- What is so of a world before anybody has asked anything.
 use Rattle.std.specs.Prelude.{◌≡◌, true}
 use Rattle.sv_worldfile.specs.declared.world_file.WorldFile.{WorldFile}
-use Rattle.sv_office.specs.Trusting.{IsAuthority, IsSerial}
+use Rattle.sv_office.specs.Trusting.{IsAuthority, IsSerialWorld}
 use Rattle.sv_host.specs.Causes.{is_authority, start_in}
 
 -- Where the file says so, the steward's reports alone count.
@@ -10,4 +10,4 @@ FilesGiveAuthority = (file : WorldFile) → is_authority file.results ≡ true �
 
 -- The world of a file is serial.
 abbrev pub FilesAreSerial : Type 0
-FilesAreSerial = (file : WorldFile) → IsSerial (start_in file)
+FilesAreSerial = (file : WorldFile) → IsSerialWorld (start_in file)

@@ -8,7 +8,7 @@ use Rattle.sv_living.specs.World.{WorldView}
 use Rattle.sv_office.specs.Knowing.{IsUpToDate}
 use Rattle.sv_office.specs.Offices.{session_of}
 use Rattle.sv_office.specs.Renewing.{AreHeldFor}
-use Rattle.sv_office.specs.declared.office.Manners.{Manners}
+use Rattle.sv_office.specs.declared.office.Policy.{Policy}
 use Rattle.sv_office.specs.declared.office.Office.{Office}
 use Rattle.sv_host.specs.Words.{Asked}
 use Rattle.sv_host.specs.declared.opening.Staff.{Staff}
@@ -41,8 +41,8 @@ pub record IsStaffFor (asked : Asked) (staff : Staff) : Type 0 where
   pub site : option_map string_bytes staff.site ≡ asked.site
   pub origins : map string_bytes staff.origins.items ≡ asked.origins
 
--- The manners that were asked for.
-abbrev pub manners_for : Asked → Bool → Manners
+-- The policy that were asked for.
+abbrev pub manners_for : Asked → Bool → Policy
 manners_for asked authority = record { idle = asked.idle; report_within = asked.report_within; authority = authority; stops = asked.stops }
 
 -- An office is as it was asked for, before its steward joins.
@@ -50,6 +50,6 @@ pub record IsOfficeFor {F : Type 0} {k : Ghosts F} (asked : Asked) (authority : 
   pub keys : is_some office.keys ≡ is_some asked.keys
   pub steward : is_some office.steward ≡ asked.has_steward
   pub none : session_of office.steward ≡ None
-  pub manners : office.manners ≡ manners_for asked authority
+  pub policy : office.policy ≡ manners_for asked authority
   pub site : option_map string_bytes office.site ≡ asked.site
   pub origins : map string_bytes office.origins.items ≡ asked.origins

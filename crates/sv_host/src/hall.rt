@@ -1,7 +1,7 @@
 //! What opens folders and doors.
 ghost use Rattle.std.specs.Prelude.{◌≡◌, List, ℕ, IfErr, IfOk, OnErr};
 ghost use Rattle.sv_log.specs.Rests.{IsAtRest};
-ghost use Rattle.sv_ports.specs.Told.{Told, nothing_told};
+ghost use Rattle.sv_ports.specs.Traffic.{Traffic, nothing_told};
 ghost use Rattle.sv_host.specs.declared.hall.DoorFault.{DoorFault};
 ghost use Rattle.sv_host.specs.declared.hall.FolderFault.{FolderFault};
 
@@ -47,7 +47,7 @@ pub trait Doors {
     type P: Ports + Drop;
 
     // What the connections of all its doors told, where no door is open.
-    ghost told: { Self → Told };
+    ghost told: { Self → Traffic };
 
     // Why no door is opened at this address.
     ghost refuses: { Self → List ℕ → DoorFault → Type 0 };

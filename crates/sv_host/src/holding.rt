@@ -6,14 +6,14 @@ ghost use Rattle.sv_host.specs.Rooms.{AreServed, Continues, KeepsWritten};
 
 use crate::host::Host;
 use sv_log::Folder;
-use sv_office::{Halt, Waiting};
+use sv_office::{Halt, HeldObserve};
 
 impl<F: Folder> Host<F> {
     // How the held Observe of a connection stands, where it is there.
-    fn standing_of(&self, number: u64) -> Waiting {
+    fn standing_of(&self, number: u64) -> HeldObserve {
         match self.room.guests.get(number) {
             Some(guest) => self.office.standing_of_held(guest.get()),
-            None => Waiting::Nothing,
+            None => HeldObserve::Nothing,
         }
     }
 
@@ -46,12 +46,12 @@ impl<F: Folder> Host<F> {
         ensures nobody { LetsNobodyIn self.old.office.keys self.new.office.keys self.old.office.keeper.world self.new.office.keeper.world }
     {
         match self.standing_of(number) {
-            Waiting::Until(time) => {
+            HeldObserve::Until(time) => {
                 self.room.held_until = self.room.held_until.min(time);
                 self.room.held.push(number)?;
                 Ok(())
             }
-            Waiting::Due | Waiting::Nothing => self.take_off(number),
+            HeldObserve::Due | HeldObserve::Nothing => self.take_off(number),
         }
     }
 

@@ -24,4 +24,4 @@ pub use ending::HostEnd;
 pub use hall::{DoorFault, Doors, FolderFault, Folders};
 pub use laws::worlds_begin_serial;
 pub use options::{Options, options_of};
-pub use top::{Place, run_host};
+pub use top::{HostParts, run_host};

@@ -31,8 +31,8 @@ use sv_core::Opened;
 use sv_keeper::{Keeper, LineCause, OpenFault, Opening};
 use sv_keys::{Keys, KeysFault};
 use sv_living::Stewards;
-use sv_log::{Cause, Folder, Refusal};
-use sv_office::{Ages, Manners, Office, STEWARD_NUMBER, Steward};
+use sv_log::{Cause, Folder, LogRefusal};
+use sv_office::{Ages, Office, Policy, STEWARD_NUMBER, Steward};
 use sv_site::Counts;
 use sv_world::Shape;
 use sv_worldfile::{
@@ -136,7 +136,7 @@ fn file_place(alloc: Global, file: &str, line: u64, word: &str) -> Result<String
     }
 }
 
-fn refused(alloc: Global, folder: &str, refusal: &Refusal) -> Result<HostEnd, AllocError>
+fn refused(alloc: Global, folder: &str, refusal: &LogRefusal) -> Result<HostEnd, AllocError>
     ensures { IfOk result (EndsUnopened folder.now (OpenFault.Refused refusal.now)) }
 {
     match refusal.cause {
@@ -347,10 +347,10 @@ pub fn staff_of(
 }
 
 /// How the server is to behave.
-pub fn manners_of(options: &Options<'_>, authority: bool) -> Manners
+pub fn manners_of(options: &Options<'_>, authority: bool) -> Policy
     ensures { result ≡ manners_for (asked_by options.now) authority }
 {
-    Manners {
+    Policy {
         idle: options.idle,
         report_within: options.report_within,
         authority,
@@ -364,7 +364,7 @@ fn office_of<F: Folder + Drop>(
     keeper: Keeper<F>,
     staff: Staff,
     random: RandomState,
-    manners: Manners,
+    policy: Policy,
 ) -> Office<F>
     requires limits { AreWithinLimits keeper.world.rules }
     requires none { session_of staff.steward ≡ None }
@@ -372,7 +372,7 @@ fn office_of<F: Folder + Drop>(
     ensures keeper { result.keeper ≡ keeper }
     ensures keys { result.keys ≡ staff.keys }
     ensures steward { result.steward ≡ staff.steward }
-    ensures manners { result.manners ≡ manners }
+    ensures policy { result.policy ≡ policy }
     ensures site { result.site ≡ staff.site }
     ensures origins { result.origins ≡ staff.origins }
 {
@@ -385,7 +385,7 @@ fn office_of<F: Folder + Drop>(
     Office {
         alloc,
         keeper,
-        manners,
+        policy,
         counts: Counts::default(),
         steward,
         keys,
@@ -403,7 +403,7 @@ pub fn host_of<F: Folder + Drop>(
     keeper: Keeper<F>,
     staff: Staff,
     random: RandomState,
-    manners: Manners,
+    policy: Policy,
 ) -> Host<F>
     requires limits { AreWithinLimits keeper.world.rules }
     requires none { session_of staff.steward ≡ None }
@@ -411,13 +411,13 @@ pub fn host_of<F: Folder + Drop>(
     ensures keeper { result.office.keeper ≡ keeper }
     ensures keys { result.office.keys ≡ staff.keys }
     ensures steward { result.office.steward ≡ staff.steward }
-    ensures manners { result.office.manners ≡ manners }
+    ensures policy { result.office.policy ≡ policy }
     ensures site { result.office.site ≡ staff.site }
     ensures origins { result.office.origins ≡ staff.origins }
     ensures nobody { result.room.guests ≡ [] }
 {
     let entries = keeper.entries();
-    let office = office_of(alloc, keeper, staff, random, manners);
+    let office = office_of(alloc, keeper, staff, random, policy);
     let room = Room::new(alloc, entries);
     Host {
         alloc,

@@ -1,4 +1,4 @@
-//! Sending what was answered, once it is settled.
+//! Sending what was answered, once it is durable.
 ghost use Rattle.std.specs.Prelude.{◌≡◌, ℕ, Option, OnOk};
 ghost use Rattle.sv_living.specs.World.{WorldView};
 ghost use Rattle.sv_office.specs.Offices.{session_of};
@@ -9,7 +9,7 @@ use crate::boxed::BoxedGuest;
 use crate::host::Host;
 use crate::room::Room;
 use std::alloc::Global;
-use sv_keeper::Settled;
+use sv_keeper::Durable;
 use sv_log::Folder;
 use sv_office::{FULL, Guest, Halt, Standing};
 use sv_ports::{Numbered, PortWrote, Ports};
@@ -24,7 +24,7 @@ fn flush<P: Ports>(
     number: u64,
     guest: &mut Guest,
     counts: &mut Counts,
-    settled: &Settled<'_>,
+    durable: &Durable<'_>,
 )
     ensures guest { WasSent guest.old guest.new }
     ensures bytes { Sends number guest.old.peer guest.new.peer (P.told ports.old) (P.told ports.new) }
@@ -33,7 +33,7 @@ fn flush<P: Ports>(
         if guest.peer.output().is_empty() {
             break;
         }
-        match ports.write(number, guest.peer.output(), settled) {
+        match ports.write(number, guest.peer.output(), durable) {
             PortWrote::Took(count) => {
                 counts.went(count);
                 guest.peer.sent(count);
@@ -74,13 +74,13 @@ fn send_out<P: Ports>(
     number: u64,
     guest: &mut Guest,
     counts: &mut Counts,
-    settled: &Settled<'_>,
+    durable: &Durable<'_>,
 ) -> Then
     ensures guest { WasSent guest.old guest.new }
     ensures bytes { Sends number guest.old.peer guest.new.peer (P.told ports.old) (P.told ports.new) }
 {
     if guest.standing != Standing::Gone {
-        flush(ports, number, guest, counts, settled);
+        flush(ports, number, guest, counts, durable);
     }
     guest.had_turn = false;
     then_of(guest)
@@ -92,7 +92,7 @@ fn send_to<P: Ports>(
     guests: &mut Numbered<BoxedGuest>,
     number: u64,
     counts: &mut Counts,
-    settled: &Settled<'_>,
+    durable: &Durable<'_>,
 ) -> Then
     ensures served { (v : WorldView) (steward : Option ℕ) → AreServed v steward guests.old → AreServed v steward guests.new }
     ensures written { (v : WorldView) → AreWritten v (P.told ports.old) guests.old → AreWritten v (P.told ports.new) guests.new }
@@ -101,7 +101,7 @@ fn send_to<P: Ports>(
     let Some(mut guest) = guests.take(number) else {
         return Then::Waits;
     };
-    let then = send_out(ports, number, guest.get_mut(), counts, settled);
+    let then = send_out(ports, number, guest.get_mut(), counts, durable);
     let _ = guest.get().peer.output();
     guests.put(number, guest);
     then
@@ -114,7 +114,7 @@ fn send_each<P: Ports>(
     room: &mut Room,
     numbers: &[u64],
     counts: &mut Counts,
-    settled: &Settled<'_>,
+    durable: &Durable<'_>,
 ) -> Result<Vec<u64>, Halt>
     ensures served { (v : WorldView) (steward : Option ℕ) → AreServed v steward room.old.guests → AreServed v steward room.new.guests }
     ensures written { (v : WorldView) → AreWritten v (P.told ports.old) room.old.guests → AreWritten v (P.told ports.new) room.new.guests }
@@ -122,7 +122,7 @@ fn send_each<P: Ports>(
 {
     let mut gone = Vec::new(alloc);
     for number in numbers {
-        match send_to(ports, &mut room.guests, *number, counts, settled) {
+        match send_to(ports, &mut room.guests, *number, counts, durable) {
             Then::Waits => {}
             Then::GoesOn => room.busy.push(*number)?,
             Then::Goes => gone.push(*number)?,
@@ -132,8 +132,8 @@ fn send_each<P: Ports>(
 }
 
 impl<F: Folder> Host<F> {
-    // Settles all that was stepped.
-    fn settle(&mut self) -> Result<(), Halt>
+    // Makes all durable that was stepped.
+    fn make_durable(&mut self) -> Result<(), Halt>
         requires served { AreServed self.old.office.keeper.world (session_of self.old.office.steward) self.old.room.guests }
         ensures served { AreServed self.new.office.keeper.world (session_of self.new.office.steward) self.new.room.guests }
         ensures written { KeepsWritten self.old.office.keeper.world self.old.room.guests self.new.office.keeper.world self.new.room.guests }
@@ -141,14 +141,14 @@ impl<F: Folder> Host<F> {
         ensures keys { self.new.office.keys ≡ self.old.office.keys }
     {
         let office = &mut self.office;
-        match office.keeper.settle() {
+        match office.keeper.make_durable() {
             Ok(()) => Ok(()),
             Err(_) => Err(Halt::Log),
         }
     }
 
-    // Sends to each of these, where all is settled, and gives those that are over.
-    fn send_settled<P: Ports>(&mut self, ports: &mut P, numbers: &[u64]) -> Result<Vec<u64>, Halt>
+    // Sends to each of these, where all is durable, and gives those that are over.
+    fn send_durable<P: Ports>(&mut self, ports: &mut P, numbers: &[u64]) -> Result<Vec<u64>, Halt>
         requires served { AreServed self.old.office.keeper.world (session_of self.old.office.steward) self.old.room.guests }
         ensures served { AreServed self.new.office.keeper.world (session_of self.new.office.steward) self.new.room.guests }
         ensures written { AreWritten self.old.office.keeper.world (P.told ports.old) self.old.room.guests → AreWritten self.new.office.keeper.world (P.told ports.new) self.new.room.guests }
@@ -158,7 +158,7 @@ impl<F: Folder> Host<F> {
     {
         let mut counts = self.office.counts;
         let office = &self.office;
-        let Some(settled) = office.keeper.settled() else {
+        let Some(durable) = office.keeper.durable() else {
             return Err(Halt::Log);
         };
         let gone = send_each(
@@ -167,9 +167,9 @@ impl<F: Folder> Host<F> {
             &mut self.room,
             numbers,
             &mut counts,
-            &settled,
+            &durable,
         );
-        drop(settled);
+        drop(durable);
         self.office.counts = counts;
         gone
     }
@@ -190,7 +190,7 @@ impl<F: Folder> Host<F> {
         Ok(())
     }
 
-    /// Settles, and sends to each connection that was touched. Those that are over then are closed.
+    /// Makes all durable, and sends to each connection that was touched. Those that are over then are closed.
     pub fn send<P: Ports>(&mut self, ports: &mut P) -> Result<(), Halt>
         requires served { AreServed self.old.office.keeper.world (session_of self.old.office.steward) self.old.room.guests }
         ensures served { OnOk result (AreServed self.new.office.keeper.world (session_of self.new.office.steward) self.new.room.guests) }
@@ -200,9 +200,9 @@ impl<F: Folder> Host<F> {
         ensures past { AreWritten self.old.office.keeper.world (P.told ports.old) self.old.room.guests → WereWritten AnyEntry (P.told ports.new) self.old.office.keeper.world self.new.office.keeper.world }
         ensures input { OnOk result (LeftInput (P.told ports.old) (P.told ports.new)) }
     {
-        self.settle()?;
+        self.make_durable()?;
         let mut touched = std::mem::replace(&mut self.room.touched, Vec::new(self.alloc));
-        let gone = self.send_settled(ports, &touched)?;
+        let gone = self.send_durable(ports, &touched)?;
         // Its room is used again.
         touched.clear();
         self.room.touched = touched;

@@ -2,15 +2,15 @@
 ghost use Rattle.std.specs.Prelude.{◌≡◌, [], Option, OnOk};
 ghost use Rattle.sv_journal.specs.Laws.{AreWithinLimits};
 ghost use Rattle.sv_living.specs.Sessions.{open_sessions, AreInOrder};
-ghost use Rattle.sv_keeper.specs.Keeping.{AreSettled};
+ghost use Rattle.sv_keeper.specs.Keeping.{AreDurable};
 ghost use Rattle.sv_office.specs.Entering.{GoesOn};
 ghost use Rattle.sv_office.specs.Knowing.{IsTrusted};
 ghost use Rattle.sv_office.specs.Offices.{session_of};
 ghost use Rattle.sv_office.specs.declared.steward.Steward.{Steward};
-ghost use Rattle.sv_ports.specs.Told.{nothing_told};
+ghost use Rattle.sv_ports.specs.Traffic.{nothing_told};
 ghost use Rattle.sv_host.specs.Inputs.{WasToldToStop};
 ghost use Rattle.sv_host.specs.Joining.{JoinByKeys, LetsNobodyIn};
-ghost use Rattle.sv_host.specs.Rooms.{AnyEntry, AreServed, AreTold, AreWritten, Continues, IsAnEnd, KeepsWritten, LeftInput, WereWritten};
+ghost use Rattle.sv_host.specs.Rooms.{AnyEntry, AreServed, AllWereTold, AreWritten, Continues, IsAnEnd, KeepsWritten, LeftInput, WereWritten};
 
 use crate::host::Host;
 use crate::input::InputLines;
@@ -47,25 +47,25 @@ fn end_each<F: Folder>(keeper: &mut Keeper<F>) -> Result<(), Halt>
     Err(Halt::Log)
 }
 
-// Enters the End of each session that is open, and settles.
+// Enters the End of each session that is open, and makes it durable.
 fn end_all<F: Folder>(keeper: &mut Keeper<F>) -> Result<(), Halt>
     requires limits { AreWithinLimits keeper.old.world.rules }
     ensures ended { OnOk result (open_sessions keeper.new.world.history ≡ []) }
-    ensures settled { OnOk result (AreSettled F.disk F.is_honest keeper.new) }
+    ensures durable { OnOk result (AreDurable F.disk F.is_honest keeper.new) }
     ensures added { GoesOn IsAnEnd keeper.old.world keeper.new.world }
     ensures order { OnOk result (AreInOrder keeper.new.world.history) }
     ensures trusted { (steward : Option Steward) → IsTrusted keeper.old steward → IsTrusted keeper.new steward }
 {
     end_each(keeper)?;
     keeper.is_lawful();
-    match keeper.settle() {
+    match keeper.make_durable() {
         Ok(()) => Ok(()),
         Err(_) => Err(Halt::Log),
     }
 }
 
 impl<F: Folder> Host<F> {
-    /// Serves until it is told to stop. Then each session has its End, and all is settled.
+    /// Serves until it is told to stop. Then each session has its End, and all is durable.
     #[tactic(auto, using(crate::proofs::Behind::read_nothing, crate::proofs::Written::continues_then, crate::proofs::Written::continues_same))]
     pub fn serve<R: Wait, P: Ports, C: Clock, L: Files, E: Sink>(
         &mut self,
@@ -76,8 +76,8 @@ impl<F: Folder> Host<F> {
     ) -> Result<(), Halt>
         requires served { AreServed self.old.office.keeper.world (session_of self.old.office.steward) self.old.room.guests }
         ensures ended { OnOk result (open_sessions self.new.office.keeper.world.history ≡ []) }
-        ensures settled { OnOk result (AreSettled F.disk F.is_honest self.new.office.keeper) }
-        ensures told { OnOk result (AreTold self.new.office.keeper.world self.new.room.guests) }
+        ensures durable { OnOk result (AreDurable F.disk F.is_honest self.new.office.keeper) }
+        ensures told { OnOk result (AllWereTold self.new.office.keeper.world self.new.room.guests) }
         ensures written { OnOk result (AreWritten self.old.office.keeper.world (P.told outside.old.ports.now) self.old.room.guests → AreWritten self.new.office.keeper.world (P.told outside.new.ports.now) self.new.room.guests) }
         ensures goes { Continues self.old.office.keeper.world self.new.office.keeper.world }
         ensures joins { JoinByKeys (L.contents outside.old.files.now) self.old.office.keys self.old.office.keeper.world self.new.office.keeper.world }
@@ -141,12 +141,12 @@ impl<F: Folder> Host<F> {
         Ok(())
     }
 
-    // Sends what was stepped, enters the End of each session, and settles.
+    // Sends what was stepped, enters the End of each session, and makes it durable.
     fn stop<P: Ports>(&mut self, ports: &mut P) -> Result<(), Halt>
         requires served { AreServed self.old.office.keeper.world (session_of self.old.office.steward) self.old.room.guests }
         ensures ended { OnOk result (open_sessions self.new.office.keeper.world.history ≡ []) }
-        ensures settled { OnOk result (AreSettled F.disk F.is_honest self.new.office.keeper) }
-        ensures told { OnOk result (AreTold self.new.office.keeper.world self.new.room.guests) }
+        ensures durable { OnOk result (AreDurable F.disk F.is_honest self.new.office.keeper) }
+        ensures told { OnOk result (AllWereTold self.new.office.keeper.world self.new.room.guests) }
         ensures written { OnOk result (AreWritten self.old.office.keeper.world (P.told ports.old) self.old.room.guests → AreWritten self.new.office.keeper.world (P.told ports.new) self.new.room.guests) }
         ensures goes { Continues self.old.office.keeper.world self.new.office.keeper.world }
         ensures nobody { LetsNobodyIn self.old.office.keys self.new.office.keys self.old.office.keeper.world self.new.office.keeper.world }

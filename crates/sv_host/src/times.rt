@@ -21,7 +21,7 @@ impl<F: Folder> Host<F> {
             Some(guest) => {
                 let guest = guest.get();
                 guest.held.is_none()
-                    && self.office.time.saturating_sub(guest.heard) >= self.office.manners.idle
+                    && self.office.time.saturating_sub(guest.heard) >= self.office.policy.idle
             }
             None => false,
         }
@@ -98,7 +98,7 @@ impl<F: Folder> Host<F> {
     // Whether a turn has something to do at once.
     fn is_pressed(&self) -> bool {
         !self.room.busy.is_empty()
-            || !self.office.keeper.is_settled()
+            || !self.office.keeper.is_durable()
             || (self.room.ready.door && !self.room.door_fails)
     }
 

@@ -7,15 +7,15 @@ ghost use Rattle.sv_journal.specs.Laws.{AreWithinLimits};
 ghost use Rattle.sv_living.specs.Sessions.{open_sessions, AreInOrder};
 ghost use Rattle.sv_living.specs.World.{heeded_in};
 ghost use Rattle.sv_worldfile.specs.Limits.{IsGoodWorldFile};
-ghost use Rattle.sv_ports.specs.Told.{nothing_told};
+ghost use Rattle.sv_ports.specs.Traffic.{nothing_told};
 ghost use Rattle.sv_office.specs.Offices.{session_of};
 ghost use Rattle.sv_office.specs.Renewing.{AreHeldFor};
 ghost use Rattle.sv_host.specs.Causes.{EndsFor, HasStopped, IsAtEnd, IsHalted, IsPrepared, WasServed, WhyBehind, WhyEnds, WhyStopped, WroteFirst};
 ghost use Rattle.sv_host.specs.Inputs.{WasToldToStop};
-ghost use Rattle.sv_host.specs.Joining.{JoinByKeys, LetsStewardIn, MayJoin};
+ghost use Rattle.sv_host.specs.Joining.{JoinByKeys, LetsStewardIn, MayJoinByKeys};
 ghost use Rattle.sv_host.specs.Lines.{standing_line};
 ghost use Rattle.sv_host.specs.Rooms.{AnyEntry, AreServed, Continues, IsAnEnd};
-ghost use Rattle.sv_host.specs.Served.{BreaksOff, OnlyWrote};
+ghost use Rattle.sv_host.specs.Served.{HostBreaksOff, OnlyWrote};
 ghost use Rattle.sv_host.specs.Staffing.{AreRead, IsOfficeFor, IsStaffFor};
 ghost use Rattle.sv_host.specs.Statuses.{EndsBy, IsEarly, IsStatus, IsToldLast};
 ghost use Rattle.sv_host.specs.Words.{AsksNothing, asked_by};
@@ -74,7 +74,7 @@ fn door_of<D: Doors>(alloc: Global, options: &Options<'_>, doors: &mut D) -> Res
 
 /// What the server works with. Each is borrowed for itself.
 #[derive(Drop)]
-pub struct Place<'r, 'd, 's, 'c, 'l, 'e, R, D, S, C, L, E> {
+pub struct HostParts<'r, 'd, 's, 'c, 'l, 'e, R, D, S, C, L, E> {
     pub rt: &'r R,
     pub alloc: Global,
     pub random: RandomState,
@@ -85,7 +85,7 @@ pub struct Place<'r, 'd, 's, 'c, 'l, 'e, R, D, S, C, L, E> {
     pub err: &'e mut E,
 }
 
-// The steward joins, before anybody is there.
+// The steward joins and reports what is due, and all is made durable, before anybody is there.
 #[tactic(auto, using(crate::proofs::Top2::none_served))]
 fn begin<F: Folder>(host: &mut Host<F>) -> Result<(), Halt>
     requires nobody { host.old.room.guests ≡ [] }
@@ -144,7 +144,7 @@ fn tell_door<D: Doors, E: Sink, F: Folder>(
 // Serves who comes through a door that was opened, until it is told to stop, and tells where it is.
 #[tactic(auto, using(crate::proofs::Through::nothing_wrote, crate::proofs::Written::continues_same, crate::proofs::Joined::join_same))]
 fn serve_door<R: Wait, D: Doors, S, C: Clock, L: Files, E: Sink, F: Folder>(
-    place: &mut Place<'_, '_, '_, '_, '_, '_, R, D, S, C, L, E>,
+    parts: &mut HostParts<'_, '_, '_, '_, '_, '_, R, D, S, C, L, E>,
     options: &Options<'_>,
     ports: &mut D::P,
     host: &mut Host<F>,
@@ -153,27 +153,27 @@ fn serve_door<R: Wait, D: Doors, S, C: Clock, L: Files, E: Sink, F: Folder>(
     requires nobody { host.old.room.guests ≡ [] }
     ensures done { OnOk result (IsAtEnd F.disk F.is_honest host.new.office.keeper) }
     ensures goes { Continues host.old.office.keeper.world host.new.office.keeper.world }
-    ensures joins { JoinByKeys (L.contents place.old.files.now) host.old.office.keys host.old.office.keeper.world host.new.office.keeper.world }
+    ensures joins { JoinByKeys (L.contents parts.old.files.now) host.old.office.keys host.old.office.keeper.world host.new.office.keeper.world }
     ensures last { OnOk result (OnlyWrote IsAnEnd (D.P.told ports.old) (D.P.told ports.new) host.old.office.keeper.world host.new.office.keeper.world) }
     ensures asked { OnOk result (D.P.told ports.old ≡ nothing_told → WasToldToStop (D.P.told ports.new)) }
     ensures sent { OnlyWrote AnyEntry (D.P.told ports.old) (D.P.told ports.new) host.old.office.keeper.world host.new.office.keeper.world }
 {
     tell_door(
-        place.alloc,
+        parts.alloc,
         options,
-        place.doors,
+        parts.doors,
         ports,
         &host.office.keeper,
-        place.err,
+        parts.err,
     );
-    let mut piece = vec![in place.alloc; 0u8; PIECE]?;
+    let mut piece = vec![in parts.alloc; 0u8; PIECE]?;
     serve_over(
-        place.rt,
+        parts.rt,
         ports,
-        place.files,
-        place.err,
+        parts.files,
+        parts.err,
         piece.as_mut_slice(),
-        place.clock,
+        parts.clock,
         host,
     )
 }
@@ -181,72 +181,72 @@ fn serve_door<R: Wait, D: Doors, S, C: Clock, L: Files, E: Sink, F: Folder>(
 // The door is opened, it is served, and the door is closed.
 #[tactic(auto, using(crate::proofs::Top2::halted_why, crate::proofs::Through::nothing_wrote, crate::proofs::Through::between_wrote, crate::proofs::Through::between_asked, crate::proofs::Written::continues_same, crate::proofs::Joined::join_same))]
 fn serve_between<R: Wait, D: Doors, S, C: Clock, L: Files, E: Sink, F: Folder>(
-    place: &mut Place<'_, '_, '_, '_, '_, '_, R, D, S, C, L, E>,
+    parts: &mut HostParts<'_, '_, '_, '_, '_, '_, R, D, S, C, L, E>,
     options: &Options<'_>,
     host: &mut Host<F>,
 ) -> Result<(), HostEnd>
     requires served { AreServed host.old.office.keeper.world (session_of host.old.office.steward) host.old.room.guests }
     requires nobody { host.old.room.guests ≡ [] }
     ensures done { OnOk result (IsAtEnd F.disk F.is_honest host.new.office.keeper) }
-    ensures why { IfErr result (WhyStopped (D.refuses place.old.doors.now options.now.at.now) options.now.at.now) }
+    ensures why { IfErr result (WhyStopped (D.refuses parts.old.doors.now options.now.at.now) options.now.at.now) }
     ensures goes { Continues host.old.office.keeper.world host.new.office.keeper.world }
-    ensures joins { JoinByKeys (L.contents place.old.files.now) host.old.office.keys host.old.office.keeper.world host.new.office.keeper.world }
-    ensures last { OnOk result (OnlyWrote IsAnEnd (D.told place.old.doors.now) (D.told place.new.doors.now) host.old.office.keeper.world host.new.office.keeper.world) }
-    ensures asked { OnOk result (D.told place.old.doors.now ≡ nothing_told → WasToldToStop (D.told place.new.doors.now)) }
-    ensures sent { OnlyWrote AnyEntry (D.told place.old.doors.now) (D.told place.new.doors.now) host.old.office.keeper.world host.new.office.keeper.world }
+    ensures joins { JoinByKeys (L.contents parts.old.files.now) host.old.office.keys host.old.office.keeper.world host.new.office.keeper.world }
+    ensures last { OnOk result (OnlyWrote IsAnEnd (D.told parts.old.doors.now) (D.told parts.new.doors.now) host.old.office.keeper.world host.new.office.keeper.world) }
+    ensures asked { OnOk result (D.told parts.old.doors.now ≡ nothing_told → WasToldToStop (D.told parts.new.doors.now)) }
+    ensures sent { OnlyWrote AnyEntry (D.told parts.old.doors.now) (D.told parts.new.doors.now) host.old.office.keeper.world host.new.office.keeper.world }
 {
-    let mut ports = door_of(place.alloc, options, place.doors)?;
-    let served = serve_door(place, options, &mut ports, host);
-    place.doors.close(ports);
+    let mut ports = door_of(parts.alloc, options, parts.doors)?;
+    let served = serve_door(parts, options, &mut ports, host);
+    parts.doors.close(ports);
     match served {
         Ok(()) => Ok(()),
-        Err(halt) => Err(halted(place.alloc, host, halt)?),
+        Err(halt) => Err(halted(parts.alloc, host, halt)?),
     }
 }
 
 // The steward joins, and then it is served, until it is told to stop.
 #[tactic(auto, using(crate::proofs::Top2::halted_why, crate::proofs::Through::nothing_wrote, crate::proofs::Written::continues_then))]
 fn serve_at<R: Wait, D: Doors, S, C: Clock, L: Files, E: Sink, F: Folder>(
-    place: &mut Place<'_, '_, '_, '_, '_, '_, R, D, S, C, L, E>,
+    parts: &mut HostParts<'_, '_, '_, '_, '_, '_, R, D, S, C, L, E>,
     options: &Options<'_>,
     host: &mut Host<F>,
 ) -> Result<(), HostEnd>
     requires nobody { host.old.room.guests ≡ [] }
     ensures done { OnOk result (IsAtEnd F.disk F.is_honest host.new.office.keeper) }
-    ensures why { IfErr result (WhyStopped (D.refuses place.old.doors.now options.now.at.now) options.now.at.now) }
+    ensures why { IfErr result (WhyStopped (D.refuses parts.old.doors.now options.now.at.now) options.now.at.now) }
     ensures goes { Continues host.old.office.keeper.world host.new.office.keeper.world }
-    ensures joins { JoinByKeys (L.contents place.old.files.now) host.old.office.keys host.old.office.keeper.world host.new.office.keeper.world }
-    ensures last { OnOk result (OnlyWrote IsAnEnd (D.told place.old.doors.now) (D.told place.new.doors.now) host.old.office.keeper.world host.new.office.keeper.world) }
-    ensures asked { OnOk result (D.told place.old.doors.now ≡ nothing_told → WasToldToStop (D.told place.new.doors.now)) }
-    ensures sent { OnlyWrote AnyEntry (D.told place.old.doors.now) (D.told place.new.doors.now) host.old.office.keeper.world host.new.office.keeper.world }
+    ensures joins { JoinByKeys (L.contents parts.old.files.now) host.old.office.keys host.old.office.keeper.world host.new.office.keeper.world }
+    ensures last { OnOk result (OnlyWrote IsAnEnd (D.told parts.old.doors.now) (D.told parts.new.doors.now) host.old.office.keeper.world host.new.office.keeper.world) }
+    ensures asked { OnOk result (D.told parts.old.doors.now ≡ nothing_told → WasToldToStop (D.told parts.new.doors.now)) }
+    ensures sent { OnlyWrote AnyEntry (D.told parts.old.doors.now) (D.told parts.new.doors.now) host.old.office.keeper.world host.new.office.keeper.world }
 {
     if let Err(halt) = begin(host) {
-        return Err(halted(place.alloc, host, halt)?);
+        return Err(halted(parts.alloc, host, halt)?);
     }
-    serve_between(place, options, host)
+    serve_between(parts, options, host)
 }
 
 // Serves a world, and answers how it stands then.
 #[tactic(auto, using(crate::proofs::Through::nothing_wrote, crate::proofs::Written::continues_same, crate::proofs::Joined::join_same))]
 fn serve_host<R: Wait, D: Doors, S, C: Clock, L: Files, E: Sink, F: Folder>(
-    place: &mut Place<'_, '_, '_, '_, '_, '_, R, D, S, C, L, E>,
+    parts: &mut HostParts<'_, '_, '_, '_, '_, '_, R, D, S, C, L, E>,
     options: &Options<'_>,
     host: &mut Host<F>,
 ) -> Result<Stopped, HostEnd>
     requires nobody { host.old.room.guests ≡ [] }
-    requires office { IsOfficeFor (asked_by options.now) host.old.office.manners.authority host.old.office }
+    requires office { IsOfficeFor (asked_by options.now) host.old.office.policy.authority host.old.office }
     requires ended { open_sessions host.old.office.keeper.world.history ≡ [] }
     requires order { AreInOrder host.old.office.keeper.world.history }
-    ensures done { (named : Option (List ℕ)) → AreHeldFor (L.contents place.old.files.now) named host.old.office.keys
-        → IfOk result (HasStopped F.disk F.is_honest (MayJoin (L.contents place.old.files.now) named) host.old.office.keeper
-        (D.told place.old.doors.now) (D.told place.new.doors.now) options.now.folder.now) }
-    ensures why { IfErr result (WhyStopped (D.refuses place.old.doors.now options.now.at.now) options.now.at.now) }
+    ensures done { (named : Option (List ℕ)) → AreHeldFor (L.contents parts.old.files.now) named host.old.office.keys
+        → IfOk result (HasStopped F.disk F.is_honest (MayJoinByKeys (L.contents parts.old.files.now) named) host.old.office.keeper
+        (D.told parts.old.doors.now) (D.told parts.new.doors.now) options.now.folder.now) }
+    ensures why { IfErr result (WhyStopped (D.refuses parts.old.doors.now options.now.at.now) options.now.at.now) }
     ensures goes { Continues host.old.office.keeper.world host.new.office.keeper.world }
-    ensures joins { JoinByKeys (L.contents place.old.files.now) host.old.office.keys host.old.office.keeper.world host.new.office.keeper.world }
-    ensures sent { OnlyWrote AnyEntry (D.told place.old.doors.now) (D.told place.new.doors.now) host.old.office.keeper.world host.new.office.keeper.world }
+    ensures joins { JoinByKeys (L.contents parts.old.files.now) host.old.office.keys host.old.office.keeper.world host.new.office.keeper.world }
+    ensures sent { OnlyWrote AnyEntry (D.told parts.old.doors.now) (D.told parts.new.doors.now) host.old.office.keeper.world host.new.office.keeper.world }
 {
-    let folder = owned(place.alloc, options.folder)?;
-    serve_at(place, options, host)?;
+    let folder = owned(parts.alloc, options.folder)?;
+    serve_at(parts, options, host)?;
     let keeper = &host.office.keeper;
     Ok(Stopped {
         folder,
@@ -257,7 +257,7 @@ fn serve_host<R: Wait, D: Doors, S, C: Clock, L: Files, E: Sink, F: Folder>(
 
 // Serves a kept world.
 fn serve_kept<R: Wait, D: Doors, S, C: Clock, L: Files, E: Sink, F: Folder + Drop>(
-    place: &mut Place<'_, '_, '_, '_, '_, '_, R, D, S, C, L, E>,
+    parts: &mut HostParts<'_, '_, '_, '_, '_, '_, R, D, S, C, L, E>,
     options: &Options<'_>,
     keeper: Keeper<F>,
     staff: Staff,
@@ -266,18 +266,18 @@ fn serve_kept<R: Wait, D: Doors, S, C: Clock, L: Files, E: Sink, F: Folder + Dro
     requires limits { AreWithinLimits keeper.world.rules }
     requires ended { open_sessions keeper.world.history ≡ [] }
     requires staff { IsStaffFor (asked_by options.now) staff }
-    ensures done { (named : Option (List ℕ)) → AreHeldFor (L.contents place.old.files.now) named staff.keys
-        → IfOk result (HasStopped F.disk F.is_honest (MayJoin (L.contents place.old.files.now) named) keeper
-        (D.told place.old.doors.now) (D.told place.new.doors.now) options.now.folder.now) }
-    ensures why { IfErr result (WhyStopped (D.refuses place.old.doors.now options.now.at.now) options.now.at.now) }
-    ensures broke { (named : Option (List ℕ)) → AreHeldFor (L.contents place.old.files.now) named staff.keys
-        → BreaksOff (MayJoin (L.contents place.old.files.now) named) (D.told place.old.doors.now) (D.told place.new.doors.now) keeper.world }
+    ensures done { (named : Option (List ℕ)) → AreHeldFor (L.contents parts.old.files.now) named staff.keys
+        → IfOk result (HasStopped F.disk F.is_honest (MayJoinByKeys (L.contents parts.old.files.now) named) keeper
+        (D.told parts.old.doors.now) (D.told parts.new.doors.now) options.now.folder.now) }
+    ensures why { IfErr result (WhyStopped (D.refuses parts.old.doors.now options.now.at.now) options.now.at.now) }
+    ensures broke { (named : Option (List ℕ)) → AreHeldFor (L.contents parts.old.files.now) named staff.keys
+        → HostBreaksOff (MayJoinByKeys (L.contents parts.old.files.now) named) (D.told parts.old.doors.now) (D.told parts.new.doors.now) keeper.world }
 {
-    tell_keeper("start", options.folder, &keeper, place.err);
+    tell_keeper("start", options.folder, &keeper, parts.err);
     keeper.is_lawful();
-    let manners = manners_of(options, authority);
-    let mut host = host_of(place.alloc, keeper, staff, place.random, manners);
-    let served = serve_host(place, options, &mut host);
+    let policy = manners_of(options, authority);
+    let mut host = host_of(parts.alloc, keeper, staff, parts.random, policy);
+    let served = serve_host(parts, options, &mut host);
     // However it ended.
     host.office.keeper.is_lawful();
     served
@@ -286,7 +286,7 @@ fn serve_kept<R: Wait, D: Doors, S, C: Clock, L: Files, E: Sink, F: Folder + Dro
 // Opens the folder, and serves its world.
 #[tactic(auto, using(crate::proofs::Top2::folder_behind, crate::proofs::Rules::limits_in))]
 fn serve_prepared<R: Wait, D: Doors, S: Folders, C: Clock, L: Files, E: Sink>(
-    place: &mut Place<'_, '_, '_, '_, '_, '_, R, D, S, C, L, E>,
+    parts: &mut HostParts<'_, '_, '_, '_, '_, '_, R, D, S, C, L, E>,
     options: &Options<'_>,
     prepared: Prepared,
     staff: Staff,
@@ -294,23 +294,23 @@ fn serve_prepared<R: Wait, D: Doors, S: Folders, C: Clock, L: Files, E: Sink>(
     requires good { IsGoodWorldFile prepared.file }
     requires staff { IsStaffFor (asked_by options.now) staff }
     ensures done { (contents : List ℕ → Option (List ℕ)) → IsPrepared (contents options.now.world.now) (asked_by options.now) prepared.file prepared.bytes.items
-        → AreRead contents (L.contents place.old.files.now) (asked_by options.now).keys staff.keys
-        → IfOk result (WasServed S.F.disk S.F.is_honest (S.opens place.old.folders.now) contents (D.told place.old.doors.now) (D.told place.new.doors.now)
+        → AreRead contents (L.contents parts.old.files.now) (asked_by options.now).keys staff.keys
+        → IfOk result (WasServed S.F.disk S.F.is_honest (S.opens parts.old.folders.now) contents (D.told parts.old.doors.now) (D.told parts.new.doors.now)
         (asked_by options.now)) }
     ensures why { (contents : List ℕ → Option (List ℕ)) → IsPrepared (contents options.now.world.now) (asked_by options.now) prepared.file prepared.bytes.items
-        → AreRead contents (L.contents place.old.files.now) (asked_by options.now).keys staff.keys
-        → IfErr result (WhyBehind S.F.disk S.F.is_honest (S.opens place.old.folders.now) contents (D.told place.old.doors.now) (D.told place.new.doors.now)
-        S.F.faults (S.refuses place.old.folders.now) (D.refuses place.old.doors.now) (asked_by options.now)) }
+        → AreRead contents (L.contents parts.old.files.now) (asked_by options.now).keys staff.keys
+        → IfErr result (WhyBehind S.F.disk S.F.is_honest (S.opens parts.old.folders.now) contents (D.told parts.old.doors.now) (D.told parts.new.doors.now)
+        S.F.faults (S.refuses parts.old.folders.now) (D.refuses parts.old.doors.now) (asked_by options.now)) }
     ensures wrote { (contents : List ℕ → Option (List ℕ)) → IsPrepared (contents options.now.world.now) (asked_by options.now) prepared.file prepared.bytes.items
-        → AreRead contents (L.contents place.old.files.now) (asked_by options.now).keys staff.keys
-        → OnErr result (WroteFirst S.F.disk S.F.is_honest (S.opens place.old.folders.now) contents (D.told place.old.doors.now) (D.told place.new.doors.now)
+        → AreRead contents (L.contents parts.old.files.now) (asked_by options.now).keys staff.keys
+        → OnErr result (WroteFirst S.F.disk S.F.is_honest (S.opens parts.old.folders.now) contents (D.told parts.old.doors.now) (D.told parts.new.doors.now)
         (asked_by options.now)) }
 {
-    let alloc = place.alloc;
+    let alloc = parts.alloc;
     let authority = is_authority(prepared.file.results);
-    let folder = folder_of(alloc, options, place.folders)?;
+    let folder = folder_of(alloc, options, parts.folders)?;
     match keeper_of(alloc, options, folder, prepared) {
-        Ok(keeper) => serve_kept(place, options, keeper, staff, authority),
+        Ok(keeper) => serve_kept(parts, options, keeper, staff, authority),
         Err(ending) => Err(ending),
     }
 }
@@ -318,45 +318,45 @@ fn serve_prepared<R: Wait, D: Doors, S: Folders, C: Clock, L: Files, E: Sink>(
 // Reads the files, and serves what they ask for.
 #[tactic(auto, using(crate::proofs::Top2::keys_before, crate::proofs::Top2::late))]
 fn run<R: Wait, D: Doors, S: Folders, C: Clock, L: Files, E: Sink>(
-    place: &mut Place<'_, '_, '_, '_, '_, '_, R, D, S, C, L, E>,
+    parts: &mut HostParts<'_, '_, '_, '_, '_, '_, R, D, S, C, L, E>,
     options: &Options<'_>,
 ) -> Result<Stopped, HostEnd>
-    ensures done { IfOk result (WasServed S.F.disk S.F.is_honest (S.opens place.old.folders.now) (L.contents place.old.files.now)
-        (D.told place.old.doors.now) (D.told place.new.doors.now) (asked_by options.now)) }
-    ensures wrote { OnErr result (WroteFirst S.F.disk S.F.is_honest (S.opens place.old.folders.now) (L.contents place.old.files.now)
-        (D.told place.old.doors.now) (D.told place.new.doors.now) (asked_by options.now)) }
-    ensures why { IfErr result (WhyEnds S.F.disk S.F.is_honest (S.opens place.old.folders.now) (L.contents place.old.files.now)
-        (D.told place.old.doors.now) (D.told place.new.doors.now)
-        S.F.faults (S.refuses place.old.folders.now) (D.refuses place.old.doors.now)
-        (Rose (L.faults place.old.files.now) (L.faults place.new.files.now)) (asked_by options.now)) }
-    ensures apart { IfErr result (λ e. IsEarly e → (place.new.folders.now ≡ place.old.folders.now) × (place.new.doors.now ≡ place.old.doors.now)) }
-    ensures quiet { IfErr result (λ e. IsEarly e → place.new.err.now ≡ place.old.err.now) }
+    ensures done { IfOk result (WasServed S.F.disk S.F.is_honest (S.opens parts.old.folders.now) (L.contents parts.old.files.now)
+        (D.told parts.old.doors.now) (D.told parts.new.doors.now) (asked_by options.now)) }
+    ensures wrote { OnErr result (WroteFirst S.F.disk S.F.is_honest (S.opens parts.old.folders.now) (L.contents parts.old.files.now)
+        (D.told parts.old.doors.now) (D.told parts.new.doors.now) (asked_by options.now)) }
+    ensures why { IfErr result (WhyEnds S.F.disk S.F.is_honest (S.opens parts.old.folders.now) (L.contents parts.old.files.now)
+        (D.told parts.old.doors.now) (D.told parts.new.doors.now)
+        S.F.faults (S.refuses parts.old.folders.now) (D.refuses parts.old.doors.now)
+        (Rose (L.faults parts.old.files.now) (L.faults parts.new.files.now)) (asked_by options.now)) }
+    ensures apart { IfErr result (λ e. IsEarly e → (parts.new.folders.now ≡ parts.old.folders.now) × (parts.new.doors.now ≡ parts.old.doors.now)) }
+    ensures quiet { IfErr result (λ e. IsEarly e → parts.new.err.now ≡ parts.old.err.now) }
 {
-    let prepared = prepared_of(place.alloc, options, place.files)?;
-    let keys = keys_of(place.alloc, options, place.files, place.err)?;
+    let prepared = prepared_of(parts.alloc, options, parts.files)?;
+    let keys = keys_of(parts.alloc, options, parts.files, parts.err)?;
     let shape = prepared.file.world.shape;
-    let staff = staff_of(place.alloc, options, shape, keys)?;
-    serve_prepared(place, options, prepared, staff)
+    let staff = staff_of(parts.alloc, options, shape, keys)?;
+    serve_prepared(parts, options, prepared, staff)
 }
 
 fn ending_of<R: Wait, D: Doors, S: Folders, C: Clock, L: Files, E: Sink>(
-    place: &mut Place<'_, '_, '_, '_, '_, '_, R, D, S, C, L, E>,
+    parts: &mut HostParts<'_, '_, '_, '_, '_, '_, R, D, S, C, L, E>,
     words: &[String],
 ) -> HostEnd
     ensures words { AsksNothing (map string_bytes words.now) → (result ≡ endings.Words) ⊎ (result ≡ endings.Memory) }
-    ensures why { EndsFor S.F.disk S.F.is_honest (S.opens place.old.folders.now) (L.contents place.old.files.now)
-        (D.told place.old.doors.now) (D.told place.new.doors.now)
-        S.F.faults (S.refuses place.old.folders.now) (D.refuses place.old.doors.now)
-        (map string_bytes words.now) (Rose (L.faults place.old.files.now) (L.faults place.new.files.now)) result }
-    ensures apart { IsEarly result → (place.new.folders.now ≡ place.old.folders.now) × (place.new.doors.now ≡ place.old.doors.now) }
-    ensures quiet { IsEarly result → place.new.err.now ≡ place.old.err.now }
+    ensures why { EndsFor S.F.disk S.F.is_honest (S.opens parts.old.folders.now) (L.contents parts.old.files.now)
+        (D.told parts.old.doors.now) (D.told parts.new.doors.now)
+        S.F.faults (S.refuses parts.old.folders.now) (D.refuses parts.old.doors.now)
+        (map string_bytes words.now) (Rose (L.faults parts.old.files.now) (L.faults parts.new.files.now)) result }
+    ensures apart { IsEarly result → (parts.new.folders.now ≡ parts.old.folders.now) × (parts.new.doors.now ≡ parts.old.doors.now) }
+    ensures quiet { IsEarly result → parts.new.err.now ≡ parts.old.err.now }
 {
-    let options = match options_of(place.alloc, words) {
+    let options = match options_of(parts.alloc, words) {
         Ok(options) => options,
         Err(OptionFault::Words) => return HostEnd::Words,
         Err(OptionFault::Memory) => return HostEnd::Memory,
     };
-    match run(place, &options) {
+    match run(parts, &options) {
         Ok(stopped) => HostEnd::Done(stopped),
         Err(ending) => ending,
     }
@@ -365,21 +365,21 @@ fn ending_of<R: Wait, D: Doors, S: Folders, C: Clock, L: Files, E: Sink>(
 /// Serves a living world, and answers the status with which the program ends.
 ///
 /// The words leave out the program's own name. They are `host WORLD DIR` and options. The status is 0 where it was told to stop: then each
-/// session has its End, and its log is settled.
+/// session has its End, and its log is durable.
 pub fn run_host<R: Wait, D: Doors, S: Folders, C: Clock, L: Files, E: Sink>(
-    place: &mut Place<'_, '_, '_, '_, '_, '_, R, D, S, C, L, E>,
+    parts: &mut HostParts<'_, '_, '_, '_, '_, '_, R, D, S, C, L, E>,
     words: &[String],
 ) -> u8
     ensures range { IsStatus result }
     ensures words { AsksNothing (map string_bytes words.now) → (result ≡ 2) ⊎ (result ≡ 8) }
-    ensures apart { (result ≡ 2) ⊎ ((result ≡ 3) ⊎ (result ≡ 4)) → (place.new.folders.now ≡ place.old.folders.now) × (place.new.doors.now ≡ place.old.doors.now) }
-    ensures ends { EndsBy (λ ending. IsToldLast E.taken E.faults place.old.err.now place.new.err.now ending
-        × EndsFor S.F.disk S.F.is_honest (S.opens place.old.folders.now) (L.contents place.old.files.now)
-        (D.told place.old.doors.now) (D.told place.new.doors.now)
-        S.F.faults (S.refuses place.old.folders.now) (D.refuses place.old.doors.now)
-        (map string_bytes words.now) (Rose (L.faults place.old.files.now) (L.faults place.new.files.now)) ending) result }
+    ensures apart { (result ≡ 2) ⊎ ((result ≡ 3) ⊎ (result ≡ 4)) → (parts.new.folders.now ≡ parts.old.folders.now) × (parts.new.doors.now ≡ parts.old.doors.now) }
+    ensures ends { EndsBy (λ ending. IsToldLast E.taken E.faults parts.old.err.now parts.new.err.now ending
+        × EndsFor S.F.disk S.F.is_honest (S.opens parts.old.folders.now) (L.contents parts.old.files.now)
+        (D.told parts.old.doors.now) (D.told parts.new.doors.now)
+        S.F.faults (S.refuses parts.old.folders.now) (D.refuses parts.old.doors.now)
+        (map string_bytes words.now) (Rose (L.faults parts.old.files.now) (L.faults parts.new.files.now)) ending) result }
 {
-    let ending = ending_of(place, words);
-    tell(&ending, place.err);
+    let ending = ending_of(parts, words);
+    tell(&ending, parts.err);
     status_of(&ending)
 }

@@ -58,7 +58,7 @@ impl<F: Folder> Host<F> {
         ensures keys { self.new.office.keys ≡ self.old.office.keys }
         ensures stops { IsReadTo (P.told ports.old) input.old → IfOk result (λ stops. MatchBool stops (WasToldToStop (P.told ports.new)) (IsReadTo (P.told ports.new) input.new)) }
     {
-        if !self.office.manners.stops || !self.room.ready.input {
+        if !self.office.policy.stops || !self.room.ready.input {
             return Ok(false);
         }
         let mut piece = [0; 512];
@@ -113,7 +113,7 @@ impl<F: Folder> Host<F> {
         self.look_at_held()
     }
 
-    // What is ready is stepped, all lines are settled at once, and then the replies go out.
+    // What is ready is stepped, all lines are durable at once, and then the replies go out.
     fn serve_all<P: Ports, L: Files, E: Sink>(
         &mut self,
         outside: &mut Outside<'_, '_, '_, P, L, E>,

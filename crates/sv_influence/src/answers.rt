@@ -13,7 +13,7 @@ pub struct Closure {
 
 /// What objects are at one position, for a session that acts on none of them.
 #[derive(Debug, Drop)]
-pub struct Cut {
+pub struct ConsistentCut {
     /// The position.
     pub last: u32,
     /// The positions of the actions that the session lacks, ascending.

@@ -8,7 +8,7 @@ ghost use Rattle.sv_queue.specs.Queue.{last_position};
 ghost use Rattle.sv_influence.specs.Lacking.{lacking_to_see, bases_to_see, latest_cut, MarksAreClosed};
 ghost use Rattle.sv_influence.specs.Writers.{most_to_see};
 
-use crate::answers::Cut;
+use crate::answers::ConsistentCut;
 use crate::lacking::{Found, Missing, listed};
 use std::alloc::{AllocError, Global};
 use std::sync::ledger::Ledger;
@@ -25,7 +25,7 @@ pub fn cut<L: Ledger>(
     slot: u16,
     objects: &[ObjectId],
     steps: &mut Steps<L>,
-) -> Result<Cut, AllocError>
+) -> Result<ConsistentCut, AllocError>
     requires objects { may_be_observed queue.now.shape.objects (numbers_of objects.now) ≡ true }
     requires marks { MarksAreClosed queue.now slot }
     requires room { last_position queue.now < 2 ^ 32 - 1 }
@@ -45,7 +45,12 @@ pub fn cut<L: Ledger>(
     }
 }
 
-fn cut_at(alloc: Global, queue: &Queue, last: u32, found: Found) -> Result<Cut, AllocError>
+fn cut_at(
+    alloc: Global,
+    queue: &Queue,
+    last: u32,
+    found: Found,
+) -> Result<ConsistentCut, AllocError>
     requires { All (λ x. x < queue.now.shape.objects) found.bases }
     ensures last { IfOk result (λ c. c.last ≡ last) }
     ensures items { IfOk result (λ c. c.items ≡ found.items.items) }
@@ -55,7 +60,7 @@ fn cut_at(alloc: Global, queue: &Queue, last: u32, found: Found) -> Result<Cut, 
     let shape = queue.shape();
     prove!(shape.objects <= MOST_OBJECTS);
     let closure = listed(alloc, found)?;
-    Ok(Cut {
+    Ok(ConsistentCut {
         last,
         items: closure.items,
         head: closure.head,

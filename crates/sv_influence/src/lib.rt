@@ -10,7 +10,7 @@ mod objects;
 mod plain;
 mod wanted;
 
-pub use answers::{Chain, Closure, Cut};
+pub use answers::{Chain, Closure, ConsistentCut};
 pub use cuts::cut;
 pub use influence::chain;
 pub use lacking::closure;

@@ -9,7 +9,7 @@ use Rattle.sv_living.specs.World.{WorldView}
 use Rattle.sv_log.specs.Pictures.{Picture, Disk, seen}
 use Rattle.sv_log.specs.Crashes.{LeavesOnly}
 use Rattle.sv_log.specs.Rests.{IsAtRest}
-use Rattle.sv_log.specs.Chains.{StateFile, no_state, state_at, Holds}
+use Rattle.sv_log.specs.Chains.{StateFile, no_state, state_at, HasLog}
 use Rattle.sv_log.specs.Readings.{read_state, Reads, ReadsLast}
 use Rattle.sv_log.specs.declared.reading.Reading.{Reading}
 use Rattle.sv_log.proofs.Alone.{state_is, holds_alone}
@@ -33,7 +33,7 @@ module _ (world : List ℕ) (left : Disk) (r : Reading) (reads : Reads world (se
   abbrev p : Picture
   p = seen left
 
-  pub holds_read : Holds world (read_state r) r.text.items p
+  pub holds_read : HasLog world (read_state r) r.text.items p
   holds_read = reads_holds world p r reads
 
   -- The line that is wrong stands where it is said to.
@@ -64,11 +64,11 @@ module _ (world : List ℕ) (left : Disk) (r : Reading) (reads : Reads world (se
   pub no_state_read : read_state r ≡ no_state
   no_state_read = state_is (read_state r) no_state stateless (none_by r.last reads)
 
-  pub stateless_holds : Holds world no_state r.text.items (seen left)
-  stateless_holds = subst (λ (s : StateFile). Holds world s r.text.items (seen left)) no_state_read (reads_holds world (seen left) r reads)
+  pub stateless_holds : HasLog world no_state r.text.items (seen left)
+  stateless_holds = subst (λ (s : StateFile). HasLog world s r.text.items (seen left)) no_state_read (reads_holds world (seen left) r reads)
 
   -- A log of this world without a state has the text that was read.
-  pub text_is : (text : List ℕ) → Holds world no_state text (seen left) → text ≡ r.text.items
+  pub text_is : (text : List ℕ) → HasLog world no_state text (seen left) → text ≡ r.text.items
   text_is text holds = (holds_alone world (seen left) no_state no_state text r.text.items holds stateless_holds).1
 
 -- A state was read.
@@ -92,12 +92,12 @@ why_stated left now world start r same reads (faults.Refused refusal) is = absur
 -- ---- What a crash leaves while it is opened
 
 module _ (world : List ℕ) (left middle now : Disk) (r : Reading) (state : StateFile) (newest : state ≡ read_state r)
-    (first : LeavesOnly left middle (Holds world (read_state r) r.text.items)) where
+    (first : LeavesOnly left middle (HasLog world (read_state r) r.text.items)) where
   -- The log was opened, and then sessions ended, or in part.
   pub opened_all : (text : List ℕ) → text ≡ r.text.items → LeavesOnly middle now (HasAll world state text) → LeavesOnly left now (HasAll world (read_state r) r.text.items)
   opened_all text is then =
       then_only left middle now (HasAll world (read_state r) r.text.items)
-      (weaker_only left middle (Holds world (read_state r) r.text.items) (HasAll world (read_state r) r.text.items)
+      (weaker_only left middle (HasLog world (read_state r) r.text.items) (HasAll world (read_state r) r.text.items)
       (λ p holds. just_all world (read_state r) p r.text.items holds) first)
       (subst (λ (s : StateFile). LeavesOnly middle now (HasAll world s r.text.items)) newest
       (subst (λ (t : List ℕ). LeavesOnly middle now (HasAll world state t)) is then))
@@ -109,16 +109,16 @@ module _ (world : List ℕ) (left middle now : Disk) (r : Reading) (state : Stat
       → LeavesOnly left now (HoldsFirst (footing_of later) world (read_state r) later.since (length reached.since))
   opened_first reached later text_is footing on synced is then =
       then_only left middle now (HoldsFirst (footing_of later) world (read_state r) later.since (length reached.since))
-      (weaker_only left middle (Holds world (read_state r) r.text.items) (HoldsFirst (footing_of later) world (read_state r) later.since (length reached.since))
+      (weaker_only left middle (HasLog world (read_state r) r.text.items) (HoldsFirst (footing_of later) world (read_state r) later.since (length reached.since))
       (λ p holds. holds_first (footing_of later) world (read_state r) p reached.since later.since on r.text.items
       (sym text_is ∙ ap (λ (f : Footing). history_text f reached.since) (sym footing)) holds) first)
       (subst (λ (s : StateFile). LeavesOnly middle now (HoldsFirst (footing_of later) world s later.since (length reached.since))) newest
       (subst (λ (n : ℕ). LeavesOnly middle now (HoldsFirst (footing_of later) world state later.since n)) is then))
 
 -- It was not opened.
-pub opened_not : (world : List ℕ) (left now : Disk) (r : Reading) → LeavesOnly left now (Holds world (read_state r) r.text.items) → LeavesOnly left now (HasAll world (read_state r) r.text.items)
+pub opened_not : (world : List ℕ) (left now : Disk) (r : Reading) → LeavesOnly left now (HasLog world (read_state r) r.text.items) → LeavesOnly left now (HasAll world (read_state r) r.text.items)
 opened_not world left now r only =
-    weaker_only left now (Holds world (read_state r) r.text.items) (HasAll world (read_state r) r.text.items) (λ p holds. just_all world (read_state r) p r.text.items holds) only
+    weaker_only left now (HasLog world (read_state r) r.text.items) (HasAll world (read_state r) r.text.items) (λ p holds. just_all world (read_state r) p r.text.items holds) only
 
 -- A folder that was read has what it had.
 pub read_only : (left now : Disk) (world : List ℕ) (r : Reading) → now ≡ left → IsAtRest left → Reads world (seen left) r → LeavesOnly left now (HasAll world (read_state r) r.text.items)
@@ -127,10 +127,10 @@ read_only left now world r same rest reads =
     (opened_not world left left r (rest_only left world (read_state r) r.text.items rest (reads_holds world (seen left) r reads)))
 
 -- A folder that was only read has what it had.
-pub only_read : (left now : Disk) (world : List ℕ) → now ≡ left → IsAtRest left → (text : List ℕ) → Holds world no_state text (seen left) → LeavesOnly left now (HasAll world no_state text)
+pub only_read : (left now : Disk) (world : List ℕ) → now ≡ left → IsAtRest left → (text : List ℕ) → HasLog world no_state text (seen left) → LeavesOnly left now (HasAll world no_state text)
 only_read left now world same rest text holds =
     subst (λ (d : Disk). LeavesOnly left d (HasAll world no_state text)) (sym same)
-    (weaker_only left left (Holds world no_state text) (HasAll world no_state text) (λ p held. just_all world no_state p text held) (rest_only left world no_state text rest holds))
+    (weaker_only left left (HasLog world no_state text) (HasAll world no_state text) (λ p held. just_all world no_state p text held) (rest_only left world no_state text rest holds))
 
 -- ---- Sessions end, and all is settled
 
@@ -178,7 +178,7 @@ module _ {F : Type 0} (disk : F → Disk) (is_honest : F → Type 0) where
   opened_stateless left mid world state start keeper same none is = record {
     text = is.text;
     reached = is.reached;
-    read = λ h. subst (λ (d : Disk). Holds world no_state is.text (seen d)) same (subst (λ (s : StateFile). Holds world s is.text (seen mid)) (none h) (is.read h));
+    read = λ h. subst (λ (d : Disk). HasLog world no_state is.text (seen d)) same (subst (λ (s : StateFile). HasLog world s is.text (seen mid)) (none h) (is.read h));
     taken = is.taken;
     ended = is.ended;
     settled = is.settled;

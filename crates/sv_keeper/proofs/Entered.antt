@@ -16,7 +16,7 @@ use Rattle.sv_entries.specs.Lines.{living_line}
 use Rattle.sv_entries.specs.Laws.{EntriesHaveOneLine}
 use Rattle.sv_keeper.specs.Histories.{footing_of, last_line, history_text}
 use Rattle.sv_keeper.specs.Views.{KeeperView}
-use Rattle.sv_keeper.specs.Keeping.{IsKept, IsWhole, next_line}
+use Rattle.sv_keeper.specs.Keeping.{IsKeptWorld, IsWhole, next_line}
 use Rattle.sv_keeper.proofs.Fronts.{entry_text, entry_long, first_less}
 
 module _ (v : WorldView) (s : ℕ) (request : Request) where
@@ -40,7 +40,7 @@ module _ (v : WorldView) (s : ℕ) (request : Request) where
   pub line_since : IsWhole v → next_line v s request ≡ last_line (footing_of v) entry v.since
   line_since whole = ap (λ (h : List Entry). entry_line v.rules.world.shape (accepted (entry ∷ h)) (suc (entries_in v)) entry) whole
 
-module _ {F : Type 0} (disk : F → Disk) (is_honest : F → Type 0) (old : KeeperView F) (is : IsKept disk is_honest old) (whole : IsWhole old.world) (s : ℕ) (request : Request) where
+module _ {F : Type 0} (disk : F → Disk) (is_honest : F → Type 0) (old : KeeperView F) (is : IsKeptWorld disk is_honest old) (whole : IsWhole old.world) (s : ℕ) (request : Request) where
   abbrev v : WorldView
   v = old.world
 
@@ -61,12 +61,12 @@ module _ {F : Type 0} (disk : F → Disk) (is_honest : F → Type 0) (old : Keep
       omega (arith, both, long, zero_long)
 
   -- The world has one entry more, whose line was put into the group.
-  pub entered : (b : Bool) → IsKept disk is_honest (new b)
+  pub entered : (b : Bool) → IsKeptWorld disk is_honest (new b)
   entered b = record {
     sizes = is.sizes;
     lines = text-append old.group line is.lines (entry_text v.rules.world.shape (accepted (entry_after ∷ v.history)) (suc (entries_in v)) entry_after);
     part = omega (arith, is.part);
-    settled = λ none. absurd (some none);
+    durable = λ none. absurd (some none);
     opened = is.opened;
     number = is.number;
     text = λ honest.
@@ -78,7 +78,7 @@ module _ {F : Type 0} (disk : F → Disk) (is_honest : F → Type 0) (old : Keep
 
   -- The same by what the fields are.
   pub entered_as : (b : Bool) (w : WorldView) (group : List ℕ) → w ≡ after v s request → group ≡ old.group ++ line
-      → IsKept disk is_honest (record { world = w; log = old.log; group = group; synced = old.synced; is_broken = b })
+      → IsKeptWorld disk is_honest (record { world = w; log = old.log; group = group; synced = old.synced; is_broken = b })
   entered_as b w group own put =
-      subst (λ (g : List ℕ). IsKept disk is_honest (record { world = w; log = old.log; group = g; synced = old.synced; is_broken = b })) (sym put)
-      (subst (λ (x : WorldView). IsKept disk is_honest (record { world = x; log = old.log; group = old.group ++ line; synced = old.synced; is_broken = b })) (sym own) (entered b))
+      subst (λ (g : List ℕ). IsKeptWorld disk is_honest (record { world = w; log = old.log; group = g; synced = old.synced; is_broken = b })) (sym put)
+      (subst (λ (x : WorldView). IsKeptWorld disk is_honest (record { world = x; log = old.log; group = old.group ++ line; synced = old.synced; is_broken = b })) (sym own) (entered b))

@@ -8,7 +8,7 @@ use Rattle.sv_journal.specs.History.{Authored, accepted}
 use Rattle.sv_journal.specs.Text.{entry_line}
 use Rattle.sv_log.specs.Pictures.{Picture}
 use Rattle.sv_log.specs.Texts.{has_line, whole, IsText, IsFront}
-use Rattle.sv_log.specs.Chains.{StateFile, text_at, text_of, Holds, Keeps}
+use Rattle.sv_log.specs.Chains.{StateFile, text_at, text_of, HasLog, KeepsLog}
 use Rattle.sv_log.proofs.Texts.{text_parts, whole-append, text-append}
 use Rattle.sv_log.proofs.Chained.{text_in}
 use Rattle.sv_log.specs.Names.{segment_name}
@@ -228,7 +228,7 @@ segments_text : (p : Picture) (ns : List ℕ) → IsText (text_of p ns)
 segments_text p [] = refl
 segments_text p (n ∷ ns) = text-append (text_at p n) (text_of p ns) (text_in (p (segment_name n))) (segments_text p ns)
 
-pub held_text : (world : List ℕ) (state : StateFile) (t : List ℕ) (p : Picture) → Holds world state t p → IsText t
+pub held_text : (world : List ℕ) (state : StateFile) (t : List ℕ) (p : Picture) → HasLog world state t p → IsText t
 held_text world state t p (inl held) =
     let lines = held.1 in
     let last = lines.1 in
@@ -236,7 +236,7 @@ held_text world state t p (inl held) =
 held_text world state t p (inr held) = subst IsText (sym held.2) refl
 
 pub keeps_first : (f : Footing) (world : List ℕ) (state : StateFile) (h : List Entry) (n : ℕ) (low high : List ℕ) → low ≡ history_text f (first_entries n h)
-    → high ≡ history_text f h → n ≤ length h → (c : Picture) → Keeps world state low high c → HoldsFirst f world state h n c
+    → high ≡ history_text f h → n ≤ length h → (c : Picture) → KeepsLog world state low high c → HoldsFirst f world state h n c
 keeps_first f world state h n low high low_is high_is few c kept =
     let t = kept.0 in
     let is = held_text world state t c kept.1 in
@@ -244,4 +244,4 @@ keeps_first f world state h n low high low_is high_is few c kept =
     let found = of_first f h t end.0 is end.1 in
     let begin : IsFront (history_text f (first_entries n h)) (history_text f (first_entries found.0 h)) =
     subst (λ (l : List ℕ). IsFront l (history_text f (first_entries found.0 h))) low_is (subst (λ (l : List ℕ). IsFront low l) found.2 kept.2) in
-    (found.0, no_fewer f h n found.0 few begin, found.1, subst (λ (l : List ℕ). Holds world state l c) found.2 kept.1)
+    (found.0, no_fewer f h n found.0 few begin, found.1, subst (λ (l : List ℕ). HasLog world state l c) found.2 kept.1)

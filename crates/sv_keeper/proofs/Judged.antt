@@ -9,8 +9,8 @@ use Rattle.sv_living.specs.Sessions.{may_ask}
 use Rattle.sv_living.specs.World.{WorldView, entries_in}
 use Rattle.sv_lines.specs.Reading.{Gives}
 use Rattle.sv_lines.specs.Told.{asking_text}
-use Rattle.sv_lines.specs.declared.stop.Unread.{Unread}
-use Rattle.sv_lines.specs.declared.stop.Unread.TheVariants as unreads
+use Rattle.sv_lines.specs.declared.stop.LineFault.{LineFault}
+use Rattle.sv_lines.specs.declared.stop.LineFault.TheVariants as unreads
 use Rattle.sv_entries.specs.Lines.{living_line}
 use Rattle.sv_entries.specs.Asking.{asked_of}
 use Rattle.sv_entries.specs.Laws.{EntriesHaveOneLine, CausesAreTold, CausesHaveNumbers, RepliesGoByFaults}
@@ -30,7 +30,7 @@ abbrev pub told_in : LineAsked → Told
 told_in l = (l.number, l.session, l.asked)
 
 -- What is read of a text that begins with the line of a request.
-abbrev pub LineLaw : Shape → List ℕ → Result LineAsked Unread → Type 0
+abbrev pub LineLaw : Shape → List ℕ → Result LineAsked LineFault → Type 0
 LineLaw shape text result = (n session : ℕ) (request : Request) (reply : List ℕ) → n < 2 ^ 64 → session < 2 ^ 64 → RequestFits request → text ≡ asking_text shape n session request ++ reply →
     Gives {Y = Told} told_in result (Some (n, session, asked_of shape request reply))
 
@@ -43,7 +43,7 @@ some_none x e = cc
 module _ (one : EntriesHaveOneLine) (causes : CausesAreTold) (numbers : CausesHaveNumbers) (by_faults : RepliesGoByFaults) (v : WorldView) (shape : Shape) (next : ℕ)
     (shape_is : shape ≡ v.rules.world.shape) (next_is : next ≡ entries_in v + 1) (few : next < 2 ^ 64) (text : List ℕ) where
   -- What is read of a text that begins with a line that may stand next.
-  reads : (result : Result LineAsked Unread) → LineLaw shape text result → (s : ℕ) (asked : Request) (rest : List ℕ) → s < 2 ^ 64 → RequestFits asked → text ≡ next_line v s asked ++ rest
+  reads : (result : Result LineAsked LineFault) → LineLaw shape text result → (s : ℕ) (asked : Request) (rest : List ℕ) → s < 2 ^ 64 → RequestFits asked → text ≡ next_line v s asked ++ rest
       → Gives {Y = Told} told_in result (Some (next, s, asked_of v.rules.world.shape asked (behind causes numbers by_faults v s asked rest)))
   reads result law s asked rest small fits begins =
       subst (λ (x : Shape). LineLaw x text result) shape_is law next s asked (behind causes numbers by_faults v s asked rest) few small fits

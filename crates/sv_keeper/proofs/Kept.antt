@@ -18,12 +18,12 @@ use Rattle.sv_entries.specs.Lines.{living_line}
 use Rattle.sv_entries.specs.Laws.{EntriesHaveOneLine}
 use Rattle.sv_keeper.specs.Histories.{footing_of, history_text, first_entries}
 use Rattle.sv_keeper.specs.Views.{KeeperView}
-use Rattle.sv_keeper.specs.Keeping.{text_of, IsWhole, IsKept, Stepped, AreSettled, next_line}
+use Rattle.sv_keeper.specs.Keeping.{text_of, IsWhole, IsKeptWorld, Stepped, AreDurable, next_line}
 use Rattle.sv_keeper.specs.Invariant.{view_of, IsKeeper}
 use Rattle.sv_keeper.specs.declared.keeper.Keeper.TheInside.{Inside}
 use Rattle.sv_keeper.proofs.Entered.{told, printed, entered_as}
 use Rattle.sv_keeper.proofs.Fronts.{first_all}
-use Rattle.sv_keeper.proofs.Settling.{settled, are_settled}
+use Rattle.sv_keeper.proofs.Durables.{durable, are_durable}
 
 module _ {F : Type 0} (disk : F → Disk) (is_honest : F → Type 0) (k : Inside F) (is : IsKeeper disk is_honest k) where
   -- The core is as it was.
@@ -86,33 +86,33 @@ module _ {F : Type 0} (disk : F → Disk) (is_honest : F → Type 0) (k : Inside
     new g b = record { world = k.core; log = log; group = g; synced = synced; is_broken = b }
 
     -- All lines were appended and synced.
-    pub settled_on : IsKeeper disk is_honest (record k { log = log; group = group; synced = synced; syncs = syncs; log_bytes = log_bytes })
-    settled_on = record {
+    pub durable_on : IsKeeper disk is_honest (record k { log = log; group = group; synced = synced; syncs = syncs; log_bytes = log_bytes })
+    durable_on = record {
       shape = is.shape;
       whole = is.whole;
       next = is.next;
       kept = λ _.
-          subst (λ (g : List ℕ). IsKept disk is_honest (new g k.is_broken)) (sym none)
-          (settled disk is_honest (view_of k) (is.kept sound) log synced sizes all before opened same text on_disk k.is_broken);
+          subst (λ (g : List ℕ). IsKeptWorld disk is_honest (new g k.is_broken)) (sym none)
+          (durable disk is_honest (view_of k) (is.kept sound) log synced sizes all before opened same text on_disk k.is_broken);
     }
 
-    pub settled_all : AreSettled disk is_honest (new group k.is_broken)
-    settled_all =
-        subst (λ (b : Bool). AreSettled disk is_honest (new group b)) (sym sound)
-        (subst (λ (g : List ℕ). AreSettled disk is_honest (new g false)) (sym none)
-        (are_settled disk is_honest (view_of k) (is.kept sound) log synced sizes all before opened same text on_disk))
+    pub durable_all : AreDurable disk is_honest (new group k.is_broken)
+    durable_all =
+        subst (λ (b : Bool). AreDurable disk is_honest (new group b)) (sym sound)
+        (subst (λ (g : List ℕ). AreDurable disk is_honest (new g false)) (sym none)
+        (are_durable disk is_honest (view_of k) (is.kept sound) log synced sizes all before opened same text on_disk))
 
 -- A keeper of a world whose lines are those of a log.
 module _ {F : Type 0} (disk : F → Disk) (is_honest : F → Type 0) (k : Inside F) (shape : k.shape ≡ k.core.rules.world.shape) (whole : IsWhole k.core) (next : k.next ≡ entries_in k.core + 1) (none : k.group ≡ [])
     (all : k.synced ≡ length k.core.since) (sizes : HasSizes k.log.segment) (opened : is_honest k.log.segment.folder → IsOpenLog disk k.log)
     (number : k.log.state ≡ k.core.number)
     (text : is_honest k.log.segment.folder → log_text disk k.log ≡ text_of k.core) (on_disk : is_honest k.log.segment.folder → log_synced disk k.log ≡ text_of k.core) where
-  kept_all : IsKept disk is_honest (view_of k)
+  kept_all : IsKeptWorld disk is_honest (view_of k)
   kept_all = record {
     sizes = sizes;
     lines = subst (λ (l : List ℕ). IsText l) (sym none) refl;
     part = omega (arith, all);
-    settled = λ _. all;
+    durable = λ _. all;
     opened = opened;
     number = λ honest. number;
     text = λ honest. ap (λ (l : List ℕ). log_text disk k.log ++ l) none ∙ append-nil (log_text disk k.log) ∙ text honest;

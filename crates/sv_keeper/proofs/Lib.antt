@@ -3,7 +3,7 @@ pub mod Shown
 pub mod Fronts
 pub mod Entered
 pub mod Synced
-pub mod Settling
+pub mod Durables
 pub mod Kept
 pub mod Asking
 pub mod Lines

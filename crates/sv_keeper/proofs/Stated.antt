@@ -10,7 +10,7 @@ use Rattle.sv_living.specs.World.{WorldView, entries_in, behind_all}
 use Rattle.sv_log.specs.Pictures.{Picture, Disk}
 use Rattle.sv_log.specs.Crashes.{LeavesOnly}
 use Rattle.sv_log.specs.Logs.{HasSizes, appended}
-use Rattle.sv_log.specs.Chains.{StateFile, lines, text_at, text_of as segments_text, IsClosed, Holds, Keeps}
+use Rattle.sv_log.specs.Chains.{StateFile, lines, text_at, text_of as segments_text, IsClosed, HasLog, KeepsLog}
 use Rattle.sv_log.specs.States.{summed, IsPutState, KeepsOrPuts}
 use Rattle.sv_log.specs.OpenLogs.{IsOpenLog, shown, newest, log_text, log_synced}
 use Rattle.sv_log.specs.declared.log.Log.{Log}
@@ -18,7 +18,7 @@ use Rattle.sv_log.proofs.Chained.{lines-append}
 use Rattle.sv_log.proofs.Moments.{then_only, weaker_only}
 use Rattle.sv_lines.proofs.Splitting.{all_pass}
 use Rattle.sv_keeper.specs.Histories.{Footing, footing_of, last_line, history_text, first_entries, HoldsFirst}
-use Rattle.sv_keeper.specs.Keeping.{text_of, IsWhole, IsKept, AreSettled}
+use Rattle.sv_keeper.specs.Keeping.{text_of, IsWhole, IsKeptWorld, AreDurable}
 use Rattle.sv_keeper.specs.Stating.{HoldsFirstOrState, HasPut}
 use Rattle.sv_keeper.specs.Views.{KeeperView}
 use Rattle.sv_keeper.specs.Invariant.{view_of, IsKeeper}
@@ -82,7 +82,7 @@ module _ {F : Type 0} (disk : F → Disk) (is_honest : F → Type 0) where
       ap (λ (t : List ℕ). t ++ take log.segment.synced (appended disk log.segment)) parts.0
       ∙ ap (λ (t : List ℕ). take log.segment.synced t) parts.1 ∙ take_none log.segment.synced
 
-  module _ (old : KeeperView F) (is : IsKept disk is_honest old) (all : AreSettled disk is_honest old) where
+  module _ (old : KeeperView F) (is : IsKeptWorld disk is_honest old) (all : AreDurable disk is_honest old) where
     abbrev v : WorldView
     v = old.world
 
@@ -108,7 +108,7 @@ module _ {F : Type 0} (disk : F → Disk) (is_honest : F → Type 0) where
           (is.on_disk honest) (text_is honest) is.part p kept)
       left_or_put p (inr put) =
           let same = number_is honest in
-          inr (subst (λ (n : ℕ). (newest disk old.log).0 < n) same put.0, subst (λ (n : ℕ). Holds world (summed n bytes) [] p) same put.1)
+          inr (subst (λ (n : ℕ). (newest disk old.log).0 < n) same put.0, subst (λ (n : ℕ). HasLog world (summed n bytes) [] p) same put.1)
 
       pub put_only : (new : Disk) → LeavesOnly (disk old.log.segment.folder) new
           (KeepsOrPuts world (newest disk old.log) (log_synced disk old.log) (log_text disk old.log) (old.log.next - 1) bytes)
@@ -135,7 +135,7 @@ module _ {F : Type 0} (disk : F → Disk) (is_honest : F → Type 0) where
           omega (arith, same, number, low)
       by_case honest (inr more) = ap (λ (s : StateFile). s.0) more.1
 
-      pub put_kept : (b : Bool) → IsKept disk is_honest (record { world = behind_all v; log = log; group = old.group; synced = 0; is_broken = b })
+      pub put_kept : (b : Bool) → IsKeptWorld disk is_honest (record { world = behind_all v; log = log; group = old.group; synced = 0; is_broken = b })
       put_kept b = record {
         sizes = sizes;
         lines = is.lines;
@@ -147,7 +147,7 @@ module _ {F : Type 0} (disk : F → Disk) (is_honest : F → Type 0) where
         on_disk = λ honest. nothing_synced log (none honest);
       }
 
-      pub put_settled : (b : Bool) → b ≡ false → AreSettled disk is_honest (record { world = behind_all v; log = log; group = old.group; synced = 0; is_broken = b })
+      pub put_settled : (b : Bool) → b ≡ false → AreDurable disk is_honest (record { world = behind_all v; log = log; group = old.group; synced = 0; is_broken = b })
       put_settled b sound = record { sound = sound; none = all.none; all = refl; on_disk = λ honest. nothing_synced log (none honest) }
 
   -- First the lines are settled, and then the state is put.
@@ -161,5 +161,5 @@ module _ {F : Type 0} (disk : F → Disk) (is_honest : F → Type 0) where
     where
       fewer : (p : Picture) → HoldsFirstOrState f world later h m number bytes p → HoldsFirstOrState f world state h n number bytes p
       fewer p (inl held) =
-          inl (held.0, omega (arith, held.1, less), held.2, subst (λ (s : StateFile). Holds world s (history_text f (first_entries held.0 h)) p) same held.3)
+          inl (held.0, omega (arith, held.1, less), held.2, subst (λ (s : StateFile). HasLog world s (history_text f (first_entries held.0 h)) p) same held.3)
       fewer p (inr put) = inr (subst (λ (s : StateFile). s.0 < number) same put.0, put.1)

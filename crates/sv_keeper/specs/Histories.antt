@@ -6,7 +6,7 @@ use Rattle.sv_journal.specs.History.{accepted}
 use Rattle.sv_journal.specs.Text.{entry_line}
 use Rattle.sv_living.specs.World.{WorldView}
 use Rattle.sv_log.specs.Pictures.{Picture}
-use Rattle.sv_log.specs.Chains.{StateFile, Holds}
+use Rattle.sv_log.specs.Chains.{StateFile, HasLog}
 
 -- What lines stand on: the shape of the world, the entries before them, and how many these are.
 pub record Footing : Type 0 where
@@ -32,4 +32,4 @@ first_entries n (e ∷ h) = if nat_lt (length h) n then e ∷ h else first_entri
 
 -- A log of this world, behind whose newest state stand the lines of the first m entries, for some m from the least on.
 abbrev pub HoldsFirst : Footing → List ℕ → StateFile → List Entry → ℕ → Picture → Type 0
-HoldsFirst f world state h least p = (m : ℕ) × (least ≤ m) × (m ≤ length h) × Holds world state (history_text f (first_entries m h)) p
+HoldsFirst f world state h least p = (m : ℕ) × (least ≤ m) × (m ≤ length h) × HasLog world state (history_text f (first_entries m h)) p

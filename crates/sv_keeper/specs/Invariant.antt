@@ -3,7 +3,7 @@ use Rattle.std.specs.Prelude.{◌≡◌, ℕ, ◌+◌, false}
 use Rattle.sv_living.specs.World.{entries_in}
 use Rattle.sv_log.specs.Pictures.{Disk}
 use Rattle.sv_keeper.specs.Views.{KeeperView}
-use Rattle.sv_keeper.specs.Keeping.{IsKept, IsWhole}
+use Rattle.sv_keeper.specs.Keeping.{IsKeptWorld, IsWhole}
 use Rattle.sv_keeper.specs.declared.keeper.Keeper.TheInside.{Inside}
 
 module _ {F : Type 0} where
@@ -16,4 +16,4 @@ module _ {F : Type 0} where
     pub shape : k.shape ≡ k.core.rules.world.shape
     pub whole : IsWhole k.core
     pub next : k.is_broken ≡ false → k.next ≡ entries_in k.core + 1
-    pub kept : k.is_broken ≡ false → IsKept disk is_honest (view_of k)
+    pub kept : k.is_broken ≡ false → IsKeptWorld disk is_honest (view_of k)

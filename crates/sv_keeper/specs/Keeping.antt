@@ -1,4 +1,4 @@
--- A kept world: its entries stand in its log, and nothing is sent before it is settled.
+-- A kept world: its entries stand in its log, and nothing is sent before it is durable.
 use Rattle.std.specs.Prelude.{◌≡◌, ◌⊎◌, ℕ, suc, ◌≤◌, true, false, List, [], ◌∷◌, ◌++◌, length}
 use Rattle.sv_wire.specs.declared.message.Request.{Request}
 use Rattle.sv_wire.specs.declared.message.Reply.{Reply}
@@ -60,11 +60,11 @@ module _ {F : Type 0} where
 module _ {F : Type 0} (disk : F → Disk) (is_honest : F → Type 0) where
   -- What is so of a keeper that is not broken: the newest state of its log stands behind the entries that it was opened behind, and the log has the
   -- lines of all since but those of the group, which are the group's. Those of the first `synced` of them are on the disk.
-  pub record IsKept (keeper : KeeperView F) : Type 0 where
+  pub record IsKeptWorld (keeper : KeeperView F) : Type 0 where
     pub sizes : HasSizes keeper.log.segment
     pub lines : IsText keeper.group
     pub part : keeper.synced ≤ length keeper.world.since
-    pub settled : keeper.group ≡ [] → keeper.synced ≡ length keeper.world.since
+    pub durable : keeper.group ≡ [] → keeper.synced ≡ length keeper.world.since
     pub opened : is_honest keeper.log.segment.folder → IsOpenLog disk keeper.log
     pub number : is_honest keeper.log.segment.folder → keeper.log.state ≡ keeper.world.number
     pub text : is_honest keeper.log.segment.folder → log_text disk keeper.log ++ keeper.group ≡ text_of keeper.world
@@ -72,7 +72,7 @@ module _ {F : Type 0} (disk : F → Disk) (is_honest : F → Type 0) where
         → log_synced disk keeper.log ≡ history_text (footing_of keeper.world) (first_entries keeper.synced keeper.world.since)
 
   -- All lines are on the disk.
-  pub record AreSettled (keeper : KeeperView F) : Type 0 where
+  pub record AreDurable (keeper : KeeperView F) : Type 0 where
     pub sound : keeper.is_broken ≡ false
     pub none : keeper.group ≡ []
     pub all : keeper.synced ≡ length keeper.world.since

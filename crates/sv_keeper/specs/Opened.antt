@@ -14,15 +14,15 @@ use Rattle.sv_log.specs.Pictures.{Picture, Disk, seen}
 use Rattle.sv_log.specs.Crashes.{LeavesOnly}
 use Rattle.sv_log.specs.Texts.{IsFront}
 use Rattle.sv_log.specs.Names.{state_name, world_name}
-use Rattle.sv_log.specs.Chains.{StateFile, no_state, Holds}
+use Rattle.sv_log.specs.Chains.{StateFile, no_state, HasLog}
 use Rattle.sv_log.specs.OpenLogs.{shown}
 use Rattle.sv_log.specs.declared.reading.Reading.{Reading}
 use Rattle.sv_log.specs.Refusals.{CauseCount, IsWhy, HasNoLog}
 use Rattle.sv_keeper.specs.Histories.{footing_of, HoldsFirst}
 use Rattle.sv_keeper.specs.Places.{IsFirstOf, IsPlaceIn, StandsAt}
 use Rattle.sv_keeper.specs.Views.{KeeperView}
-use Rattle.sv_keeper.specs.Keeping.{AreSettled}
-use Rattle.sv_keeper.specs.Walks.{AreTaken, IsWrong}
+use Rattle.sv_keeper.specs.Keeping.{AreDurable}
+use Rattle.sv_keeper.specs.Walks.{TakesLines, IsWrong}
 use Rattle.sv_keeper.specs.declared.fault.OpenFault.{OpenFault}
 use Rattle.sv_keeper.specs.declared.fault.OpenFault.TheVariants as faults
 
@@ -37,18 +37,18 @@ pub data AreEnded : WorldView → WorldView → Type 0 where
 
 -- A log of this world, behind whose newest state stand these lines, and maybe more behind them.
 abbrev pub HasAll : List ℕ → StateFile → List ℕ → Picture → Type 0
-HasAll world state text p = (longer : List ℕ) × Holds world state longer p × IsFront text longer
+HasAll world state text p = (longer : List ℕ) × HasLog world state longer p × IsFront text longer
 
 module _ {F : Type 0} (disk : F → Disk) (is_honest : F → Type 0) where
   -- A keeper was opened over what a folder had behind its newest state: it took all lines that were read, and then the sessions that were open had
-  -- their Ends. All is settled. A crash at any moment left a log with the lines that were read, and maybe some of the Ends.
+  -- their Ends. All is durable. A crash at any moment left a log with the lines that were read, and maybe some of the Ends.
   pub record IsResumed (left : Disk) (world : List ℕ) (state : StateFile) (start : WorldView) (keeper : KeeperView F) : Type 0 where
     pub text : List ℕ
     pub reached : WorldView
-    pub read : is_honest keeper.log.segment.folder → Holds world state text (seen left)
-    pub taken : AreTaken start reached text []
+    pub read : is_honest keeper.log.segment.folder → HasLog world state text (seen left)
+    pub taken : TakesLines start reached text []
     pub ended : AreEnded reached keeper.world
-    pub settled : AreSettled disk is_honest keeper
+    pub durable : AreDurable disk is_honest keeper
     pub own : is_honest keeper.log.segment.folder → shown disk keeper.log world_name ≡ Some world
     pub crash : is_honest keeper.log.segment.folder
         → LeavesOnly left (disk keeper.log.segment.folder)
@@ -62,7 +62,7 @@ module _ {F : Type 0} (disk : F → Disk) (is_honest : F → Type 0) where
 pub record IsWrongLine (left : Disk) (world : List ℕ) (state : StateFile) (start : WorldView) (file : List ℕ) (line : ℕ) : Type 0 where
   pub text : List ℕ
   pub number : ℕ
-  pub read : Holds world state text (seen left)
+  pub read : HasLog world state text (seen left)
   pub wrong : IsWrong start text number
   pub stands : StandsAt (seen left) number file line
 
@@ -71,7 +71,7 @@ pub record HasState (left : Disk) (world : List ℕ) (file : List ℕ) (line : �
   pub state : StateFile
   pub text : List ℕ
   pub some : 0 < state.0
-  pub read : Holds world state text (seen left)
+  pub read : HasLog world state text (seen left)
   pub name : file ≡ state_name state.0
   pub line_is : line ≡ 1
 

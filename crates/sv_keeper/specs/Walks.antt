@@ -14,12 +14,12 @@ use Rattle.sv_living.specs.World.{WorldView, entries_in, after}
 use Rattle.sv_entries.specs.declared.read.LineRequest.{LineRequest}
 use Rattle.sv_entries.specs.declared.read.LineRequest.TheVariants as asked
 use Rattle.sv_keeper.specs.Keeping.{IsWhole, next_line}
-use Rattle.sv_keeper.specs.declared.walking.Walk.{Walk}
+use Rattle.sv_keeper.specs.declared.walking.LineWalk.{LineWalk}
 use Rattle.sv_keeper.specs.declared.walking.WalkStop.{WalkStop}
 use Rattle.sv_keeper.specs.declared.walking.WalkStop.TheVariants as stops
 
 -- One line is taken from a text: that of a request of a session that may make one.
-pub record IsTaken (v w : WorldView) (text rest : List ℕ) : Type 0 where
+pub record TakesLine (v w : WorldView) (text rest : List ℕ) : Type 0 where
   pub session : ℕ
   pub request : Request
   pub asks : may_ask v.history session ≡ true
@@ -27,9 +27,9 @@ pub record IsTaken (v w : WorldView) (text rest : List ℕ) : Type 0 where
   pub line : text ≡ next_line v session request ++ rest
 
 -- Lines are taken from a text, until the rest is left.
-pub data AreTaken : WorldView → WorldView → List ℕ → List ℕ → Type 0 where
-  none : {v : WorldView} {text : List ℕ} → AreTaken v v text text
-  some : {v w x : WorldView} {text middle rest : List ℕ} → IsTaken v w text middle → AreTaken w x middle rest → AreTaken v x text rest
+pub data TakesLines : WorldView → WorldView → List ℕ → List ℕ → Type 0 where
+  none : {v : WorldView} {text : List ℕ} → TakesLines v v text text
+  some : {v w x : WorldView} {text middle rest : List ℕ} → TakesLine v w text middle → TakesLines w x middle rest → TakesLines v x text rest
 
 -- The text does not begin with the line of this request, if it may be made next.
 abbrev pub IsNotTheLine : WorldView → ℕ → Request → List ℕ → Type 0
@@ -46,7 +46,7 @@ IsAskedBy shape (asked.BadSubmit seq cause) request =
     (action : Action) × (request ≡ requests.Submit seq action) × (first_fault_of_action shape action ≡ Some (unwrap_or cause NoReads))
 
 -- What a walk is: its shape is that of its core, whose next entry has the next number, and whose history is whole.
-pub record IsWalk (walk : Walk) : Type 0 where
+pub record IsWalk (walk : LineWalk) : Type 0 where
   pub shape : walk.shape ≡ walk.core.rules.world.shape
   pub good : IsGoodShape walk.shape
   pub next : walk.next ≡ entries_in walk.core + 1
@@ -67,11 +67,11 @@ WhyNone v text stops.Memory = Unit {0}
 pub record IsWrong (v : WorldView) (text : List ℕ) (number : ℕ) : Type 0 where
   pub reached : WorldView
   pub rest : List ℕ
-  pub right : AreTaken v reached text rest
+  pub right : TakesLines v reached text rest
   pub wrong : IsNoLine reached rest
   pub more : rest ≢ []
   pub number_is : number ≡ entries_in reached + 1
 
-abbrev pub WhyStopped : WorldView → List ℕ → ℕ → WalkStop → Type 0
-WhyStopped v text number (stops.Wrong cause) = IsWrong v text number
-WhyStopped v text number stops.Memory = Unit {0}
+abbrev pub WhyWalkStops : WorldView → List ℕ → ℕ → WalkStop → Type 0
+WhyWalkStops v text number (stops.Wrong cause) = IsWrong v text number
+WhyWalkStops v text number stops.Memory = Unit {0}

@@ -1,7 +1,7 @@
 //! Why a kept world does not go on, or is not opened.
-use sv_log::Refusal;
+use sv_log::LogRefusal;
 
-/// Why a request was not stepped, or the log not settled.
+/// Why a request was not stepped, or the log not durable.
 #[derive(Clone, Copy, Debug, Drop, PartialEq, Eq)]
 pub enum KeepFault {
     /// The session had its End, or it is not the next one. Nothing changed.
@@ -10,7 +10,7 @@ pub enum KeepFault {
     NoRoom,
     /// There was no memory. Nothing changed.
     Memory,
-    /// The log is not what the core says it is: a line is wanting, or a write or a sync failed. Nothing more is stepped, settled or sent.
+    /// The log is not what the core says it is: a line is wanting, or a write or a sync failed. Nothing more is stepped, written or sent.
     Broken,
 }
 
@@ -29,7 +29,7 @@ pub enum LineCause {
 #[derive(Drop)]
 pub enum OpenFault {
     /// The folder holds no log of this world.
-    Refused(Refusal),
+    Refused(LogRefusal),
     /// A line of a file is not right. Lines count from 1.
     Line {
         file: String,

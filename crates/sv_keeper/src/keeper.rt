@@ -5,19 +5,19 @@ ghost use Rattle.sv_journal.specs.History.{accepted, commit_of, committed_of, ne
 ghost use Rattle.sv_journal.specs.Serving.{LegalFor};
 ghost use Rattle.sv_journal.specs.Living.{living};
 ghost use Rattle.sv_living.specs.Keeping.{AreAnswered};
-ghost use Rattle.sv_living.specs.Quiet.{IsFirstOpen, IsQuiet};
+ghost use Rattle.sv_living.specs.Quiet.{IsFirstOpen, IsQuietReply};
 ghost use Rattle.sv_living.specs.Sessions.{next_session, open_sessions, AreInOrder, AreInOrderSince, HaveBegun};
 ghost use Rattle.sv_living.specs.World.{heeded_in, entries_in, BeganLawfully};
 ghost use Rattle.sv_log.specs.Crashes.{LeavesOnly};
 ghost use Rattle.sv_log.specs.Names.{world_name};
 ghost use Rattle.sv_log.specs.OpenLogs.{shown, newest};
 ghost use Rattle.sv_keeper.specs.Histories.{footing_of, HoldsFirst};
-ghost use Rattle.sv_keeper.specs.Keeping.{IsKept, IsWhole, Stepped, WasNotStepped, AreSettled};
+ghost use Rattle.sv_keeper.specs.Keeping.{IsKeptWorld, IsWhole, Stepped, WasNotStepped, AreDurable};
 ghost use Rattle.sv_keeper.specs.declared.fault.KeepFault.TheVariants as faults;
 
+use crate::durable::Durable;
 use crate::fault::KeepFault;
 use crate::putting::put_group;
-use crate::settled::Settled;
 use std::marker::Model;
 use sv_bytes::FileFault;
 use sv_core::Answer;
@@ -64,7 +64,7 @@ impl<F: Folder> Model for Keeper<F> {
 }
 
 impl<F: Folder> Keeper<F> {
-    /// Answers a request of a session, and puts its line into the group. Its reply may be sent once the keeper is settled.
+    /// Answers a request of a session, and puts its line into the group. Its reply may be sent once the keeper is durable.
     pub fn step(&mut self, session: u64, request: &Request) -> Result<Reply, KeepFault>
         ensures ok { IfOk result (Stepped self.old self.new session request.now) }
         ensures err { IfErr result (WasNotStepped self.old self.new session request.now) }
@@ -104,8 +104,8 @@ impl<F: Folder> Keeper<F> {
     /// Appends all lines that are not appended, with one write, and syncs them. Then what was answered may be sent.
     ///
     /// After an `Err` the keeper is broken.
-    pub fn settle(&mut self) -> Result<(), KeepFault>
-        ensures ok { OnOk result (AreSettled F.disk F.is_honest self.new) }
+    pub fn make_durable(&mut self) -> Result<(), KeepFault>
+        ensures ok { OnOk result (AreDurable F.disk F.is_honest self.new) }
         ensures err { IfErr result (λ e. (e ≡ faults.Broken) × (self.new.is_broken ≡ true)) }
         ensures broken { self.old.is_broken ≡ true → (self.new ≡ self.old) × (result ≡ Err faults.Broken) }
         ensures any_moment { F.is_honest self.new.log.segment.folder → self.old.is_broken ≡ false → (world : List ℕ)
@@ -118,15 +118,15 @@ impl<F: Folder> Keeper<F> {
         ensures honest { F.is_honest self.new.log.segment.folder → F.is_honest self.old.log.segment.folder }
         ensures world { self.new.world ≡ self.old.world }
     {
-        match self.settle_group() {
+        match self.make_group_durable() {
             Ok(()) => Ok(()),
             Err(_) => Err(KeepFault::Broken),
         }
     }
 
-    // Settles. A keeper that is broken is left as it is.
-    pub(crate) fn settle_group(&mut self) -> Result<(), FileFault>
-        ensures ok { OnOk result (AreSettled F.disk F.is_honest self.new) }
+    // Makes the group durable. A keeper that is broken stays as it is.
+    pub(crate) fn make_group_durable(&mut self) -> Result<(), FileFault>
+        ensures ok { OnOk result (AreDurable F.disk F.is_honest self.new) }
         ensures err { OnErr result (self.new.is_broken ≡ true) }
         ensures broken { self.old.is_broken ≡ true → (self.new ≡ self.old) × IsErr result }
         ensures any_moment { F.is_honest self.new.log.segment.folder → self.old.is_broken ≡ false → (world : List ℕ)
@@ -165,7 +165,7 @@ impl<F: Folder> Keeper<F> {
     /// order of their numbers; where what stood before was lawful, its whole history is legal. What a crash leaves of its log is a log with the
     /// lines of some first entries, at least of those that are synced.
     pub fn is_lawful(&self)
-        ensures kept { self.now.is_broken ≡ false → IsKept F.disk F.is_honest self.now }
+        ensures kept { self.now.is_broken ≡ false → IsKeptWorld F.disk F.is_honest self.now }
         ensures whole { IsWhole self.now.world }
         ensures answered { AreAnswered (living self.now.world.stewardship) self.now.world.rules self.now.world.before self.now.world.since }
         ensures turns { AreInOrderSince self.now.world.before self.now.world.since }
@@ -190,21 +190,21 @@ impl<F: Folder> Keeper<F> {
         segment.folder
     }
 
-    /// The leave to send, where all lines are settled. Nothing can be stepped while it lives.
-    pub fn settled(&self) -> Option<Settled<'_>>
-        ensures some { IfSome result (λ s. AreSettled F.disk F.is_honest self.now × (s ≡ length self.now.world.since)) }
+    /// What shows that all lines are durable, where they are. Nothing can be stepped while it lives.
+    pub fn durable(&self) -> Option<Durable<'_>>
+        ensures some { IfSome result (λ s. AreDurable F.disk F.is_honest self.now × (s ≡ length self.now.world.since)) }
         ensures none { self.now.is_broken ≡ false → self.now.group ≡ [] → IsSome result }
     {
         if self.is_broken || !self.group.is_empty() {
             return None;
         }
-        Some(Settled {
+        Some(Durable {
             count: &self.synced,
         })
     }
 
     /// Whether no line waits to be appended.
-    pub fn is_settled(&self) -> bool
+    pub fn is_durable(&self) -> bool
         ensures { result ≡ (length self.now.group == 0) }
     {
         self.group.is_empty()
@@ -288,9 +288,9 @@ impl<F: Folder> Keeper<F> {
 
     /// What an Observe of an open session would be answered, where that shows nothing. It is no entry. Where the keeper is broken nothing is told.
     pub fn quiet_answer(&self, session: u64, request: &Request) -> Option<Reply>
-        ensures some { IfSome result (λ reply. IsQuiet self.now.world.rules self.now.world.stewardship self.now.world.history session request.now (Some reply)) }
+        ensures some { IfSome result (λ reply. IsQuietReply self.now.world.rules self.now.world.stewardship self.now.world.history session request.now (Some reply)) }
         ensures none { self.now.is_broken ≡ false → BeganLawfully self.now.world
-            → IsQuiet self.now.world.rules self.now.world.stewardship self.now.world.history session request.now result }
+            → IsQuietReply self.now.world.rules self.now.world.stewardship self.now.world.history session request.now result }
         ensures broken { self.now.is_broken ≡ true → result ≡ None }
     {
         if self.is_broken {

@@ -2,6 +2,7 @@
 //! anything of its replies be sent.
 #![tactic(auto)]
 
+mod durable;
 mod fault;
 mod keeper;
 mod opening;
@@ -11,7 +12,7 @@ mod settled;
 mod stating;
 mod walking;
 
+pub use durable::Durable;
 pub use fault::{KeepFault, LineCause, OpenFault};
 pub use keeper::Keeper;
 pub use opening::Opening;
-pub use settled::Settled;

@@ -11,18 +11,18 @@ ghost use Rattle.sv_log.specs.Causes.{FaultCause};
 ghost use Rattle.sv_log.specs.Rests.{IsAtRest};
 ghost use Rattle.sv_log.specs.Logs.{HasSizes};
 ghost use Rattle.sv_log.specs.Names.{world_name};
-ghost use Rattle.sv_log.specs.Chains.{no_state, Holds};
+ghost use Rattle.sv_log.specs.Chains.{no_state, HasLog};
 ghost use Rattle.sv_log.specs.OpenLogs.{IsOpenLog, shown, newest, log_text, log_synced};
 ghost use Rattle.sv_log.specs.Readings.{Reads, read_state};
 ghost use Rattle.sv_keeper.specs.Histories.{footing_of, HoldsFirst};
-ghost use Rattle.sv_keeper.specs.Keeping.{text_of, AreSettled};
-ghost use Rattle.sv_keeper.specs.Walks.{AreTaken, IsWalk, IsWrong};
+ghost use Rattle.sv_keeper.specs.Keeping.{text_of, AreDurable};
+ghost use Rattle.sv_keeper.specs.Walks.{TakesLines, IsWalk, IsWrong};
 ghost use Rattle.sv_keeper.specs.Opened.{start_of, AreEnded, HasAll, IsOpened, IsResumed, IsStated, WhyNotOpened, WhyNotResumed, OpenCause, WhyNotWalked, IsFaultOf};
 
 use crate::fault::{LineCause, OpenFault};
 use crate::keeper::Keeper;
 use crate::place::{first_of, place_in};
-use crate::walking::{Walk, WalkStop};
+use crate::walking::{LineWalk, WalkStop};
 use std::alloc::Global;
 use sv_bytes::FileFault;
 use sv_core::Opened;
@@ -43,7 +43,7 @@ pub struct Opening<'a> {
 }
 
 // A walk that begins where a core stands.
-fn begun(alloc: Global, core: LivingCore, shape: Shape) -> Option<Walk>
+fn begun(alloc: Global, core: LivingCore, shape: Shape) -> Option<LineWalk>
     requires shape { shape ≡ core.rules.world.shape }
     requires good { IsGoodShape shape }
     requires none { core.since ≡ [] }
@@ -52,7 +52,7 @@ fn begun(alloc: Global, core: LivingCore, shape: Shape) -> Option<Walk>
     core.is_lawful();
     // No log has as many lines as that.
     let next = core.number().checked_add(1)?;
-    Some(Walk {
+    Some(LineWalk {
         alloc,
         shape,
         core,
@@ -67,14 +67,14 @@ fn walked(
     core: LivingCore,
     shape: Shape,
     reading: &Reading,
-) -> Result<Walk, OpenFault>
+) -> Result<LineWalk, OpenFault>
     requires shape { shape ≡ core.rules.world.shape }
     requires good { IsGoodShape shape }
     requires none { core.since ≡ [] }
     requires number { core.number ≡ reading.now.state }
     ensures walk { IfOk result IsWalk }
     ensures number { IfOk result (λ walk. walk.core.number ≡ reading.now.state) }
-    ensures taken { IfOk result (λ walk. AreTaken core walk.core reading.now.text.items []) }
+    ensures taken { IfOk result (λ walk. TakesLines core walk.core reading.now.text.items []) }
     ensures why { IfErr result (WhyNotWalked core reading.now) }
 {
     let Some(mut walk) = begun(alloc, core, shape) else {
@@ -96,7 +96,7 @@ fn stated(alloc: Global, reading: &Reading) -> OpenFault
         Ok(file) => OpenFault::Line {
             file,
             line: 1,
-            cause: LineCause::Unread,
+            cause: LineCause::LineFault,
         },
         Err(_) => OpenFault::Memory,
     }
@@ -129,7 +129,7 @@ fn fault_of(fault: FileFault) -> OpenFault
 
 impl<F: Folder> Keeper<F> {
     /// Opens the world of a folder: reads its log, takes all its lines, mends what a crash left, enters an End for each session that has none,
-    /// and settles. A log that has a state is not opened: who reads it goes on behind it with `resume`.
+    /// and makes it durable. A log that has a state is not opened: who reads it goes on behind it with `resume`.
     ///
     /// All lines are judged before anything of the folder is changed. An `Err` hands the folder back.
     pub fn open(
@@ -146,7 +146,7 @@ impl<F: Folder> Keeper<F> {
         ensures calm { IfOk result (λ keeper. F.faults keeper.log.segment.folder ≡ F.faults folder) }
         ensures err { IfErr result (λ e. F.is_honest e.1
             → WhyNotOpened (F.disk folder) (F.disk e.1) opening.entry.world.now (start_of opening.entry.opened opening.entry.stewards) e.0) }
-        ensures any_moment_err { IfErr result (λ e. F.is_honest e.1 → (text : List ℕ) → Holds opening.entry.world.now no_state text (seen (F.disk folder))
+        ensures any_moment_err { IfErr result (λ e. F.is_honest e.1 → (text : List ℕ) → HasLog opening.entry.world.now no_state text (seen (F.disk folder))
             → LeavesOnly (F.disk folder) (F.disk e.1) (HasAll opening.entry.world.now no_state text)) }
         ensures honest_err { IfErr result (λ e. F.is_honest e.1 → F.is_honest folder) }
         ensures cause { IfErr result (λ e. OpenCause (F.faults folder) (F.faults e.1) e.0) }
@@ -216,7 +216,7 @@ impl<F: Folder> Keeper<F> {
         alloc: Global,
         folder: F,
         reading: Reading,
-        walk: Walk,
+        walk: LineWalk,
         world: &[u8],
         spare: usize,
     ) -> Result<Keeper<F>, (FileFault, F)>
@@ -225,7 +225,7 @@ impl<F: Folder> Keeper<F> {
         requires walk { IsWalk walk }
         requires number { walk.core.number ≡ reading.state }
         requires text { text_of walk.core ≡ reading.text.items }
-        ensures ok { (start : WorldView) → AreTaken start walk.core reading.text.items []
+        ensures ok { (start : WorldView) → TakesLines start walk.core reading.text.items []
             → IfOk result (IsResumed F.disk F.is_honest (F.disk folder) world.now (read_state reading) start) }
         ensures honest { IfOk result (λ keeper. F.is_honest keeper.log.segment.folder → F.is_honest folder) }
         ensures calm { IfOk result (λ keeper. F.faults keeper.log.segment.folder ≡ F.faults folder) }
@@ -247,7 +247,7 @@ impl<F: Folder> Keeper<F> {
     }
 
     // The keeper of a world whose lines are those of a log.
-    fn joined(alloc: Global, walk: Walk, log: Log<F>, log_bytes: u64) -> Keeper<F>
+    fn joined(alloc: Global, walk: LineWalk, log: Log<F>, log_bytes: u64) -> Keeper<F>
         requires walk { IsWalk walk }
         requires number { log.state ≡ walk.core.number }
         requires sizes { HasSizes log.segment }
@@ -256,7 +256,7 @@ impl<F: Folder> Keeper<F> {
         requires synced { F.is_honest log.segment.folder → log_synced F.disk log ≡ text_of walk.core }
         ensures { result ≡ record { world = walk.core; log = log; group = []; synced = length walk.core.since; is_broken = false } }
     {
-        let Walk {
+        let LineWalk {
             shape,
             core,
             next,
@@ -276,11 +276,11 @@ impl<F: Folder> Keeper<F> {
         }
     }
 
-    // Enters the End of each session that is open, the least first, and settles.
+    // Enters the End of each session that is open, the least first, and makes it durable.
     fn end_all(&mut self) -> Result<(), FileFault>
         requires sound { self.old.is_broken ≡ false }
         ensures ended { OnOk result (AreEnded self.old.world self.new.world) }
-        ensures settled { OnOk result (AreSettled F.disk F.is_honest self.new) }
+        ensures durable { OnOk result (AreDurable F.disk F.is_honest self.new) }
         ensures any_moment { F.is_honest self.new.log.segment.folder → (world : List ℕ) → shown F.disk self.old.log world_name ≡ Some world
             → LeavesOnly (F.disk self.old.log.segment.folder) (F.disk self.new.log.segment.folder)
             (HasAll world (newest F.disk self.old.log) (log_synced F.disk self.old.log)) }
@@ -294,7 +294,7 @@ impl<F: Folder> Keeper<F> {
     {
         self.is_lawful();
         self.end_sessions()?;
-        self.settle_group()
+        self.make_group_durable()
     }
 
     // Enters the End of each session that is open, the least first. It fails with `Memory` alone.

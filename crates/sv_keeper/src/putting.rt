@@ -5,7 +5,7 @@ ghost use Rattle.sv_log.specs.Crashes.{LeavesOnly};
 ghost use Rattle.sv_log.specs.Texts.{IsText};
 ghost use Rattle.sv_log.specs.Logs.{HasSizes};
 ghost use Rattle.sv_log.specs.Names.{world_name};
-ghost use Rattle.sv_log.specs.Chains.{Keeps};
+ghost use Rattle.sv_log.specs.Chains.{KeepsLog};
 ghost use Rattle.sv_log.specs.OpenLogs.{IsOpenLog, shown, newest, log_text, log_synced};
 
 use sv_bytes::FileFault;
@@ -22,7 +22,7 @@ pub(crate) fn put_group<F: Folder>(log: &mut Log<F>, text: &[u8]) -> Result<(), 
     ensures synced { F.is_honest log.new.segment.folder → OnOk result (log_synced F.disk log.new ≡ log_text F.disk log.new) }
     ensures any_moment { F.is_honest log.new.segment.folder → (world : List ℕ) → shown F.disk log.old world_name ≡ Some world
         → LeavesOnly (F.disk log.old.segment.folder) (F.disk log.new.segment.folder)
-        (Keeps world (newest F.disk log.old) (log_synced F.disk log.old) (log_text F.disk log.old ++ text.now)) }
+        (KeepsLog world (newest F.disk log.old) (log_synced F.disk log.old) (log_text F.disk log.old ++ text.now)) }
     ensures newest { F.is_honest log.new.segment.folder → OnOk result (newest F.disk log.new ≡ newest F.disk log.old) }
     ensures own { F.is_honest log.new.segment.folder → OnOk result (shown F.disk log.new world_name ≡ shown F.disk log.old world_name) }
     ensures honest { F.is_honest log.new.segment.folder → F.is_honest log.old.segment.folder }

@@ -5,7 +5,7 @@ ghost use Rattle.sv_log.specs.Crashes.{LeavesOnly};
 ghost use Rattle.sv_log.specs.Names.{world_name};
 ghost use Rattle.sv_log.specs.OpenLogs.{shown, newest};
 ghost use Rattle.sv_keeper.specs.Histories.{footing_of};
-ghost use Rattle.sv_keeper.specs.Keeping.{AreSettled};
+ghost use Rattle.sv_keeper.specs.Keeping.{AreDurable};
 ghost use Rattle.sv_keeper.specs.Stating.{HasPut, HoldsFirstOrState};
 ghost use Rattle.sv_keeper.specs.declared.fault.KeepFault.TheVariants as faults;
 
@@ -30,7 +30,7 @@ impl<F: Folder> Keeper<F> {
         ensures honest { F.is_honest self.new.log.segment.folder → F.is_honest self.old.log.segment.folder }
     {
         self.is_lawful();
-        match self.settle() {
+        match self.make_durable() {
             Ok(()) => self.put_behind(bytes),
             Err(fault) => Err(fault),
         }
@@ -38,7 +38,7 @@ impl<F: Folder> Keeper<F> {
 
     // Puts a state behind a log that is settled.
     fn put_behind(&mut self, bytes: &[u8]) -> Result<(), KeepFault>
-        requires settled { AreSettled F.disk F.is_honest self.old }
+        requires settled { AreDurable F.disk F.is_honest self.old }
         ensures ok { OnOk result (HasPut F.disk F.is_honest self.old self.new bytes.now) }
         ensures err { IfErr result (λ e. (e ≡ faults.Broken) × (self.new.is_broken ≡ true)) }
         ensures any_moment { F.is_honest self.new.log.segment.folder → (world : List ℕ) → shown F.disk self.old.log world_name ≡ Some world

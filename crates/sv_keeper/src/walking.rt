@@ -1,7 +1,7 @@
 //! Taking the lines of a log again.
 ghost use Rattle.std.specs.Prelude.{◌≡◌, [], IfOk, IfErr, OnOk, OnErr};
 ghost use Rattle.sv_world.specs.Worlds.{IsGoodShape};
-ghost use Rattle.sv_keeper.specs.Walks.{IsTaken, AreTaken, IsAskedBy, IsWalk, WhyNotThis, WhyNone, WhyStopped};
+ghost use Rattle.sv_keeper.specs.Walks.{TakesLine, TakesLines, IsAskedBy, IsWalk, WhyNotThis, WhyNone, WhyWalkStops};
 
 use crate::fault::LineCause;
 use std::alloc::{AllocError, Global};
@@ -10,7 +10,7 @@ use sv_entries::{
     LineAsked, LineBuffer, LineRequest, bad_action, causes_are_told, line_at, replies_go_by_faults,
     replies_have_one_text,
 };
-use sv_lines::{Unread, take_line};
+use sv_lines::{LineFault, take_line};
 use sv_living::{LivingCore, StepFault};
 use sv_wire::Request;
 use sv_world::{BadAction, Shape};
@@ -25,7 +25,7 @@ pub(crate) enum WalkStop {
 
 /// A walk over the lines of a log: the core that has their entries, and the number of the next line.
 #[derive(Drop)]
-pub(crate) struct Walk {
+pub(crate) struct LineWalk {
     pub(crate) alloc: Global,
     pub(crate) shape: Shape,
     pub(crate) core: LivingCore,
@@ -48,12 +48,12 @@ fn request_of(alloc: Global, shape: Shape, asked: LineRequest) -> Result<Request
     }
 }
 
-impl Walk {
+impl LineWalk {
     /// Takes the first line of a text: steps its request, prints its entry and compares. Gives what stands behind it.
     fn take_first<'a>(&mut self, text: &'a [u8]) -> Result<&'a [u8], WalkStop>
         requires walk { IsWalk self.old }
         ensures walk { OnOk result (IsWalk self.new) }
-        ensures taken { IfOk result (λ rest. IsTaken self.old.core self.new.core text.now rest.now) }
+        ensures taken { IfOk result (λ rest. TakesLine self.old.core self.new.core text.now rest.now) }
         ensures why { IfErr result (WhyNone self.old.core text.now) }
         ensures next { OnErr result (self.new.next ≡ self.old.next) }
     {
@@ -66,8 +66,8 @@ impl Walk {
             asked,
         } = match line_at(self.alloc, self.shape, text) {
             Ok(asked) => asked,
-            Err(Unread::Wrong) => return Err(WalkStop::Wrong(LineCause::Unread)),
-            Err(Unread::Memory) => return Err(WalkStop::Memory),
+            Err(LineFault::Wrong) => return Err(WalkStop::Wrong(LineCause::Unread)),
+            Err(LineFault::Memory) => return Err(WalkStop::Memory),
         };
         match request_of(self.alloc, self.shape, asked) {
             Ok(request) => self.step(session, &request, text),
@@ -84,7 +84,7 @@ impl Walk {
     ) -> Result<&'a [u8], WalkStop>
         requires walk { IsWalk self.old }
         ensures walk { OnOk result (IsWalk self.new) }
-        ensures taken { IfOk result (λ rest. IsTaken self.old.core self.new.core text.now rest.now) }
+        ensures taken { IfOk result (λ rest. TakesLine self.old.core self.new.core text.now rest.now) }
         ensures why { IfErr result (WhyNotThis self.old.core session request.now text.now) }
         ensures next { OnErr result (self.new.next ≡ self.old.next) }
     {
@@ -120,8 +120,8 @@ impl Walk {
     pub(crate) fn take_all(&mut self, text: &[u8]) -> Result<(), WalkStop>
         requires walk { IsWalk self.old }
         ensures walk { OnOk result (IsWalk self.new) }
-        ensures taken { OnOk result (AreTaken self.old.core self.new.core text.now []) }
-        ensures why { IfErr result (WhyStopped self.old.core text.now self.new.next) }
+        ensures taken { OnOk result (TakesLines self.old.core self.new.core text.now []) }
+        ensures why { IfErr result (WhyWalkStops self.old.core text.now self.new.next) }
     {
         let mut rest = text;
         while !rest.is_empty() {

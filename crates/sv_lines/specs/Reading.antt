@@ -7,8 +7,8 @@ use Rattle.std.specs.Str.Parse.{digits_value}
 use Rattle.sv_world.specs.declared.world.ObjectId.{ObjectId}
 use Rattle.sv_world.specs.Sets.{object_numbered}
 use Rattle.sv_wire.specs.declared.message.Done1.{Done1}
-use Rattle.sv_lines.specs.declared.stop.Unread.{Unread}
-use Rattle.sv_lines.specs.declared.stop.Unread.TheVariants as unread
+use Rattle.sv_lines.specs.declared.stop.LineFault.{LineFault}
+use Rattle.sv_lines.specs.declared.stop.LineFault.TheVariants as unread
 
 -- The thing, and what comes behind it.
 abbrev pub Read : Type 0 → Type 0
@@ -20,12 +20,12 @@ abbrev pub ◌>>=◌ : {A B : Type 0} → Option A → (A → Option B) → Opti
 None >>= f = None
 
 -- What a function returned, seen by view, is what reading gives, unless memory ran out.
-abbrev pub Gives : {X Y : Type 0} → (X → Y) → Result X Unread → Option Y → Type 0
+abbrev pub Gives : {X Y : Type 0} → (X → Y) → Result X LineFault → Option Y → Type 0
 Gives view (Ok x) read = read ≡ Some (view x)
 Gives view (Err e) read = e ≡ unread.Wrong → read ≡ None
 
 -- The same of a function that takes no memory.
-abbrev pub seen : {X Y : Type 0} → (X → Y) → Result X Unread → Option Y
+abbrev pub seen : {X Y : Type 0} → (X → Y) → Result X LineFault → Option Y
 seen view (Ok x) = Some (view x)
 seen view (Err e) = None
 

@@ -19,4 +19,4 @@ pub use lists::{next_at, object_at, objects_at, value_at, values_at};
 pub use numbers::{behind, expect, number_at, numeral_at, small_at};
 pub use request::{Asked, action_at, asked_at, plain_width, request_at};
 pub use same::same_request;
-pub use stop::{LineStop, Unread};
+pub use stop::{LineFault, LineStop};

@@ -3,7 +3,7 @@ ghost use Rattle.std.specs.Prelude.{◌≡◌, [], ◌∷◌};
 ghost use Rattle.sv_lines.specs.Reading.{Gives, seen, next_read, joined_by, listed_by, object_read, objects_read, signed_read, value_read, values_by, values_read, result_read, results_read};
 
 use crate::numbers::{behind, expect, number_at, signed_at, small_at};
-use crate::stop::Unread;
+use crate::stop::LineFault;
 use std::alloc::Global;
 use sv_lists::List;
 use sv_wire::Done1;
@@ -11,7 +11,7 @@ use sv_world::{ObjectId, Value};
 
 /// An object by its number, and what comes after it.
 #[tactic(auto, unfolding(crate::specs::Reading::object_read))]
-pub fn object_at(text: &[u8]) -> Result<(ObjectId, &[u8]), Unread>
+pub fn object_at(text: &[u8]) -> Result<(ObjectId, &[u8]), LineFault>
     ensures { seen (λ x. (x.0, x.1.now)) result ≡ object_read text.now }
 {
     let (number, rest) = small_at(text)?;
@@ -20,7 +20,7 @@ pub fn object_at(text: &[u8]) -> Result<(ObjectId, &[u8]), Unread>
 
 /// Whether a list ends behind an element, and what comes next.
 #[tactic(auto, unfolding(crate::specs::Reading::next_read))]
-pub fn next_at<'a>(text: &'a [u8], close: &[u8], byte: &[u8]) -> Result<(bool, &'a [u8]), Unread>
+pub fn next_at<'a>(text: &'a [u8], close: &[u8], byte: &[u8]) -> Result<(bool, &'a [u8]), LineFault>
     ensures { seen (λ x. (x.0, x.1.now)) result ≡ next_read close.now byte.now text.now }
 {
     if let Some(rest) = behind(text, close) {
@@ -35,7 +35,7 @@ fn joined_objects(
     alloc: Global,
     turns: usize,
     text: &[u8],
-) -> Result<(List<ObjectId>, &[u8]), Unread>
+) -> Result<(List<ObjectId>, &[u8]), LineFault>
     ensures { Gives (λ x. (x.0, x.1.now)) result (joined_by object_read (93 ∷ []) (32 ∷ []) turns [] text.now) }
 {
     let mut objects = List::new(alloc);
@@ -49,10 +49,10 @@ fn joined_objects(
         }
         left = rest;
     }
-    Err(Unread::Wrong)
+    Err(LineFault::Wrong)
 }
 
-fn listed_objects(alloc: Global, text: &[u8]) -> Result<(List<ObjectId>, &[u8]), Unread>
+fn listed_objects(alloc: Global, text: &[u8]) -> Result<(List<ObjectId>, &[u8]), LineFault>
     ensures { Gives (λ x. (x.0, x.1.now)) result (listed_by object_read (93 ∷ []) (32 ∷ []) text.now) }
 {
     if let Some(rest) = behind(text, b"]") {
@@ -63,7 +63,7 @@ fn listed_objects(alloc: Global, text: &[u8]) -> Result<(List<ObjectId>, &[u8]),
 
 /// A list of objects, as `[0 2]`.
 #[tactic(auto, unfolding(crate::specs::Reading::objects_read))]
-pub fn objects_at(alloc: Global, text: &[u8]) -> Result<(List<ObjectId>, &[u8]), Unread>
+pub fn objects_at(alloc: Global, text: &[u8]) -> Result<(List<ObjectId>, &[u8]), LineFault>
     ensures { Gives (λ x. (x.0, x.1.now)) result (objects_read text.now) }
 {
     let rest = expect(text, b"[")?;
@@ -71,7 +71,7 @@ pub fn objects_at(alloc: Global, text: &[u8]) -> Result<(List<ObjectId>, &[u8]),
 }
 
 /// One number or more, as `5,-1)`.
-fn joined_numbers(alloc: Global, turns: usize, text: &[u8]) -> Result<(Value, &[u8]), Unread>
+fn joined_numbers(alloc: Global, turns: usize, text: &[u8]) -> Result<(Value, &[u8]), LineFault>
     ensures { Gives (λ x. (x.0, x.1.now)) result (joined_by signed_read (41 ∷ []) (44 ∷ []) turns [] text.now) }
 {
     let mut value = Value::new(alloc);
@@ -85,12 +85,12 @@ fn joined_numbers(alloc: Global, turns: usize, text: &[u8]) -> Result<(Value, &[
         }
         left = rest;
     }
-    Err(Unread::Wrong)
+    Err(LineFault::Wrong)
 }
 
 /// A value behind its bracket.
 #[tactic(auto, unfolding(crate::specs::Reading::value_read))]
-pub fn value_at(alloc: Global, text: &[u8]) -> Result<(Value, &[u8]), Unread>
+pub fn value_at(alloc: Global, text: &[u8]) -> Result<(Value, &[u8]), LineFault>
     ensures { Gives (λ x. (x.0, x.1.now)) result (value_read text.now) }
 {
     if let Some(rest) = behind(text, b")") {
@@ -100,7 +100,11 @@ pub fn value_at(alloc: Global, text: &[u8]) -> Result<(Value, &[u8]), Unread>
 }
 
 /// Values, so many at most.
-fn joined_values(alloc: Global, turns: usize, text: &[u8]) -> Result<(List<Value>, &[u8]), Unread>
+fn joined_values(
+    alloc: Global,
+    turns: usize,
+    text: &[u8],
+) -> Result<(List<Value>, &[u8]), LineFault>
     ensures { Gives (λ x. (x.0, x.1.now)) result (values_by turns [] text.now) }
 {
     let mut values = List::new(alloc);
@@ -118,7 +122,7 @@ fn joined_values(alloc: Global, turns: usize, text: &[u8]) -> Result<(List<Value
 
 /// Values, as `(7)(8)`.
 #[tactic(auto, unfolding(crate::specs::Reading::values_read))]
-pub fn values_at(alloc: Global, text: &[u8]) -> Result<(List<Value>, &[u8]), Unread>
+pub fn values_at(alloc: Global, text: &[u8]) -> Result<(List<Value>, &[u8]), LineFault>
     ensures { Gives (λ x. (x.0, x.1.now)) result (values_read text.now) }
 {
     joined_values(alloc, text.len(), text)
@@ -126,7 +130,7 @@ pub fn values_at(alloc: Global, text: &[u8]) -> Result<(List<Value>, &[u8]), Unr
 
 /// The result of a position, as `2:(7)(8)`.
 #[tactic(auto, unfolding(crate::specs::Reading::result_read))]
-fn result_at(alloc: Global, text: &[u8]) -> Result<(Done1, &[u8]), Unread>
+fn result_at(alloc: Global, text: &[u8]) -> Result<(Done1, &[u8]), LineFault>
     ensures { Gives (λ x. (x.0, x.1.now)) result (result_read text.now) }
 {
     let (pos, rest) = number_at(text)?;
@@ -136,7 +140,11 @@ fn result_at(alloc: Global, text: &[u8]) -> Result<(Done1, &[u8]), Unread>
 }
 
 /// One result or more, as `1:(6) 2:(7)(8)]`.
-fn joined_results(alloc: Global, turns: usize, text: &[u8]) -> Result<(List<Done1>, &[u8]), Unread>
+fn joined_results(
+    alloc: Global,
+    turns: usize,
+    text: &[u8],
+) -> Result<(List<Done1>, &[u8]), LineFault>
     ensures { Gives (λ x. (x.0, x.1.now)) result (joined_by result_read (93 ∷ []) (32 ∷ []) turns [] text.now) }
 {
     let mut results = List::new(alloc);
@@ -150,10 +158,10 @@ fn joined_results(alloc: Global, turns: usize, text: &[u8]) -> Result<(List<Done
         }
         left = rest;
     }
-    Err(Unread::Wrong)
+    Err(LineFault::Wrong)
 }
 
-fn listed_results(alloc: Global, text: &[u8]) -> Result<(List<Done1>, &[u8]), Unread>
+fn listed_results(alloc: Global, text: &[u8]) -> Result<(List<Done1>, &[u8]), LineFault>
     ensures { Gives (λ x. (x.0, x.1.now)) result (listed_by result_read (93 ∷ []) (32 ∷ []) text.now) }
 {
     if let Some(rest) = behind(text, b"]") {
@@ -164,7 +172,7 @@ fn listed_results(alloc: Global, text: &[u8]) -> Result<(List<Done1>, &[u8]), Un
 
 /// A list of results, as `[1:(6) 2:(7)(8)]`.
 #[tactic(auto, unfolding(crate::specs::Reading::results_read))]
-pub fn results_at(alloc: Global, text: &[u8]) -> Result<(List<Done1>, &[u8]), Unread>
+pub fn results_at(alloc: Global, text: &[u8]) -> Result<(List<Done1>, &[u8]), LineFault>
     ensures { Gives (λ x. (x.0, x.1.now)) result (results_read text.now) }
 {
     let rest = expect(text, b"[")?;

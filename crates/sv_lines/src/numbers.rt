@@ -4,7 +4,7 @@ ghost use Rattle.std.specs.Int.{w64};
 ghost use Rattle.std.specs.List.{prefix_len};
 ghost use Rattle.sv_lines.specs.Reading.{seen, is_numeric, numeral, behind_numeral, number_read, signed_read, behind_front};
 
-use crate::stop::Unread;
+use crate::stop::LineFault;
 
 /// How many of the first bytes are digits, or a minus.
 fn width(text: &[u8]) -> usize
@@ -36,48 +36,48 @@ pub fn behind<'a>(text: &'a [u8], front: &[u8]) -> Option<&'a [u8]>
 }
 
 /// What comes after these bytes, with which the text has to begin.
-pub fn expect<'a>(text: &'a [u8], front: &[u8]) -> Result<&'a [u8], Unread>
+pub fn expect<'a>(text: &'a [u8], front: &[u8]) -> Result<&'a [u8], LineFault>
     ensures { seen (λ rest. rest.now) result ≡ behind_front front.now text.now }
 {
     match behind(text, front) {
         Some(rest) => Ok(rest),
-        None => Err(Unread::Wrong),
+        None => Err(LineFault::Wrong),
     }
 }
 
 /// The number of 32 bits that the text begins with, and what comes after it.
 #[tactic(auto, unfolding(crate::specs::Reading::number_read))]
-pub fn number_at(text: &[u8]) -> Result<(u32, &[u8]), Unread>
+pub fn number_at(text: &[u8]) -> Result<(u32, &[u8]), LineFault>
     ensures { seen (λ x. (x.0, x.1.now)) result ≡ number_read (2 ^ 32) text.now }
 {
     let (digits, rest) = numeral_at(text);
     match digits.parse::<u32>() {
         Ok(number) => Ok((number, rest)),
-        Err(_) => Err(Unread::Wrong),
+        Err(_) => Err(LineFault::Wrong),
     }
 }
 
 /// The number of 16 bits that the text begins with, and what comes after it.
 #[tactic(auto, unfolding(crate::specs::Reading::number_read))]
-pub fn small_at(text: &[u8]) -> Result<(u16, &[u8]), Unread>
+pub fn small_at(text: &[u8]) -> Result<(u16, &[u8]), LineFault>
     ensures { seen (λ x. (x.0, x.1.now)) result ≡ number_read (2 ^ 16) text.now }
 {
     let (digits, rest) = numeral_at(text);
     match digits.parse::<u16>() {
         Ok(number) => Ok((number, rest)),
-        Err(_) => Err(Unread::Wrong),
+        Err(_) => Err(LineFault::Wrong),
     }
 }
 
 /// The number of 64 bits, with a minus or not, that the text begins with, and what comes after it.
 #[tactic(auto, unfolding(crate::specs::Reading::signed_read))]
-pub fn signed_at(text: &[u8]) -> Result<(i64, &[u8]), Unread>
+pub fn signed_at(text: &[u8]) -> Result<(i64, &[u8]), LineFault>
     ensures read { seen (λ x. (x.0, x.1.now)) result ≡ signed_read text.now }
     ensures long { IfOk result (λ x. FitsSigned w64 x.0) }
 {
     let (digits, rest) = numeral_at(text);
     match digits.parse::<i64>() {
         Ok(number) => Ok((number, rest)),
-        Err(_) => Err(Unread::Wrong),
+        Err(_) => Err(LineFault::Wrong),
     }
 }

@@ -33,28 +33,28 @@ impl<T: Drop> From<AllocFailed<T>> for LineStop {
 
 /// Why a line could not be read.
 #[derive(Clone, Copy, Debug, Drop)]
-pub enum Unread {
+pub enum LineFault {
     /// It is none of those that are wanted here.
     Wrong,
     Memory,
 }
 
-impl From<AllocError> for Unread {
-    ghost use Rattle.sv_lines.specs.declared.stop.Unread.TheVariants.{Memory};
+impl From<AllocError> for LineFault {
+    ghost use Rattle.sv_lines.specs.declared.stop.LineFault.TheVariants.{Memory};
 
     ghost from_gives = { λ _ e. e ≡ Memory };
 
-    fn from(_error: AllocError) -> Unread {
-        Unread::Memory
+    fn from(_error: AllocError) -> LineFault {
+        LineFault::Memory
     }
 }
 
-impl<T: Drop> From<AllocFailed<T>> for Unread {
-    ghost use Rattle.sv_lines.specs.declared.stop.Unread.TheVariants.{Memory};
+impl<T: Drop> From<AllocFailed<T>> for LineFault {
+    ghost use Rattle.sv_lines.specs.declared.stop.LineFault.TheVariants.{Memory};
 
     ghost from_gives = { λ _ e. e ≡ Memory };
 
-    fn from(_error: AllocFailed<T>) -> Unread {
-        Unread::Memory
+    fn from(_error: AllocFailed<T>) -> LineFault {
+        LineFault::Memory
     }
 }

@@ -18,12 +18,12 @@ use sv_bytes::FaultCount;
 
 /// A pair that was settled.
 #[derive(Drop)]
-pub(crate) struct Settled {
+pub(crate) struct SettledPair {
     server: EndLog,
     client: EndLog,
 }
 
-impl Model for Settled {
+impl Model for SettledPair {
     ghost use Rattle.sv_link.specs.Logs.{told_of};
     ghost use Rattle.sv_link.specs.Nets.{Transcript, transcript_of};
 
@@ -33,7 +33,7 @@ impl Model for Settled {
 }
 
 /// Gives a new pair's two ends: the server's, and the client's.
-pub(crate) fn open_pair(book: &mut Book<Settled>, alloc: Global) -> (EndLog, EndLog)
+pub(crate) fn open_pair(book: &mut Book<SettledPair>, alloc: Global) -> (EndLog, EndLog)
     requires room { CanOpen book.old }
     ensures server { (told_of result.0 ≡ new_end book.old.made Server) × (result.0.faults ≡ 0) }
     ensures client { (told_of result.1 ≡ new_end book.old.made Client) × (result.1.faults ≡ 0) }
@@ -49,7 +49,7 @@ pub(crate) fn open_pair(book: &mut Book<Settled>, alloc: Global) -> (EndLog, End
 
 /// Compares two ends. `refused` says that the net settles them as failed all the same. Contracts alone see the list of those that failed.
 pub(crate) fn settle_pair(
-    book: &mut Book<Settled>,
+    book: &mut Book<SettledPair>,
     unmatched: &mut Log<EndLog, EndLog>,
     server: EndLog,
     client: EndLog,
@@ -68,7 +68,7 @@ pub(crate) fn settle_pair(
     let arrived = both_arrived(&server, &client);
     let faultless = cut || (server.faults == 0 && client.faults == 0);
     if arrived && faultless && !refused {
-        book.keep(Settled { server, client });
+        book.keep(SettledPair { server, client });
         return Settle::Matched;
     }
     *unmatched = unmatched.and(&server, &client);

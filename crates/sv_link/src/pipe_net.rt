@@ -7,7 +7,7 @@ ghost use Rattle.sv_link.specs.Pipes.{IsCopied, SomeReceived};
 use crate::book::Book;
 use crate::log::EndLog;
 use crate::nets::{Net, Pair, Settle};
-use crate::pairs::{Settled, open_pair, settle_pair};
+use crate::pairs::{SettledPair, open_pair, settle_pair};
 use crate::pipe::Pipe;
 use crate::pipe_end::PipeEnd;
 use http_server::Log;
@@ -22,7 +22,7 @@ use sv_bytes::CallPlan;
 pub struct PipeNet<'r, R: Wait> {
     alloc: Global,
     rt: &'r R,
-    book: Book<Settled>,
+    book: Book<SettledPair>,
     unmatched: Log<EndLog, EndLog>,
     calls: CallPlan,
     server: CallPlan,

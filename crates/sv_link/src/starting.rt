@@ -13,9 +13,9 @@ use std::thread::{Promise, PromisedHandle, Scope, Threads};
 
 // A job's promise: what it gives is what the job keeps.
 #[derive(Drop)]
-pub(crate) struct Kept<J: Job>(Snapshot<J>);
+pub(crate) struct JobKept<J: Job>(Snapshot<J>);
 
-impl<J: Job> Promise<J::Out> for Kept<J> {
+impl<J: Job> Promise<J::Out> for JobKept<J> {
     ghost kept_by = { λ p r. J.keeps p.0.value r };
 }
 
@@ -75,7 +75,7 @@ fn start_each<'s, E: 's, J: Job + 's, R: Threads + Wait + Sync>(
     rt: &'s R,
     jobs: Vec<J>,
     refused: Option<usize>,
-    handles: &mut Vec<PromisedHandle<J::Out, Kept<J>>>,
+    handles: &mut Vec<PromisedHandle<J::Out, JobKept<J>>>,
 ) -> bool
     requires ready { AllByRecursion J.ready jobs.items }
     requires empty { handles.old.items ≡ [] }
@@ -88,7 +88,7 @@ fn start_each<'s, E: 's, J: Job + 's, R: Threads + Wait + Sync>(
         if refused == Some(handles.len()) {
             return false;
         }
-        let promise = Kept(Snapshot::of(&job));
+        let promise = JobKept(Snapshot::of(&job));
         let Ok(handle) = scope.spawn_with(
             promise,
             move || -> J::Out
@@ -105,7 +105,7 @@ fn start_each<'s, E: 's, J: Job + 's, R: Threads + Wait + Sync>(
 
 fn join_each<J: Job, R: Threads>(
     rt: &R,
-    handles: Vec<PromisedHandle<J::Out, Kept<J>>>,
+    handles: Vec<PromisedHandle<J::Out, JobKept<J>>>,
     outs: &mut Vec<J::Out>,
 )
     requires empty { outs.old.items ≡ [] }

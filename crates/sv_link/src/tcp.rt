@@ -8,7 +8,7 @@ use crate::book::Book;
 use crate::ends::{End, EndRead, EndWrote};
 use crate::log::{EndLog, MOST_READ};
 use crate::nets::{Net, Pair, Settle};
-use crate::pairs::{Settled, open_pair, settle_pair};
+use crate::pairs::{SettledPair, open_pair, settle_pair};
 use http_server::Log;
 use std::alloc::Global;
 use std::io;
@@ -78,7 +78,7 @@ pub struct TcpNet<'r, R: Sockets<Listener = TcpListener, Stream = TcpStream>> {
     alloc: Global,
     rt: &'r R,
     listener: Option<TcpListener>,
-    book: Book<Settled>,
+    book: Book<SettledPair>,
     unmatched: Log<EndLog, EndLog>,
 }
 

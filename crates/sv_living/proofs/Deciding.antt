@@ -26,7 +26,7 @@ use Rattle.sv_journal.proofs.Plain.{reply-same}
 use Rattle.sv_journal.proofs.Stewards.{living-keeping}
 use Rattle.sv_core.specs.declared.decision.Decision.{Decision}
 use Rattle.sv_core.specs.declared.decision.Decision.TheVariants as decisions
-use Rattle.sv_core.specs.Decisions.{reply_by, results_in, IsOld, Holds}
+use Rattle.sv_core.specs.Decisions.{reply_by, results_in, IsOld, DecisionHolds}
 use Rattle.sv_living.specs.Deciding.{answers_poll, is_report, first_relay, IsDecided, IsDuePoll}
 use Rattle.sv_living.specs.Keeping.{heard}
 use Rattle.sv_living.proofs.Heeding.{accepted_heeded, heard_none}
@@ -177,7 +177,7 @@ module _ (w : Stewardship) (r : Rules) (h : List Entry) (s : ℕ) (q : Request) 
       ∙ sym (rows-same (reply_by r (heeded w h) s q d) counted other)
       ∙ ap (with_last_rows (living w) r h s q) whole
 
-  noted-is : (d : Decision) → Holds r (heeded w h) s q d → is_noted (reply_by r (heeded w h) s q d) ≡ true → q ≡ requests.Done (results_in q)
+  noted-is : (d : Decision) → DecisionHolds r (heeded w h) s q d → is_noted (reply_by r (heeded w h) s q d) ≡ true → q ≡ requests.Done (results_in q)
   noted-is decisions.Note holds is = holds.0
   noted-is (decisions.Refuse refusal detail) holds is = absurd (true≢false (sym is))
   noted-is (decisions.Welcome client life) holds is = absurd (true≢false (sym is))
@@ -192,7 +192,7 @@ module _ (w : Stewardship) (r : Rules) (h : List Entry) (s : ℕ) (q : Request) 
   noted-is decisions.Idle holds is = absurd (true≢false (sym is))
   noted-is decisions.Leave holds is = absurd (true≢false (sym is))
 
-  polled-is : (d : Decision) → Holds r (heeded w h) s q d → is_polled q (reply_by r (heeded w h) s q d) ≡ true → answers_poll q d ≡ true
+  polled-is : (d : Decision) → DecisionHolds r (heeded w h) s q d → is_polled q (reply_by r (heeded w h) s q d) ≡ true → answers_poll q d ≡ true
   polled-is decisions.Idle holds is = refl
   polled-is (decisions.Relay seq pos) holds is = is
   polled-is (decisions.Accept client seq) holds is = absurd (true≢false (sym is ∙ ap is_poll holds.0.submit))
@@ -222,12 +222,12 @@ all-heard w h s q counted = ap (λ (b : Bool). if b then q else with_results (λ
 
 module _ (w : Stewardship) (r : Rules) (h : List Entry) (s : ℕ) where
   decided-whole : (q : Request) (d : Decision) → AllHeard w h s q → is_end q ≡ false → reply_by r (heeded w h) s q d ≡ reply_to_request r (heeded w h) s q
-      → Holds r (heeded w h) s q d
+      → DecisionHolds r (heeded w h) s q d
       → (is_noted (reply_by r (heeded w h) s q d) ≡ true → counts w h s ≡ true)
       → (answers_poll q d && is_stewards w.steward h s) ≡ false → IsDecided w r h s q d
   decided-whole q d whole more told holds counted other = record {
     reply = ap (λ (x : Request). reply_by r (heeded w h) s x d) whole ∙ as-core w r h s q d more told counted (λ polled. last (polled-is w r h s q d holds polled));
-    holds = subst (λ (x : Request). Holds r (heeded w h) s x d) (sym whole) holds;
+    holds = subst (λ (x : Request). DecisionHolds r (heeded w h) s x d) (sym whole) holds;
   }
     where
       last : answers_poll q d ≡ true → is_stewards w.steward h s ≡ false
@@ -245,9 +245,9 @@ module _ (w : Stewardship) (r : Rules) (h : List Entry) (s : ℕ) where
       never false = refl
 
   -- A report that does not count, and is not noted.
-  unnoted : (rs : List Done1) (d : Decision) → Holds r (heeded w h) s (requests.Done rs) d → (d ≡ decisions.Note → ⊥)
+  unnoted : (rs : List Done1) (d : Decision) → DecisionHolds r (heeded w h) s (requests.Done rs) d → (d ≡ decisions.Note → ⊥)
       → (reply_by r (heeded w h) s (requests.Done []) d ≡ reply_by r (heeded w h) s (requests.Done rs) d)
-      × (Holds r (heeded w h) s (requests.Done []) d × (is_noted (reply_by r (heeded w h) s (requests.Done rs) d) ≡ false))
+      × (DecisionHolds r (heeded w h) s (requests.Done []) d × (is_noted (reply_by r (heeded w h) s (requests.Done rs) d) ≡ false))
   unnoted rs decisions.Note holds other = absurd (other refl)
   unnoted rs (decisions.Refuse refusal detail) holds other = (refl, (tt, refl))
   unnoted rs (decisions.Welcome client life) holds other =
@@ -275,7 +275,7 @@ module _ (w : Stewardship) (r : Rules) (h : List Entry) (s : ℕ) where
       none = sym (ap (λ (b : Bool). if b then requests.Done rs else with_results (λ d. false) (requests.Done rs)) uncounted) ∙ heard_none w h s rs uncounted
 
   decided-report : (rs : List Done1) (d : Decision) → counts w h s ≡ false → reply_by r (heeded w h) s (requests.Done rs) d ≡ reply_to_request r (heeded w h) s (requests.Done rs)
-      → Holds r (heeded w h) s (requests.Done rs) d → (answers_poll (requests.Done rs) d && is_stewards w.steward h s) ≡ false → IsDecided w r h s (requests.Done rs) d
+      → DecisionHolds r (heeded w h) s (requests.Done rs) d → (answers_poll (requests.Done rs) d && is_stewards w.steward h s) ≡ false → IsDecided w r h s (requests.Done rs) d
   decided-report rs d uncounted told holds other = go d refl
     where
       back : (e : Decision) → reply_by r (heeded w h) s (heard w h s (requests.Done rs)) e ≡ reply_by r (heeded w h) s (requests.Done []) e
@@ -288,13 +288,13 @@ module _ (w : Stewardship) (r : Rules) (h : List Entry) (s : ℕ) where
       rest unlike =
           let u = unnoted rs d holds unlike in record {
             reply = back d ∙ u.0 ∙ as-core w r h s (requests.Done rs) d refl told (λ n. absurd (true≢false (sym n ∙ u.1.1))) (λ polled. last (polled-is w r h s (requests.Done rs) d holds polled));
-            holds = subst (λ (x : Request). Holds r (heeded w h) s x d) (sym (heard_none w h s rs uncounted)) u.1.0;
+            holds = subst (λ (x : Request). DecisionHolds r (heeded w h) s x d) (sym (heard_none w h s rs uncounted)) u.1.0;
           }
 
       go : (e : Decision) → d ≡ e → IsDecided w r h s (requests.Done rs) d
       go decisions.Note is = subst (IsDecided w r h s (requests.Done rs)) (sym is) (record {
         reply = back decisions.Note ∙ noted-none rs uncounted (sym (ap (reply_by r (heeded w h) s (requests.Done rs)) is) ∙ told);
-        holds = subst (λ (x : Request). Holds r (heeded w h) s x decisions.Note) (sym (heard_none w h s rs uncounted)) (refl, refl);
+        holds = subst (λ (x : Request). DecisionHolds r (heeded w h) s x decisions.Note) (sym (heard_none w h s rs uncounted)) (refl, refl);
       })
       go (decisions.Refuse refusal detail) is = rest (λ n. true≢false (sym (ap is_note (sym is ∙ n))))
       go (decisions.Welcome client life) is = rest (λ n. true≢false (sym (ap is_note (sym is ∙ n))))
@@ -311,7 +311,7 @@ module _ (w : Stewardship) (r : Rules) (h : List Entry) (s : ℕ) where
 
   -- Any decision of the core, but on a steward's Poll.
   pub decided_other : (q : Request) (d : Decision) → is_end q ≡ false → reply_by r (heeded w h) s q d ≡ reply_to_request r (heeded w h) s q
-      → Holds r (heeded w h) s q d → (answers_poll q d && is_stewards w.steward h s) ≡ false → IsDecided w r h s q d
+      → DecisionHolds r (heeded w h) s q d → (answers_poll q d && is_stewards w.steward h s) ≡ false → IsDecided w r h s q d
   decided_other q d more told holds other = go (counts w h s) refl
     where
       same : with_results (λ d. false) q ≡ q → AllHeard w h s q
@@ -327,7 +327,7 @@ module _ (w : Stewardship) (r : Rules) (h : List Entry) (s : ℕ) where
       by : (x : Request) → q ≡ x → counts w h s ≡ false → IsDecided w r h s q d
       by (requests.Done rs) is uncounted = subst (λ (x : Request). IsDecided w r h s x d) (sym is)
           (decided-report rs d uncounted (subst (λ (x : Request). reply_by r (heeded w h) s x d ≡ reply_to_request r (heeded w h) s x) is told)
-          (subst (λ (x : Request). Holds r (heeded w h) s x d) is holds) (subst (λ (x : Request). (answers_poll x d && is_stewards w.steward h s) ≡ false) is other))
+          (subst (λ (x : Request). DecisionHolds r (heeded w h) s x d) is holds) (subst (λ (x : Request). (answers_poll x d && is_stewards w.steward h s) ≡ false) is other))
       by (requests.Join client life interest) is uncounted = plainly (ap (with_results (λ d. false)) is ∙ sym is) (ap is_report is)
       by (requests.Submit seq a) is uncounted = plainly (ap (with_results (λ d. false)) is ∙ sym is) (ap is_report is)
       by requests.Poll is uncounted = plainly (ap (with_results (λ d. false)) is ∙ sym is) (ap is_report is)
@@ -384,7 +384,7 @@ module _ (w : Stewardship) (r : Rules) (h : List Entry) (s : ℕ) where
       go true = refl
       go false = refl
 
-  holds-first : (q : Request) (xs : List ℕ) → q ≡ requests.Poll → due_to w h s ≡ xs → Holds r (heeded w h) s q (first_relay xs)
+  holds-first : (q : Request) (xs : List ℕ) → q ≡ requests.Poll → due_to w h s ≡ xs → DecisionHolds r (heeded w h) s q (first_relay xs)
   holds-first q [] poll due = tt
   holds-first q (p ∷ ps) poll due = (
     subst (IsOld (heeded w h) s) (sym poll) (old-poll (heeded w h) s),
@@ -407,7 +407,7 @@ module _ (w : Stewardship) (r : Rules) (h : List Entry) (s : ℕ) where
         ∙ sym (ap (reply_to_poll r (heeded w h) s) due)
         ∙ sym (polled-rows q d asked)
         ∙ ap (with_last_rows (living w) r h s q) (told ∙ sym (reply-open r (heeded w h) s q more));
-    holds = subst (λ (x : Request). Holds r (heeded w h) s x (first_relay (unreported (heeded w h) s))) (sym whole)
+    holds = subst (λ (x : Request). DecisionHolds r (heeded w h) s x (first_relay (unreported (heeded w h) s))) (sym whole)
         (holds-first q (unreported (heeded w h) s) (poll-is q (poll-asked q d asked told)) due);
   }
     where

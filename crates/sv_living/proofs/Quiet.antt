@@ -19,7 +19,7 @@ use Rattle.sv_journal.specs.Living.{Stewardship, heeded, due_to, living}
 use Rattle.sv_journal.proofs.Sizes.{SizeWithin, sized, served_bounded}
 use Rattle.sv_journal.proofs.Stewards.{living-keeping}
 use Rattle.sv_core.specs.Seeing.{shows_nothing, RelaysFit, IsQuietAnswer}
-use Rattle.sv_living.specs.Quiet.{is_quiet, IsQuiet, IsQuietIfLegal}
+use Rattle.sv_living.specs.Quiet.{is_quiet, IsQuietReply, IsQuietIfLegal}
 use Rattle.sv_living.specs.Sessions.{is_open}
 use Rattle.sv_living.proofs.Deciding.{reply-open}
 use Rattle.sv_living.proofs.Heeding.{accepted_heeded}
@@ -103,10 +103,10 @@ module _ (w : Stewardship) (r : Rules) (h : List Entry) (s : ℕ) (q : Request) 
   quiet-end end legal bound =
       and_right (is_open h s) (shows_nothing (reply_for (living w) r h s q)) (ap (λ (x : Request). shows_nothing (reply_for (living w) r h s x)) end)
 
-  pub quiet-some : (o : Option Reply) → IsQuietIfLegal r w h s q o → IfSome o (λ (reply : Reply). IsQuiet r w h s q (Some reply))
+  pub quiet-some : (o : Option Reply) → IsQuietIfLegal r w h s q o → IfSome o (λ (reply : Reply). IsQuietReply r w h s q (Some reply))
   quiet-some None is = tt
   quiet-some (Some reply) is = is
 
-  pub quiet-legal : LegalFor (living w) r h → (o : Option Reply) → IsQuietIfLegal r w h s q o → IsQuiet r w h s q o
+  pub quiet-legal : LegalFor (living w) r h → (o : Option Reply) → IsQuietIfLegal r w h s q o → IsQuietReply r w h s q o
   quiet-legal legal None is = is legal
   quiet-legal legal (Some reply) is = is

@@ -12,20 +12,20 @@ use Rattle.sv_living.specs.declared.live.Live.{Live}
 use Rattle.sv_living.specs.declared.living.LivingCore.TheInside.{Inside}
 use Rattle.sv_living.specs.Invariant.{world_of, IsLiving}
 use Rattle.sv_living.specs.Keeping.{rules_at, stewardship_at, AreAnswered, Moved, KeepsLiving, living_entry, StoodStill}
-use Rattle.sv_living.specs.Past.{PastView, whole}
+use Rattle.sv_living.specs.WorldPast.{PastView, whole}
 use Rattle.sv_living.specs.Sessions.{may_ask, AreInOrderSince}
-use Rattle.sv_living.specs.World.{WorldView, entries_in, behind_all, Answered}
+use Rattle.sv_living.specs.World.{WorldView, entries_in, behind_all, WorldAnswered}
 
 abbrev viewed : Rules → Stewardship → ℕ → List Entry → List Entry → WorldView
 viewed r w n before since = record { rules = r; stewardship = w; number = n; before = before; since = since; history = since ++ before }
 
 -- A request was answered, and its entry is in the past.
 pub answered : (a : Inside) (v : WorldView) → world_of a ≡ v → (live : Live) (past : PastView) (s : ℕ) (q : Request) (answer : Answer) → Moved a.live live v.history s q answer
-    → past.before ≡ a.past.before → past.since ≡ entry_of s q answer.logged ∷ a.past.since → Answered v (world_of (record a { live = live; past = past })) s q answer
+    → past.before ≡ a.past.before → past.since ≡ entry_of s q answer.logged ∷ a.past.since → WorldAnswered v (world_of (record a { live = live; past = past })) s q answer
 answered a v same live past s q answer moved before since =
-    subst (λ (u : WorldView). Moved a.live live u.history s q answer → Answered u (world_of (record a { live = live; past = past })) s q answer) same here moved
+    subst (λ (u : WorldView). Moved a.live live u.history s q answer → WorldAnswered u (world_of (record a { live = live; past = past })) s q answer) same here moved
   where
-    here : Moved a.live live (whole a.past) s q answer → Answered (world_of a) (world_of (record a { live = live; past = past })) s q answer
+    here : Moved a.live live (whole a.past) s q answer → WorldAnswered (world_of a) (world_of (record a { live = live; past = past })) s q answer
     here m = record {
       world = ap (λ (r : Rules). viewed r (stewardship_at live) a.number past.before past.since) m.rules
           ∙ ap (λ (w : Stewardship). viewed (rules_at a.live) w a.number past.before past.since) m.stewards

@@ -11,7 +11,7 @@ use Rattle.sv_journal.specs.Serving.{is_poll, reply_for}
 use Rattle.sv_journal.specs.Living.{Stewardship, is_stewards, heeded, living}
 use Rattle.sv_core.specs.declared.decision.Decision.{Decision}
 use Rattle.sv_core.specs.declared.decision.Decision.TheVariants as decisions
-use Rattle.sv_core.specs.Decisions.{reply_by, Holds}
+use Rattle.sv_core.specs.Decisions.{reply_by, DecisionHolds}
 use Rattle.sv_living.specs.Keeping.{heard}
 
 -- The position is above the commit, has no result and was not sent to the session.
@@ -42,4 +42,4 @@ pub record IsDuePoll (w : Stewardship) (r : Rules) (h : List Entry) (s : ℕ) (r
 -- By the results that count a decision stands for the reply that the history gives, and what it needs holds.
 pub record IsDecided (w : Stewardship) (r : Rules) (h : List Entry) (s : ℕ) (request : Request) (decision : Decision) : Type 0 where
   pub reply : reply_by r (heeded w h) s (heard w h s request) decision ≡ reply_for (living w) r h s request
-  pub holds : Holds r (heeded w h) s (heard w h s request) decision
+  pub holds : DecisionHolds r (heeded w h) s (heard w h s request) decision

@@ -2,7 +2,7 @@
 use Rattle.sv_journal.specs.Living.{living}
 use Rattle.sv_living.specs.declared.living.LivingCore.TheInside.{Inside}
 use Rattle.sv_living.specs.Keeping.{rules_at, stewardship_at, AreAnswered, KeepsLiving}
-use Rattle.sv_living.specs.Past.{whole}
+use Rattle.sv_living.specs.WorldPast.{whole}
 use Rattle.sv_living.specs.Sessions.{AreInOrderSince}
 use Rattle.sv_living.specs.World.{WorldView}
 

@@ -2,7 +2,7 @@
 pub mod Deciding
 pub mod Invariant
 pub mod Keeping
-pub mod Past
+pub mod WorldPast
 pub mod Quiet
 pub mod Sessions
 pub mod Table

@@ -22,11 +22,11 @@ is_quiet r w h s request = is_open h s && shows_nothing (reply_for (living w) r 
 
 -- What a session's request would be answered, where that shows nothing. The bound on chains is to be within its limit: under a greater one a session may
 -- be shown nothing of objects at a position below the last one, and no answer is told then.
-abbrev pub IsQuiet : Rules → Stewardship → List Entry → ℕ → Request → Option Reply → Type 0
-IsQuiet r w h s request None = r.bound ≤ most_bound → is_quiet r w h s request ≡ false
-IsQuiet r w h s request (Some reply) = (is_quiet r w h s request ≡ true) × (reply ≡ full_reply (accepted h) (reply_for (living w) r h s request))
+abbrev pub IsQuietReply : Rules → Stewardship → List Entry → ℕ → Request → Option Reply → Type 0
+IsQuietReply r w h s request None = r.bound ≤ most_bound → is_quiet r w h s request ≡ false
+IsQuietReply r w h s request (Some reply) = (is_quiet r w h s request ≡ true) × (reply ≡ full_reply (accepted h) (reply_for (living w) r h s request))
 
 -- The same, where that there is none is told of a legal history alone.
 abbrev pub IsQuietIfLegal : Rules → Stewardship → List Entry → ℕ → Request → Option Reply → Type 0
-IsQuietIfLegal r w h s request None = LegalFor (living w) r h → IsQuiet r w h s request None
-IsQuietIfLegal r w h s request (Some reply) = IsQuiet r w h s request (Some reply)
+IsQuietIfLegal r w h s request None = LegalFor (living w) r h → IsQuietReply r w h s request None
+IsQuietIfLegal r w h s request (Some reply) = IsQuietReply r w h s request (Some reply)

@@ -55,7 +55,7 @@ abbrev pub behind_all : WorldView → WorldView
 behind_all v = record v { number = entries_in v; before = v.history; since = [] }
 
 -- A request was answered by the table, as its reply is kept and in full, and the world is what this entry makes of it.
-pub record Answered (old new : WorldView) (s : ℕ) (request : Request) (answer : Answer) : Type 0 where
+pub record WorldAnswered (old new : WorldView) (s : ℕ) (request : Request) (answer : Answer) : Type 0 where
   pub world : new ≡ after old s request
   pub logged : answer.logged ≡ reply_in old s request
   pub whole : answer.reply ≡ full_reply (accepted (after old s request).history) (reply_in old s request)

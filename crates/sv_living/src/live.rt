@@ -92,7 +92,7 @@ impl Live {
         self.table.first()
     }
 
-    /// What an Observe of an open session would be answered, where that shows nothing. `g` is the history of all entries.
+    /// What an Observe of an open session would be answered, where that shows nothing. `g` has the history of all entries, and whose reports count.
     pub fn quiet_answer(&self, session: u64, request: &Request) -> Option<Reply>
         ghost g: { Course }
         requires keeps { KeepsLiving self.now g.h }

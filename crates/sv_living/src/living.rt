@@ -11,13 +11,13 @@ ghost use Rattle.sv_journal.specs.Living.{heeded, living};
 ghost use Rattle.sv_wire.specs.Grammar.{IsWireReply};
 ghost use Rattle.sv_core.specs.Cores.{core_rules, Keeps};
 ghost use Rattle.sv_living.specs.Keeping.{stewardship_of, AreOpen, AreAnswered};
-ghost use Rattle.sv_living.specs.Quiet.{IsFirstOpen, IsQuiet, IsQuietIfLegal};
+ghost use Rattle.sv_living.specs.Quiet.{IsFirstOpen, IsQuietReply, IsQuietIfLegal};
 ghost use Rattle.sv_living.specs.Sessions.{is_open, next_session, open_sessions, may_begin, may_ask, AreInOrder, AreInOrderSince, HaveBegun};
-ghost use Rattle.sv_living.specs.World.{heeded_in, entries_in, behind_all, Answered, BeganLawfully, IsStepFault};
+ghost use Rattle.sv_living.specs.World.{heeded_in, entries_in, behind_all, WorldAnswered, BeganLawfully, IsStepFault};
 
 use crate::fault::StepFault;
 use crate::live::Live;
-use crate::past::Past;
+use crate::past::WorldPast;
 use crate::stewards::Stewards;
 use std::alloc::{AllocError, Global};
 use std::marker::Model;
@@ -34,7 +34,7 @@ use sv_world::{ClientId, ObjectId, Value};
 #[derive(Drop)]
 pub struct LivingCore {
     pub(crate) live: Live,
-    pub(crate) past: Past,
+    pub(crate) past: WorldPast,
     /// How many entries stood before it was opened.
     pub(crate) number: u64,
 }
@@ -65,7 +65,7 @@ impl LivingCore {
     {
         Ok(LivingCore {
             live: Live::new(alloc, opened, stewards)?,
-            past: Past::following(),
+            past: WorldPast::following(),
             number: 0,
         })
     }
@@ -89,7 +89,7 @@ impl LivingCore {
     {
         LivingCore {
             live: Live::behind(alloc, core, stewards, seats, next),
-            past: Past::following(),
+            past: WorldPast::following(),
             number,
         }
     }
@@ -98,7 +98,7 @@ impl LivingCore {
     ///
     /// Where it is not answered everything is as it was, but for room. The End of an open session takes no memory.
     pub fn step(&mut self, session: u64, request: &Request) -> Result<Answer, StepFault>
-        ensures ok { IfOk result (Answered self.old self.new session request.now) }
+        ensures ok { IfOk result (WorldAnswered self.old self.new session request.now) }
         ensures err { IfErr result (λ _. self.new ≡ self.old) }
         ensures cause { MatchResult result (λ _. may_ask self.old.history session ≡ true) (IsStepFault self.old.history session) }
         ensures end { is_end request.now ≡ true → is_open self.old.history session ≡ true → IsOk result }
@@ -119,7 +119,7 @@ impl LivingCore {
     fn answer(&mut self, session: u64, request: &Request) -> Result<Answer, StepFault>
         ghost h: { List Entry }
         requires { h ≡ self.old.history }
-        ensures ok { IfOk result (Answered self.old self.new session request.now) }
+        ensures ok { IfOk result (WorldAnswered self.old self.new session request.now) }
         ensures err { IfErr result (λ _. self.new ≡ self.old) }
         ensures cause { MatchResult result (λ _. may_ask h session ≡ true) (IsStepFault h session) }
         ensures end { is_end request.now ≡ true → is_open h session ≡ true → IsOk result }
@@ -178,8 +178,8 @@ impl LivingCore {
     /// What an Observe of an open session would be answered, where that shows nothing: no head value and no item. Nothing is entered or changed:
     /// it is what the answer table gives after the entries so far.
     pub fn quiet_answer(&self, session: u64, request: &Request) -> Option<Reply>
-        ensures some { IfSome result (λ reply. IsQuiet self.now.rules self.now.stewardship self.now.history session request.now (Some reply)) }
-        ensures lawful { BeganLawfully self.now → IsQuiet self.now.rules self.now.stewardship self.now.history session request.now result }
+        ensures some { IfSome result (λ reply. IsQuietReply self.now.rules self.now.stewardship self.now.history session request.now (Some reply)) }
+        ensures lawful { BeganLawfully self.now → IsQuietReply self.now.rules self.now.stewardship self.now.history session request.now result }
     {
         self.answer_quietly(session, request)
     }

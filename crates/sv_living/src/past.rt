@@ -2,7 +2,7 @@
 ghost use Rattle.std.specs.Prelude.{◌≡◌, List, [], ◌∷◌};
 ghost use Rattle.sv_journal.specs.declared.entry.Entry.{Entry};
 ghost use Rattle.sv_journal.specs.History.{entry_of};
-ghost use Rattle.sv_living.specs.Past.{whole};
+ghost use Rattle.sv_living.specs.WorldPast.{whole};
 
 use crate::before::Before;
 use http_server::Log;
@@ -12,17 +12,17 @@ use sv_wire::Request;
 
 /// All that was asked and replied, and what stood before. It takes no memory: contracts see it as the entries, the latest first.
 #[derive(Drop)]
-pub struct Past {
+pub struct WorldPast {
     before: Before,
     asked: Log<u64, Request>,
     replied: Log<u64, Logged>,
 }
 
-impl Model for Past {
+impl Model for WorldPast {
     ghost use Rattle.std.specs.Prelude.{◌≡◌, [], length};
     ghost use Rattle.std.specs.Coded.{codes};
     ghost use Rattle.sv_journal.specs.contracts.entry.Entry as entry;
-    ghost use Rattle.sv_living.specs.Past.{PastView, entries_of};
+    ghost use Rattle.sv_living.specs.WorldPast.{PastView, entries_of};
 
     ghost Value = { PastView };
 
@@ -33,13 +33,13 @@ impl Model for Past {
     ghost invariant = { λ p. length p.asked.items ≡ length p.replied.items };
 }
 
-impl Past {
+impl WorldPast {
     /// Nobody has asked anything since these entries: `h`.
-    pub fn following() -> Past
+    pub fn following() -> WorldPast
         ghost h: { List Entry }
         ensures { result ≡ record { before = h; since = [] } }
     {
-        Past {
+        WorldPast {
             before: Before::named(),
             asked: Log::new(),
             replied: Log::new(),
@@ -59,6 +59,6 @@ impl Past {
     pub fn close(&mut self)
         ensures { self.new ≡ record { before = whole self.old; since = [] } }
     {
-        *self = Past::following();
+        *self = WorldPast::following();
     }
 }

@@ -27,7 +27,7 @@ use sv_journal::Logged;
 use sv_lists::List;
 use sv_wire::{Reply, Request};
 
-/// What is done on a request that is no End. `g` is the history of all entries.
+/// What is done on a request that is no End. `g` has the history of all entries, and whose reports count.
 #[tactic(auto, using(crate::proofs::Deciding::decided_other, crate::proofs::Deciding::decided_steward))]
 fn decide(core: &Core, stewards: Stewards, seat: Seat, request: &Request) -> Decision
     ghost g: { Course }
@@ -85,7 +85,7 @@ fn silent(alloc: Global) -> Request
     }
 }
 
-/// Answers a request that is no End. `g` is the history of all entries. A report that does not count brings no results.
+/// Answers a request that is no End. `g` has the history of all entries, and whose reports count. A report that does not count brings no results.
 fn answer(
     alloc: Global,
     core: &mut Core,
@@ -123,7 +123,7 @@ fn bye() -> Answer
     }
 }
 
-/// The End of a session, whose slot is free then. `g` is the history of all entries. It takes no memory.
+/// The End of a session, whose slot is free then. `g` has the history of all entries, and whose reports count. It takes no memory.
 #[inline(never)]
 fn leave(core: &mut Core, seat: Seat)
     ghost g: { Course }
@@ -136,7 +136,7 @@ fn leave(core: &mut Core, seat: Seat)
     core.close(seat);
 }
 
-/// Answers the first request of a session that sits at its slot, which is no End, and enters it into the table. `g` is the history of all entries.
+/// Answers the first request of a session that sits at its slot, which is no End, and enters it into the table. `g` has the history of all entries, and whose reports count.
 fn answer_first(
     alloc: Global,
     core: &mut Core,
@@ -166,7 +166,7 @@ fn answer_first(
     }
 }
 
-/// Seats the next session, and answers its first request, which is no End. `g` is the history of all entries.
+/// Seats the next session, and answers its first request, which is no End. `g` has the history of all entries, and whose reports count.
 #[inline(never)]
 fn begin(
     alloc: Global,

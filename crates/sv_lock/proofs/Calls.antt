@@ -4,10 +4,10 @@ use mathlib.Core.Bool.{false≢true}
 use mathlib.Core.List.{IsPrefix}
 use Rattle.std.proofs.lemmas.List.Elements.{All-head}
 use Rattle.atomic_table.specs.Table.{Me}
-use Rattle.sv_lock.specs.declared.view.View.{View}
+use Rattle.sv_lock.specs.declared.view.SeatView.{SeatView}
 use Rattle.sv_lock.specs.declared.view.Stage.TheVariants.{Idle, Holds}
-use Rattle.sv_lock.specs.Histories.{entries_of, GoesOn}
-use Rattle.sv_lock.specs.Holding.{staged, renewed, Took, GrowsBy, MayReturn, Called}
+use Rattle.sv_lock.specs.Histories.{entries_of, GoesOnTo}
+use Rattle.sv_lock.specs.Holding.{staged, renewed, Took, GrowsByStep, MayReturn, Called}
 use Rattle.sv_lock.specs.Rest.{the, ended_in}
 use Rattle.sv_lock.proofs.Histories.{one_more_entry}
 use Rattle.sv_lock.proofs.Keeps.{held_or}
@@ -17,7 +17,7 @@ some_same o a b p q = cc
 
 module _ {S B E : Type 0} (base_of : S → B) (history_of : S → List E) (number_of : E → ℕ) where
   abbrev M : Type 0
-  M = Me S (View B E)
+  M = Me S (SeatView B E)
 
   -- the object in hand is the one that was taken
   same_object : (m m1 : M) (k : Took base_of history_of number_of m m1) (x : S) → m1.1 ≡ (0, x) ∷ [] → k.object ≡ x
@@ -40,14 +40,14 @@ module _ {S B E : Type 0} (base_of : S → B) (history_of : S → List E) (numbe
 
 module _ {S B E R X : Type 0} (base_of : S → B) (history_of : S → List E) (lawful : B → List E → Type 0) (number_of : E → ℕ) (entry : R → E) (whole : R → List E → Type 0) (result : Result R X) where
   abbrev Mine : Type 0
-  Mine = Me S (View B E)
+  Mine = Me S (SeatView B E)
 
   -- what the step made of the object in hand
   abbrev pub Stepped : Mine → Mine → Type 0
   Stepped m1 m2 = (x : S) × (y : S) × (m1.1 ≡ (0, x) ∷ []) × (m2 ≡ (m1.0, (0, y) ∷ [])) × (base_of y ≡ base_of x) × lawful (base_of y) (history_of y)
       × IfOk result (λ r. history_of y ≡ history_of x ++ entry r ∷ []) × IfOk result (λ r. whole r (history_of y)) × OnErr result (history_of y ≡ history_of x)
 
-  follows : (n : ℕ) → ((r : R) → number_of (entry r) ≡ n) → (a b : List E) (o : Result R X) → IfOk o (λ r. b ≡ a ++ entry r ∷ []) → OnErr o (b ≡ a) → GrowsBy number_of n a b
+  follows : (n : ℕ) → ((r : R) → number_of (entry r) ≡ n) → (a b : List E) (o : Result R X) → IfOk o (λ r. b ≡ a ++ entry r ∷ []) → OnErr o (b ≡ a) → GrowsByStep number_of n a b
   follows n of_number a b (Ok r) ok err = inr (entry r, ok, of_number r)
   follows n of_number a b (Err e) ok err = inl err
 
@@ -59,16 +59,16 @@ module _ {S B E R X : Type 0} (base_of : S → B) (history_of : S → List E) (l
         number = n;
         mine = mine;
         object = f.1;
-        holds = ap (λ (v : View B E). v.stage) back;
-        own = ap (λ (v : View B E). v.lists) back ∙ own;
-        based = ap (λ (v : View B E). v.base) back ∙ (k.base ∙ ap Some (ap base_of same ∙ sym f.4));
+        holds = ap (λ (v : SeatView B E). v.stage) back;
+        own = ap (λ (v : SeatView B E). v.lists) back ∙ own;
+        based = ap (λ (v : SeatView B E). v.base) back ∙ (k.base ∙ ap Some (ap base_of same ∙ sym f.4));
         hand = ap (λ (q : Mine). q.1) f.3;
         legal = f.5;
-        follows = subst (λ (h : List E). GrowsBy number_of n h (history_of f.1)) (ap history_of (sym same) ∙ ap (λ (v : View B E). v.seen) (sym back))
+        follows = subst (λ (h : List E). GrowsByStep number_of n h (history_of f.1)) (ap history_of (sym same) ∙ ap (λ (v : SeatView B E). v.seen) (sym back))
             (follows n of_number (history_of f.0) (history_of f.1) result f.6 f.8);
       }
 
-  goes_on : (seen a b : List E) → IsPrefix seen a → (o : Result R X) → IfOk o (λ r. b ≡ a ++ entry r ∷ []) → OnErr o (b ≡ a) → MatchResult o (λ r. GoesOn seen (entry r) b) (λ _. IsPrefix seen b)
+  goes_on : (seen a b : List E) → IsPrefix seen a → (o : Result R X) → IfOk o (λ r. b ≡ a ++ entry r ∷ []) → OnErr o (b ≡ a) → MatchResult o (λ r. GoesOnTo seen (entry r) b) (λ _. IsPrefix seen b)
   goes_on seen a b begins (Ok r) ok err = (begins.0, ok ∙ ap (λ l. l ++ entry r ∷ []) (sym begins.1))
   goes_on seen a b begins (Err e) ok err = subst (IsPrefix seen) (sym err) begins
 
@@ -87,7 +87,7 @@ module _ {S B E R X : Type 0} (base_of : S → B) (history_of : S → List E) (l
       let had : entries_of number_of n (history_of f.0) ≡ mine = subst (λ (x : S). entries_of number_of n (history_of x) ≡ mine) same (same_list base_of history_of number_of n mine m m1 k own) in
       let now : m2.0 ≡ staged m.0 Holds (history_of k.object) m.0.lists = ap (λ (q : Mine). q.0) f.3 ∙ ap (λ (q : Mine). q.0) k.seat in record {
         log = h;
-        seat = back f.1 (ap (λ (q : Mine). q.1) f.3) ∙ ap (λ (v : View B E). (staged v Idle h (renewed number_of h v.lists), [])) now;
+        seat = back f.1 (ap (λ (q : Mine). q.1) f.3) ∙ ap (λ (v : SeatView B E). (staged v Idle h (renewed number_of h v.lists), [])) now;
         legal = λ b is. subst (λ (c : B). lawful c h) (f.4 ∙ (ap base_of (sym same) ∙ some_same m.0.base (base_of k.object) b k.base is)) f.5;
         seen = goes_on m.0.seen (history_of f.0) h begins result f.6 f.8;
         mine_now = has_now n mine (history_of f.0) h of_number had result f.6 f.8;

@@ -9,10 +9,10 @@ use Rattle.std.proofs.lemmas.List.{set-get_or}
 use Rattle.std.proofs.lemmas.List.Elements.{All-nil, All-cons, All-head, All-append, All-push, All-weaker, All-map, All-contains}
 use Rattle.atomic_table.specs.Table.{State, Me, Act, keeps, takes, gives, stepped, homes_after, rest, Allows, Splits, Joins, opening, Final, Seen}
 use Rattle.atomic_table.proofs.Lists.{set_else, set_again, at_longer, exchanged}
-use Rattle.sv_lock.specs.declared.view.View.{View}
+use Rattle.sv_lock.specs.declared.view.SeatView.{SeatView}
 use Rattle.sv_lock.specs.declared.view.Stage.TheVariants.{Idle, Holds}
 use Rattle.sv_lock.specs.Histories.{entries_of, AreJust, AreBelow}
-use Rattle.sv_lock.specs.Holding.{Hand, IsOwn, Knows, IsOut, Stands, OneHistory, staged, first_keeper, one_more, next_pass, taken_in, spent, Took, tried, renewed, GrowsBy, MayReturn, returned, learned, Closes}
+use Rattle.sv_lock.specs.Holding.{Hand, IsOwn, Knows, IsWithSeat, LockStands, OneHistory, staged, first_keeper, one_more, next_pass, taken_in, spent, Took, tried, renewed, GrowsByStep, MayReturn, returned, learned, ClosesTable}
 use Rattle.sv_lock.proofs.Histories.{prefix_self, prefix_none, prefix_trans, other_entry, none_above}
 use Rattle.sv_lock.proofs.Seats.{here, snoc, seats_stay, put, put_here, put_else, apart, empty_hand, hand_stays}
 
@@ -35,22 +35,22 @@ some_one : (i j : ℕ) → Some i ≡ Some j → i ≡ j
 some_one i j e = cc
 
 module _ {S B E : Type 0} (base_of : S → B) (history_of : S → List E) (lawful : B → List E → Type 0) (number_of : E → ℕ) (base : B) where
-  abbrev Rule : State S (View B E) → Type 0
+  abbrev Rule : State S (SeatView B E) → Type 0
   Rule = OneHistory base_of history_of lawful number_of base
 
   abbrev M : Type 0
-  M = Me S (View B E)
+  M = Me S (SeatView B E)
 
   -- a seat that holds nothing may change while the lock stands as it does,
-  still : (log : List E) (holder : Option ℕ) (s : State S (View B E)) (id : ℕ) (v w : View B E) → get_elem? s.views id ≡ some v → v.stage ≡ Idle
-      → Stands base_of history_of base log holder s → Stands base_of history_of base log holder record { words = s.words; homes = s.homes; views = set s.views id w }
+  still : (log : List E) (holder : Option ℕ) (s : State S (SeatView B E)) (id : ℕ) (v w : SeatView B E) → get_elem? s.views id ≡ some v → v.stage ≡ Idle
+      → LockStands base_of history_of base log holder s → LockStands base_of history_of base log holder record { words = s.words; homes = s.homes; views = set s.views id w }
   still log None s id v w at idle is = is
   still log (Some j) s id v w at idle is =
       (is.0, is.1, is.2, is.3, is.4, set_else s.views id j w (apart s.views id j v is.4 at is.5 idle is.6) ∙ is.5, is.6)
 
   -- and a seat may come
-  longer : (log : List E) (holder : Option ℕ) (s : State S (View B E)) (w : View B E)
-      → Stands base_of history_of base log holder s → Stands base_of history_of base log holder record { words = s.words; homes = s.homes; views = s.views ++ w ∷ [] }
+  longer : (log : List E) (holder : Option ℕ) (s : State S (SeatView B E)) (w : SeatView B E)
+      → LockStands base_of history_of base log holder s → LockStands base_of history_of base log holder record { words = s.words; homes = s.homes; views = s.views ++ w ∷ [] }
   longer log None s w is = is
   longer log (Some j) s w is = (is.0, is.1, is.2, is.3, is.4, at_longer s.views (w ∷ []) j is.4 is.5, is.6)
 
@@ -77,11 +77,11 @@ module _ {S B E : Type 0} (base_of : S → B) (history_of : S → List E) (lawfu
       Told : M → Type 0
       Told m' = tried base_of history_of number_of m found m'
 
-      try : (holder : Option ℕ) → r.holder ≡ holder → Stands base_of history_of base r.log holder s
-          → (w : View B E) × (a : Act S) × Rattle.atomic_table.specs.Table.Valid s.homes m.1 a × Rule (stepped s 0 (f found) id m.1 w a) × Told (w, Rattle.atomic_table.specs.Table.carried_after m.1 a)
+      try : (holder : Option ℕ) → r.holder ≡ holder → LockStands base_of history_of base r.log holder s
+          → (w : SeatView B E) × (a : Act S) × Rattle.atomic_table.specs.Table.Valid s.homes m.1 a × Rule (stepped s 0 (f found) id m.1 w a) × Told (w, Rattle.atomic_table.specs.Table.carried_after m.1 a)
       try None no_one free =
           let y : S = free.1 in
-          let w : View B E = staged m.0 Holds (history_of y) m.0.lists in
+          let w : SeatView B E = staged m.0 Holds (history_of y) m.0.lists in
           let m' : M = (w, (0, y) ∷ m.1) in (
             w,
             takes 0 y,
@@ -129,7 +129,7 @@ module _ {S B E : Type 0} (base_of : S → B) (history_of : S → List E) (lawfu
             m.0,
             keeps,
             tt,
-            subst (λ (vs : List (View B E)). Rule record { words = set s.words 0 (f found); homes = s.homes; views = vs }) (sym (set_again s.views id m.0 at)) record {
+            subst (λ (vs : List (SeatView B E)). Rule record { words = set s.words 0 (f found); homes = s.homes; views = vs }) (sym (set_again s.views id m.0 at)) record {
               log = r.log;
               holder = r.holder;
               keeper = r.keeper;
@@ -139,24 +139,24 @@ module _ {S B E : Type 0} (base_of : S → B) (history_of : S → List E) (lawfu
               legal = r.legal;
               below = r.below;
               each_seat = r.each_seat;
-              stands = subst (λ h. Stands base_of history_of base r.log h record { words = set s.words 0 (f found); homes = s.homes; views = s.views }) (sym is)
+              stands = subst (λ h. LockStands base_of history_of base r.log h record { words = set s.words 0 (f found); homes = s.homes; views = s.views }) (sym is)
                   (f found, more found, word_now taken.0 taken.2, taken.3, taken.4, taken.5, taken.6);
             },
             subst (λ b. MatchBool b (Took base_of history_of number_of m m) (m ≡ m)) (sym (ne_eqb found 0 ne)) refl,
           )
 
-  follows_on : (n : ℕ) (seen h : List E) → GrowsBy number_of n seen h → IsPrefix seen h
+  follows_on : (n : ℕ) (seen h : List E) → GrowsByStep number_of n seen h → IsPrefix seen h
   follows_on n seen h (inl e) = subst (IsPrefix seen) (sym e) (prefix_self seen)
   follows_on n seen h (inr e) = (e.0 ∷ [], sym e.1)
 
   -- what follows is below what the lock has made,
-  follows_below : (n made : ℕ) (seen h : List E) → n < made → GrowsBy number_of n seen h → AreBelow number_of made seen → AreBelow number_of made h
+  follows_below : (n made : ℕ) (seen h : List E) → n < made → GrowsByStep number_of n seen h → AreBelow number_of made seen → AreBelow number_of made h
   follows_below n made seen h lt (inl e) below = subst (AreBelow number_of made) (sym e) below
   follows_below n made seen h lt (inr e) below = subst (AreBelow number_of made) (sym e.1)
       (All-push (λ (x : E). number_of x < made) seen e.0 below (let is = e.2 in omega arith))
 
   -- and another number has the entries that it had
-  follows_other : (n k : ℕ) (seen h : List E) → k ≢ n → GrowsBy number_of n seen h → entries_of number_of k h ≡ entries_of number_of k seen
+  follows_other : (n k : ℕ) (seen h : List E) → k ≢ n → GrowsByStep number_of n seen h → entries_of number_of k h ≡ entries_of number_of k seen
   follows_other n k seen h other (inl e) = ap (entries_of number_of k) e
   follows_other n k seen h other (inr e) = ap (entries_of number_of k) e.1 ∙ other_entry number_of k seen e.0 (λ q. other (sym q ∙ e.2))
 
@@ -211,7 +211,7 @@ module _ {S B E : Type 0} (base_of : S → B) (history_of : S → List E) (lawfu
       h : List E
       h = history_of y
 
-      w : View B E
+      w : SeatView B E
       w = staged m.0 Idle h (renewed number_of h m.0.lists)
 
       k : Knows lawful number_of base r.log r.holder r.keeper r.made r.owner id m.0
@@ -220,11 +220,11 @@ module _ {S B E : Type 0} (base_of : S → B) (history_of : S → List E) (lawfu
       hand : Hand r.log r.holder r.made r.owner id m.0.seen Holds
       hand = subst (Hand r.log r.holder r.made r.owner id m.0.seen) may.holds k.hand
 
-      taken : IsOut id s
-      taken = subst (λ o. Stands base_of history_of base r.log o s) hand.0 r.stands
+      taken : IsWithSeat id s
+      taken = subst (λ o. LockStands base_of history_of base r.log o s) hand.0 r.stands
 
-      follows' : GrowsBy number_of n r.log h
-      follows' = subst (λ (l : List E). GrowsBy number_of n l h) hand.2 may.follows
+      follows' : GrowsByStep number_of n r.log h
+      follows' = subst (λ (l : List E). GrowsByStep number_of n l h) hand.2 may.follows
 
       goes_on : IsPrefix r.log h
       goes_on = follows_on n r.log h follows'
@@ -266,18 +266,18 @@ module _ {S B E : Type 0} (base_of : S → B) (history_of : S → List E) (lawfu
     stands = (refl, x, refl, is_base, none_yet);
   }
     where
-      Knew : ℕ → View B E → Type 0
+      Knew : ℕ → SeatView B E → Type 0
       Knew j v = Knows lawful number_of base [] None 0 0 (λ _. 0) j v
 
       some_is : (a b : B) → Some b ≡ Some a → a ≡ b
       some_is a b e = cc
 
-      beyond : (j : ℕ) (v : View B E) → j ≢ 0 → get_elem? (first_keeper base ∷ []) j ≡ some v → ⊥
+      beyond : (j : ℕ) (v : SeatView B E) → j ≢ 0 → get_elem? (first_keeper base ∷ []) j ≡ some v → ⊥
       beyond Rattle.std.proofs.Common.zero v other e = other refl
       beyond (Rattle.std.proofs.Common.suc j) v other e = some-ne-none v (sym e)
 
   -- the keeper makes one pass more
-  pub splits : (id : ℕ) (v : View B E) → v.stage ≡ Idle → v.keeps ≡ true → Splits Rule id v (one_more v) (next_pass v)
+  pub splits : (id : ℕ) (v : SeatView B E) → v.stage ≡ Idle → v.keeps ≡ true → Splits Rule id v (one_more v) (next_pass v)
   splits id v idle keeping s r at =
       record {
         log = r.log;
@@ -289,7 +289,7 @@ module _ {S B E : Type 0} (base_of : S → B) (history_of : S → List E) (lawfu
         legal = r.legal;
         below = All-weaker (λ (e : E). number_of e < r.made) (λ (e : E). number_of e < r.made + 1) (λ e lt. omega arith) r.log r.below;
         each_seat = λ j u there. ⊎_elim (seats_stay Knew s.views id (one_more v) keeper' others j u)
-            (λ (t : (j ≡ length (set s.views id (one_more v))) × (next_pass v ≡ u)). subst (λ (x : ℕ × View B E). Knew x.0 x.1) (λ i. (sym (t.0 ∙ length-set s.views id (one_more v)) i, t.1 i)) fresh)
+            (λ (t : (j ≡ length (set s.views id (one_more v))) × (next_pass v ≡ u)). subst (λ (x : ℕ × SeatView B E). Knew x.0 x.1) (λ i. (sym (t.0 ∙ length-set s.views id (one_more v)) i, t.1 i)) fresh)
             (snoc (set s.views id (one_more v)) (next_pass v) u j there);
         stands = longer r.log r.holder record { words = s.words; homes = s.homes; views = set s.views id (one_more v) } (next_pass v)
             (still r.log r.holder s id v (one_more v) at idle r.stands);
@@ -304,7 +304,7 @@ module _ {S B E : Type 0} (base_of : S → B) (history_of : S → List E) (lawfu
       kept : (id ≡ r.keeper) × (v.made ≡ r.made)
       kept = k.keeps keeping
 
-      Knew : ℕ → View B E → Type 0
+      Knew : ℕ → SeatView B E → Type 0
       Knew j u = Knows lawful number_of base r.log r.holder r.keeper (r.made + 1) owner' j u
 
       kept_by : (j n : ℕ) → (r.owner n ≡ j) × (n < r.made) → owner' n ≡ j
@@ -325,7 +325,7 @@ module _ {S B E : Type 0} (base_of : S → B) (history_of : S → List E) (lawfu
         keeps = λ _. (kept.0, ap (λ (n : ℕ). n + 1) kept.1);
       }
 
-      others : (j : ℕ) (u : View B E) → j ≢ id → get_elem? s.views j ≡ some u → Knew j u
+      others : (j : ℕ) (u : SeatView B E) → j ≢ id → get_elem? s.views j ≡ some u → Knew j u
       others j u other there = let z = r.each_seat j u there in record {
         same = z.same;
         seen = z.seen;
@@ -351,7 +351,7 @@ module _ {S B E : Type 0} (base_of : S → B) (history_of : S → List E) (lawfu
       }
 
   -- the keeper takes a pass in
-  pub joins : (id : ℕ) (v : View B E) (other : ℕ) (w : View B E) → v.stage ≡ Idle → w.stage ≡ Idle → Joins Rule id v other w (taken_in v w) spent
+  pub joins : (id : ℕ) (v : SeatView B E) (other : ℕ) (w : SeatView B E) → v.stage ≡ Idle → w.stage ≡ Idle → Joins Rule id v other w (taken_in v w) spent
   joins id v other w idle idle' s r at apart_from there =
       record {
         log = r.log;
@@ -367,13 +367,13 @@ module _ {S B E : Type 0} (base_of : S → B) (history_of : S → List E) (lawfu
             (still r.log r.holder s id v (taken_in v w) at idle r.stands);
       }
     where
-      vs : List (View B E)
+      vs : List (SeatView B E)
       vs = set s.views id (taken_in v w)
 
       owner' : ℕ → ℕ
       owner' n = cond (r.owner n == other) id (r.owner n)
 
-      Knew : ℕ → View B E → Type 0
+      Knew : ℕ → SeatView B E → Type 0
       Knew j u = Knows lawful number_of base r.log r.holder r.keeper r.made owner' j u
 
       k : Knows lawful number_of base r.log r.holder r.keeper r.made r.owner id v
@@ -412,7 +412,7 @@ module _ {S B E : Type 0} (base_of : S → B) (history_of : S → List E) (lawfu
         keeps = k.keeps;
       }
 
-      others : (j : ℕ) (u : View B E) → j ≢ id → get_elem? s.views j ≡ some u → j ≢ other → Knew j u
+      others : (j : ℕ) (u : SeatView B E) → j ≢ id → get_elem? s.views j ≡ some u → j ≢ other → Knew j u
       others j u _ at' ne = let y = r.each_seat j u at' in record {
         same = y.same;
         seen = y.seen;
@@ -426,7 +426,7 @@ module _ {S B E : Type 0} (base_of : S → B) (history_of : S → List E) (lawfu
   -- a seat sees the whole history
   pub learns : (slots id : ℕ) (m : M) → m.0.stage ≡ Idle → Allows Rule slots id m 0 (λ n. n) (learned lawful number_of m)
   learns slots id m idle s r deep at small =
-      let w : View B E = staged m.0 Idle r.log m.0.lists in
+      let w : SeatView B E = staged m.0 Idle r.log m.0.lists in
       let k = r.each_seat id m.0 at in (
         w,
         keeps,
@@ -457,13 +457,13 @@ module _ {S B E : Type 0} (base_of : S → B) (history_of : S → List E) (lawfu
       )
 
   -- all passes are joined, and the object comes out
-  pub closes : (id : ℕ) (v : View B E) (b : B) (ws : List ℕ) (xs : List S) (x : S) → v.stage ≡ Idle → v.keeps ≡ true → v.base ≡ Some b
+  pub closes : (id : ℕ) (v : SeatView B E) (b : B) (ws : List ℕ) (xs : List S) (x : S) → v.stage ≡ Idle → v.keeps ≡ true → v.base ≡ Some b
       → ((n : ℕ) → n < v.made → Contains (map (λ (y : ℕ × List E). y.0) v.lists) n)
-      → Final (Seen Rule id v) ws xs → get_elem? xs 0 ≡ some x → Closes base_of history_of lawful number_of v x
+      → Final (Seen Rule id v) ws xs → get_elem? xs 0 ≡ some x → ClosesTable base_of history_of lawful number_of v x
   closes id v b ws xs x idle keeping based all f at_x = ends f.0 f.1.0 f.1.1 f.4 f.1.0.holder f.1.0.stands
     where
-      ends : (s : State S (View B E)) (r : Rule s) → get_elem? s.views id ≡ some v → ((k : ℕ) (y : S) → get_elem? s.homes k ≡ some (some y) → get_elem? xs k ≡ some y)
-          → (holder : Option ℕ) → Stands base_of history_of base r.log holder s → Closes base_of history_of lawful number_of v x
+      ends : (s : State S (SeatView B E)) (r : Rule s) → get_elem? s.views id ≡ some v → ((k : ℕ) (y : S) → get_elem? s.homes k ≡ some (some y) → get_elem? xs k ≡ some y)
+          → (holder : Option ℕ) → LockStands base_of history_of base r.log holder s → ClosesTable base_of history_of lawful number_of v x
       ends s r at kept None free =
           let k = r.each_seat id v at in
           let same : free.1 ≡ x = some-injective free.1 x (sym (kept 0 free.1 (ap (λ (l : List (maybe.Option S)). get_elem? l 0) free.2)) ∙ at_x) in

@@ -2,7 +2,7 @@
 use Rattle.std.proofs.Common.{◌≡◌, ◌≢◌, ◌⊎◌, ℕ, zero, suc, ◌==◌, cond, List, [], ◌∷◌, ◌++◌, Option, Some, length, set, sym, refl, ap, ◌∙◌, subst, inl, inr, ⊎_elim, arith, eq-eqb, ne_eqb}
 use mathlib.Core.Option.{some, some-injective, some-ne-none}
 use lib.ListN.{get_elem?}
-use Rattle.sv_lock.specs.declared.view.View.{View}
+use Rattle.sv_lock.specs.declared.view.SeatView.{SeatView}
 use Rattle.sv_lock.specs.declared.view.Stage.{Stage}
 use Rattle.sv_lock.specs.declared.view.Stage.TheVariants.{Idle, Holds}
 use Rattle.sv_lock.specs.Holding.{Hand, IsBusy}
@@ -43,9 +43,9 @@ rank Idle = 0
 rank Holds = 1
 
 -- a seat that holds the object is not one that does not
-pub apart : {B E : Type 0} (vs : List (View B E)) (i j : ℕ) (v w : View B E) → get_elem? vs i ≡ some v → get_elem? vs j ≡ some w → v.stage ≡ Idle → w.stage ≡ Holds → j ≢ i
+pub apart : {B E : Type 0} (vs : List (SeatView B E)) (i j : ℕ) (v w : SeatView B E) → get_elem? vs i ≡ some v → get_elem? vs j ≡ some w → v.stage ≡ Idle → w.stage ≡ Holds → j ≢ i
 apart {B} {E} vs i j v w p q idle holds same =
-    let e : rank v.stage ≡ rank w.stage = ap (λ (u : View B E). rank u.stage) (same_place vs i j v w p q same) in
+    let e : rank v.stage ≡ rank w.stage = ap (λ (u : SeatView B E). rank u.stage) (same_place vs i j v w p q same) in
     let none_of = ap rank idle in let one = ap rank holds in absurd (omega arith)
 
 -- a seat that is not the holder has nothing in hand, whoever is the holder then

@@ -15,5 +15,5 @@ module _ {E : Type 0} (number_of : E → ℕ) where
   AreBelow made history = All (λ e. number_of e < made) history
 
 -- The history begins with all of `seen`, and ends with this entry.
-abbrev pub GoesOn : {E : Type 0} → List E → E → List E → Type 0
-GoesOn {E} seen e history = (between : List E) × (history ≡ (seen ++ between) ++ e ∷ [])
+abbrev pub GoesOnTo : {E : Type 0} → List E → E → List E → Type 0
+GoesOnTo {E} seen e history = (between : List E) × (history ≡ (seen ++ between) ++ e ∷ [])

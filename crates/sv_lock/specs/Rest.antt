@@ -2,7 +2,7 @@
 use Rattle.std.specs.Prelude.{◌≡◌, ℕ, List, [], ◌∷◌, true, Option, Some, None, IsSome}
 use mathlib.Core.Bool.{false≢true}
 use Rattle.atomic_table.specs.Table.{Me}
-use Rattle.sv_lock.specs.declared.view.View.{View}
+use Rattle.sv_lock.specs.declared.view.SeatView.{SeatView}
 use Rattle.sv_lock.specs.declared.view.Stage.TheVariants.{Idle}
 use Rattle.sv_lock.specs.Histories.{AreJust}
 
@@ -25,7 +25,7 @@ abbrev pub ended_in : {E : Type 0} → Option ℕ → List (ℕ × List E) → L
 ended_in None lists = lists
 ended_in (Some n) lists = []
 
-pub record Rests {S B E : Type 0} (number_of : E → ℕ) (session : Option ℕ) (made : ℕ) (m : Me S (View B E)) : Type 0 where
+pub record Rests {S B E : Type 0} (number_of : E → ℕ) (session : Option ℕ) (made : ℕ) (m : Me S (SeatView B E)) : Type 0 where
   pub idle : m.0.stage ≡ Idle
   pub empty : m.1 ≡ []
   pub keeper : session ≡ None → (m.0.keeps ≡ true) × (m.0.made ≡ made)

@@ -2,12 +2,12 @@
 ghost use Rattle.std.specs.Prelude.{◌≡◌, ℕ, ◌<◌, ◌==◌, List, [], ◌∷◌, ◌++◌, map, Contains, Option, Some, None, IfOk, IfErr, OnErr, IsOk, IsSome, MatchBool, MatchResult, true, length};
 ghost use mathlib.Core.List.{IsPrefix};
 ghost use Rattle.sv_lock.specs.declared.view.Stage.TheVariants.{Idle, Holds};
-ghost use Rattle.sv_lock.specs.Histories.{entries_of, AreJust, AreBelow, GoesOn};
-ghost use Rattle.sv_lock.specs.Holding.{staged, renewed, one_more, next_pass, taken_in, first_keeper, MayTake, Took, MayReturn, Called, Learned, Closes};
+ghost use Rattle.sv_lock.specs.Histories.{entries_of, AreJust, AreBelow, GoesOnTo};
+ghost use Rattle.sv_lock.specs.Holding.{staged, renewed, one_more, next_pass, taken_in, first_keeper, MayTake, Took, MayReturn, Called, Learned, ClosesTable};
 ghost use Rattle.sv_lock.specs.Rest.{first_list};
 
 use crate::object::Object;
-use crate::plays::{Cut, Glue, Learn, LockTable, Place, Return, Take};
+use crate::plays::{Glue, Learn, LockSeat, LockTable, Return, SplitOff, Take};
 use atomic_table::{Refused, Table};
 use std::alloc::{AllocError, Global};
 use std::hint;
@@ -43,7 +43,7 @@ pub struct Desk<O: Object> {
 
 impl<O: Object> Desk<O> {
     // Takes the object if it is free, and says whether it did.
-    fn try_take(&self, seat: &mut Place<O>) -> bool
+    fn try_take(&self, seat: &mut LockSeat<O>) -> bool
         requires table { seat.old.table_id ≡ self.now.table.shared.table_id }
         requires may { MayTake seat.old.me }
         ensures table { seat.new.table_id ≡ seat.old.table_id }
@@ -56,7 +56,7 @@ impl<O: Object> Desk<O> {
     }
 
     // The same, and says to whoever has it that somebody may sleep.
-    fn take_or_ask(&self, seat: &mut Place<O>) -> bool
+    fn take_or_ask(&self, seat: &mut LockSeat<O>) -> bool
         requires table { seat.old.table_id ≡ self.now.table.shared.table_id }
         requires may { MayTake seat.old.me }
         ensures table { seat.new.table_id ≡ seat.old.table_id }
@@ -66,7 +66,7 @@ impl<O: Object> Desk<O> {
     }
 
     // Looks for a short while, and says whether it took the object.
-    fn spin(&self, seat: &mut Place<O>) -> bool
+    fn spin(&self, seat: &mut LockSeat<O>) -> bool
         requires table { seat.old.table_id ≡ self.now.table.shared.table_id }
         requires may { MayTake seat.old.me }
         ensures table { seat.new.table_id ≡ seat.old.table_id }
@@ -82,7 +82,7 @@ impl<O: Object> Desk<O> {
     }
 
     // Sleeps until it finds the object free, so that many threads on few processors leave these to the one that has it.
-    fn sleep<R: Wait>(&self, rt: &R, seat: &mut Place<O>)
+    fn sleep<R: Wait>(&self, rt: &R, seat: &mut LockSeat<O>)
         requires table { seat.old.table_id ≡ self.now.table.shared.table_id }
         requires may { MayTake seat.old.me }
         ensures table { seat.new.table_id ≡ seat.old.table_id }
@@ -98,7 +98,7 @@ impl<O: Object> Desk<O> {
     }
 
     /// Has the object in hand, once no other seat has it.
-    pub fn take<R: Wait>(&self, rt: &R, seat: &mut Place<O>)
+    pub fn take<R: Wait>(&self, rt: &R, seat: &mut LockSeat<O>)
         requires table { seat.old.table_id ≡ self.now.table.shared.table_id }
         requires may { MayTake seat.old.me }
         ensures table { seat.new.table_id ≡ seat.old.table_id }
@@ -110,7 +110,7 @@ impl<O: Object> Desk<O> {
     }
 
     // Gives the object back, and answers what the word was.
-    fn release(&self, seat: &mut Place<O>) -> u64
+    fn release(&self, seat: &mut LockSeat<O>) -> u64
         requires table { seat.old.table_id ≡ self.now.table.shared.table_id }
         requires may { MayReturn O.base O.history O.lawful O.number_of seat.old.me }
         ensures table { seat.new.table_id ≡ seat.old.table_id }
@@ -120,7 +120,7 @@ impl<O: Object> Desk<O> {
     }
 
     /// Gives the object back, and wakes one who sleeps, if anyone does.
-    pub fn give_back(&self, seat: &mut Place<O>)
+    pub fn give_back(&self, seat: &mut LockSeat<O>)
         requires table { seat.old.table_id ≡ self.now.table.shared.table_id }
         requires may { MayReturn O.base O.history O.lawful O.number_of seat.old.me }
         ensures table { seat.new.table_id ≡ seat.old.table_id }
@@ -134,7 +134,7 @@ impl<O: Object> Desk<O> {
     /// One step of the object in hand, which takes the request.
     pub fn step(
         &self,
-        seat: &mut Place<O>,
+        seat: &mut LockSeat<O>,
         number: u16,
         request: O::Request,
     ) -> Result<O::Reply, AllocError>
@@ -155,7 +155,7 @@ impl<O: Object> Desk<O> {
     pub fn run<R: Wait>(
         &self,
         rt: &R,
-        seat: &mut Place<O>,
+        seat: &mut LockSeat<O>,
         number: u16,
         request: O::Request,
     ) -> Result<O::Reply, AllocError>
@@ -174,17 +174,17 @@ impl<O: Object> Desk<O> {
     }
 
     /// Makes the seat of the next pass.
-    pub fn cut(&self, keeper: &mut Place<O>) -> Place<O>
+    pub fn cut(&self, keeper: &mut LockSeat<O>) -> LockSeat<O>
         requires table { keeper.old.table_id ≡ self.now.table.shared.table_id }
         requires keeper { (keeper.old.me.0.stage ≡ Idle) × (keeper.old.me.0.keeps ≡ true) }
         ensures keeper { (keeper.new.table_id ≡ keeper.old.table_id) × (keeper.new.me ≡ (one_more keeper.old.me.0, keeper.old.me.1)) }
         ensures pass { (result.table_id ≡ keeper.old.table_id) × (result.me ≡ (next_pass keeper.old.me.0, [])) }
     {
-        self.table.shared.split_seat::<Cut>(keeper)
+        self.table.shared.split_seat::<SplitOff>(keeper)
     }
 
     /// Sees the whole history.
-    pub fn learn(&self, seat: &mut Place<O>)
+    pub fn learn(&self, seat: &mut LockSeat<O>)
         requires table { seat.old.table_id ≡ self.now.table.shared.table_id }
         requires idle { seat.old.me.0.stage ≡ Idle }
         ensures table { seat.new.table_id ≡ seat.old.table_id }
@@ -194,7 +194,7 @@ impl<O: Object> Desk<O> {
     }
 
     /// Takes a pass's seat in, and sees the whole history.
-    pub fn glue(&self, keeper: &mut Place<O>, other: Place<O>)
+    pub fn glue(&self, keeper: &mut LockSeat<O>, other: LockSeat<O>)
         requires tables { (keeper.old.table_id ≡ self.now.table.shared.table_id) × (other.table_id ≡ self.now.table.shared.table_id) }
         requires keeper { keeper.old.me.0.stage ≡ Idle }
         requires other { (other.me.0.stage ≡ Idle) × (other.me.1 ≡ []) }
@@ -206,7 +206,7 @@ impl<O: Object> Desk<O> {
     }
 
     /// The table of an object, and the keeper's seat. Without memory the object comes back.
-    pub fn open(alloc: Global, object: O) -> Result<(Desk<O>, Place<O>), O>
+    pub fn open(alloc: Global, object: O) -> Result<(Desk<O>, LockSeat<O>), O>
         requires { O.history object ≡ [] }
         ensures ok { IfOk result (λ r. (r.1.table_id ≡ r.0.table.shared.table_id) × (r.1.me ≡ (first_keeper (O.base object), []))) }
         ensures err { IfErr result (λ o. o ≡ object) }
@@ -221,12 +221,12 @@ impl<O: Object> Desk<O> {
     }
 
     /// The object, once no other seat has a number.
-    pub fn close(self, keeper: Place<O>) -> O
+    pub fn close(self, keeper: LockSeat<O>) -> O
         requires table { keeper.table_id ≡ self.table.shared.table_id }
         requires keeper { (keeper.me.0.stage ≡ Idle) × (keeper.me.0.keeps ≡ true) }
         requires based { IsSome keeper.me.0.base }
         requires all { (n : ℕ) → n < keeper.me.0.made → Contains (map (λ x. x.0) keeper.me.0.lists) n }
-        ensures { Closes O.base O.history O.lawful O.number_of keeper.me.0 result }
+        ensures { ClosesTable O.base O.history O.lawful O.number_of keeper.me.0 result }
     {
         let Desk { table } = self;
         let mut closed = table.close_with(keeper);

@@ -1,7 +1,7 @@
 //! The lock, and what a caller does with a pass.
 ghost use Rattle.std.specs.Prelude.{◌≡◌, ℕ, ◌+◌, ◌<◌, ◌≤◌, List, [], ◌∷◌, ◌++◌, Some, None, IfOk, IfErr, OnErr, IsOk, IsSome};
 ghost use mathlib.Core.List.{IsPrefix};
-ghost use Rattle.sv_lock.specs.Histories.{entries_of, AreJust, AreBelow, GoesOn};
+ghost use Rattle.sv_lock.specs.Histories.{entries_of, AreJust, AreBelow, GoesOnTo};
 ghost use Rattle.sv_lock.specs.Passes.{most_passes, session_number, AllEnded};
 
 use crate::desk::Desk;
@@ -89,7 +89,7 @@ impl<O: Object> SeqLock<O> {
         requires session { IsSome pass.old.session }
         requires can { O.can_step pass.old.base (session_number pass.old) request pass.old.mine }
         ensures same { (pass.new.lock ≡ pass.old.lock) × (pass.new.session ≡ pass.old.session) × (pass.new.base ≡ pass.old.base) × (pass.new.made ≡ pass.old.made) × (pass.new.ended ≡ pass.old.ended) }
-        ensures seen { IfOk result (λ r. GoesOn pass.old.seen (O.entry (session_number pass.old) request r) pass.new.seen) }
+        ensures seen { IfOk result (λ r. GoesOnTo pass.old.seen (O.entry (session_number pass.old) request r) pass.new.seen) }
         ensures mine { IfOk result (λ r. pass.new.mine ≡ pass.old.mine ++ O.entry (session_number pass.old) request r ∷ []) }
         ensures whole { IfOk result (λ r. O.whole r pass.new.seen) }
         ensures err { OnErr result (IsPrefix pass.old.seen pass.new.seen × (pass.new.mine ≡ pass.old.mine)) }

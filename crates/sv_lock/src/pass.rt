@@ -2,7 +2,7 @@
 ghost use Rattle.std.specs.Prelude.{◌≡◌, IsSome};
 
 use crate::object::Object;
-use crate::plays::Place;
+use crate::plays::LockSeat;
 use std::marker::Model;
 
 /// A caller's right to a lock, and what it knows of the history. Contracts see its lock, its session number, the base
@@ -11,7 +11,7 @@ use std::marker::Model;
 /// One pass is the keeper's: it makes the others, and takes them in again. A pass may be let go, but then its lock can't be closed.
 #[derive(Drop)]
 pub struct Pass<O: Object> {
-    pub(crate) seat: Place<O>,
+    pub(crate) seat: LockSeat<O>,
     pub(crate) session: Option<u16>,
     // The keeper's count of the passes that it made.
     pub(crate) made: u16,

@@ -1,6 +1,6 @@
 //! The rule of the lock's table, and what each step on it tells.
 use crate::object::Object;
-use crate::view::View;
+use crate::view::SeatView;
 use atomic_table::{Join, Play, Seat, Split, Table, TableRule};
 use std::alloc::Global;
 use std::snapshot::Snapshot;
@@ -8,7 +8,7 @@ use std::snapshot::Snapshot;
 /// The one word is 0 exactly where the one slot has the object.
 pub struct OneHolder;
 
-impl<O: Object> TableRule<O, View<O::Base, O::Entry>, Snapshot<O>> for OneHolder {
+impl<O: Object> TableRule<O, SeatView<O::Base, O::Entry>, Snapshot<O>> for OneHolder {
     ghost use Rattle.sv_lock.specs.Holding.{OneHistory, first_keeper};
 
     ghost holds = { λ key. OneHistory O.base O.history O.lawful O.number_of (O.base key.value) };
@@ -16,14 +16,20 @@ impl<O: Object> TableRule<O, View<O::Base, O::Entry>, Snapshot<O>> for OneHolder
     ghost first = { λ key. first_keeper (O.base key.value) };
 }
 
-pub type Place<O: Object> = Seat<O, View<O::Base, O::Entry>>;
+pub type LockSeat<O: Object> = Seat<O, SeatView<O::Base, O::Entry>>;
 
-pub type LockTable<O: Object> = Table<O, View<O::Base, O::Entry>, Snapshot<O>, OneHolder, Global>;
+pub type LockTable<O: Object> = Table<
+    O,
+    SeatView<O::Base, O::Entry>,
+    Snapshot<O>,
+    OneHolder,
+    Global,
+>;
 
 /// Takes the object, if it is at home.
 pub struct Take;
 
-impl<O: Object> Play<O, View<O::Base, O::Entry>> for Take {
+impl<O: Object> Play<O, SeatView<O::Base, O::Entry>> for Take {
     ghost use Rattle.sv_lock.specs.Holding.{tried};
 
     ghost then = { λ _. tried O.base O.history O.number_of };
@@ -32,7 +38,7 @@ impl<O: Object> Play<O, View<O::Base, O::Entry>> for Take {
 /// Brings the object home.
 pub struct Return;
 
-impl<O: Object> Play<O, View<O::Base, O::Entry>> for Return {
+impl<O: Object> Play<O, SeatView<O::Base, O::Entry>> for Return {
     ghost use Rattle.sv_lock.specs.Holding.{returned};
 
     ghost then = { λ _. returned O.history O.number_of };
@@ -41,16 +47,16 @@ impl<O: Object> Play<O, View<O::Base, O::Entry>> for Return {
 /// Sees the whole history.
 pub struct Learn;
 
-impl<O: Object> Play<O, View<O::Base, O::Entry>> for Learn {
+impl<O: Object> Play<O, SeatView<O::Base, O::Entry>> for Learn {
     ghost use Rattle.sv_lock.specs.Holding.{learned};
 
     ghost then = { λ _. learned O.lawful O.number_of };
 }
 
 /// Makes the pass of the next number.
-pub struct Cut;
+pub struct SplitOff;
 
-impl<B, E> Split<View<B, E>> for Cut {
+impl<B, E> Split<SeatView<B, E>> for SplitOff {
     ghost use Rattle.sv_lock.specs.Holding.{one_more, next_pass};
 
     ghost left = { one_more };
@@ -61,7 +67,7 @@ impl<B, E> Split<View<B, E>> for Cut {
 /// Takes a pass in.
 pub struct Glue;
 
-impl<B, E> Join<View<B, E>> for Glue {
+impl<B, E> Join<SeatView<B, E>> for Glue {
     ghost use Rattle.sv_lock.specs.Holding.{taken_in, spent};
 
     ghost both = { taken_in };

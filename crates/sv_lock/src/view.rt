@@ -7,7 +7,7 @@ pub enum Stage {
     Holds,
 }
 
-pub struct View<B, E> {
+pub struct SeatView<B, E> {
     /// None where another seat took this one in.
     pub base: Option<B>,
     pub stage: Stage,

@@ -3,15 +3,15 @@ use Rattle.std.proofs.Common.{◌≡◌, ◌≢◌, ◌⊎◌, inl, inr, ⊎_eli
 use Rattle.std.proofs.lemmas.Bool.{cases_lt}
 use Rattle.sv_log.specs.Pictures.{Picture}
 use Rattle.sv_log.specs.Names.{segment_name, state_name, IsNumber}
-use Rattle.sv_log.specs.Chains.{StateFile, lines, text_at, text_of, state_at, IsClosed, IsWhole, IsNewest, IsLog, IsFresh, HasLines, Holds}
+use Rattle.sv_log.specs.Chains.{StateFile, lines, text_at, text_of, state_at, IsClosed, IsWholeState, IsNewest, IsLog, IsFresh, HasLines, HasLog}
 use Rattle.sv_log.specs.Refusals.{IsLast}
 use Rattle.sv_log.proofs.Standing.{none_some}
 use Rattle.sv_log.proofs.Chained.{closed_low, lines_at}
 
 pub newest_alone : (p : Picture) (a b : ℕ) → IsNewest p a → IsNewest p b → a ≡ b
 newest_alone p zero zero f g = refl
-newest_alone p zero (suc k) f g = absurd (subst IsWhole (f (suc k) g.0) g.1)
-newest_alone p (suc k) zero f g = absurd (subst IsWhole (g (suc k) f.0) f.1)
+newest_alone p zero (suc k) f g = absurd (subst IsWholeState (f (suc k) g.0) g.1)
+newest_alone p (suc k) zero f g = absurd (subst IsWholeState (g (suc k) f.0) f.1)
 newest_alone p (suc j) (suc k) f g =
     ⊎_elim (λ (low : suc j < suc k). absurd (f.2 (suc k) g.0 low g.1))
     (λ (high : suc k ≤ suc j). ⊎_elim (λ (more : suc k < suc j). absurd (g.2 (suc j) f.0 more f.1)) (λ (same : suc j ≤ suc k). let e : suc j ≡ suc k = omega (arith, high, same) in e) (cases_lt (suc k) (suc j)))
@@ -50,7 +50,7 @@ lines_alone p s t x y f g =
 fresh_no_lines : (world : List ℕ) (p : Picture) (s : StateFile) (x : List ℕ) → IsFresh world p → HasLines s x p → ⊥
 fresh_no_lines world p s x fresh h = none_some (p (segment_name h.1)) h.2.there.0 h.2.there.1 (fresh.segments h.1 h.2.number)
 
-pub holds_alone : (world : List ℕ) (p : Picture) (s t : StateFile) (x y : List ℕ) → Holds world s x p → Holds world t y p → (s ≡ t) × (x ≡ y)
+pub holds_alone : (world : List ℕ) (p : Picture) (s t : StateFile) (x y : List ℕ) → HasLog world s x p → HasLog world t y p → (s ≡ t) × (x ≡ y)
 holds_alone world p s t x y f g = elim f [
   | inl a ↦ elim g [
     | inl b ↦ lines_alone p s t x y a.1 b.1

@@ -8,7 +8,7 @@ use Rattle.sv_log.specs.Crashes.{Same, SameBut}
 use Rattle.sv_log.specs.Texts.{has_line, whole, whole_in, IsText, IsFront}
 use Rattle.sv_log.specs.Logs.{Within}
 use Rattle.sv_log.specs.Names.{segment_name, state_name, world_name, IsNumber}
-use Rattle.sv_log.specs.Chains.{StateFile, lines, text_at, text_of, state_at, NoneBetween, IsClosed, IsWhole, IsNewest, IsLog, Holds, Keeps}
+use Rattle.sv_log.specs.Chains.{StateFile, lines, text_at, text_of, state_at, NoneBetween, IsClosed, IsWholeState, IsNewest, IsLog, HasLog, KeepsLog}
 use Rattle.sv_log.proofs.Texts.{text_parts, front-append}
 use Rattle.sv_log.proofs.Mended.{whole_again}
 use Rattle.sv_log.proofs.Numbers.{segment_injective, segment_state, segment_world}
@@ -77,7 +77,7 @@ closed_same p c n (m ∷ ms) last same h =
 pub newest_same : (p c : Picture) (state : ℕ) → ((m : ℕ) → IsNumber m → c (state_name m) ≡ p (state_name m)) → IsNewest p state → IsNewest c state
 newest_same p c zero same h = λ m number. same m number ∙ h m number
 newest_same p c (suc k) same h =
-    (h.0, subst IsWhole (sym (same (suc k) h.0)) h.1, λ m number later is. h.2 m number later (subst IsWhole (same m number) is))
+    (h.0, subst IsWholeState (sym (same (suc k) h.0)) h.1, λ m number later is. h.2 m number later (subst IsWholeState (same m number) is))
 
 pub state_same : (p c : Picture) (state : ℕ) → ((m : ℕ) → c (state_name m) ≡ p (state_name m)) → state_at c state ≡ state_at p state
 state_same p c zero same = refl
@@ -111,7 +111,7 @@ module _ (p c : Picture) (state : ℕ) (closed : List ℕ) (last : ℕ) (log : I
 
 -- a segment with a text from low to high makes a log with one
 pub within_keeps : (p c : Picture) (world : List ℕ) (state : StateFile) (closed : List ℕ) (last : ℕ) (low high : List ℕ) → IsLog p state.0 closed last → state.1 ≡ state_at p state.0 → p world_name ≡ Some world
-    → Within p (segment_name last) low high c → Keeps world state (text_of p closed ++ low) (text_of p closed ++ high) c
+    → Within p (segment_name last) low high c → KeepsLog world state (text_of p closed ++ low) (text_of p closed ++ high) c
 within_keeps p c world state closed last low high log kept is w =
     let before = text_of p closed in
     let text = text_at c last in
@@ -128,6 +128,6 @@ within_keeps p c world state closed last low high log kept is w =
 -- the same where the name of the file is told
 pub named_keeps : (p c : Picture) (name world : List ℕ) (state : StateFile) (closed : List ℕ) (last : ℕ) (low high : List ℕ) → name ≡ segment_name last → IsLog p state.0 closed last → state.1 ≡ state_at p state.0
     → p world_name ≡ Some world
-    → Within p name low high c → Keeps world state (text_of p closed ++ low) (text_of p closed ++ high) c
+    → Within p name low high c → KeepsLog world state (text_of p closed ++ low) (text_of p closed ++ high) c
 named_keeps p c name world state closed last low high called log kept is w =
     within_keeps p c world state closed last low high log kept is (subst (λ (n : List ℕ). Within p n low high c) called w)

@@ -4,10 +4,10 @@ use Rattle.std.specs.Str.{bytes_eq}
 use Rattle.std.proofs.Math.Seq.{take-add}
 use Rattle.std.proofs.lemmas.Bool.{and_from, or_left, or_right, not_from_false}
 use Rattle.std.proofs.lemmas.List.{append-nil, take_at, drop_at}
-use Rattle.sv_log.specs.Pictures.{Picture, Cut, Sync, Disk, seen, noted, zeros, HasRoom, Makes}
-use Rattle.sv_log.specs.Crashes.{Same, SameBut, Leaves, MayLeave, MayCut, LeavesOnly, is_synced}
+use Rattle.sv_log.specs.Pictures.{Picture, Truncate, Sync, Disk, seen, noted, zeros, FileHasRoom, Makes}
+use Rattle.sv_log.specs.Crashes.{Same, SameBut, CrashLeaves, CrashMayLeave, MayCut, LeavesOnly, is_synced}
 use Rattle.sv_log.specs.Texts.{whole_in, IsText}
-use Rattle.sv_log.specs.Logs.{Stands}
+use Rattle.sv_log.specs.Logs.{LogStands}
 use Rattle.sv_log.specs.Rests.{IsAtRest, Mends}
 use Rattle.sv_log.proofs.Texts.{whole_text}
 use Rattle.sv_log.proofs.Chained.{text_in}
@@ -41,19 +41,19 @@ module _ (disk : Disk) (name : List ℕ) (n room : ℕ) (rest : IsAtRest disk) (
   is_text : IsText text
   is_text = text_in (seen disk name)
 
-  pub cut_room : HasRoom (seen disk) name 0 n
+  pub cut_room : FileHasRoom (seen disk) name 0 n
   cut_room = (text ++ zeros room, file, omega (arith, size, length-append text (zeros room)))
 
-  quiet : (c : Picture) → Leaves disk.start disk.past c → P c
+  quiet : (c : Picture) → CrashLeaves disk.start disk.past c → P c
   quiet c left = let same = rest.only c left in ((λ m ne. same m), ap whole_in (same name), (λ e. sym (same name) ∙ e))
 
-  cutting : (c d : Picture) → Leaves disk.start disk.past d → MayLeave (Cut name n) d c → (m : ℕ) × (c name ≡ Some (text ++ zeros m))
+  cutting : (c d : Picture) → CrashLeaves disk.start disk.past d → CrashMayLeave (Truncate name n) d c → (m : ℕ) × (c name ≡ Some (text ++ zeros m))
   cutting c d left step =
       let w = subst (λ (o : Option (List ℕ)). MayCut n o (c name)) (rest.only d left name ∙ file) step.1 in
       let e = cut_behind text room w.0 (subst (λ (m : ℕ). m ≤ w.0) size w.1) in
       (e.0, w.2 ∙ ap (λ (l : List ℕ). Some l) e.1)
 
-  cut_mends : (c d : Picture) → Leaves disk.start disk.past d → MayLeave (Cut name n) d c → P c
+  cut_mends : (c d : Picture) → CrashLeaves disk.start disk.past d → CrashMayLeave (Truncate name n) d c → P c
   cut_mends c d left step =
       let w = cutting c d left step in
       ((λ m ne. step.0 m ne ∙ rest.only d left m), ap whole_in w.1 ∙ whole_text text w.0 is_text, (λ e. absurd (none_some (c name) (text ++ zeros w.0) w.1 e)))
@@ -61,13 +61,13 @@ module _ (disk : Disk) (name : List ℕ) (n room : ℕ) (rest : IsAtRest disk) (
   same_mends : (c d : Picture) → Same c d → P d → P c
   same_mends c d same w = ((λ m ne. same m ∙ w.0 m ne), ap whole_in (same name) ∙ w.1, (λ e. w.2 (sym (same name) ∙ e)))
 
-  pub cut_only : {T E : Type 0} (new : Disk) (result : Result T E) → Makes (Cut name n) disk new result → LeavesOnly disk new P
-  cut_only new result makes = made_only disk new (Cut name n) result P makes quiet cut_mends
+  pub cut_only : {T E : Type 0} (new : Disk) (result : Result T E) → Makes (Truncate name n) disk new result → LeavesOnly disk new P
+  cut_only new result makes = made_only disk new (Truncate name n) result P makes quiet cut_mends
 
   abbrev cut_disk : Disk
-  cut_disk = noted (Cut name n, true) disk
+  cut_disk = noted (Truncate name n, true) disk
 
-  now_mends : (c : Picture) → Leaves cut_disk.start cut_disk.past c → P c
+  now_mends : (c : Picture) → CrashLeaves cut_disk.start cut_disk.past c → P c
   now_mends c left = cut_mends c left.0 left.1 left.2
 
   pub cut_sync_only : {T E : Type 0} (mid new : Disk) (result : Result T E) → mid ≡ cut_disk → Makes (Sync name) mid new result → LeavesOnly disk new P
@@ -83,7 +83,7 @@ module _ (disk : Disk) (name : List ℕ) (n room : ℕ) (rest : IsAtRest disk) (
   abbrev last_disk : Disk
   last_disk = noted (Sync name, true) cut_disk
 
-  last_stands : Stands last_disk name text [] 0
+  last_stands : LogStands last_disk name text [] 0
   last_stands =
       let joined : seen cut_disk name ≡ Some (text ++ [] ++ zeros 0) = cut_file ∙ ap (λ (l : List ℕ). Some l) (sym (append-nil (text ++ []) ∙ append-nil text)) in record {
         synced_text = is_text;

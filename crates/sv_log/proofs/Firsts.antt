@@ -7,7 +7,7 @@ use Rattle.std.proofs.lemmas.List.Elements.{Contains-append_left, Contains-push,
 use Rattle.sv_log.specs.Names.{IsNumber, IsWrongName, Tells, file_name, segment_name, state_name, segment_kind, state_kind}
 use Rattle.sv_log.specs.declared.names.FileKind.{FileKind}
 use Rattle.sv_log.specs.declared.names.FileKind.TheVariants as file
-use Rattle.sv_log.specs.Readings.{IsFirst, IsOther}
+use Rattle.sv_log.specs.Readings.{IsFirstNumber, IsOther}
 use Rattle.sv_log.proofs.Numbers.{segment_injective, state_injective, segment_state}
 
 pub file_injective : (k : FileKind) (m n : ℕ) → IsNumber m → IsNumber n → file_name k m ≡ file_name k n → m ≡ n
@@ -33,7 +33,7 @@ known_not_wrong file.State n name number is wrong = (wrong.1 n number).1 is
 
 module _ (k : FileKind) (names : List (List ℕ)) (name : List ℕ) (least : ℕ) where
   -- one that is of no such file changes nothing
-  pub first_other : (o : Option ℕ) → IsOther k name → IsFirst k names least o → IsFirst k (names ++ name ∷ []) least o
+  pub first_other : (o : Option ℕ) → IsOther k name → IsFirstNumber k names least o → IsFirstNumber k (names ++ name ∷ []) least o
   first_other None other h = λ m number le has. ⊎_elim (λ c. h m number le c) (λ e. other m number e) (Contains-push_cases names name (file_name k m) has)
   first_other (Some n) other h = (
     h.0,
@@ -47,7 +47,7 @@ module _ (k : FileKind) (names : List (List ℕ)) (name : List ℕ) (least : ℕ
     same_number m number e = file_injective k n m known number (sym is ∙ e)
 
     -- nor one of a lower number
-    pub first_low : (o : Option ℕ) → n < least → IsFirst k names least o → IsFirst k (names ++ name ∷ []) least o
+    pub first_low : (o : Option ℕ) → n < least → IsFirstNumber k names least o → IsFirstNumber k (names ++ name ∷ []) least o
     first_low None low h = λ m number le has.
         ⊎_elim (λ c. h m number le c) (λ e. let s = same_number m number e in absurd (omega (arith, s, le, low))) (Contains-push_cases names name (file_name k m) has)
     first_low (Some other) low h = (
@@ -59,7 +59,7 @@ module _ (k : FileKind) (names : List (List ℕ)) (name : List ℕ) (least : ℕ
     )
 
     -- nor one that comes later than one that is listed
-    pub first_late : (other : ℕ) → other ≤ n → IsFirst k names least (Some other) → IsFirst k (names ++ name ∷ []) least (Some other)
+    pub first_late : (other : ℕ) → other ≤ n → IsFirstNumber k names least (Some other) → IsFirstNumber k (names ++ name ∷ []) least (Some other)
     first_late other late h = (
       h.0,
       h.1,
@@ -71,7 +71,7 @@ module _ (k : FileKind) (names : List (List ℕ)) (name : List ℕ) (least : ℕ
     listed : Contains (names ++ name ∷ []) (file_name k n)
     listed = subst (λ (x : List ℕ). Contains (names ++ name ∷ []) x) is (Contains-push names name)
 
-    pub first_one : least ≤ n → IsFirst k names least None → IsFirst k (names ++ name ∷ []) least (Some n)
+    pub first_one : least ≤ n → IsFirstNumber k names least None → IsFirstNumber k (names ++ name ∷ []) least (Some n)
     first_one le h = (
       known,
       le,
@@ -79,7 +79,7 @@ module _ (k : FileKind) (names : List (List ℕ)) (name : List ℕ) (least : ℕ
       (λ m number from less has. ⊎_elim (λ c. h m number from c) (λ e. let s = same_number m number e in absurd (omega (arith, s, less))) (Contains-push_cases names name (file_name k m) has)),
     )
 
-    pub first_early : (other : ℕ) → least ≤ n → n < other → IsFirst k names least (Some other) → IsFirst k (names ++ name ∷ []) least (Some n)
+    pub first_early : (other : ℕ) → least ≤ n → n < other → IsFirstNumber k names least (Some other) → IsFirstNumber k (names ++ name ∷ []) least (Some n)
     first_early other le early h = (
       known,
       le,
@@ -122,15 +122,15 @@ none_wrong_more names i d within none right =
 pub none_wrong_all : (names : List (String Global)) (n : ℕ) → length names ≤ n → NoneWrong (take n (map string_bytes names)) → NoneWrong (map string_bytes names)
 none_wrong_all names n le none = subst NoneWrong (names_all names n le) none
 
-pub first_nil : (k : FileKind) (least : ℕ) → IsFirst k [] least None
+pub first_nil : (k : FileKind) (least : ℕ) → IsFirstNumber k [] least None
 first_nil k least m number le has = contains_none (file_name k m) has
 
 pub first_more : (k : FileKind) (names : List (String Global)) (i : ℕ) (d : String Global) (least : ℕ) (o : Option ℕ) → i < length names
-    → IsFirst k (take i (map string_bytes names) ++ string_bytes (get_or names i d) ∷ []) least o → IsFirst k (take (i + 1) (map string_bytes names)) least o
-first_more k names i d least o within first = subst (λ (ns : List (List ℕ)). IsFirst k ns least o) (sym (names_more names i d within)) first
+    → IsFirstNumber k (take i (map string_bytes names) ++ string_bytes (get_or names i d) ∷ []) least o → IsFirstNumber k (take (i + 1) (map string_bytes names)) least o
+first_more k names i d least o within first = subst (λ (ns : List (List ℕ)). IsFirstNumber k ns least o) (sym (names_more names i d within)) first
 
-pub first_all : (k : FileKind) (names : List (String Global)) (n : ℕ) (least : ℕ) (o : Option ℕ) → length names ≤ n → IsFirst k (take n (map string_bytes names)) least o → IsFirst k (map string_bytes names) least o
-first_all k names n least o le first = subst (λ (ns : List (List ℕ)). IsFirst k ns least o) (names_all names n le) first
+pub first_all : (k : FileKind) (names : List (String Global)) (n : ℕ) (least : ℕ) (o : Option ℕ) → length names ≤ n → IsFirstNumber k (take n (map string_bytes names)) least o → IsFirstNumber k (map string_bytes names) least o
+first_all k names n least o le first = subst (λ (ns : List (List ℕ)). IsFirstNumber k ns least o) (names_all names n le) first
 
 -- a name was not met
 abbrev pub NotIn : List (List ℕ) → List ℕ → Type 0

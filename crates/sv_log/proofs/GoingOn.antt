@@ -9,10 +9,10 @@ use Rattle.std.proofs.lemmas.Slice.Eq.{bytes_eq-Decides}
 use Rattle.sv_log.specs.Pictures.{Picture, Disk, seen, put, zeros}
 use Rattle.sv_log.specs.Crashes.{SameBut, LeavesOnly}
 use Rattle.sv_log.specs.Texts.{IsFront, whole, whole_in}
-use Rattle.sv_log.specs.Rests.{IsAtRest, Tells, Mends, GoesOn}
-use Rattle.sv_log.specs.Logs.{Stands, IsOpen, appended, synced, pending}
+use Rattle.sv_log.specs.Rests.{IsAtRest, Tells, Mends, SegmentGoesOn}
+use Rattle.sv_log.specs.Logs.{LogStands, IsOpen, appended, synced, pending}
 use Rattle.sv_log.specs.Names.{segment_name, world_name, IsNumber}
-use Rattle.sv_log.specs.Chains.{StateFile, lines, text_at, text_of, state_at, IsLog, Holds, Keeps}
+use Rattle.sv_log.specs.Chains.{StateFile, lines, text_at, text_of, state_at, IsLog, HasLog, KeepsLog}
 use Rattle.sv_log.specs.OpenLogs.{IsOpenLog, shown, newest, log_text, log_synced}
 use Rattle.sv_log.specs.declared.segment.Segment.{Segment}
 use Rattle.sv_log.specs.declared.log.Log.{Log}
@@ -27,14 +27,14 @@ use Rattle.sv_log.proofs.Opened.{rest_only}
 use Rattle.sv_log.proofs.Next.{next_log, next_text, next_world, next_state, next_holds}
 
 -- the cut of one segment, and then the making of the next one
-pub cut_goes : (a b : Disk) (name next : List ℕ) → LeavesOnly a b (Mends (seen a) name (whole_in (seen a name))) → LeavesOnly a b (GoesOn (seen a) name next)
-cut_goes a b name next only = weaker_only a b (Mends (seen a) name (whole_in (seen a name))) (GoesOn (seen a) name next) (λ c w. inl w) only
+pub cut_goes : (a b : Disk) (name next : List ℕ) → LeavesOnly a b (Mends (seen a) name (whole_in (seen a name))) → LeavesOnly a b (SegmentGoesOn (seen a) name next)
+cut_goes a b name next only = weaker_only a b (Mends (seen a) name (whole_in (seen a name))) (SegmentGoesOn (seen a) name next) (λ c w. inl w) only
 
 pub make_goes : (a b d : Disk) (name next : List ℕ) → LeavesOnly a b (Mends (seen a) name (whole_in (seen a name))) → SameBut name (seen b) (seen a) → seen b name ≡ Some (whole_in (seen a name))
-    → LeavesOnly b d (Tells (seen b) next []) → LeavesOnly a d (GoesOn (seen a) name next)
+    → LeavesOnly b d (Tells (seen b) next []) → LeavesOnly a d (SegmentGoesOn (seen a) name next)
 make_goes a b d name next cut others file make =
-    then_only a b d (GoesOn (seen a) name next) (cut_goes a b name next cut)
-    (weaker_only b d (Tells (seen b) next []) (GoesOn (seen a) name next) (λ c w. inr (seen b, others, file, w)) make)
+    then_only a b d (SegmentGoesOn (seen a) name next) (cut_goes a b name next cut)
+    (weaker_only b d (Tells (seen b) next []) (SegmentGoesOn (seen a) name next) (λ c w. inr (seen b, others, file, w)) make)
 
 module _ (p : Picture) (state : ℕ) (closed : List ℕ) (last : ℕ) (log : IsLog p state closed last) (some : text_at p last ≢ []) (next : ℕ) (number : IsNumber next) (is : next ≡ last + lines (text_at p last)) where
   module _ (q : Picture) (same : SameBut (segment_name last) q p) (file : q (segment_name last) ≡ Some (text_at p last)) where
@@ -56,9 +56,9 @@ module _ (p : Picture) (state : ℕ) (closed : List ℕ) (last : ℕ) (log : IsL
     cut_text : text_of q closed ++ text_at q last ≡ text_of p closed ++ text_at p last
     cut_text = ap (λ (t : List ℕ). t ++ text_at q last) (text_moved p q state closed last log same) ∙ ap (λ (t : List ℕ). text_of p closed ++ t) at
 
-    pub told_holds : (world : List ℕ) → p world_name ≡ Some world → (c : Picture) → Tells q (segment_name next) [] c → Holds world (state, state_at p state) (text_of p closed ++ text_at p last) c
+    pub told_holds : (world : List ℕ) → p world_name ≡ Some world → (c : Picture) → Tells q (segment_name next) [] c → HasLog world (state, state_at p state) (text_of p closed ++ text_at p last) c
     told_holds world own c w =
-        subst (λ (t : List ℕ). Holds world (state, state_at p state) t c) cut_text
+        subst (λ (t : List ℕ). HasLog world (state, state_at p state) t c) cut_text
         (next_holds q state closed last cut_log cut_exact cut_some next number cut_is c w.0 world (state_at p state) (sym (state_moved p q state closed last log same)) (world_moved p q state closed last log same ∙ own) w.1)
 
     pub cut_next : (c : Picture) → SameBut (segment_name next) c q → (bytes : List ℕ) → c (segment_name next) ≡ Some bytes
@@ -70,7 +70,7 @@ module _ (p : Picture) (state : ℕ) (closed : List ℕ) (last : ℕ) (log : IsL
       next_state q state closed last cut_log cut_exact cut_some next number cut_is c but ∙ state_moved p q state closed last log same,
     )
 
-  pub goes_on_holds : (world : List ℕ) → p world_name ≡ Some world → (c : Picture) → GoesOn p (segment_name last) (segment_name next) c → Holds world (state, state_at p state) (text_of p closed ++ text_at p last) c
+  pub goes_on_holds : (world : List ℕ) → p world_name ≡ Some world → (c : Picture) → SegmentGoesOn p (segment_name last) (segment_name next) c → HasLog world (state, state_at p state) (text_of p closed ++ text_at p last) c
   goes_on_holds world own c goes =
       ⊎_elim (λ (w : Mends p (segment_name last) (text_at p last) c). mend_holds p c world (state, state_at p state) closed last log refl own w)
       (λ (w : (q : Picture) × SameBut (segment_name last) q p × (q (segment_name last) ≡ Some (text_at p last)) × Tells q (segment_name next) [] c). told_holds w.0 w.1 w.2 world own c w.3) goes
@@ -112,7 +112,7 @@ module _ {F : Type 0} (disk : F → Disk) (log : Log F) where
       (drop log.segment.synced (appended disk log.segment), sym (take-append-drop log.segment.synced (appended disk log.segment)))
 
   module _ (is_open : IsOpenLog disk log) (world : List ℕ) (own : shown disk log world_name ≡ Some world) where
-    log_holds : Holds world (newest disk log) (log_text disk log) (shown disk log)
+    log_holds : HasLog world (newest disk log) (log_text disk log) (shown disk log)
     log_holds =
         inl (
           own,
@@ -125,7 +125,7 @@ module _ {F : Type 0} (disk : F → Disk) (log : Log F) where
           ),
         )
 
-    pub log_rest : IsAtRest (disk log.segment.folder) → LeavesOnly (disk log.segment.folder) (disk log.segment.folder) (Holds world (newest disk log) (log_text disk log))
+    pub log_rest : IsAtRest (disk log.segment.folder) → LeavesOnly (disk log.segment.folder) (disk log.segment.folder) (HasLog world (newest disk log) (log_text disk log))
     log_rest rest = rest_only (disk log.segment.folder) world (newest disk log) (log_text disk log) rest log_holds
 
   -- the number of the next line, if there is one
@@ -146,18 +146,18 @@ module _ {F : Type 0} (disk : F → Disk) (log : Log F) where
 -- a sync, and then the next segment
 module _ {F : Type 0} (disk : F → Disk) (old mid : Log F) (text : log_text disk mid ≡ log_text disk old) (same : newest disk mid ≡ newest disk old) (world : List ℕ) where
   abbrev P : Picture → Type 0
-  P = Keeps world (newest disk old) (log_synced disk old) (log_text disk old)
+  P = KeepsLog world (newest disk old) (log_synced disk old) (log_text disk old)
 
-  moved : (c : Picture) → Holds world (newest disk mid) (log_text disk mid) c → P c
+  moved : (c : Picture) → HasLog world (newest disk mid) (log_text disk mid) c → P c
   moved c w =
-      let v = subst (λ (s : StateFile). Holds world s (log_text disk mid) c) same w in
-      (log_text disk old, subst (λ (t : List ℕ). Holds world (newest disk old) t c) text v, log_front disk old, front_same (log_text disk old))
+      let v = subst (λ (s : StateFile). HasLog world s (log_text disk mid) c) same w in
+      (log_text disk old, subst (λ (t : List ℕ). HasLog world (newest disk old) t c) text v, log_front disk old, front_same (log_text disk old))
 
-  pub then_goes : (new : Disk) → LeavesOnly (disk old.segment.folder) (disk mid.segment.folder) P → LeavesOnly (disk mid.segment.folder) new (Holds world (newest disk mid) (log_text disk mid))
+  pub then_goes : (new : Disk) → LeavesOnly (disk old.segment.folder) (disk mid.segment.folder) P → LeavesOnly (disk mid.segment.folder) new (HasLog world (newest disk mid) (log_text disk mid))
       → LeavesOnly (disk old.segment.folder) new P
   then_goes new first second =
       then_only (disk old.segment.folder) (disk mid.segment.folder) new P first
-      (weaker_only (disk mid.segment.folder) new (Holds world (newest disk mid) (log_text disk mid)) P moved second)
+      (weaker_only (disk mid.segment.folder) new (HasLog world (newest disk mid) (log_text disk mid)) P moved second)
 
 -- the log that goes on
 module _ {F : Type 0} (disk : F → Disk) (old : Log F) (is_open : IsOpenLog disk old) (number : IsNumber old.next) (filled : 0 < old.segment.length) where
@@ -195,15 +195,15 @@ module _ {F : Type 0} (disk : F → Disk) (old : Log F) (is_open : IsOpenLog dis
       absurd (omega (arith, same, next_is, more))
 
   pub onward_only : (new : Disk) (name next : List ℕ) (world : List ℕ) → name ≡ string_bytes old.segment.name → next ≡ segment_name old.next → p world_name ≡ Some world
-      → LeavesOnly (disk old.segment.folder) new (GoesOn p name next) → LeavesOnly (disk old.segment.folder) new (Holds world (newest disk old) (log_text disk old))
+      → LeavesOnly (disk old.segment.folder) new (SegmentGoesOn p name next) → LeavesOnly (disk old.segment.folder) new (HasLog world (newest disk old) (log_text disk old))
   onward_only new name next world called called_next own only =
-      weaker_only (disk old.segment.folder) new (GoesOn p name next) (Holds world (newest disk old) (log_text disk old))
-      (λ c w. subst (λ (t : List ℕ). Holds world (newest disk old) t c) all_text
+      weaker_only (disk old.segment.folder) new (SegmentGoesOn p name next) (HasLog world (newest disk old) (log_text disk old))
+      (λ c w. subst (λ (t : List ℕ). HasLog world (newest disk old) t c) all_text
       (goes_on_holds p old.state old.closed.items old.first is_open.chain some old.next number next_is world own c
-      (subst (λ (n : List ℕ). GoesOn p n (segment_name old.next) c) (called ∙ is_open.name) (subst (λ (n : List ℕ). GoesOn p name n c) called_next w)))) only
+      (subst (λ (n : List ℕ). SegmentGoesOn p n (segment_name old.next) c) (called ∙ is_open.name) (subst (λ (n : List ℕ). SegmentGoesOn p name n c) called_next w)))) only
 
   module _ (folder : F) (name : String Global) (closed : Vec ℕ Global) (called : string_bytes name ≡ segment_name old.next) (pushed : closed.items ≡ old.closed.items ++ old.first ∷ [])
-      (stands : Stands (disk folder) (string_bytes name) [] [] old.segment.spare)
+      (stands : LogStands (disk folder) (string_bytes name) [] [] old.segment.spare)
       (file : seen (disk folder) (string_bytes old.segment.name) ≡ Some (appended disk old.segment))
       (others : (n : List ℕ) → n ≢ string_bytes old.segment.name → n ≢ string_bytes name → seen (disk folder) n ≡ p n) where
     abbrev segment : Segment F

@@ -4,10 +4,10 @@ use Rattle.std.specs.Str.{bytes_eq}
 use Rattle.std.proofs.lemmas.Bool.{cases_Bool, cond-true, cond-false}
 use Rattle.std.proofs.lemmas.Slice.Eq.{bytes_eq-Decides}
 use Rattle.sv_bytes.specs.Stored.{contents_of}
-use Rattle.sv_log.specs.Pictures.{Picture, Call, Make, Grow, Write, Cut, Rename, Remove, Sync, SyncFolder, Made, zeros, over, put, after, seen_after}
+use Rattle.sv_log.specs.Pictures.{Picture, Call, Make, Grow, Write, Truncate, Rename, Remove, Sync, SyncFolder, Made, zeros, over, put, after, seen_after}
 use Rattle.sv_log.specs.Reads.{Lists}
 use Rattle.sv_log.specs.Memory.{call_of, made_of, latest_first, target, StartsIn, NamedIn, Adds}
-use Rattle.sv_log.specs.declared.calls.Kept.{Kept}
+use Rattle.sv_log.specs.declared.calls.KeptCall.{KeptCall}
 
 start_in : (files : List (List ℕ × List ℕ)) (n : List ℕ) → IsSome (contents_of files n) → StartsIn files n
 start_in [] n is = absurd (cc is)
@@ -37,7 +37,7 @@ after_in (Make name k) p n is =
     ⊎_elim (λ (h : (n ≡ name) × IsSome (Some (zeros k))). inr (ap (λ (m : List ℕ). Some m) (sym h.0))) (λ (h : IsSome (p n)). inl h) (put_in name (Some (zeros k)) p n is)
 after_in (Grow name k) p n is = inl (changed_in name (λ b. b ++ zeros k) p n is)
 after_in (Write name at bytes) p n is = inl (changed_in name (over at bytes) p n is)
-after_in (Cut name k) p n is = inl (changed_in name (take k) p n is)
+after_in (Truncate name k) p n is = inl (changed_in name (take k) p n is)
 after_in (Rename from to) p n is =
     ⊎_elim (λ (h : (n ≡ to) × IsSome (p from)). inr (ap (λ (m : List ℕ). Some m) (sym h.0)))
     (λ (h : IsSome (put from None p n)). ⊎_elim (λ (e : (n ≡ from) × IsSome {T = List ℕ} None). absurd (cc e.1)) (λ (e : IsSome (p n)). inl e) (put_in from None p n h))
@@ -55,7 +55,7 @@ first_in : (done : Bool) (call : Call) (p : Picture) (n : List ℕ) → IsSome (
 first_in true call p n is = after_in call p n is
 first_in false call p n is = inl is
 
-called_in : (p : Picture) (calls : List Kept) (n : List ℕ) → IsSome (seen_after p (latest_first calls) n) → IsSome (p n) ⊎ NamedIn calls n
+called_in : (p : Picture) (calls : List KeptCall) (n : List ℕ) → IsSome (seen_after p (latest_first calls) n) → IsSome (p n) ⊎ NamedIn calls n
 called_in p [] n is = inl is
 called_in p (k ∷ ks) n is =
     let made = made_of k in
@@ -64,7 +64,7 @@ called_in p (k ∷ ks) n is =
     (λ (later : NamedIn ks n). inr (inr later)) (called_in (cond made.1 (after made.0 p) p) ks n moved)
 
 -- a file that is there was there at the start, or was named by a call
-pub seen_in : (start : List (List ℕ × List ℕ)) (calls : List Kept) (n : List ℕ) → IsSome (seen_after (contents_of start) (latest_first calls) n) → StartsIn start n ⊎ NamedIn calls n
+pub seen_in : (start : List (List ℕ × List ℕ)) (calls : List KeptCall) (n : List ℕ) → IsSome (seen_after (contents_of start) (latest_first calls) n) → StartsIn start n ⊎ NamedIn calls n
 seen_in start calls n is =
     ⊎_elim (λ (h : IsSome (contents_of start n)). inl (start_in start n h)) (λ (h : NamedIn calls n). inr h) (called_in (contents_of start) calls n is)
 
@@ -76,11 +76,11 @@ starts_more start i d n within h =
     drop-cons start i d within ∙ ap (λ (k : ℕ). get_or start i d ∷ drop k start) (let e : suc i ≡ i + 1 = omega arith in e) in
     subst (λ (l : List (List ℕ × List ℕ)). StartsIn l n) parts h
 
-named_more : (calls : List Kept) (i : ℕ) (d : Kept) (n : List ℕ) → i < length calls → NamedIn (drop i calls) n → (target (call_of (get_or calls i d).call) ≡ Some n) ⊎ NamedIn (drop (i + 1) calls) n
+named_more : (calls : List KeptCall) (i : ℕ) (d : KeptCall) (n : List ℕ) → i < length calls → NamedIn (drop i calls) n → (target (call_of (get_or calls i d).call) ≡ Some n) ⊎ NamedIn (drop (i + 1) calls) n
 named_more calls i d n within h =
     let parts : drop i calls ≡ get_or calls i d ∷ drop (i + 1) calls =
     drop-cons calls i d within ∙ ap (λ (k : ℕ). get_or calls i d ∷ drop k calls) (let e : suc i ≡ i + 1 = omega arith in e) in
-    subst (λ (l : List Kept). NamedIn l n) parts h
+    subst (λ (l : List KeptCall). NamedIn l n) parts h
 
 module _ (p : Picture) (first old new : List (List ℕ)) (name : Option (List ℕ)) (adds : Adds p name old new) where
   -- what is listed was there before, or has a file
@@ -97,7 +97,7 @@ module _ (p : Picture) (first old new : List (List ℕ)) (name : Option (List �
       (λ (h : StartsIn (drop i start) n). ⊎_elim (λ (e : (get_or start i d).0 ≡ n). inl (adds.has n (is ∙ ap (λ (x : List ℕ). Some x) e) some)) (λ (r : StartsIn (drop (i + 1) start) n). inr r) (starts_more start i d n within h))
       (covers n some starts)
 
-  pub call_step : (calls : List Kept) (i : ℕ) (d : Kept) → i < length calls → name ≡ target (call_of (get_or calls i d).call)
+  pub call_step : (calls : List KeptCall) (i : ℕ) (d : KeptCall) → i < length calls → name ≡ target (call_of (get_or calls i d).call)
       → ((n : List ℕ) → IsSome (p n) → NamedIn calls n → Contains old n ⊎ NamedIn (drop i calls) n) → (n : List ℕ) → IsSome (p n) → NamedIn calls n → Contains new n ⊎ NamedIn (drop (i + 1) calls) n
   call_step calls i d within is covers n some named =
       ⊎_elim (λ (h : Contains old n). inl (adds.keeps n h))
@@ -107,15 +107,15 @@ module _ (p : Picture) (first old new : List (List ℕ)) (name : Option (List �
 pub starts_all : (start : List (List ℕ × List ℕ)) (i : ℕ) (n : List ℕ) (T : Type 0) → length start ≤ i → T ⊎ StartsIn (drop i start) n → T
 starts_all start i n T le h = ⊎_elim (λ (t : T). t) (λ (s : StartsIn (drop i start) n). absurd (subst (λ (l : List (List ℕ × List ℕ)). StartsIn l n) (drop_of_length-le start le) s)) h
 
-pub named_all : (calls : List Kept) (i : ℕ) (n : List ℕ) (T : Type 0) → length calls ≤ i → T ⊎ NamedIn (drop i calls) n → T
-named_all calls i n T le h = ⊎_elim (λ (t : T). t) (λ (s : NamedIn (drop i calls) n). absurd (subst (λ (l : List Kept). NamedIn l n) (drop_of_length-le calls le) s)) h
+pub named_all : (calls : List KeptCall) (i : ℕ) (n : List ℕ) (T : Type 0) → length calls ≤ i → T ⊎ NamedIn (drop i calls) n → T
+named_all calls i n T le h = ⊎_elim (λ (t : T). t) (λ (s : NamedIn (drop i calls) n). absurd (subst (λ (l : List KeptCall). NamedIn l n) (drop_of_length-le calls le) s)) h
 
 -- nothing was added
 pub adds_none : (p : Picture) (names : List (List ℕ)) → Adds p None names names
 adds_none p names = record { keeps = λ n has. has; has = λ n e some. absurd (cc e); only = λ n has. inl has }
 
 -- the names that were listed are those of the files
-pub lists_all : (start : List (List ℕ × List ℕ)) (calls : List Kept) (mid names : List (List ℕ)) → ((n : List ℕ) → Contains mid n → IsSome (seen_after (contents_of start) (latest_first calls) n))
+pub lists_all : (start : List (List ℕ × List ℕ)) (calls : List KeptCall) (mid names : List (List ℕ)) → ((n : List ℕ) → Contains mid n → IsSome (seen_after (contents_of start) (latest_first calls) n))
     → ((n : List ℕ) → IsSome (seen_after (contents_of start) (latest_first calls) n) → StartsIn start n → Contains mid n)
     → ((n : List ℕ) → Contains mid n → Contains names n) → ((n : List ℕ) → IsSome (seen_after (contents_of start) (latest_first calls) n) → NamedIn calls n → Contains names n)
     → ((n : List ℕ) → Contains names n → Contains mid n ⊎ IsSome (seen_after (contents_of start) (latest_first calls) n)) → Lists (seen_after (contents_of start) (latest_first calls)) names

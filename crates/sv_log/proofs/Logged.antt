@@ -6,7 +6,7 @@ use Rattle.sv_log.specs.Crashes.{SameBut, LeavesOnly}
 use Rattle.sv_log.specs.Texts.{IsFront}
 use Rattle.sv_log.specs.Logs.{Within, IsOpen, appended, synced}
 use Rattle.sv_log.specs.Names.{segment_name, world_name}
-use Rattle.sv_log.specs.Chains.{StateFile, lines, state_at, text_of, IsLog, Keeps}
+use Rattle.sv_log.specs.Chains.{StateFile, lines, state_at, text_of, IsLog, KeepsLog}
 use Rattle.sv_log.specs.OpenLogs.{shown, newest, log_text, log_synced, IsOpenLog}
 use Rattle.sv_log.specs.declared.segment.Segment.{Segment}
 use Rattle.sv_log.specs.declared.log.Log.{Log}
@@ -22,21 +22,21 @@ module _ {F : Type 0} (disk : F → Disk) (old : Log F) (is_open : IsOpenLog dis
   -- a crash of the segment is one of the log
   pub log_only : (new : Disk) (low high : List ℕ) (world : List ℕ) → shown disk old world_name ≡ Some world
       → LeavesOnly (disk old.segment.folder) new (Within (shown disk old) (string_bytes old.segment.name) low high)
-      → LeavesOnly (disk old.segment.folder) new (Keeps world (newest disk old) (before ++ low) (before ++ high))
+      → LeavesOnly (disk old.segment.folder) new (KeepsLog world (newest disk old) (before ++ low) (before ++ high))
   log_only new low high world is only =
-      weaker_only (disk old.segment.folder) new _ (Keeps world (newest disk old) (before ++ low) (before ++ high))
+      weaker_only (disk old.segment.folder) new _ (KeepsLog world (newest disk old) (before ++ low) (before ++ high))
       (λ c w. named_keeps (shown disk old) c (string_bytes old.segment.name) world (newest disk old) old.closed.items old.first low high is_open.name is_open.chain refl is w) only
 
   -- the same for lines behind what was appended
   pub log_only_more : (new : Disk) (more : List ℕ) (world : List ℕ) → shown disk old world_name ≡ Some world
       → LeavesOnly (disk old.segment.folder) new (Within (shown disk old) (string_bytes old.segment.name) (synced disk old.segment) (appended disk old.segment ++ more))
-      → LeavesOnly (disk old.segment.folder) new (Keeps world (newest disk old) (log_synced disk old) (log_text disk old ++ more))
+      → LeavesOnly (disk old.segment.folder) new (KeepsLog world (newest disk old) (log_synced disk old) (log_text disk old ++ more))
   log_only_more new more world is only =
-      subst (λ (l : List ℕ). LeavesOnly (disk old.segment.folder) new (Keeps world (newest disk old) (log_synced disk old) l)) (sym (append_assoc before (appended disk old.segment) more))
+      subst (λ (l : List ℕ). LeavesOnly (disk old.segment.folder) new (KeepsLog world (newest disk old) (log_synced disk old) l)) (sym (append_assoc before (appended disk old.segment) more))
       (log_only new (synced disk old.segment) (appended disk old.segment ++ more) world is only)
 
   -- a crash before anything is asked
-  pub log_calm : (more : List ℕ) (world : List ℕ) → shown disk old world_name ≡ Some world → LeavesOnly (disk old.segment.folder) (disk old.segment.folder) (Keeps world (newest disk old) (log_synced disk old) (log_text disk old ++ more))
+  pub log_calm : (more : List ℕ) (world : List ℕ) → shown disk old world_name ≡ Some world → LeavesOnly (disk old.segment.folder) (disk old.segment.folder) (KeepsLog world (newest disk old) (log_synced disk old) (log_text disk old ++ more))
   log_calm more world is =
       log_only_more (disk old.segment.folder) more world is
       (ready_only disk old.segment old.segment old.segment more refl (calm_only disk old.segment is_open.segment))

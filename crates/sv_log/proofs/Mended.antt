@@ -4,11 +4,11 @@ use Rattle.std.specs.Str.{bytes_eq}
 use Rattle.std.proofs.lemmas.Bool.{cases_Bool, cond-true, cond-false, false≢true, and_from, or_left, or_right, not_from_false, ne_eqb, eqb-true}
 use Rattle.std.proofs.lemmas.List.{append-nil, append_cancel_left, drop_all, take_all, take_more, drop_more, length-replicate}
 use Rattle.std.proofs.Math.Seq.{take-add}
-use Rattle.sv_log.specs.Pictures.{Picture, Call, Write, Sync, Disk, seen, noted, over, zeros, HasRoom, Makes}
-use Rattle.sv_log.specs.Crashes.{Same, SameBut, Torn, Leaves, MayLeave, MayWrite, LeavesOnly, is_synced}
+use Rattle.sv_log.specs.Pictures.{Picture, Call, Write, Sync, Disk, seen, noted, over, zeros, FileHasRoom, Makes}
+use Rattle.sv_log.specs.Crashes.{Same, SameBut, Torn, CrashLeaves, CrashMayLeave, MayWrite, LeavesOnly, is_synced}
 use Rattle.sv_log.specs.Texts.{has_line, whole, whole_in, IsText}
 use Rattle.sv_log.specs.Rests.{IsAtRest, Mends}
-use Rattle.sv_log.specs.Logs.{Stands}
+use Rattle.sv_log.specs.Logs.{LogStands}
 use Rattle.sv_log.proofs.Texts.{whole-append, text-append}
 use Rattle.sv_log.proofs.Moments.{made_only, then_only, same_only}
 use Rattle.sv_log.proofs.Standing.{bytes_differ, bytes_same, put_same, put_other, none_some, stands_rest}
@@ -147,21 +147,21 @@ module _ (disk : Disk) (name bytes : List ℕ) (end : ℕ) (rest : IsAtRest disk
   over_all : (torn : List ℕ) → length torn ≡ n → over end torn bytes ≡ take end bytes ++ torn
   over_all torn size = ap (λ (l : List ℕ). take end bytes ++ torn ++ l) (drop_all (end + length torn) bytes (omega (arith, size, within))) ∙ append-nil (take end bytes ++ torn)
 
-  pub clear_room : HasRoom (seen disk) name end n
+  pub clear_room : FileHasRoom (seen disk) name end n
   clear_room = (bytes, file, omega (arith, within))
 
-  pub rest_tells : (c : Picture) → Leaves disk.start disk.past c → Mends (seen disk) name (whole bytes) c
+  pub rest_tells : (c : Picture) → CrashLeaves disk.start disk.past c → Mends (seen disk) name (whole bytes) c
   rest_tells c left = let same = rest.only c left in ((λ m ne. same m), ap whole_in (same name ∙ file), (λ e. sym (same name) ∙ e))
 
   -- what a torn write of the zeros leaves
-  cleared : (c d : Picture) → Leaves disk.start disk.past d → MayLeave (Write name end (zeros n)) d c → (torn : List ℕ) × (has_line torn ≡ false) × (c name ≡ Some (take end bytes ++ torn))
+  cleared : (c d : Picture) → CrashLeaves disk.start disk.past d → CrashMayLeave (Write name end (zeros n)) d c → (torn : List ℕ) × (has_line torn ≡ false) × (c name ≡ Some (take end bytes ++ torn))
   cleared c d left step =
       let is : d name ≡ Some bytes = rest.only d left name ∙ file in
       let w = subst (λ (o : Option (List ℕ)). MayWrite end (zeros n) o (c name)) is step.1 in
       let size : length w.0 ≡ n = length_torn (drop end bytes) (zeros n) w.0 w.1 ∙ length-replicate {A = ℕ} n 0 in
       (w.0, torn_none (drop end bytes) n w.0 no_line w.1, w.2 ∙ ap (λ (l : List ℕ). Some l) (over_all w.0 size))
 
-  pub clear_tells : (c d : Picture) → Leaves disk.start disk.past d → MayLeave (Write name end (zeros n)) d c → Mends (seen disk) name (whole bytes) c
+  pub clear_tells : (c d : Picture) → CrashLeaves disk.start disk.past d → CrashMayLeave (Write name end (zeros n)) d c → Mends (seen disk) name (whole bytes) c
   clear_tells c d left step =
       let w = cleared c d left step in (
         (λ m ne. step.0 m ne ∙ rest.only d left m),
@@ -182,8 +182,8 @@ module _ (disk : Disk) (name bytes : List ℕ) (end : ℕ) (rest : IsAtRest disk
       → LeavesOnly disk new (Mends (seen disk) name (whole bytes))
   clear_sync_only mid new result is makes =
       let P = Mends (seen disk) name (whole bytes) in
-      let now : (c : Picture) → Leaves mid.start mid.past c → P c = λ c left.
-      let e = subst (λ (m : Disk). Leaves m.start m.past c) is left in clear_tells c e.0 e.1 e.2 in
+      let now : (c : Picture) → CrashLeaves mid.start mid.past c → P c = λ c left.
+      let e = subst (λ (m : Disk). CrashLeaves m.start m.past c) is left in clear_tells c e.0 e.1 e.2 in
       then_only disk mid new P (clear_only {T = ℕ} {E = ℕ} mid (Ok 0) is) (made_only mid new (Sync name) result P makes now (λ c d left same. tells_same c d same (now d left)))
 
   cleared_file : seen (noted (Write name end (zeros n), true) disk) name ≡ Some (whole bytes ++ [] ++ zeros n)
@@ -191,8 +191,8 @@ module _ (disk : Disk) (name bytes : List ℕ) (end : ℕ) (rest : IsAtRest disk
       put_same name (option_map (over end (zeros n)) (seen disk name)) (seen disk) ∙ ap (option_map (over end (zeros n))) file
       ∙ ap (λ (l : List ℕ). Some l) (over_all (zeros n) (length-replicate {A = ℕ} n 0) ∙ ap (λ (l : List ℕ). l ++ zeros n) (text ∙ sym (append-nil (whole bytes))))
 
-  pub clear_stands : (mid new : Disk) → mid ≡ noted (Write name end (zeros n), true) disk → new ≡ noted (Sync name, true) mid → Stands new name (whole bytes) [] n
-  clear_stands mid new wrote is = subst (λ (d : Disk). Stands d name (whole bytes) [] n) (sym (is ∙ ap (noted (Sync name, true)) wrote)) record {
+  pub clear_stands : (mid new : Disk) → mid ≡ noted (Write name end (zeros n), true) disk → new ≡ noted (Sync name, true) mid → LogStands new name (whole bytes) [] n
+  clear_stands mid new wrote is = subst (λ (d : Disk). LogStands d name (whole bytes) [] n) (sym (is ∙ ap (noted (Sync name, true)) wrote)) record {
     synced_text = whole_again bytes;
     pending_text = refl;
     file = cleared_file;

@@ -1,12 +1,12 @@
 -- How runs of calls join, and what a crash leaves at each moment of them.
 use Rattle.std.proofs.Common.{◌≡◌, ⊎_elim, Bool, List, [], ◌∷◌, ◌++◌, true, false, Result, Ok, Err, sym, ◌∙◌, ap, subst, append_assoc}
 use Rattle.sv_log.specs.Pictures.{Picture, Call, Made, Disk, noted, Makes}
-use Rattle.sv_log.specs.Crashes.{Leaves, MayLeave, EachLeaves, LeavesOnly}
+use Rattle.sv_log.specs.Crashes.{CrashLeaves, CrashMayLeave, EachLeaves, LeavesOnly}
 
 each_joined : (start : Picture) (before first second : List Made) (P : Picture → Type 0) → EachLeaves start before first P → EachLeaves start (first ++ before) second P → EachLeaves start before (second ++ first) P
 each_joined start before first [] P f g = f
 each_joined start before first (made ∷ second) P f g = (
-  (λ c h. g.0 c (subst (λ (l : List Made). Leaves start (made ∷ l) c) (append_assoc second first before) h)),
+  (λ c h. g.0 c (subst (λ (l : List Made). CrashLeaves start (made ∷ l) c) (append_assoc second first before) h)),
   each_joined start before first second P f g.1,
 )
 
@@ -34,7 +34,7 @@ weaker_only a b P Q h only = record {
   each = each_weaker a.start a.past only.later P Q h only.each;
 }
 
-pub same_only : (old new : Disk) (P : Picture → Type 0) → new ≡ old → ((c : Picture) → Leaves old.start old.past c → P c) → LeavesOnly old new P
+pub same_only : (old new : Disk) (P : Picture → Type 0) → new ≡ old → ((c : Picture) → CrashLeaves old.start old.past c → P c) → LeavesOnly old new P
 same_only old new P is now = record {
   later = [];
   start = ap (λ (d : Disk). d.start) is;
@@ -43,8 +43,8 @@ same_only old new P is now = record {
   each = tt;
 }
 
-noted_only : (old new : Disk) (call : Call) (done : Bool) (P : Picture → Type 0) → new ≡ noted (call, done) old → ((c : Picture) → Leaves old.start old.past c → P c)
-    → ((c d : Picture) → Leaves old.start old.past d → MayLeave call d c → P c) → LeavesOnly old new P
+noted_only : (old new : Disk) (call : Call) (done : Bool) (P : Picture → Type 0) → new ≡ noted (call, done) old → ((c : Picture) → CrashLeaves old.start old.past c → P c)
+    → ((c d : Picture) → CrashLeaves old.start old.past d → CrashMayLeave call d c → P c) → LeavesOnly old new P
 noted_only old new call done P is now next = record {
   later = (call, done) ∷ [];
   start = ap (λ (d : Disk). d.start) is;
@@ -54,7 +54,7 @@ noted_only old new call done P is now next = record {
 }
 
 -- one call, however it was answered
-pub made_only : {T E : Type 0} (old new : Disk) (call : Call) (result : Result T E) (P : Picture → Type 0) → Makes call old new result → ((c : Picture) → Leaves old.start old.past c → P c)
-    → ((c d : Picture) → Leaves old.start old.past d → MayLeave call d c → P c) → LeavesOnly old new P
+pub made_only : {T E : Type 0} (old new : Disk) (call : Call) (result : Result T E) (P : Picture → Type 0) → Makes call old new result → ((c : Picture) → CrashLeaves old.start old.past c → P c)
+    → ((c d : Picture) → CrashLeaves old.start old.past d → CrashMayLeave call d c → P c) → LeavesOnly old new P
 made_only old new call (Ok x) P makes now next = noted_only old new call true P makes now next
 made_only old new call (Err e) P makes now next = ⊎_elim (λ is. same_only old new P is now) (λ is. noted_only old new call false P is now next) makes

@@ -9,7 +9,7 @@ use Rattle.sv_log.specs.Crashes.{SameBut}
 use Rattle.sv_log.specs.Texts.{whole_in}
 use Rattle.sv_log.specs.Rests.{Tells}
 use Rattle.sv_log.specs.Names.{segment_name, state_name, world_name, IsNumber, IsWrongName}
-use Rattle.sv_log.specs.Chains.{StateFile, lines, text_at, text_of, state_at, NoneBetween, IsClosed, IsLog, Holds, SameLog}
+use Rattle.sv_log.specs.Chains.{StateFile, lines, text_at, text_of, state_at, NoneBetween, IsClosed, IsLog, HasLog, SameLog}
 use Rattle.sv_log.proofs.Chained.{closed_same, newest_same, state_same, lines_at}
 use Rattle.sv_log.proofs.Numbers.{segment_injective, segment_state, segment_world}
 use Rattle.sv_log.proofs.Quiet.{holds_same}
@@ -81,7 +81,7 @@ module _ (p : Picture) (state : ℕ) (closed : List ℕ) (last : ℕ) (log : IsL
   pub next_state : state_at c state ≡ state_at p state
   next_state = state_same p c state (λ m. same (state_name m) (λ e. segment_state next m (sym e)))
 
-  next_by : (world kept : List ℕ) → kept ≡ state_at p state → p world_name ≡ Some world → (o : Option (List ℕ)) → c (segment_name next) ≡ o → whole_in (c (segment_name next)) ≡ [] → Holds world (state, kept) (text_of p closed ++ text_at p last) c
+  next_by : (world kept : List ℕ) → kept ≡ state_at p state → p world_name ≡ Some world → (o : Option (List ℕ)) → c (segment_name next) ≡ o → whole_in (c (segment_name next)) ≡ [] → HasLog world (state, kept) (text_of p closed ++ text_at p last) c
   next_by world kept is_kept own None e empty = holds_same c p (next_none e) world (state, kept) (text_of p closed ++ text_at p last) (inl (own, (closed, last, log, refl, is_kept)))
   next_by world kept is_kept own (Some bytes) e empty =
       inl (
@@ -95,5 +95,5 @@ module _ (p : Picture) (state : ℕ) (closed : List ℕ) (last : ℕ) (log : IsL
         ),
       )
 
-  pub next_holds : (world kept : List ℕ) → kept ≡ state_at p state → p world_name ≡ Some world → whole_in (c (segment_name next)) ≡ [] → Holds world (state, kept) (text_of p closed ++ text_at p last) c
+  pub next_holds : (world kept : List ℕ) → kept ≡ state_at p state → p world_name ≡ Some world → whole_in (c (segment_name next)) ≡ [] → HasLog world (state, kept) (text_of p closed ++ text_at p last) c
   next_holds world kept is_kept own empty = next_by world kept is_kept own (c (segment_name next)) refl empty

@@ -3,8 +3,8 @@ use Rattle.std.proofs.Common.{◌≡◌, ◌≢◌, ◌⊎◌, inl, inr, ⊎_eli
 use Rattle.std.specs.Str.{bytes_eq}
 use Rattle.std.proofs.lemmas.Bool.{cases_Bool, cond_both, and_from, or_left, or_right, not_from_false}
 use Rattle.std.proofs.lemmas.List.{append-nil, drop_all, length-replicate}
-use Rattle.sv_log.specs.Pictures.{Picture, Call, Make, Write, Rename, Sync, SyncFolder, Made, Disk, seen, seen_after, noted, put, after, over, zeros, HasRoom, Makes}
-use Rattle.sv_log.specs.Crashes.{Same, SameBut, Leaves, MayLeave, LeavesOnly, is_synced}
+use Rattle.sv_log.specs.Pictures.{Picture, Call, Make, Write, Rename, Sync, SyncFolder, Made, Disk, seen, seen_after, noted, put, after, over, zeros, FileHasRoom, Makes}
+use Rattle.sv_log.specs.Crashes.{Same, SameBut, CrashLeaves, CrashMayLeave, LeavesOnly, is_synced}
 use Rattle.sv_log.specs.Rests.{IsAtRest, IsPut}
 use Rattle.sv_log.proofs.Moments.{made_only, then_only}
 use Rattle.sv_log.proofs.Standing.{bytes_differ, bytes_same, put_same, put_other}
@@ -32,25 +32,25 @@ module _ (disk : Disk) (name new bytes : List ℕ) (rest : IsAtRest disk) where
   fourth = noted (Rename new name, true) third
 
   -- until the file gets its name nothing else changes
-  start_quiet : (c : Picture) → Leaves disk.start disk.past c → SameBut new c (seen disk)
+  start_quiet : (c : Picture) → CrashLeaves disk.start disk.past c → SameBut new c (seen disk)
   start_quiet c left m ne = rest.only c left m
 
-  make_quiet : (c d : Picture) → Leaves disk.start disk.past d → MayLeave (Make new n) d c → SameBut new c (seen disk)
+  make_quiet : (c d : Picture) → CrashLeaves disk.start disk.past d → CrashMayLeave (Make new n) d c → SameBut new c (seen disk)
   make_quiet c d left step m ne = step.0 m ne ∙ start_quiet d left m ne
 
-  first_quiet : (c : Picture) → Leaves first.start first.past c → SameBut new c (seen disk)
+  first_quiet : (c : Picture) → CrashLeaves first.start first.past c → SameBut new c (seen disk)
   first_quiet c left = make_quiet c left.0 left.1 left.2
 
-  write_quiet : (c d : Picture) → Leaves first.start first.past d → MayLeave (Write new 0 bytes) d c → SameBut new c (seen disk)
+  write_quiet : (c d : Picture) → CrashLeaves first.start first.past d → CrashMayLeave (Write new 0 bytes) d c → SameBut new c (seen disk)
   write_quiet c d left step m ne = step.0 m ne ∙ first_quiet d left m ne
 
-  second_quiet : (c : Picture) → Leaves second.start second.past c → SameBut new c (seen disk)
+  second_quiet : (c : Picture) → CrashLeaves second.start second.past c → SameBut new c (seen disk)
   second_quiet c left = write_quiet c left.0 left.1 left.2
 
-  sync_quiet : (c d : Picture) → Leaves second.start second.past d → MayLeave (Sync new) d c → SameBut new c (seen disk)
+  sync_quiet : (c d : Picture) → CrashLeaves second.start second.past d → CrashMayLeave (Sync new) d c → SameBut new c (seen disk)
   sync_quiet c d left same m ne = same m ∙ second_quiet d left m ne
 
-  third_quiet : (c : Picture) → Leaves third.start third.past c → SameBut new c (seen disk)
+  third_quiet : (c : Picture) → CrashLeaves third.start third.past c → SameBut new c (seen disk)
   third_quiet c left = sync_quiet c left.0 left.1 left.2
 
   over_zeros : over 0 bytes (zeros n) ≡ bytes
@@ -61,7 +61,7 @@ module _ (disk : Disk) (name new bytes : List ℕ) (rest : IsAtRest disk) where
       put_same new (option_map (over 0 bytes) (seen first new)) (seen first) ∙ ap (option_map (over 0 bytes)) (put_same new (Some (zeros n)) (seen disk))
       ∙ ap (λ (l : List ℕ). Some l) over_zeros
 
-  third_file : (c : Picture) → Leaves third.start third.past c → (c new ≡ None) ⊎ (c new ≡ Some bytes)
+  third_file : (c : Picture) → CrashLeaves third.start third.past c → (c new ≡ None) ⊎ (c new ≡ Some bytes)
   third_file c left = ⊎_elim (λ none. inl none) (λ is. inr (is ∙ second_file)) (left.3 refl rest.calm rest.names)
 
   renamed : (d : Picture) (m : List ℕ) → m ≢ new → d new ≡ Some bytes → d m ≡ seen disk m → after (Rename new name) d m ≡ whole_put m
@@ -69,14 +69,14 @@ module _ (disk : Disk) (name new bytes : List ℕ) (rest : IsAtRest disk) where
       ap (λ (o : Option (List ℕ)). cond (bytes_eq m name) o (put new None d m)) file
       ∙ ap (λ (o : Option (List ℕ)). cond (bytes_eq m name) (Some bytes) o) (put_other new m None d ne ∙ same)
 
-  rename_put : (c d : Picture) → Leaves third.start third.past d → MayLeave (Rename new name) d c → P c
+  rename_put : (c d : Picture) → CrashLeaves third.start third.past d → CrashMayLeave (Rename new name) d c → P c
   rename_put c d left step =
       ⊎_elim (λ (same : Same c d). inl (λ m ne. same m ∙ third_quiet d left m ne))
       (λ (moved : (d new ≢ None) × Same c (after (Rename new name) d)). inr (λ m ne.
       let file : d new ≡ Some bytes = ⊎_elim (λ none. absurd (moved.0 none)) (λ is. is) (third_file d left) in
       moved.1 m ∙ renamed d m ne file (third_quiet d left m ne))) step
 
-  fourth_put : (c : Picture) → Leaves fourth.start fourth.past c → P c
+  fourth_put : (c : Picture) → CrashLeaves fourth.start fourth.past c → P c
   fourth_put c left = rename_put c left.0 left.1 left.2
 
   same_put : (c d : Picture) → Same c d → P d → P c
@@ -106,10 +106,10 @@ module _ (disk : Disk) (name new bytes : List ℕ) (rest : IsAtRest disk) where
       then_only disk fourth b P (put_renaming {T = ℕ} {E = ℕ} third fourth (Ok 0) refl refl)
       (made_only fourth b SyncFolder result P (subst (λ (x : Disk). Makes SyncFolder x b result) is makes) fourth_put (λ c d left same. same_put c d same (fourth_put d left)))
 
-  pub first_room : HasRoom (seen first) new 0 n
+  pub first_room : FileHasRoom (seen first) new 0 n
   first_room = (zeros n, put_same new (Some (zeros n)) (seen disk), omega (arith, length-replicate {A = ℕ} n 0))
 
-  pub third_room : HasRoom (seen third) new 0 0
+  pub third_room : FileHasRoom (seen third) new 0 0
   third_room = (bytes, second_file, omega arith)
 
   -- at the end it is there, and on the disk

@@ -2,11 +2,11 @@
 use Rattle.std.proofs.Common.{◌≡◌, ◌≢◌, ◌⊎◌, inl, inr, ⊎_elim, ℕ, zero, suc, ◌+◌, ◌<◌, ◌≤◌, List, [], ◌∷◌, ◌++◌, Option, Some, None, get_or, refl, sym, ◌∙◌, ap, subst, arith}
 use Rattle.std.proofs.lemmas.List.{append-nil}
 use Rattle.sv_log.specs.Pictures.{Picture, Disk, seen, put}
-use Rattle.sv_log.specs.Crashes.{Same, SameBut, Leaves, LeavesOnly}
+use Rattle.sv_log.specs.Crashes.{Same, SameBut, CrashLeaves, LeavesOnly}
 use Rattle.sv_log.specs.Texts.{IsText, IsFront, whole_in}
 use Rattle.sv_log.specs.Rests.{IsAtRest, Tells, Mends, IsPut}
 use Rattle.sv_log.specs.Names.{segment_name, state_name, rest_name, world_name, new_name, segment_kind, state_kind, IsNumber, IsWrongName}
-use Rattle.sv_log.specs.Chains.{StateFile, no_state, lines, text_at, text_of, state_at, NoneBetween, IsClosed, IsWhole, IsNewest, IsLog, IsFresh, HasLines, Holds, SameLog}
+use Rattle.sv_log.specs.Chains.{StateFile, no_state, lines, text_at, text_of, state_at, NoneBetween, IsClosed, IsWholeState, IsNewest, IsLog, IsFresh, HasLines, HasLog, SameLog}
 use Rattle.sv_log.proofs.Standing.{put_same, put_other, none_some}
 use Rattle.sv_log.proofs.Moments.{weaker_only}
 use Rattle.sv_log.proofs.Chained.{closed_same, newest_same, state_same, log_moved, text_moved, state_moved, world_moved}
@@ -49,7 +49,7 @@ module _ (c p : Picture) (same : SameLog c p) where
     own = subst (λ (o : Option (List ℕ)). (o ≡ None) ⊎ (o ≡ Some world)) (sym same.world) fresh.own;
   }
 
-  pub holds_same : (world : List ℕ) (state : StateFile) (text : List ℕ) → Holds world state text p → Holds world state text c
+  pub holds_same : (world : List ℕ) (state : StateFile) (text : List ℕ) → HasLog world state text p → HasLog world state text c
   holds_same world state text holds = elim holds [
     | inl h ↦
         let l = log_same state.0 h.1.0 h.1.1 h.1.2 in
@@ -126,7 +126,7 @@ world_put_fresh p c world fresh same =
 pub world_put : (p c : Picture) (world : List ℕ) → IsFresh world p → SameBut new_name c (put world_name (Some world) p) → IsFresh world c × (c world_name ≡ Some world)
 world_put = world_put_fresh
 
-pub world_puts : (p c : Picture) (world : List ℕ) → IsFresh world p → IsPut new_name world_name world p c → Holds world no_state [] c
+pub world_puts : (p c : Picture) (world : List ℕ) → IsFresh world p → IsPut new_name world_name world p c → HasLog world no_state [] c
 world_puts p c world fresh is =
     ⊎_elim (λ (same : SameBut new_name c p). inr (fresh_same c p (but_new c p same) world fresh, refl, refl))
     (λ (same : SameBut new_name c (put world_name (Some world) p)). inr ((world_put_fresh p c world fresh same).0, refl, refl)) is
@@ -175,14 +175,14 @@ module _ (p c : Picture) (world : List ℕ) (fresh : IsFresh world p) (is : p wo
     own = inr first_world;
   }
 
-  first_by : (o : Option (List ℕ)) → c (segment_name 1) ≡ o → whole_in (c (segment_name 1)) ≡ [] → Holds world no_state [] c
+  first_by : (o : Option (List ℕ)) → c (segment_name 1) ≡ o → whole_in (c (segment_name 1)) ≡ [] → HasLog world no_state [] c
   first_by None e empty = inr (first_none e, refl, refl)
   first_by (Some bytes) e empty = inl (first_world, ([], 1, first_log bytes e, sym empty, refl))
 
-  pub first_holds : whole_in (c (segment_name 1)) ≡ [] → Holds world no_state [] c
+  pub first_holds : whole_in (c (segment_name 1)) ≡ [] → HasLog world no_state [] c
   first_holds empty = first_by (c (segment_name 1)) refl empty
 
-pub first_tells : (p c : Picture) (world : List ℕ) → IsFresh world p → p world_name ≡ Some world → Tells p (segment_name 1) [] c → Holds world no_state [] c
+pub first_tells : (p c : Picture) (world : List ℕ) → IsFresh world p → p world_name ≡ Some world → Tells p (segment_name 1) [] c → HasLog world no_state [] c
 first_tells p c world fresh is w = first_holds p c world fresh is w.0 w.1
 
 -- ---- The last segment is mended
@@ -195,7 +195,7 @@ mended_there : (p c : Picture) (name text : List ℕ) → ((bytes : List ℕ) ×
 mended_there p c name text there w = mended_by p c name there w.2 (c name) refl
 
 pub mend_holds : (p c : Picture) (world : List ℕ) (state : StateFile) (closed : List ℕ) (last : ℕ) → IsLog p state.0 closed last → state.1 ≡ state_at p state.0 → p world_name ≡ Some world
-    → Mends p (segment_name last) (text_at p last) c → Holds world state (text_of p closed ++ text_at p last) c
+    → Mends p (segment_name last) (text_at p last) c → HasLog world state (text_of p closed ++ text_at p last) c
 mend_holds p c world state closed last log kept is w =
     inl (
       world_moved p c state.0 closed last log w.0 ∙ is,

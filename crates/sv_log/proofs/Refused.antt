@@ -7,13 +7,13 @@ use Rattle.sv_log.specs.Texts.{IsFront, whole, whole_in}
 use Rattle.sv_log.specs.Reads.{Lists}
 use Rattle.sv_log.specs.Names.{IsNumber, IsWrongName, segment_name, state_name, world_name}
 use Rattle.sv_log.specs.declared.names.FileKind.TheVariants as file
-use Rattle.sv_log.specs.Chains.{StateFile, lines, text_at, text_of, NoneBetween, IsClosed, IsWhole, IsNewest, IsWellNamed, IsLog, IsFresh, HasLines, Holds, Keeps}
-use Rattle.sv_log.specs.Readings.{read_state, HasWorld, HasSome, Reads, IsFirst, IsNewestSoFar}
+use Rattle.sv_log.specs.Chains.{StateFile, lines, text_at, text_of, NoneBetween, IsClosed, IsWholeState, IsNewest, IsWellNamed, IsLog, IsFresh, HasLines, HasLog, KeepsLog}
+use Rattle.sv_log.specs.Readings.{read_state, HasWorld, HasSome, Reads, IsFirstNumber, IsNewestSoFar}
 use Rattle.sv_log.specs.Walks.{IsOnTheWay, LeadsTo}
 use Rattle.sv_log.specs.Refusals.{HasNoLog, HasNoChain, IsLast}
 use Rattle.sv_log.specs.declared.reading.Reading.{Reading}
-use Rattle.sv_log.specs.declared.reading.Refusal.{Refusal}
-use Rattle.sv_log.specs.declared.walking.Walk.{Walk}
+use Rattle.sv_log.specs.declared.reading.LogRefusal.{LogRefusal}
+use Rattle.sv_log.specs.declared.walking.SegmentWalk.{SegmentWalk}
 use Rattle.sv_log.proofs.Standing.{none_some}
 use Rattle.sv_log.proofs.Chained.{closed_low, lines_at}
 use Rattle.sv_log.proofs.Opened.{reads_holds}
@@ -26,11 +26,11 @@ some_no_none o is none = let some : IsSome {T = List ℕ} None = subst (λ (x : 
 same_inside : (x y : List ℕ) → Some x ≡ Some y → x ≡ y
 same_inside x y e = ap (λ (o : Option (List ℕ)). unwrap_or o []) e
 
-whole_some : (o : Option (List ℕ)) → IsWhole o → o ≡ None → ⊥
-whole_some o w none = subst IsWhole none w
+whole_some : (o : Option (List ℕ)) → IsWholeState o → o ≡ None → ⊥
+whole_some o w none = subst IsWholeState none w
 
 -- a refusal that is handed on
-pub err_by : {A : Type 0} (P : Refusal → Type 0) (r : Result A Refusal) (e : Refusal) → IsErrAnd r (λ x. x ≡ e) → P e → IfErr r P
+pub err_by : {A : Type 0} (P : LogRefusal → Type 0) (r : Result A LogRefusal) (e : LogRefusal) → IsErrAnd r (λ x. x ≡ e) → P e → IfErr r P
 err_by P (Ok a) e is h = tt
 err_by P (Err x) e is h = subst P (sym is) h
 
@@ -40,13 +40,13 @@ if_err (Err e) P Q h step = step e h
 
 -- ---- What a log has
 
-holds_named : (world : List ℕ) (state : StateFile) (text : List ℕ) (p : Picture) → Holds world state text p → IsWellNamed p
+holds_named : (world : List ℕ) (state : StateFile) (text : List ℕ) (p : Picture) → HasLog world state text p → IsWellNamed p
 holds_named world state text p holds = elim holds [
   | inl h ↦ h.1.2.named
   | inr f ↦ f.0.named
 ]
 
-holds_world : (world : List ℕ) (state : StateFile) (text : List ℕ) (p : Picture) → Holds world state text p → (p world_name ≡ None) ⊎ (p world_name ≡ Some world)
+holds_world : (world : List ℕ) (state : StateFile) (text : List ℕ) (p : Picture) → HasLog world state text p → (p world_name ≡ None) ⊎ (p world_name ≡ Some world)
 holds_world world state text p holds = elim holds [
   | inl h ↦ inr h.0
   | inr f ↦ f.0.own
@@ -66,14 +66,14 @@ module _ (p : Picture) (names : List (List ℕ)) (lists : Lists p names) where
 
   -- ---- States
 
-  no_newest : (seen s : ℕ) → IsNewestSoFar p 0 seen → 0 < seen → IsFirst file.State names (seen + 1) None → IsNewest p s → ⊥
+  no_newest : (seen s : ℕ) → IsNewestSoFar p 0 seen → 0 < seen → IsFirstNumber file.State names (seen + 1) None → IsNewest p s → ⊥
   no_newest seen zero so_far some first newest =
       ⊎_elim (λ (none : seen ≡ 0). absurd (omega (arith, none, some)))
       (λ (is : IsNumber seen × IsSome (p (state_name seen))). some_no_none (p (state_name seen)) is.1 (newest seen is.0)) so_far.3
   no_newest seen (suc k) so_far some first newest =
       none_after p names lists 0 seen so_far first (suc k) newest.0 (let e : 0 < suc k = omega arith in e) newest.1
 
-  pub no_whole_state : (seen : ℕ) → IsNewestSoFar p 0 seen → 0 < seen → IsFirst file.State names (seen + 1) None → (world : List ℕ) → HasNoLog world p
+  pub no_whole_state : (seen : ℕ) → IsNewestSoFar p 0 seen → 0 < seen → IsFirstNumber file.State names (seen + 1) None → (world : List ℕ) → HasNoLog world p
   no_whole_state seen so_far some first world state text holds = elim holds [
     | inl h ↦ no_newest seen state.0 so_far some first h.1.2.newest
     | inr f ↦
@@ -90,7 +90,7 @@ module _ (p : Picture) (names : List (List ℕ)) (lists : Lists p names) where
   not_fresh : (world : List ℕ) (s : ℕ) → IsNewest p s → HasSome names s → IsFresh world p → ⊥
   not_fresh world s newest some fresh =
       ⊎_elim (λ (state : s ≢ 0). state_not_fresh world s newest state fresh)
-      (λ (segment : (n : ℕ) × IsFirst file.Segment names 1 (Some n)). there_not (segment_name segment.0) segment.1.2 (fresh.segments segment.0 segment.1.0)) some
+      (λ (segment : (n : ℕ) × IsFirstNumber file.Segment names 1 (Some n)). there_not (segment_name segment.0) segment.1.2 (fresh.segments segment.0 segment.1.0)) some
 
   pub world_missing : (world : List ℕ) (s : ℕ) → IsNewest p s → HasSome names s → p world_name ≡ None → HasNoLog world p
   world_missing world s newest some none state text holds = elim holds [
@@ -132,7 +132,7 @@ chain_there p n [] l f c = subst (λ (k : ℕ). IsNumber k × ((bytes : List ℕ
 chain_there p n (m ∷ ms) l f c = (c.1, (text_at p n, c.2))
 
 module _ (p : Picture) (names : List (List ℕ)) (lists : Lists p names) (n : ℕ) (bytes : List ℕ) (stored : p (segment_name n) ≡ Some bytes)
-    (following : ℕ) (next : IsFirst file.Segment names (n + 1) (Some following)) where
+    (following : ℕ) (next : IsFirstNumber file.Segment names (n + 1) (Some following)) where
   following_there : p (segment_name following) ≡ None → ⊥
   following_there none = some_no_none (p (segment_name following)) ((lists (segment_name following)).0 next.2) none
 
@@ -158,14 +158,14 @@ module _ (p : Picture) (names : List (List ℕ)) (lists : Lists p names) (n : �
         next_is (n + lines t) chain.4 (omega (arith, more)) begins.0 begins.1 ∙ ap (λ (x : List ℕ). n + lines x) (sym same),
       )
 
-  pub chain_leads : (first : ℕ) (w : Walk) → IsOnTheWay p first w → w.number ≡ n → (LeadsTo n bytes following → ⊥) → HasNoChain p first
+  pub chain_leads : (first : ℕ) (w : SegmentWalk) → IsOnTheWay p first w → w.number ≡ n → (LeadsTo n bytes following → ⊥) → HasNoChain p first
   chain_leads first w way is misled closed last chain is_last =
       let rest = chain_front p first w.closed.items w.number closed last is_last way.number way.there way.chain chain in
       misled (leads_by rest.0 last is_last (subst (λ (k : ℕ). IsClosed p k rest.0 last) is rest.1))
 
 -- ---- A log that was kept is read
 
-pub reads_kept : (world : List ℕ) (p : Picture) (r : Reading) (state : StateFile) (low high : List ℕ) → Reads world p r → Keeps world state low high p
+pub reads_kept : (world : List ℕ) (p : Picture) (r : Reading) (state : StateFile) (low high : List ℕ) → Reads world p r → KeepsLog world state low high p
     → (read_state r ≡ state) × IsFront low r.text.items × IsFront r.text.items high
 reads_kept world p r state low high reads keeps =
     let same = holds_alone world p state (read_state r) keeps.0 r.text.items keeps.1 (reads_holds world p r reads) in (
@@ -174,7 +174,7 @@ reads_kept world p r state low high reads keeps =
       subst (λ (t : List ℕ). IsFront t high) same.1 keeps.3,
     )
 
-pub no_log_keeps : (world : List ℕ) (p : Picture) → HasNoLog world p → (state : StateFile) (low high : List ℕ) → Keeps world state low high p → ⊥
+pub no_log_keeps : (world : List ℕ) (p : Picture) → HasNoLog world p → (state : StateFile) (low high : List ℕ) → KeepsLog world state low high p → ⊥
 no_log_keeps world p none state low high keeps = none state keeps.0 keeps.1
 
 -- ---- What is wrong with a segment

@@ -2,10 +2,10 @@
 use Rattle.std.proofs.Common.{◌≡◌, ℕ, ◌+◌, ◌-◌, ◌≤◌, true, List, [], ◌++◌, length, Result, Ok, refl, sym, ◌∙◌, ap, subst, arith, append_assoc, length-append, length-take-le, take-append-drop}
 use Rattle.std.specs.String.{string_bytes}
 use Rattle.std.proofs.lemmas.List.{append-nil}
-use Rattle.sv_log.specs.Pictures.{Picture, Grow, Write, Sync, Disk, seen, noted, Makes, HasRoom}
+use Rattle.sv_log.specs.Pictures.{Picture, Grow, Write, Sync, Disk, seen, noted, Makes, FileHasRoom}
 use Rattle.sv_log.specs.Crashes.{SameBut, LeavesOnly, is_synced}
 use Rattle.sv_log.specs.Texts.{IsText, IsFront, whole_in}
-use Rattle.sv_log.specs.Logs.{Stands, Within, IsOpen, appended, synced, pending}
+use Rattle.sv_log.specs.Logs.{LogStands, Within, IsOpen, appended, synced, pending}
 use Rattle.sv_log.specs.declared.segment.Segment.{Segment}
 use Rattle.sv_log.proofs.Texts.{front_same, front_more, front_then}
 use Rattle.sv_log.proofs.Moments.{made_only, then_only, same_only, weaker_only}
@@ -45,13 +45,13 @@ module _ {F : Type 0} (disk : F → Disk) (old : Segment F) (is_open : IsOpen di
   whole_front = subst (λ (l : List ℕ). IsFront (s ++ p) l) parts (front_same (s ++ p))
 
   module _ (called : List ℕ) (is_called : called ≡ name) where
-    pub room_to_write : (lines : List ℕ) → length lines ≤ room → HasRoom (seen (disk old.folder)) called old.length (length lines)
+    pub room_to_write : (lines : List ℕ) → length lines ≤ room → FileHasRoom (seen (disk old.folder)) called old.length (length lines)
     room_to_write lines fits =
-        subst (λ (n : List ℕ). HasRoom (seen (disk old.folder)) n old.length (length lines)) (sym is_called)
+        subst (λ (n : List ℕ). FileHasRoom (seen (disk old.folder)) n old.length (length lines)) (sym is_called)
         (has_room (disk old.folder) name s p room is_open.stands lines old.length at_end fits)
 
-    pub room_to_grow : HasRoom (seen (disk old.folder)) called 0 0
-    room_to_grow = subst (λ (n : List ℕ). HasRoom (seen (disk old.folder)) n 0 0) (sym is_called) (_, is_open.stands.file, omega arith)
+    pub room_to_grow : FileHasRoom (seen (disk old.folder)) called 0 0
+    room_to_grow = subst (λ (n : List ℕ). FileHasRoom (seen (disk old.folder)) n 0 0) (sym is_called) (_, is_open.stands.file, omega arith)
 
     -- a write at any moment
     pub write_only : {T E : Type 0} (lines : List ℕ) (new : Disk) (result : Result T E) → length lines ≤ room → Makes (Write called old.length lines) (disk old.folder) new result
@@ -98,7 +98,7 @@ module _ {F : Type 0} (disk : F → Disk) (old : Segment F) (is_open : IsOpen di
     written_is : disk folder ≡ noted (Write name old.length lines, true) (disk old.folder)
     written_is = subst (λ (n : List ℕ). disk folder ≡ noted (Write n old.length lines, true) (disk old.folder)) is_called is
 
-    written : Stands (disk folder) name s (p ++ lines) (room - length lines)
+    written : LogStands (disk folder) name s (p ++ lines) (room - length lines)
     written = written_stands (disk old.folder) name s p room is_open.stands lines old.length at_end fits text (disk folder) written_is
 
     pub write_open : IsOpen disk wrote
@@ -117,7 +117,7 @@ module _ {F : Type 0} (disk : F → Disk) (old : Segment F) (is_open : IsOpen di
     write_others n ne = ap (λ (d : Disk). seen d n) written_is ∙ put_other name n _ (seen (disk old.folder)) ne
 
   -- a segment all of whose text is synced
-  module _ (folder : F) (size r : ℕ) (st : Stands (disk folder) name (s ++ p) [] r) (size_is : size ≡ old.length + r) where
+  module _ (folder : F) (size r : ℕ) (st : LogStands (disk folder) name (s ++ p) [] r) (size_is : size ≡ old.length + r) where
     abbrev settled : Segment F
     settled = changed folder old.length old.length size
 
@@ -137,7 +137,7 @@ module _ {F : Type 0} (disk : F → Disk) (old : Segment F) (is_open : IsOpen di
     all_synced_front = subst (λ (l : List ℕ). IsFront s l) (sym (opened_synced disk settled (s ++ p) [] r st all_size)) (front_more s p)
 
   module _ (folder : F) (called : List ℕ) (is_called : called ≡ name) where
-    pub sync_stands : disk folder ≡ noted (Sync called, true) (disk old.folder) → Stands (disk folder) name (s ++ p) [] room
+    pub sync_stands : disk folder ≡ noted (Sync called, true) (disk old.folder) → LogStands (disk folder) name (s ++ p) [] room
     sync_stands is =
         synced_stands (disk old.folder) name s p room is_open.stands (disk folder)
         (subst (λ (n : List ℕ). disk folder ≡ noted (Sync n, true) (disk old.folder)) is_called is)
@@ -155,7 +155,7 @@ module _ {F : Type 0} (disk : F → Disk) (old : Segment F) (is_open : IsOpen di
       both_are : disk folder ≡ noted (Sync name, true) (noted (Grow name n, true) (disk old.folder))
       both_are = subst (λ (m : List ℕ). disk folder ≡ noted (Sync m, true) (noted (Grow m n, true) (disk old.folder))) is_called (is ∙ ap (noted (Sync called, true)) grown)
 
-      pub grow_stands : Stands (disk folder) name (s ++ p) [] (room + n)
+      pub grow_stands : LogStands (disk folder) name (s ++ p) [] (room + n)
       grow_stands = grown_stands (disk old.folder) name s p room is_open.stands n (disk folder) both_are
 
       pub grow_others : SameBut name (seen (disk folder)) (seen (disk old.folder))

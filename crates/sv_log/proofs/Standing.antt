@@ -5,11 +5,11 @@ use Rattle.std.specs.String.{string_bytes}
 use Rattle.std.proofs.lemmas.Bool.{cases_Bool, cond-true, cond-false, false≢true, and_from, or_right, not_from_false, false_from_ne_true}
 use Rattle.std.proofs.lemmas.List.{append-nil, take_at, drop_at, replicate-append-replicate, length-replicate, drop-replicate, drop-drop}
 use Rattle.std.proofs.lemmas.Slice.Eq.{bytes_eq-Decides}
-use Rattle.sv_log.specs.Pictures.{Picture, Grow, Write, Sync, Disk, seen, noted, put, over, zeros, HasRoom}
-use Rattle.sv_log.specs.Crashes.{Same, SameBut, Torn, Leaves, MayLeave, MayWrite, is_synced}
+use Rattle.sv_log.specs.Pictures.{Picture, Grow, Write, Sync, Disk, seen, noted, put, over, zeros, FileHasRoom}
+use Rattle.sv_log.specs.Crashes.{Same, SameBut, Torn, CrashLeaves, CrashMayLeave, MayWrite, is_synced}
 use Rattle.sv_log.specs.Texts.{IsText, IsFront, Masked, whole, whole_in}
 use Rattle.sv_log.specs.Rests.{IsAtRest}
-use Rattle.sv_log.specs.Logs.{Stands, Within, IsOpen, appended, synced, pending}
+use Rattle.sv_log.specs.Logs.{LogStands, Within, IsOpen, appended, synced, pending}
 use Rattle.sv_log.specs.declared.segment.Segment.{Segment}
 use Rattle.sv_log.proofs.Texts.{whole-append, whole_text, text-append, front_same, front_more, front_then, front-append, masked_front, torn_masked, masked-append, length_masked}
 
@@ -58,7 +58,7 @@ masked_none [] m = refl
 masked_none (b ∷ t) m = absurd m
 
 -- where all of a file is synced, the folder is at rest
-pub stands_rest : (disk : Disk) (name s : List ℕ) (r : ℕ) → Stands disk name s [] r → is_synced disk.past name ≡ true → IsAtRest disk
+pub stands_rest : (disk : Disk) (name s : List ℕ) (r : ℕ) → LogStands disk name s [] r → is_synced disk.past name ≡ true → IsAtRest disk
 stands_rest disk name s r st settled = record {
   only = λ c left n. elim (cases_Bool (bytes_eq n name)) [
     | inl same ↦
@@ -77,7 +77,7 @@ stands_rest disk name s r st settled = record {
 }
 
 -- a file whose text is on the disk
-pub rest_stands : (disk : Disk) (name s : List ℕ) (r : ℕ) → IsAtRest disk → IsText s → seen disk name ≡ Some (s ++ zeros r) → Stands disk name s [] r
+pub rest_stands : (disk : Disk) (name s : List ℕ) (r : ℕ) → IsAtRest disk → IsText s → seen disk name ≡ Some (s ++ zeros r) → LogStands disk name s [] r
 rest_stands disk name s r rest text file =
     let joined : seen disk name ≡ Some (s ++ [] ++ zeros r) = file ∙ ap (λ (l : List ℕ). Some (l ++ zeros r)) (sym (append-nil s)) in record {
       synced_text = text;
@@ -89,15 +89,15 @@ rest_stands disk name s r rest text file =
       others = λ n ne. rest.synced n;
     }
 
-module _ (disk : Disk) (name s p : List ℕ) (r : ℕ) (st : Stands disk name s p r) where
+module _ (disk : Disk) (name s p : List ℕ) (r : ℕ) (st : LogStands disk name s p r) where
   -- a crash now
-  pub now_within : (high : List ℕ) → IsFront (s ++ p) high → (c : Picture) → Leaves disk.start disk.past c → Within (seen disk) name s high c
+  pub now_within : (high : List ℕ) → IsFront (s ++ p) high → (c : Picture) → CrashLeaves disk.start disk.past c → Within (seen disk) name s high c
   now_within high front c left =
       let x = st.crash c left in
       torn_within (seen disk) name s p high x.1.0 r c st.synced_text x.0 x.1.1 x.1.2 front
 
   -- while zeros are added
-  pub grow_within : (n : ℕ) (high : List ℕ) → IsFront (s ++ p) high → (c d : Picture) → Leaves disk.start disk.past d → MayLeave (Grow name n) d c → Within (seen disk) name s high c
+  pub grow_within : (n : ℕ) (high : List ℕ) → IsFront (s ++ p) high → (c d : Picture) → CrashLeaves disk.start disk.past d → CrashMayLeave (Grow name n) d c → Within (seen disk) name s high c
   grow_within n high front c d left step =
       let x = st.crash d left in
       let k = step.1.0 in
@@ -106,15 +106,15 @@ module _ (disk : Disk) (name s p : List ℕ) (r : ℕ) (st : Stands disk name s 
       torn_within (seen disk) name s p high x.1.0 (r + k) c st.synced_text (λ m ne. step.0 m ne ∙ x.0 m ne) x.1.1 is front
 
   -- while the file is synced
-  pub sync_within : (high : List ℕ) → IsFront (s ++ p) high → (c d : Picture) → Leaves disk.start disk.past d → MayLeave (Sync name) d c → Within (seen disk) name s high c
+  pub sync_within : (high : List ℕ) → IsFront (s ++ p) high → (c d : Picture) → CrashLeaves disk.start disk.past d → CrashMayLeave (Sync name) d c → Within (seen disk) name s high c
   sync_within high front c d left same = within_same (seen disk) name s high c d same (now_within high front d left)
 
   pub file_joined : seen disk name ≡ Some (s ++ p ++ [] ++ zeros r)
   file_joined = st.file ∙ ap (λ (l : List ℕ). Some (l ++ zeros r)) (sym (append-nil (s ++ p)))
 
   -- once it is synced
-  pub synced_stands : (new : Disk) → new ≡ noted (Sync name, true) disk → Stands new name (s ++ p) [] r
-  synced_stands new is = subst (λ (d : Disk). Stands d name (s ++ p) [] r) (sym is) record {
+  pub synced_stands : (new : Disk) → new ≡ noted (Sync name, true) disk → LogStands new name (s ++ p) [] r
+  synced_stands new is = subst (λ (d : Disk). LogStands d name (s ++ p) [] r) (sym is) record {
     synced_text = text-append s p st.synced_text st.pending_text;
     pending_text = refl;
     file = file_joined;
@@ -136,8 +136,8 @@ module _ (disk : Disk) (name s p : List ℕ) (r : ℕ) (st : Stands disk name s 
       ∙ ap (λ (l : List ℕ). Some l) (zeros_more (s ++ p) r n) ∙ ap (λ (l : List ℕ). Some (l ++ zeros (r + n))) (sym (append-nil (s ++ p)))
 
   -- once zeros were added and synced
-  pub grown_stands : (n : ℕ) (new : Disk) → new ≡ noted (Sync name, true) (noted (Grow name n, true) disk) → Stands new name (s ++ p) [] (r + n)
-  grown_stands n new is = subst (λ (d : Disk). Stands d name (s ++ p) [] (r + n)) (sym is) record {
+  pub grown_stands : (n : ℕ) (new : Disk) → new ≡ noted (Sync name, true) (noted (Grow name n, true) disk) → LogStands new name (s ++ p) [] (r + n)
+  grown_stands n new is = subst (λ (d : Disk). LogStands d name (s ++ p) [] (r + n)) (sym is) record {
     synced_text = text-append s p st.synced_text st.pending_text;
     pending_text = refl;
     file = grown_file n;
@@ -157,10 +157,10 @@ module _ (disk : Disk) (name s p : List ℕ) (r : ℕ) (st : Stands disk name s 
 
   -- after zeros were added: now, and while the file is synced
   pub grown_within_again : (n : ℕ) (high : List ℕ) → IsFront (s ++ p) high → (mid : Disk) → mid ≡ noted (Grow name n, true) disk
-      → ((c : Picture) → Leaves mid.start mid.past c → Within (seen disk) name s high c) × ((c d : Picture) → Leaves mid.start mid.past d → MayLeave (Sync name) d c → Within (seen disk) name s high c)
+      → ((c : Picture) → CrashLeaves mid.start mid.past c → Within (seen disk) name s high c) × ((c d : Picture) → CrashLeaves mid.start mid.past d → CrashMayLeave (Sync name) d c → Within (seen disk) name s high c)
   grown_within_again n high front mid is =
-      let now : (c : Picture) → Leaves mid.start mid.past c → Within (seen disk) name s high c = λ c left.
-      let e = subst (λ (m : Disk). Leaves m.start m.past c) is left in grow_within n high front c e.0 e.1 e.2 in
+      let now : (c : Picture) → CrashLeaves mid.start mid.past c → Within (seen disk) name s high c = λ c left.
+      let e = subst (λ (m : Disk). CrashLeaves m.start m.past c) is left in grow_within n high front c e.0 e.1 e.2 in
       (now, (λ c d left same. within_same (seen disk) name s high c d same (now d left)))
 
   module _ (lines : List ℕ) (at : ℕ) (is_at : at ≡ length s + length p) (fits : length lines ≤ r) where
@@ -187,7 +187,7 @@ module _ (disk : Disk) (name s p : List ℕ) (r : ℕ) (st : Stands disk name s 
         (t ++ u, masked-append p t lines u masked torn, w.2 ∙ ap (λ (l : List ℕ). Some l) (over_torn t u (length_masked p t masked) (length_masked lines u torn)))
 
     -- while lines are written
-    pub write_within : (c d : Picture) → Leaves disk.start disk.past d → MayLeave (Write name at lines) d c → Within (seen disk) name s (s ++ p ++ lines) c
+    pub write_within : (c d : Picture) → CrashLeaves disk.start disk.past d → CrashMayLeave (Write name at lines) d c → Within (seen disk) name s (s ++ p ++ lines) c
     write_within c d left step =
         let x = st.crash d left in
         let w = torn_write x.1.0 c d x.1.1 x.1.2 step.1 in
@@ -195,8 +195,8 @@ module _ (disk : Disk) (name s p : List ℕ) (r : ℕ) (st : Stands disk name s 
         (subst (λ (l : List ℕ). IsFront l (s ++ p ++ lines)) (append_assoc s p lines) (front_same (s ++ p ++ lines)))
 
     -- once they are written
-    pub written_stands : IsText lines → (new : Disk) → new ≡ noted (Write name at lines, true) disk → Stands new name s (p ++ lines) (r - length lines)
-    written_stands text new is = subst (λ (d : Disk). Stands d name s (p ++ lines) (r - length lines)) (sym is) record {
+    pub written_stands : IsText lines → (new : Disk) → new ≡ noted (Write name at lines, true) disk → LogStands new name s (p ++ lines) (r - length lines)
+    written_stands text new is = subst (λ (d : Disk). LogStands d name s (p ++ lines) (r - length lines)) (sym is) record {
       synced_text = st.synced_text;
       pending_text = text-append p lines st.pending_text text;
       file =
@@ -213,11 +213,11 @@ module _ (disk : Disk) (name s p : List ℕ) (r : ℕ) (st : Stands disk name s 
       others = λ m ne. and_from (not (bytes_eq m name)) _ (not_from_false (bytes_eq m name) (bytes_differ m name ne)) (st.others m ne);
     }
 
-    pub has_room : HasRoom (seen disk) name at (length lines)
+    pub has_room : FileHasRoom (seen disk) name at (length lines)
     has_room = (s ++ p ++ zeros r, st.file, omega (arith, length-append (s ++ p) (zeros r), length-append s p, length-replicate {A = ℕ} r 0, is_at, fits))
 
 -- a segment whose file stands so is open
-module _ {F : Type 0} (disk : F → Disk) (log : Segment F) (s p : List ℕ) (r : ℕ) (st : Stands (disk log.folder) (string_bytes log.name) s p r) where
+module _ {F : Type 0} (disk : F → Disk) (log : Segment F) (s p : List ℕ) (r : ℕ) (st : LogStands (disk log.folder) (string_bytes log.name) s p r) where
   pub opened_text : appended disk log ≡ s ++ p
   opened_text = ap whole_in st.file ∙ whole_text (s ++ p) r (text-append s p st.synced_text st.pending_text)
 
@@ -233,9 +233,9 @@ module _ {F : Type 0} (disk : F → Disk) (log : Segment F) (s p : List ℕ) (r 
         let rest : r ≡ log.size - log.length = omega (arith, room) in
         record {
           stands =
-              subst (λ (x : List ℕ). Stands (disk log.folder) (string_bytes log.name) x (pending disk log) (log.size - log.length)) (sym opened_synced)
-              (subst (λ (x : List ℕ). Stands (disk log.folder) (string_bytes log.name) s x (log.size - log.length)) (sym opened_pending)
-              (subst (λ (x : ℕ). Stands (disk log.folder) (string_bytes log.name) s p x) rest st));
+              subst (λ (x : List ℕ). LogStands (disk log.folder) (string_bytes log.name) x (pending disk log) (log.size - log.length)) (sym opened_synced)
+              (subst (λ (x : List ℕ). LogStands (disk log.folder) (string_bytes log.name) s x (log.size - log.length)) (sym opened_pending)
+              (subst (λ (x : ℕ). LogStands (disk log.folder) (string_bytes log.name) s p x) rest st));
           size = long ∙ sym (length-append s p) ∙ ap length (sym opened_text);
           part = omega (arith, size, long);
           within = omega (arith, room);

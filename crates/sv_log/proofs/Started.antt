@@ -6,10 +6,10 @@ use Rattle.std.proofs.Math.Seq.{take-add}
 use Rattle.std.proofs.lemmas.List.{append-nil, take_all}
 use Rattle.std.proofs.lemmas.Bool.{cases_Bool, and_from, or_left, or_right, not_from_false}
 use Rattle.sv_log.specs.Pictures.{Picture, Call, Make, Sync, SyncFolder, Made, Disk, seen, noted, zeros, Makes}
-use Rattle.sv_log.specs.Crashes.{Same, SameBut, Leaves, MayLeave, MayMake, LeavesOnly, is_synced}
+use Rattle.sv_log.specs.Crashes.{Same, SameBut, CrashLeaves, CrashMayLeave, MayMake, LeavesOnly, is_synced}
 use Rattle.sv_log.specs.Texts.{whole, whole_in}
 use Rattle.sv_log.specs.Rests.{IsAtRest, Tells}
-use Rattle.sv_log.specs.Logs.{Stands, IsOpen, appended, synced}
+use Rattle.sv_log.specs.Logs.{LogStands, IsOpen, appended, synced}
 use Rattle.sv_log.specs.Reads.{ReadsPart}
 use Rattle.sv_log.specs.declared.segment.Segment.{Segment}
 use Rattle.sv_log.proofs.Texts.{whole_zeros}
@@ -28,10 +28,10 @@ module _ (disk : Disk) (name : List ℕ) (size : ℕ) (rest : IsAtRest disk) (no
   abbrev P : Picture → Type 0
   P = Tells (seen disk) name []
 
-  pub empty_tells : (c : Picture) → Leaves disk.start disk.past c → P c
+  pub empty_tells : (c : Picture) → CrashLeaves disk.start disk.past c → P c
   empty_tells c left = let same = rest.only c left in ((λ m ne. same m), ap whole_in (same name ∙ none))
 
-  make_tells : (c d : Picture) → Leaves disk.start disk.past d → MayLeave (Make name size) d c → P c
+  make_tells : (c d : Picture) → CrashLeaves disk.start disk.past d → CrashMayLeave (Make name size) d c → P c
   make_tells c d left step = (
     (λ m ne. step.0 m ne ∙ rest.only d left m),
     none_made size (d name) (c name) (rest.only d left name ∙ none) step.1,
@@ -41,8 +41,8 @@ module _ (disk : Disk) (name : List ℕ) (size : ℕ) (rest : IsAtRest disk) (no
   make_only new result makes = made_only disk new (Make name size) result P makes empty_tells make_tells
 
   module _ (made : Disk) (is_made : made ≡ noted (Make name size, true) disk) where
-    made_tells : (c : Picture) → Leaves made.start made.past c → P c
-    made_tells c left = let e = subst (λ (m : Disk). Leaves m.start m.past c) is_made left in make_tells c e.0 e.1 e.2
+    made_tells : (c : Picture) → CrashLeaves made.start made.past c → P c
+    made_tells c left = let e = subst (λ (m : Disk). CrashLeaves m.start m.past c) is_made left in make_tells c e.0 e.1 e.2
 
     pub make_sync_only : {T E : Type 0} (new : Disk) (result : Result T E) → Makes (Sync name) made new result → LeavesOnly disk new P
     make_sync_only new result makes =
@@ -50,9 +50,9 @@ module _ (disk : Disk) (name : List ℕ) (size : ℕ) (rest : IsAtRest disk) (no
         (made_only made new (Sync name) result P makes made_tells (λ c d left same. tells_same (seen disk) name [] c d same (made_tells d left)))
 
     module _ (kept : Disk) (is_kept : kept ≡ noted (Sync name, true) made) where
-      kept_tells : (c : Picture) → Leaves kept.start kept.past c → P c
+      kept_tells : (c : Picture) → CrashLeaves kept.start kept.past c → P c
       kept_tells c left =
-          let e = subst (λ (m : Disk). Leaves m.start m.past c) is_kept left in
+          let e = subst (λ (m : Disk). CrashLeaves m.start m.past c) is_kept left in
           tells_same (seen disk) name [] c e.0 e.2 (made_tells e.0 e.1)
 
       pub make_folder_only : {T E : Type 0} (new : Disk) (result : Result T E) → Makes SyncFolder kept new result → LeavesOnly disk new P
@@ -69,9 +69,9 @@ module _ (disk : Disk) (name : List ℕ) (size : ℕ) (rest : IsAtRest disk) (no
           (λ (other : bytes_eq n name ≡ false). or_right (bytes_eq n name) _ (and_from (not (bytes_eq n name)) _ (not_from_false (bytes_eq n name) other) (rest.synced n)))
           (cases_Bool (bytes_eq n name))
 
-      pub make_stands : (new : Disk) → new ≡ noted (SyncFolder, true) kept → Stands new name [] [] size
+      pub make_stands : (new : Disk) → new ≡ noted (SyncFolder, true) kept → LogStands new name [] [] size
       make_stands new is =
-          subst (λ (d : Disk). Stands d name [] [] size) (sym (is ∙ ap (noted (SyncFolder, true)) (is_kept ∙ ap (noted (Sync name, true)) is_made))) record {
+          subst (λ (d : Disk). LogStands d name [] [] size) (sym (is ∙ ap (noted (SyncFolder, true)) (is_kept ∙ ap (noted (Sync name, true)) is_made))) record {
             synced_text = refl;
             pending_text = refl;
             file = made_file;
@@ -98,7 +98,7 @@ module _ (disk : Disk) (name : List ℕ) (size : ℕ) (rest : IsAtRest disk) (no
       make_others new is m ne = ap (λ (d : Disk). seen d m) (is ∙ ap (noted (SyncFolder, true)) (is_kept ∙ ap (noted (Sync name, true)) is_made)) ∙ put_other name m _ (seen disk) ne
 
 -- an open segment without a line
-pub started : {F : Type 0} (disk : F → Disk) (log : Segment F) (room : ℕ) → Stands (disk log.folder) (string_bytes log.name) [] [] room → log.synced ≡ 0 → log.length ≡ 0 → log.size ≡ room → IsOpen disk log × (appended disk log ≡ [])
+pub started : {F : Type 0} (disk : F → Disk) (log : Segment F) (room : ℕ) → LogStands (disk log.folder) (string_bytes log.name) [] [] room → log.synced ≡ 0 → log.length ≡ 0 → log.size ≡ room → IsOpen disk log × (appended disk log ≡ [])
 started disk log room st synced_is length_is size_is = (
   opened disk log [] [] room st synced_is length_is (omega (arith, length_is, size_is)),
   opened_text disk log [] [] room st,
@@ -106,7 +106,7 @@ started disk log room st synced_is length_is size_is = (
 
 -- an open segment with the text that was found
 pub recovered : {F : Type 0} (disk : F → Disk) (log : Segment F) (bytes : List ℕ) (found : Option (List ℕ)) (end : ℕ) → found ≡ Some bytes → take end bytes ≡ whole bytes → end ≤ length bytes
-    → Stands (disk log.folder) (string_bytes log.name) (whole bytes) [] (length bytes - end) → log.synced ≡ end → log.length ≡ end → log.size ≡ length bytes
+    → LogStands (disk log.folder) (string_bytes log.name) (whole bytes) [] (length bytes - end) → log.synced ≡ end → log.length ≡ end → log.size ≡ length bytes
     → IsOpen disk log × (appended disk log ≡ whole_in found) × (synced disk log ≡ appended disk log)
 recovered disk log bytes found end is text within st synced_is length_is size_is =
     let all : length (whole bytes) ≡ end = ap length (sym text) ∙ length-take-le end bytes within in

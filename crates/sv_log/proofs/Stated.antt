@@ -10,7 +10,7 @@ use Rattle.sv_log.specs.Texts.{IsText, IsFront, whole, whole_in}
 use Rattle.sv_log.specs.Rests.{IsAtRest, IsPut}
 use Rattle.sv_log.specs.Logs.{IsOpen, appended, synced, pending}
 use Rattle.sv_log.specs.Names.{segment_name, state_name, world_name, new_name, IsNumber, IsWrongName}
-use Rattle.sv_log.specs.Chains.{StateFile, lines, text_at, text_of, state_at, sum_line, IsClosed, IsWhole, IsNewest, IsLog, Holds, Keeps}
+use Rattle.sv_log.specs.Chains.{StateFile, lines, text_at, text_of, state_at, sum_line, IsClosed, IsWholeState, IsNewest, IsLog, HasLog, KeepsLog}
 use Rattle.sv_log.specs.States.{summed, KeepsOrPuts}
 use Rattle.sv_log.specs.OpenLogs.{IsOpenLog, shown, newest, log_text, log_synced}
 use Rattle.sv_log.specs.declared.segment.Segment.{Segment}
@@ -25,8 +25,8 @@ use Rattle.sv_log.proofs.Quiet.{wrong_new, but_new, holds_same}
 use Rattle.sv_log.proofs.GoingOn.{log_front, log_rest}
 
 -- a later state is not whole
-none_later : (p : Picture) (state : ℕ) → IsNewest p state → (m : ℕ) → IsNumber m → state < m → IsWhole (p (state_name m)) → ⊥
-none_later p zero newest m number later w = subst IsWhole (newest m number) w
+none_later : (p : Picture) (state : ℕ) → IsNewest p state → (m : ℕ) → IsNumber m → state < m → IsWholeState (p (state_name m)) → ⊥
+none_later p zero newest m number later w = subst IsWholeState (newest m number) w
 none_later p (suc k) newest m number later w = newest.2 m number later w
 
 -- a log without a text behind its newest state
@@ -61,12 +61,12 @@ module _ (p : Picture) (state : ℕ) (closed : List ℕ) (last : ℕ) (log : IsL
     newest_is zero e = absurd (omega (arith, e, later))
     newest_is (suc k) e = (
       subst IsNumber (sym e) is_number,
-      subst IsWhole (sym (ap (λ (n : ℕ). c (state_name n)) e ∙ at_state)) (bytes, refl),
+      subst IsWholeState (sym (ap (λ (n : ℕ). c (state_name n)) e ∙ at_state)) (bytes, refl),
       λ m num more w.
           let above : number < m = omega (arith, more, e) in
           let ne : state_name m ≢ state_name number = λ i. let eq : m ≡ number = state_injective m number num is_number i in absurd (omega (arith, eq, above)) in
           let old : c (state_name m) ≡ p (state_name m) = same (state_name m) (state_new m) ∙ put_other (state_name number) (state_name m) (Some whole_state) p ne in
-          none_later p state log.newest m num (omega (arith, above, later)) (subst IsWhole old w),
+          none_later p state log.newest m num (omega (arith, above, later)) (subst IsWholeState old w),
     )
 
     pub state_log : IsLog c number [] last
@@ -89,7 +89,7 @@ module _ (p : Picture) (state : ℕ) (closed : List ℕ) (last : ℕ) (log : IsL
     pub state_text : text_at p last ≡ [] → text_at c last ≡ []
     state_text empty = ap whole_in (at_segment last) ∙ empty
 
-    pub state_holds : (world : List ℕ) → p world_name ≡ Some world → text_at p last ≡ [] → Holds world (summed number bytes) [] c
+    pub state_holds : (world : List ℕ) → p world_name ≡ Some world → text_at p last ≡ [] → HasLog world (summed number bytes) [] c
     state_holds world own empty = inl (at_world ∙ own, ([], last, state_log, sym (state_text empty), sym state_bytes))
 
   pub puts_state : (world : List ℕ) → p world_name ≡ Some world → text_at p last ≡ [] → (c : Picture) → IsPut new_name (state_name number) whole_state p c
@@ -181,17 +181,17 @@ module _ {F : Type 0} (disk : F → Disk) (old : Log F) (is_open : IsOpenLog dis
 
 -- before anything is written
 module _ {F : Type 0} (disk : F → Disk) (old : Log F) (world : List ℕ) (number : ℕ) (bytes : List ℕ) where
-  pub kept_puts : (new : Disk) → LeavesOnly (disk old.segment.folder) new (Keeps world (newest disk old) (log_synced disk old) (log_text disk old))
+  pub kept_puts : (new : Disk) → LeavesOnly (disk old.segment.folder) new (KeepsLog world (newest disk old) (log_synced disk old) (log_text disk old))
       → LeavesOnly (disk old.segment.folder) new (KeepsOrPuts world (newest disk old) (log_synced disk old) (log_text disk old) number bytes)
   kept_puts new only =
-      weaker_only (disk old.segment.folder) new (Keeps world (newest disk old) (log_synced disk old) (log_text disk old))
+      weaker_only (disk old.segment.folder) new (KeepsLog world (newest disk old) (log_synced disk old) (log_text disk old))
       (KeepsOrPuts world (newest disk old) (log_synced disk old) (log_text disk old) number bytes) (λ c w. inl w) only
 
   pub rest_puts : IsOpenLog disk old → shown disk old world_name ≡ Some world → IsAtRest (disk old.segment.folder)
       → LeavesOnly (disk old.segment.folder) (disk old.segment.folder) (KeepsOrPuts world (newest disk old) (log_text disk old) (log_text disk old) number bytes)
   rest_puts is_open own rest =
       let text = log_text disk old in
-      weaker_only (disk old.segment.folder) (disk old.segment.folder) (Holds world (newest disk old) text) (KeepsOrPuts world (newest disk old) text text number bytes)
+      weaker_only (disk old.segment.folder) (disk old.segment.folder) (HasLog world (newest disk old) text) (KeepsOrPuts world (newest disk old) text text number bytes)
       (λ c w. inl (text, w, front_same text, front_same text)) (log_rest disk old is_open world own rest)
 
 -- the same where the next segment was made before
@@ -204,10 +204,10 @@ module _ {F : Type 0} (disk : F → Disk) (old mid : Log F) (text : log_text dis
       let v = subst (λ (s : StateFile). KeepsOrPuts world s (log_text disk mid) (log_text disk mid) number bytes c) same w in
       let u = subst (λ (t : List ℕ). KeepsOrPuts world (newest disk old) t t number bytes c) text v in
       ⊎_elim
-      (λ (k : Keeps world (newest disk old) (log_text disk old) (log_text disk old) c). inl (k.0, k.1, front_then (log_synced disk old) (log_text disk old) k.0 (log_front disk old) k.2, k.3))
-      (λ (k : ((newest disk old).0 < number) × Holds world (summed number bytes) [] c). inr k) u
+      (λ (k : KeepsLog world (newest disk old) (log_text disk old) (log_text disk old) c). inl (k.0, k.1, front_then (log_synced disk old) (log_text disk old) k.0 (log_front disk old) k.2, k.3))
+      (λ (k : ((newest disk old).0 < number) × HasLog world (summed number bytes) [] c). inr k) u
 
-  pub then_puts : (new : Disk) → LeavesOnly (disk old.segment.folder) (disk mid.segment.folder) (Keeps world (newest disk old) (log_synced disk old) (log_text disk old))
+  pub then_puts : (new : Disk) → LeavesOnly (disk old.segment.folder) (disk mid.segment.folder) (KeepsLog world (newest disk old) (log_synced disk old) (log_text disk old))
       → LeavesOnly (disk mid.segment.folder) new (KeepsOrPuts world (newest disk mid) (log_text disk mid) (log_text disk mid) number bytes) → LeavesOnly (disk old.segment.folder) new P
   then_puts new first second =
       then_only (disk old.segment.folder) (disk mid.segment.folder) new P (kept_puts disk old world number bytes (disk mid.segment.folder) first)

@@ -4,7 +4,7 @@ use Rattle.std.proofs.lemmas.List.{take_at, drop_at}
 use Rattle.sha2.specs.Sha256.{sha256}
 use Rattle.sha2.proofs.Facts256.{length-sha256}
 use Rattle.hex.specs.Hex.{encode_with, encode_lower, lower_digits}
-use Rattle.sv_log.specs.Chains.{IsWhole, sum_line}
+use Rattle.sv_log.specs.Chains.{IsWholeState, sum_line}
 
 length_encoded : (t xs : List ℕ) → length (encode_with t xs) ≡ 2 * length xs
 unfolding encode_with
@@ -18,13 +18,13 @@ length-sum_line bytes =
     let front : length (codes "sum " ++ encode_lower (sha256 bytes)) ≡ 4 + length (encode_lower (sha256 bytes)) = length-append (codes "sum ") (encode_lower (sha256 bytes)) in
     length-append (codes "sum " ++ encode_lower (sha256 bytes)) (10 ∷ []) ∙ (let e : length (codes "sum " ++ encode_lower (sha256 bytes)) + 1 ≡ 69 = omega (arith, front, digest, size) in e)
 
-pub short_no_state : (bytes : List ℕ) → length bytes < 69 → IsWhole (Some bytes) → ⊥
+pub short_no_state : (bytes : List ℕ) → length bytes < 69 → IsWholeState (Some bytes) → ⊥
 short_no_state bytes short whole =
     let size : length bytes ≡ length whole.0 + length (sum_line whole.0) = ap length whole.1 ∙ length-append whole.0 (sum_line whole.0) in
     let line : length (sum_line whole.0) ≡ 69 = length-sum_line whole.0 in
     absurd (omega (arith, size, line, short))
 
-pub sum_whole : (bytes before last : List ℕ) → before ≡ take (length bytes - 69) bytes → last ≡ drop (length bytes - 69) bytes → (last ≡ sum_line before) ↔ IsWhole (Some bytes)
+pub sum_whole : (bytes before last : List ℕ) → before ≡ take (length bytes - 69) bytes → last ≡ drop (length bytes - 69) bytes → (last ≡ sum_line before) ↔ IsWholeState (Some bytes)
 sum_whole bytes before last front back = (
   (λ line. (before, sym (take-append-drop (length bytes - 69) bytes) ∙ ap (λ (l : List ℕ). l ++ drop (length bytes - 69) bytes) (sym front) ∙ ap (λ (l : List ℕ). before ++ l) (sym back ∙ line))),
   (λ whole.

@@ -11,15 +11,15 @@ use Rattle.sv_log.specs.Texts.{whole, whole_in}
 use Rattle.sv_log.specs.Reads.{Lists}
 use Rattle.sv_log.specs.Names.{IsNumber, IsWrongName, segment_name, state_name, world_name}
 use Rattle.sv_log.specs.declared.names.FileKind.TheVariants as file
-use Rattle.sv_log.specs.Chains.{lines, text_at, text_of, state_at, NoneBetween, IsClosed, IsWhole, IsNewest, IsWellNamed, IsLog, IsFresh}
-use Rattle.sv_log.specs.Readings.{HasWorld, ReadsNone, ReadsSome, Reads, ReadsLast, IsFirst, IsNewestSoFar, Looks, IsNothing}
+use Rattle.sv_log.specs.Chains.{lines, text_at, text_of, state_at, NoneBetween, IsClosed, IsWholeState, IsNewest, IsWellNamed, IsLog, IsFresh}
+use Rattle.sv_log.specs.Readings.{HasWorld, ReadsNone, ReadsSome, Reads, ReadsLast, IsFirstNumber, IsNewestSoFar, Looks, IsNothing}
 use Rattle.sv_log.specs.Walks.{IsOnTheWay, HasArrived, StepsTo, LeadsTo}
 use Rattle.sv_log.proofs.Next.{closed_more, text_more_of}
 use Rattle.sv_log.specs.Refusals.{CauseCount, IsCauseOf, IsWhy}
 use Rattle.sv_log.specs.declared.reading.Cause.{Cause}
 use Rattle.sv_log.specs.declared.reading.Cause.TheVariants as cause
 use Rattle.sv_log.specs.declared.reading.Reading.{Reading}
-use Rattle.sv_log.specs.declared.walking.Walk.{Walk}
+use Rattle.sv_log.specs.declared.walking.SegmentWalk.{SegmentWalk}
 
 -- ---- Causes
 
@@ -78,50 +78,50 @@ module _ (p : Picture) (names : List (List ℕ)) (lists : Lists p names) where
   pub well_named : ((name : List ℕ) → Contains names name → IsWrongName name → ⊥) → IsWellNamed p
   well_named none name wrong = unlisted name (λ has. none name has wrong)
 
-  pub no_segments : IsFirst file.Segment names 1 None → (m : ℕ) → IsNumber m → p (segment_name m) ≡ None
+  pub no_segments : IsFirstNumber file.Segment names 1 None → (m : ℕ) → IsNumber m → p (segment_name m) ≡ None
   no_segments none m number = unlisted (segment_name m) (none m number (omega (arith, number.0)))
 
   -- ---- States
 
   -- a state that is not listed is none
-  unlisted_state : (m : ℕ) → (Contains names (state_name m) → ⊥) → IsWhole (p (state_name m)) → ⊥
-  unlisted_state m none w = subst IsWhole (unlisted (state_name m) none) w
+  unlisted_state : (m : ℕ) → (Contains names (state_name m) → ⊥) → IsWholeState (p (state_name m)) → ⊥
+  unlisted_state m none w = subst IsWholeState (unlisted (state_name m) none) w
 
-  still_none : (s seen k : ℕ) → IsNewestSoFar p s seen → IsFirst file.State names (seen + 1) (Some k) → (IsWhole (p (state_name k)) → ⊥)
-      → (m : ℕ) → IsNumber m → s < m → m ≤ k → IsWhole (p (state_name m)) → ⊥
+  still_none : (s seen k : ℕ) → IsNewestSoFar p s seen → IsFirstNumber file.State names (seen + 1) (Some k) → (IsWholeState (p (state_name k)) → ⊥)
+      → (m : ℕ) → IsNumber m → s < m → m ≤ k → IsWholeState (p (state_name m)) → ⊥
   still_none s seen k so_far first broken m number after upto w =
       ⊎_elim (λ (late : seen < m). ⊎_elim
       (λ (before : m < k). unlisted_state m (first.3 m number (let e : seen + 1 ≤ m = omega (arith, late) in e) before) w)
-      (λ (from : k ≤ m). broken (subst (λ (n : ℕ). IsWhole (p (state_name n))) (let e : m ≡ k = omega (arith, from, upto) in e) w)) (cases_lt m k))
+      (λ (from : k ≤ m). broken (subst (λ (n : ℕ). IsWholeState (p (state_name n))) (let e : m ≡ k = omega (arith, from, upto) in e) w)) (cases_lt m k))
       (λ (early : m ≤ seen). so_far.2 m number after early w) (cases_lt seen m)
 
-  pub newest_more : (s t seen k : ℕ) → IsNewestSoFar p s seen → IsFirst file.State names (seen + 1) (Some k) → Looks p s t k → IsNewestSoFar p t k
+  pub newest_more : (s t seen k : ℕ) → IsNewestSoFar p s seen → IsFirstNumber file.State names (seen + 1) (Some k) → Looks p s t k → IsNewestSoFar p t k
   newest_more s t seen k so_far first looks = ⊎_elim
-      (λ (now : (t ≡ k) × IsWhole (p (state_name k))). (
+      (λ (now : (t ≡ k) × IsWholeState (p (state_name k))). (
         (let e : t ≤ k = omega (arith, now.0) in e),
-        inr (subst IsNumber (sym now.0) first.0, subst (λ (m : ℕ). IsWhole (p (state_name m))) (sym now.0) now.1),
+        inr (subst IsNumber (sym now.0) first.0, subst (λ (m : ℕ). IsWholeState (p (state_name m))) (sym now.0) now.1),
         (λ m number after upto w. absurd (omega (arith, now.0, after, upto))),
         inr (first.0, (lists (state_name k)).0 first.2),
       ))
-      (λ (kept : (t ≡ s) × (IsWhole (p (state_name k)) → ⊥)).
+      (λ (kept : (t ≡ s) × (IsWholeState (p (state_name k)) → ⊥)).
       let low : s ≤ seen = so_far.0 in
       let le : seen + 1 ≤ k = first.1 in (
         (let e : t ≤ k = omega (arith, kept.0, low, le) in e),
-        subst (λ (m : ℕ). (m ≡ 0) ⊎ (IsNumber m × IsWhole (p (state_name m)))) (sym kept.0) so_far.1,
+        subst (λ (m : ℕ). (m ≡ 0) ⊎ (IsNumber m × IsWholeState (p (state_name m)))) (sym kept.0) so_far.1,
         (λ m number after upto w. still_none s seen k so_far first kept.1 m number (let e : s < m = omega (arith, after, kept.0) in e) upto w),
         inr (first.0, (lists (state_name k)).0 first.2),
       )) looks
 
-  pub none_after : (s seen : ℕ) → IsNewestSoFar p s seen → IsFirst file.State names (seen + 1) None → (m : ℕ) → IsNumber m → s < m → IsWhole (p (state_name m)) → ⊥
+  pub none_after : (s seen : ℕ) → IsNewestSoFar p s seen → IsFirstNumber file.State names (seen + 1) None → (m : ℕ) → IsNumber m → s < m → IsWholeState (p (state_name m)) → ⊥
   none_after s seen so_far first m number after w =
       ⊎_elim (λ (late : seen < m). unlisted_state m (first m number (let e : seen + 1 ≤ m = omega (arith, late) in e)) w)
       (λ (early : m ≤ seen). so_far.2 m number after early w) (cases_lt seen m)
 
-  pub newest_last : (s seen : ℕ) → IsNewestSoFar p s seen → IsFirst file.State names (seen + 1) None → (s ≡ 0 → seen ≡ 0) → IsNewest p s
+  pub newest_last : (s seen : ℕ) → IsNewestSoFar p s seen → IsFirstNumber file.State names (seen + 1) None → (s ≡ 0 → seen ≡ 0) → IsNewest p s
   newest_last zero seen so_far first settled = λ m number. unlisted (state_name m) (first m number (let e : seen + 1 ≤ m = omega (arith, settled refl, number.0) in e))
   newest_last (suc k) seen so_far first settled = ⊎_elim
       (λ (none : suc k ≡ 0). absurd (omega (arith, none)))
-      (λ (w : IsNumber (suc k) × IsWhole (p (state_name (suc k)))). (w.0, w.1, none_after (suc k) seen so_far first)) so_far.1
+      (λ (w : IsNumber (suc k) × IsWholeState (p (state_name (suc k)))). (w.0, w.1, none_after (suc k) seen so_far first)) so_far.1
 
 pub newest_none : (p : Picture) → IsNewestSoFar p 0 0
 newest_none p = ((let e : 0 ≤ 0 = omega arith in e), inl refl, (λ m number after upto w. absurd (omega (arith, after, upto))), inl refl)
@@ -132,7 +132,7 @@ state_found p (suc k) bytes some is = ap (λ (o : Option (List ℕ)). unwrap_or 
 
 -- ---- Segments
 
-pub way_start : (p : Picture) (names : List (List ℕ)) → Lists p names → (first : ℕ) (w : Walk) → IsNumber first × Contains names (segment_name first) → w.closed.items ≡ [] → w.text.items ≡ [] → w.number ≡ first
+pub way_start : (p : Picture) (names : List (List ℕ)) → Lists p names → (first : ℕ) (w : SegmentWalk) → IsNumber first × Contains names (segment_name first) → w.closed.items ≡ [] → w.text.items ≡ [] → w.number ≡ first
     → IsOnTheWay p first w
 way_start p names lists first w there closed text number = record {
   chain = subst (λ (ms : List ℕ). IsClosed p first ms w.number) (sym closed) (sym number);
@@ -141,12 +141,12 @@ way_start p names lists first w there closed text number = record {
   text = text ∙ ap (text_of p) (sym closed);
 }
 
-module _ (p : Picture) (names : List (List ℕ)) (lists : Lists p names) (first : ℕ) (old new : Walk) (way : IsOnTheWay p first old)
+module _ (p : Picture) (names : List (List ℕ)) (lists : Lists p names) (first : ℕ) (old new : SegmentWalk) (way : IsOnTheWay p first old)
     (bytes : List ℕ) (stored : p (segment_name old.number) ≡ Some bytes) where
   at : text_at p old.number ≡ whole bytes
   at = ap whole_in stored
 
-  pub way_more : (following : ℕ) → IsFirst file.Segment names (old.number + 1) (Some following) → LeadsTo old.number bytes following
+  pub way_more : (following : ℕ) → IsFirstNumber file.Segment names (old.number + 1) (Some following) → LeadsTo old.number bytes following
       → new.closed.items ≡ old.closed.items ++ old.number ∷ [] → new.text.items ≡ old.text.items ++ bytes → new.number ≡ following → IsOnTheWay p first new
   way_more following next is closed text_is number_is =
       let all : text_at p old.number ≡ bytes = at ∙ is.0 in
@@ -163,7 +163,7 @@ module _ (p : Picture) (names : List (List ℕ)) (lists : Lists p names) (first 
             ∙ ap (text_of p) (sym closed);
       }
 
-  pub arrived : IsFirst file.Segment names (old.number + 1) None → new.closed ≡ old.closed → new.number ≡ old.number → new.text.items ≡ old.text.items ++ whole bytes → new.next ≡ old.number + lines (whole bytes)
+  pub arrived : IsFirstNumber file.Segment names (old.number + 1) None → new.closed ≡ old.closed → new.number ≡ old.number → new.text.items ≡ old.text.items ++ whole bytes → new.next ≡ old.number + lines (whole bytes)
       → HasArrived p first new
   arrived none closed number_is text_is next_is = record {
     chain = subst (λ (v : Vec ℕ Global). IsClosed p first v.items new.number) (sym closed) (subst (λ (k : ℕ). IsClosed p first old.closed.items k) (sym number_is) way.chain);
@@ -196,7 +196,7 @@ reads_fresh world p r has_world nothing named states segments own =
       subst (HasWorld (p world_name) world) (sym nothing.0) own,
     )
 
-pub reads_walked : (world : List ℕ) (p : Picture) (r : Reading) (w : Walk) → IsWellNamed p → IsNewest p r.state → r.state_bytes.items ≡ state_at p r.state → p world_name ≡ Some world → HasArrived p (r.state + 1) w
+pub reads_walked : (world : List ℕ) (p : Picture) (r : Reading) (w : SegmentWalk) → IsWellNamed p → IsNewest p r.state → r.state_bytes.items ≡ state_at p r.state → p world_name ≡ Some world → HasArrived p (r.state + 1) w
     → r.closed ≡ w.closed → r.last ≡ Some w.number → r.text ≡ w.text → r.next ≡ w.next → Reads world p r
 reads_walked world p r w named newest bytes own walked closed last text next =
     subst (ReadsLast world p r) (sym last) record {

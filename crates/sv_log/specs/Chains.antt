@@ -37,14 +37,14 @@ abbrev pub sum_line : List ℕ → List ℕ
 sum_line bytes = codes "sum " ++ encode_lower (sha256 bytes) ++ 10 ∷ []
 
 -- a state whose sum is right
-abbrev pub IsWhole : Option (List ℕ) → Type 0
-IsWhole None = ⊥
-IsWhole (Some bytes) = (before : List ℕ) × (bytes ≡ before ++ sum_line before)
+abbrev pub IsWholeState : Option (List ℕ) → Type 0
+IsWholeState None = ⊥
+IsWholeState (Some bytes) = (before : List ℕ) × (bytes ≡ before ++ sum_line before)
 
 -- the state after this line is the newest whole one; where it is 0 there is none
 abbrev pub IsNewest : Picture → ℕ → Type 0
 IsNewest p zero = (m : ℕ) → IsNumber m → p (state_name m) ≡ None
-IsNewest p (suc k) = IsNumber (suc k) × IsWhole (p (state_name (suc k))) × ((m : ℕ) → IsNumber m → suc k < m → IsWhole (p (state_name m)) → ⊥)
+IsNewest p (suc k) = IsNumber (suc k) × IsWholeState (p (state_name (suc k))) × ((m : ℕ) → IsNumber m → suc k < m → IsWholeState (p (state_name m)) → ⊥)
 
 -- a state: the number of the line after which it was taken, and its bytes
 abbrev pub StateFile : Type 0
@@ -84,12 +84,12 @@ HasLines state text p = (closed : List ℕ) × (last : ℕ) × IsLog p state.0 c
     × (state.1 ≡ state_at p state.0)
 
 -- a log of this world, whose newest whole state is `state`, and the text behind it is `text`
-abbrev pub Holds : List ℕ → StateFile → List ℕ → Picture → Type 0
-Holds world state text p = ((p world_name ≡ Some world) × HasLines state text p) ⊎ (IsFresh world p × (state ≡ no_state) × (text ≡ []))
+abbrev pub HasLog : List ℕ → StateFile → List ℕ → Picture → Type 0
+HasLog world state text p = ((p world_name ≡ Some world) × HasLines state text p) ⊎ (IsFresh world p × (state ≡ no_state) × (text ≡ []))
 
 -- a log of this world, with a text from low to high behind its newest whole state
-abbrev pub Keeps : List ℕ → StateFile → List ℕ → List ℕ → Picture → Type 0
-Keeps world state low high p = (text : List ℕ) × Holds world state text p × IsFront low text × IsFront text high
+abbrev pub KeepsLog : List ℕ → StateFile → List ℕ → List ℕ → Picture → Type 0
+KeepsLog world state low high p = (text : List ℕ) × HasLog world state text p × IsFront low text × IsFront text high
 
 -- the two have the same files of a log
 pub record SameLog (c p : Picture) : Type 0 where

@@ -2,7 +2,7 @@
 use Rattle.std.specs.Prelude.{◌≡◌, ◌≢◌, ◌⊎◌, ℕ, ◌≤◌, Bool, true, false, not, ◌&&◌, ◌||◌, cond, List, [], ◌∷◌, ◌++◌, take, drop, Option, Some, None}
 use Rattle.std.specs.Option.{option_map}
 use Rattle.std.specs.Str.{bytes_eq}
-use Rattle.sv_log.specs.Pictures.{Picture, Call, Make, Grow, Write, Cut, Rename, Remove, Sync, SyncFolder, Made, Disk, zeros, over, after, seen_after}
+use Rattle.sv_log.specs.Pictures.{Picture, Call, Make, Grow, Write, Truncate, Rename, Remove, Sync, SyncFolder, Made, Disk, zeros, over, after, seen_after}
 
 -- the two have the same files
 abbrev pub Same : Picture → Picture → Type 0
@@ -34,15 +34,15 @@ abbrev pub MayCut : ℕ → Option (List ℕ) → Option (List ℕ) → Type 0
 MayCut n old new = (k : ℕ) × (n ≤ k) × (new ≡ option_map (take k) old)
 
 -- what a crash may make of d where this call was the last
-abbrev pub MayLeave : Call → Picture → Picture → Type 0
-MayLeave (Make name n) d c = SameBut name c d × MayMake n (d name) (c name)
-MayLeave (Grow name n) d c = SameBut name c d × MayGrow n (d name) (c name)
-MayLeave (Write name at bytes) d c = SameBut name c d × MayWrite at bytes (d name) (c name)
-MayLeave (Cut name n) d c = SameBut name c d × MayCut n (d name) (c name)
-MayLeave (Rename from to) d c = Same c d ⊎ ((d from ≢ None) × Same c (after (Rename from to) d))
-MayLeave (Remove name) d c = Same c d ⊎ Same c (after (Remove name) d)
-MayLeave (Sync name) d c = Same c d
-MayLeave SyncFolder d c = Same c d
+abbrev pub CrashMayLeave : Call → Picture → Picture → Type 0
+CrashMayLeave (Make name n) d c = SameBut name c d × MayMake n (d name) (c name)
+CrashMayLeave (Grow name n) d c = SameBut name c d × MayGrow n (d name) (c name)
+CrashMayLeave (Write name at bytes) d c = SameBut name c d × MayWrite at bytes (d name) (c name)
+CrashMayLeave (Truncate name n) d c = SameBut name c d × MayCut n (d name) (c name)
+CrashMayLeave (Rename from to) d c = Same c d ⊎ ((d from ≢ None) × Same c (after (Rename from to) d))
+CrashMayLeave (Remove name) d c = Same c d ⊎ Same c (after (Remove name) d)
+CrashMayLeave (Sync name) d c = Same c d
+CrashMayLeave SyncFolder d c = Same c d
 
 -- a call failed
 abbrev pub has_failed : List Made → Bool
@@ -62,7 +62,7 @@ is_synced [] n = true
 is_synced ((Make name size, done) ∷ past) n = not (bytes_eq n name) && is_synced past n
 is_synced ((Grow name size, done) ∷ past) n = not (bytes_eq n name) && is_synced past n
 is_synced ((Write name at bytes, done) ∷ past) n = not (bytes_eq n name) && is_synced past n
-is_synced ((Cut name size, done) ∷ past) n = not (bytes_eq n name) && is_synced past n
+is_synced ((Truncate name size, done) ∷ past) n = not (bytes_eq n name) && is_synced past n
 is_synced ((Rename from to, done) ∷ past) n = cond (bytes_eq n to) (is_synced past from) (is_synced past n)
 is_synced ((Sync name, done) ∷ past) n = bytes_eq n name || is_synced past n
 is_synced (made ∷ past) n = is_synced past n
@@ -75,20 +75,20 @@ IsSure SyncFolder start past c = (n : List ℕ) → is_synced past n ≡ true �
 IsSure _ start past c = Unit {0}
 
 -- what a crash may leave after these calls, the latest first
-abbrev pub Leaves : Picture → List Made → Picture → Type 0
-Leaves start [] c = Same c start
-Leaves start (made ∷ past) c = (d : Picture) × Leaves start past d × MayLeave made.0 d c
+abbrev pub CrashLeaves : Picture → List Made → Picture → Type 0
+CrashLeaves start [] c = Same c start
+CrashLeaves start (made ∷ past) c = (d : Picture) × CrashLeaves start past d × CrashMayLeave made.0 d c
     × (made.1 ≡ true → has_failed past ≡ false → IsSure made.0 start past c)
 
 -- whatever of these calls was the last, the latest first, a crash leaves what has P
 abbrev pub EachLeaves : Picture → List Made → List Made → (Picture → Type 0) → Type 0
 EachLeaves start before [] P = Unit {0}
-EachLeaves start before (made ∷ later) P = ((c : Picture) → Leaves start (made ∷ later ++ before) c → P c) × EachLeaves start before later P
+EachLeaves start before (made ∷ later) P = ((c : Picture) → CrashLeaves start (made ∷ later ++ before) c → P c) × EachLeaves start before later P
 
 -- From old to new, a crash at any moment leaves what has P.
 pub record LeavesOnly (old new : Disk) (P : Picture → Type 0) : Type 0 where
   pub later : List Made
   pub start : new.start ≡ old.start
   pub grew : new.past ≡ later ++ old.past
-  pub now : (c : Picture) → Leaves old.start old.past c → P c
+  pub now : (c : Picture) → CrashLeaves old.start old.past c → P c
   pub each : EachLeaves old.start old.past later P

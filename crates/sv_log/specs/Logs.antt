@@ -2,16 +2,16 @@
 use Rattle.std.specs.Prelude.{◌≡◌, ◌≢◌, ℕ, ◌-◌, ◌≤◌, true, false, List, ◌++◌, length, take, drop, Some}
 use Rattle.std.specs.String.{string_bytes}
 use Rattle.sv_log.specs.Pictures.{Picture, Disk, seen, zeros}
-use Rattle.sv_log.specs.Crashes.{SameBut, Leaves, has_failed, has_renamed, is_synced}
+use Rattle.sv_log.specs.Crashes.{SameBut, CrashLeaves, has_failed, has_renamed, is_synced}
 use Rattle.sv_log.specs.Texts.{IsText, IsFront, Masked, whole_in}
 use Rattle.sv_log.specs.declared.segment.Segment.{Segment}
 
 -- A file has a synced text, behind it a text that is not synced yet, and then zeros. A crash loses some bytes of the second text: each is a zero then.
-pub record Stands (disk : Disk) (name synced pending : List ℕ) (room : ℕ) : Type 0 where
+pub record LogStands (disk : Disk) (name synced pending : List ℕ) (room : ℕ) : Type 0 where
   pub synced_text : IsText synced
   pub pending_text : IsText pending
   pub file : seen disk name ≡ Some (synced ++ pending ++ zeros room)
-  pub crash : (c : Picture) → Leaves disk.start disk.past c
+  pub crash : (c : Picture) → CrashLeaves disk.start disk.past c
       → SameBut name c (seen disk) × ((torn : List ℕ) × Masked pending torn × (c name ≡ Some (synced ++ torn ++ zeros room)))
   pub calm : has_failed disk.past ≡ false
   pub names : has_renamed disk.past ≡ false
@@ -40,7 +40,7 @@ module _ {F : Type 0} (disk : F → Disk) where
 
   -- a segment that is appended to
   pub record IsOpen (log : Segment F) : Type 0 where
-    pub stands : Stands (disk log.folder) (string_bytes log.name) (synced log) (pending log) (log.size - log.length)
+    pub stands : LogStands (disk log.folder) (string_bytes log.name) (synced log) (pending log) (log.size - log.length)
     pub size : log.length ≡ length (appended log)
     pub part : log.synced ≤ log.length
     pub within : log.length ≤ log.size

@@ -4,27 +4,27 @@ use Rattle.std.specs.Str.{bytes_eq}
 use Rattle.std.specs.String.{string_bytes}
 use Rattle.std.specs.declared.alloc.Global.{Global}
 use Rattle.sv_bytes.specs.Stored.{contents_of}
-use Rattle.sv_log.specs.Pictures.{Picture, Call, Make, Grow, Write, Cut, Rename, Remove, Sync, SyncFolder, Made, Disk}
-use Rattle.sv_log.specs.declared.calls.Asked.{Asked}
-use Rattle.sv_log.specs.declared.calls.Asked.TheVariants as asked
-use Rattle.sv_log.specs.declared.calls.Kept.{Kept}
+use Rattle.sv_log.specs.Pictures.{Picture, Call, Make, Grow, Write, Truncate, Rename, Remove, Sync, SyncFolder, Made, Disk}
+use Rattle.sv_log.specs.declared.calls.AskedCall.{AskedCall}
+use Rattle.sv_log.specs.declared.calls.AskedCall.TheVariants as asked
+use Rattle.sv_log.specs.declared.calls.KeptCall.{KeptCall}
 
 -- what was asked, without where it lies in memory
-abbrev pub call_of : Asked → Call
+abbrev pub call_of : AskedCall → Call
 call_of (asked.Make name size) = Make (string_bytes name) size
 call_of (asked.Grow name size) = Grow (string_bytes name) size
 call_of (asked.Write name at bytes) = Write (string_bytes name) at bytes.items
-call_of (asked.Cut name size) = Cut (string_bytes name) size
+call_of (asked.Truncate name size) = Truncate (string_bytes name) size
 call_of (asked.Rename from to) = Rename (string_bytes from) (string_bytes to)
 call_of (asked.Remove name) = Remove (string_bytes name)
 call_of (asked.Sync name) = Sync (string_bytes name)
 call_of asked.SyncFolder = SyncFolder
 
-abbrev pub made_of : Kept → Made
+abbrev pub made_of : KeptCall → Made
 made_of kept = (call_of kept.call, kept.done)
 
 -- the calls with the latest first
-abbrev pub latest_first : List Kept → List Made
+abbrev pub latest_first : List KeptCall → List Made
 latest_first [] = []
 latest_first (kept ∷ later) = latest_first later ++ made_of kept ∷ []
 
@@ -39,7 +39,7 @@ bytes_in None = None
 bytes_in (Some v) = Some v.items
 
 -- the disk of a folder in memory
-abbrev pub disk_of : List (List ℕ × List ℕ) → List Kept → Disk
+abbrev pub disk_of : List (List ℕ × List ℕ) → List KeptCall → Disk
 disk_of start calls = record { start = contents_of start; past = latest_first calls }
 
 -- the name that a call gives a file
@@ -54,7 +54,7 @@ StartsIn [] n = ⊥
 StartsIn (file ∷ files) n = (file.0 ≡ n) ⊎ StartsIn files n
 
 -- a call gave a file this name
-abbrev pub NamedIn : List Kept → List ℕ → Type 0
+abbrev pub NamedIn : List KeptCall → List ℕ → Type 0
 NamedIn [] n = ⊥
 NamedIn (kept ∷ later) n = (target (call_of kept.call) ≡ Some n) ⊎ NamedIn later n
 

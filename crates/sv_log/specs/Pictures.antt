@@ -16,7 +16,7 @@ pub data Call : Type 0 where
   -- these bytes in a file, from an offset on
   Write : List ℕ → ℕ → List ℕ → Call
   -- a file cut to this length
-  Cut : List ℕ → ℕ → Call
+  Truncate : List ℕ → ℕ → Call
   -- the first name's file under the second name
   Rename : List ℕ → List ℕ → Call
   Remove : List ℕ → Call
@@ -41,7 +41,7 @@ abbrev pub after : Call → Picture → Picture
 after (Make name n) p = put name (Some (zeros n)) p
 after (Grow name n) p = put name (option_map (λ b. b ++ zeros n) (p name)) p
 after (Write name at bytes) p = put name (option_map (over at bytes) (p name)) p
-after (Cut name n) p = put name (option_map (take n) (p name)) p
+after (Truncate name n) p = put name (option_map (take n) (p name)) p
 after (Rename from to) p = put to (p from) (put from None p)
 after (Remove name) p = put name None p
 after (Sync name) p = p
@@ -73,5 +73,5 @@ Makes call old new (Ok _) = new ≡ noted (call, true) old
 Makes call old new (Err _) = (new ≡ old) ⊎ (new ≡ noted (call, false) old)
 
 -- the file is there, and has room for so many bytes from an offset on
-abbrev pub HasRoom : Picture → List ℕ → ℕ → ℕ → Type 0
-HasRoom picture name at n = (b : List ℕ) × (picture name ≡ Some b) × (at + n ≤ length b)
+abbrev pub FileHasRoom : Picture → List ℕ → ℕ → ℕ → Type 0
+FileHasRoom picture name at n = (b : List ℕ) × (picture name ≡ Some b) × (at + n ≤ length b)

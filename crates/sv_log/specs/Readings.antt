@@ -6,7 +6,7 @@ use Rattle.sv_log.specs.Rests.{Tells, Mends}
 use Rattle.sv_log.specs.Names.{segment_name, state_name, file_name, world_name, IsNumber}
 use Rattle.sv_log.specs.declared.names.FileKind.{FileKind}
 use Rattle.sv_log.specs.declared.names.FileKind.TheVariants as segment
-use Rattle.sv_log.specs.Chains.{StateFile, lines, text_at, text_of, state_at, IsWhole, IsLog, IsFresh}
+use Rattle.sv_log.specs.Chains.{StateFile, lines, text_at, text_of, state_at, IsWholeState, IsLog, IsFresh}
 use Rattle.sv_log.specs.declared.reading.Reading.{Reading}
 
 -- the world is there, just where it was told
@@ -47,8 +47,8 @@ abbrev pub IsReadyLast : List ℕ → Picture → Reading → List ℕ → Optio
 IsReadyLast world p r name None = (name ≡ segment_name 1) × ReadsNone world p r × (p world_name ≡ Some world)
 IsReadyLast world p r name (Some last) = (name ≡ segment_name last) × ReadsSome world p r last
 
-abbrev pub IsReady : List ℕ → Picture → Reading → List ℕ → Type 0
-IsReady world p r name = IsReadyLast world p r name r.last
+abbrev pub IsReadyToOpen : List ℕ → Picture → Reading → List ℕ → Type 0
+IsReadyToOpen world p r name = IsReadyLast world p r name r.last
 
 -- what a crash may leave while the last segment is made or mended
 abbrev pub LastBecomes : Option ℕ → Picture → List ℕ → Picture → Type 0
@@ -62,24 +62,24 @@ abbrev pub IsOther : FileKind → List ℕ → Type 0
 IsOther k name = (m : ℕ) → IsNumber m → name ≢ file_name k m
 
 -- the first number from `least` on for which such a file is listed
-abbrev pub IsFirst : FileKind → List (List ℕ) → ℕ → Option ℕ → Type 0
-IsFirst k names least None = (m : ℕ) → IsNumber m → least ≤ m → Contains names (file_name k m) → ⊥
-IsFirst k names least (Some n) = IsNumber n × (least ≤ n) × Contains names (file_name k n) × ((m : ℕ) → IsNumber m → least ≤ m → m < n
+abbrev pub IsFirstNumber : FileKind → List (List ℕ) → ℕ → Option ℕ → Type 0
+IsFirstNumber k names least None = (m : ℕ) → IsNumber m → least ≤ m → Contains names (file_name k m) → ⊥
+IsFirstNumber k names least (Some n) = IsNumber n × (least ≤ n) × Contains names (file_name k n) × ((m : ℕ) → IsNumber m → least ≤ m → m < n
     → Contains names (file_name k m) → ⊥)
 
 -- a state is looked at: it is the newest whole one now, or it is not whole
 abbrev pub Looks : Picture → ℕ → ℕ → ℕ → Type 0
-Looks p old new number = ((new ≡ number) × IsWhole (p (state_name number))) ⊎ ((new ≡ old) × (IsWhole (p (state_name number)) → ⊥))
+Looks p old new number = ((new ≡ number) × IsWholeState (p (state_name number))) ⊎ ((new ≡ old) × (IsWholeState (p (state_name number)) → ⊥))
 
 -- Of the states up to the number `seen` the newest whole one is that after the line `state`, or none is where it is 0. There is one of the
 -- number `seen`, unless it is 0.
 abbrev pub IsNewestSoFar : Picture → ℕ → ℕ → Type 0
-IsNewestSoFar p state seen = (state ≤ seen) × ((state ≡ 0) ⊎ (IsNumber state × IsWhole (p (state_name state))))
-    × ((m : ℕ) → IsNumber m → state < m → m ≤ seen → IsWhole (p (state_name m)) → ⊥) × ((seen ≡ 0) ⊎ (IsNumber seen × IsSome (p (state_name seen))))
+IsNewestSoFar p state seen = (state ≤ seen) × ((state ≡ 0) ⊎ (IsNumber state × IsWholeState (p (state_name state))))
+    × ((m : ℕ) → IsNumber m → state < m → m ≤ seen → IsWholeState (p (state_name m)) → ⊥) × ((seen ≡ 0) ⊎ (IsNumber seen × IsSome (p (state_name seen))))
 
 -- there is a state after this line, or a segment
 abbrev pub HasSome : List (List ℕ) → ℕ → Type 0
-HasSome names state = (state ≢ 0) ⊎ ((n : ℕ) × IsFirst segment.Segment names 1 (Some n))
+HasSome names state = (state ≢ 0) ⊎ ((n : ℕ) × IsFirstNumber segment.Segment names 1 (Some n))
 
 -- nothing was read
 abbrev pub IsNothing : Reading → Bool → Type 0

@@ -5,17 +5,17 @@ use Rattle.sv_bytes.specs.declared.reading.FileFault.{FileFault}
 use Rattle.sv_bytes.specs.declared.reading.FileFault.TheVariants as fault
 use Rattle.sv_log.specs.Pictures.{Picture}
 use Rattle.sv_log.specs.Names.{segment_name, IsNumber}
-use Rattle.sv_log.specs.Chains.{StateFile, IsClosed, Holds}
+use Rattle.sv_log.specs.Chains.{StateFile, IsClosed, HasLog}
 use Rattle.sv_log.specs.declared.reading.Cause.{Cause}
 use Rattle.sv_log.specs.declared.reading.Cause.TheVariants as cause
-use Rattle.sv_log.specs.declared.reading.Refusal.{Refusal}
+use Rattle.sv_log.specs.declared.reading.LogRefusal.{LogRefusal}
 
 -- the count rose where the disk failed
 abbrev pub CauseCount : ℕ → ℕ → Cause → Type 0
 CauseCount before now cause.Failed = Rose before now
 CauseCount before now _ = now ≡ before
 
-abbrev pub RefusalCause : {A : Type 0} → ℕ → ℕ → Result A Refusal → Type 0
+abbrev pub RefusalCause : {A : Type 0} → ℕ → ℕ → Result A LogRefusal → Type 0
 RefusalCause before now (Ok _) = now ≡ before
 RefusalCause before now (Err r) = CauseCount before now r.cause
 
@@ -26,7 +26,7 @@ IsCauseOf fault.Memory c = c ≡ cause.Memory
 
 -- the folder holds no log of this world
 abbrev pub HasNoLog : List ℕ → Picture → Type 0
-HasNoLog world p = (state : StateFile) → (text : List ℕ) → Holds world state text p → ⊥
+HasNoLog world p = (state : StateFile) → (text : List ℕ) → HasLog world state text p → ⊥
 
 -- there is a segment of this number, and none behind it
 abbrev pub IsLast : Picture → ℕ → Type 0

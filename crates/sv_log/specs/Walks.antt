@@ -4,17 +4,17 @@ use Rattle.sv_log.specs.Pictures.{Picture}
 use Rattle.sv_log.specs.Texts.{whole}
 use Rattle.sv_log.specs.Names.{segment_name, IsNumber}
 use Rattle.sv_log.specs.Chains.{lines, text_at, text_of, IsClosed}
-use Rattle.sv_log.specs.declared.walking.Walk.{Walk}
+use Rattle.sv_log.specs.declared.walking.SegmentWalk.{SegmentWalk}
 
 -- closed segments were read, up to one that comes next and is there
-pub record IsOnTheWay (p : Picture) (first : ℕ) (w : Walk) : Type 0 where
+pub record IsOnTheWay (p : Picture) (first : ℕ) (w : SegmentWalk) : Type 0 where
   pub chain : IsClosed p first w.closed.items w.number
   pub number : IsNumber w.number
   pub there : IsSome (p (segment_name w.number))
   pub text : w.text.items ≡ text_of p w.closed.items
 
 -- all segments were read
-pub record HasArrived (p : Picture) (first : ℕ) (w : Walk) : Type 0 where
+pub record HasArrived (p : Picture) (first : ℕ) (w : SegmentWalk) : Type 0 where
   pub chain : IsClosed p first w.closed.items w.number
   pub number : IsNumber w.number
   pub there : (bytes : List ℕ) × (p (segment_name w.number) ≡ Some bytes)
@@ -22,7 +22,7 @@ pub record HasArrived (p : Picture) (first : ℕ) (w : Walk) : Type 0 where
   pub text : w.text.items ≡ text_of p w.closed.items ++ text_at p w.number
   pub next : w.next ≡ w.number + lines (text_at p w.number)
 
-abbrev pub StepsTo : Picture → ℕ → Walk → Bool → Type 0
+abbrev pub StepsTo : Picture → ℕ → SegmentWalk → Bool → Type 0
 StepsTo p first w true = HasArrived p first w
 StepsTo p first w false = IsOnTheWay p first w
 

@@ -2,11 +2,11 @@
 
 /// A change of a folder, or a sync.
 #[derive(Drop)]
-pub(crate) enum Asked {
+pub(crate) enum AskedCall {
     Make(String, usize),
     Grow(String, usize),
     Write(String, usize, Vec<u8>),
-    Cut(String, usize),
+    Truncate(String, usize),
     Rename(String, String),
     Remove(String),
     Sync(String),
@@ -15,7 +15,7 @@ pub(crate) enum Asked {
 
 /// What was asked, and whether it was answered Ok.
 #[derive(Drop)]
-pub(crate) struct Kept {
-    pub(crate) call: Asked,
+pub(crate) struct KeptCall {
+    pub(crate) call: AskedCall,
     pub(crate) done: bool,
 }

@@ -1,7 +1,7 @@
 //! What a crash leaves of a folder in memory.
 ghost use Rattle.std.specs.Prelude.{◌≤◌, length};
 
-use super::calls::{Asked, Kept};
+use super::calls::{AskedCall, KeptCall};
 use super::replay::{Stored, bytes_after, changed, find, name_before};
 use std::alloc::{AllocError, Global};
 
@@ -56,7 +56,7 @@ fn torn(
 pub(crate) fn left_after(
     alloc: Global,
     start: &[Stored],
-    calls: &[Kept],
+    calls: &[KeptCall],
     count: usize,
     loss: Loss,
     name: &str,
@@ -75,11 +75,11 @@ pub(crate) fn left_after(
     };
     let old = left_after(alloc, start, calls, count - 1, loss, earlier)?;
     match &last.call {
-        Asked::Sync(of) if last.done && of.as_str() == name && old.is_some() => {
+        AskedCall::Sync(of) if last.done && of.as_str() == name && old.is_some() => {
             bytes_after(alloc, start, calls, count, name)
         }
-        Asked::SyncFolder if last.done => bytes_after(alloc, start, calls, count, name),
-        Asked::Write(of, at, bytes) if of.as_str() == name => match old {
+        AskedCall::SyncFolder if last.done => bytes_after(alloc, start, calls, count, name),
+        AskedCall::Write(of, at, bytes) if of.as_str() == name => match old {
             Some(old) => Ok(Some(torn(alloc, &old, *at, bytes, count, loss)?)),
             None => Ok(None),
         },
@@ -89,13 +89,17 @@ pub(crate) fn left_after(
 }
 
 // All names that a file had, some of them twice.
-fn all_names(alloc: Global, start: &[Stored], calls: &[Kept]) -> Result<Vec<String>, AllocError> {
+fn all_names(
+    alloc: Global,
+    start: &[Stored],
+    calls: &[KeptCall],
+) -> Result<Vec<String>, AllocError> {
     let mut names = Vec::new(alloc);
     for file in start {
         names.push(String::from_str(alloc, file.name())?)?;
     }
     for kept in calls {
-        if let Asked::Make(name, _) | Asked::Rename(_, name) = &kept.call {
+        if let AskedCall::Make(name, _) | AskedCall::Rename(_, name) = &kept.call {
             names.push(String::from_str(alloc, name.as_str())?)?;
         }
     }
@@ -106,7 +110,7 @@ fn all_names(alloc: Global, start: &[Stored], calls: &[Kept]) -> Result<Vec<Stri
 pub(crate) fn files_left(
     alloc: Global,
     start: &[Stored],
-    calls: &[Kept],
+    calls: &[KeptCall],
     count: usize,
     loss: Loss,
 ) -> Result<Vec<Stored>, AllocError>

@@ -2,7 +2,7 @@
 ghost use Rattle.std.specs.Prelude.{◌≡◌, ℕ, ◌≤◌, ◌<◌, List, Option, Some, None, length, map, Contains, IsSome, IfOk, ◌↔◌};
 ghost use Rattle.std.specs.String.{string_bytes};
 ghost use Rattle.sv_bytes.specs.Faults.{ReadAllCause};
-ghost use Rattle.sv_log.specs.Pictures.{Disk, seen, Makes, HasRoom, Make, Grow, Write, Cut, Rename, Remove, Sync, SyncFolder};
+ghost use Rattle.sv_log.specs.Pictures.{Disk, seen, Makes, FileHasRoom, Make, Grow, Write, Truncate, Rename, Remove, Sync, SyncFolder};
 ghost use Rattle.sv_log.specs.Reads.{ReadsPart, Lists};
 
 use std::alloc::Global;
@@ -44,34 +44,34 @@ pub trait Folder {
 
     /// Adds zeros behind a file.
     fn grow(&mut self, name: &str, size: usize) -> Result<(), FileFault>
-        requires there { is_honest self.old → HasRoom (seen (disk self.old)) name.now 0 0 }
+        requires there { is_honest self.old → FileHasRoom (seen (disk self.old)) name.now 0 0 }
         ensures made { is_honest self.new → Makes (Grow name.now size) (disk self.old) (disk self.new) result }
         ensures honest { is_honest self.new → is_honest self.old }
         ensures cause { ReadAllCause (faults self.old) (faults self.new) result };
 
     /// Writes over bytes that are there.
     fn write_at(&mut self, name: &str, at: usize, bytes: &[u8]) -> Result<(), FileFault>
-        requires within { is_honest self.old → HasRoom (seen (disk self.old)) name.now at (length bytes.now) }
+        requires within { is_honest self.old → FileHasRoom (seen (disk self.old)) name.now at (length bytes.now) }
         ensures made { is_honest self.new → Makes (Write name.now at bytes.now) (disk self.old) (disk self.new) result }
         ensures honest { is_honest self.new → is_honest self.old }
         ensures cause { ReadAllCause (faults self.old) (faults self.new) result };
 
     /// Cuts a file to a length.
     fn cut(&mut self, name: &str, size: usize) -> Result<(), FileFault>
-        requires within { is_honest self.old → HasRoom (seen (disk self.old)) name.now 0 size }
-        ensures made { is_honest self.new → Makes (Cut name.now size) (disk self.old) (disk self.new) result }
+        requires within { is_honest self.old → FileHasRoom (seen (disk self.old)) name.now 0 size }
+        ensures made { is_honest self.new → Makes (Truncate name.now size) (disk self.old) (disk self.new) result }
         ensures honest { is_honest self.new → is_honest self.old }
         ensures cause { ReadAllCause (faults self.old) (faults self.new) result };
 
     /// Gives a file another name, in place of one that has it.
     fn rename(&mut self, from: &str, to: &str) -> Result<(), FileFault>
-        requires there { is_honest self.old → HasRoom (seen (disk self.old)) from.now 0 0 }
+        requires there { is_honest self.old → FileHasRoom (seen (disk self.old)) from.now 0 0 }
         ensures made { is_honest self.new → Makes (Rename from.now to.now) (disk self.old) (disk self.new) result }
         ensures honest { is_honest self.new → is_honest self.old }
         ensures cause { ReadAllCause (faults self.old) (faults self.new) result };
 
     fn remove(&mut self, name: &str) -> Result<(), FileFault>
-        requires there { is_honest self.old → HasRoom (seen (disk self.old)) name.now 0 0 }
+        requires there { is_honest self.old → FileHasRoom (seen (disk self.old)) name.now 0 0 }
         ensures made { is_honest self.new → Makes (Remove name.now) (disk self.old) (disk self.new) result }
         ensures honest { is_honest self.new → is_honest self.old }
         ensures cause { ReadAllCause (faults self.old) (faults self.new) result };

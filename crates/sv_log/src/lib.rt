@@ -29,7 +29,7 @@ pub use log::{Log, line_count};
 pub use memory::MemFolder;
 pub use mending::{clear_behind, rest_of, text_length};
 pub use names::{FileKind, NameKind, WORLD, kind_of, rest_name, segment_name, state_name};
-pub use reading::{Cause, Reading, Refusal, read_log};
+pub use reading::{Cause, LogRefusal, Reading, read_log};
 pub use recovering::open_log;
 pub use segment::Segment;
 pub use starting::{make_synced, read_file};

@@ -6,7 +6,7 @@ ghost use Rattle.sv_log.specs.Texts.{IsText, IsFront};
 ghost use Rattle.sv_log.specs.Logs.{HasSizes};
 ghost use Rattle.sv_log.specs.Rests.{IsAtRest};
 ghost use Rattle.sv_log.specs.Names.{world_name};
-ghost use Rattle.sv_log.specs.Chains.{lines, Keeps};
+ghost use Rattle.sv_log.specs.Chains.{lines, KeepsLog};
 ghost use Rattle.sv_log.specs.OpenLogs.{IsOpenLog, shown, newest, log_text, log_synced};
 
 use super::folder::Folder;
@@ -43,7 +43,7 @@ impl<F: Folder> Log<F> {
         ensures synced { F.is_honest self.new.segment.folder → OnOk result (IsFront (log_synced F.disk self.old) (log_synced F.disk self.new)) }
         ensures any_moment { F.is_honest self.new.segment.folder → (world : List ℕ) → shown F.disk self.old world_name ≡ Some world
             → LeavesOnly (F.disk self.old.segment.folder) (F.disk self.new.segment.folder)
-            (Keeps world (newest F.disk self.old) (log_synced F.disk self.old) (log_text F.disk self.old ++ text.now)) }
+            (KeepsLog world (newest F.disk self.old) (log_synced F.disk self.old) (log_text F.disk self.old ++ text.now)) }
         ensures next { OnOk result (self.new.next ≡ self.old.next + lines text.now) }
         ensures state { self.new.state ≡ self.old.state }
         ensures newest { F.is_honest self.new.segment.folder → OnOk result (newest F.disk self.new ≡ newest F.disk self.old) }
@@ -73,7 +73,7 @@ impl<F: Folder> Log<F> {
         ensures rest { F.is_honest self.new.segment.folder → OnOk result (IsAtRest (F.disk self.new.segment.folder)) }
         ensures any_moment { F.is_honest self.new.segment.folder → (world : List ℕ) → shown F.disk self.old world_name ≡ Some world
             → LeavesOnly (F.disk self.old.segment.folder) (F.disk self.new.segment.folder)
-            (Keeps world (newest F.disk self.old) (log_synced F.disk self.old) (log_text F.disk self.old)) }
+            (KeepsLog world (newest F.disk self.old) (log_synced F.disk self.old) (log_text F.disk self.old)) }
         ensures next { self.new.next ≡ self.old.next }
         ensures state { self.new.state ≡ self.old.state }
         ensures newest { F.is_honest self.new.segment.folder → OnOk result (newest F.disk self.new ≡ newest F.disk self.old) }

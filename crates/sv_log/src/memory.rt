@@ -7,7 +7,7 @@ ghost use Rattle.sv_log.specs.Reads.{Lists};
 ghost use Rattle.sv_log.specs.Rests.{IsAtRest};
 ghost use Rattle.sv_log.specs.Memory.{call_of, disk_of, latest_first, bytes_in, target, StartsIn, NamedIn, Adds};
 
-use super::calls::{Asked, Kept};
+use super::calls::{AskedCall, KeptCall};
 use super::crash::{Loss, files_left};
 use super::folder::Folder;
 use super::replay::{Stored, bytes_after};
@@ -21,7 +21,7 @@ use sv_bytes::{CallPlan, FaultCount, FileFault};
 pub struct MemFolder {
     alloc: Global,
     start: Vec<Stored>,
-    calls: Vec<Kept>,
+    calls: Vec<KeptCall>,
     plan: CallPlan,
     faults: FaultCount,
 }
@@ -92,7 +92,7 @@ impl MemFolder {
     }
 
     // Makes a call, unless it is one that fails.
-    fn note(&mut self, call: Asked) -> Result<(), FileFault>
+    fn note(&mut self, call: AskedCall) -> Result<(), FileFault>
         ensures made { Makes (call_of call) (disk_in_memory self.old) (disk_in_memory self.new) result }
         ensures cause { ReadAllCause self.old.faults.value self.new.faults.value result }
     {
@@ -109,11 +109,11 @@ impl MemFolder {
 }
 
 // Keeps a call.
-fn keep(calls: &mut Vec<Kept>, call: Asked, done: bool) -> Result<(), AllocError>
+fn keep(calls: &mut Vec<KeptCall>, call: AskedCall, done: bool) -> Result<(), AllocError>
     ensures ok { OnOk result (latest_first calls.new.items ≡ (call_of call, done) ∷ latest_first calls.old.items) }
     ensures err { OnErr result (calls.new.items ≡ calls.old.items) }
 {
-    calls.push(Kept { call, done })?;
+    calls.push(KeptCall { call, done })?;
     Ok(())
 }
 
@@ -168,43 +168,43 @@ impl Folder for MemFolder {
 
     fn make(&mut self, name: &str, size: usize) -> Result<(), FileFault> {
         let name = owned(self.alloc, name)?;
-        self.note(Asked::Make(name, size))
+        self.note(AskedCall::Make(name, size))
     }
 
     fn grow(&mut self, name: &str, size: usize) -> Result<(), FileFault> {
         let name = owned(self.alloc, name)?;
-        self.note(Asked::Grow(name, size))
+        self.note(AskedCall::Grow(name, size))
     }
 
     fn write_at(&mut self, name: &str, at: usize, bytes: &[u8]) -> Result<(), FileFault> {
         let name = owned(self.alloc, name)?;
         let bytes = owned_bytes(self.alloc, bytes)?;
-        self.note(Asked::Write(name, at, bytes))
+        self.note(AskedCall::Write(name, at, bytes))
     }
 
     fn cut(&mut self, name: &str, size: usize) -> Result<(), FileFault> {
         let name = owned(self.alloc, name)?;
-        self.note(Asked::Cut(name, size))
+        self.note(AskedCall::Truncate(name, size))
     }
 
     fn rename(&mut self, from: &str, to: &str) -> Result<(), FileFault> {
         let from = owned(self.alloc, from)?;
         let to = owned(self.alloc, to)?;
-        self.note(Asked::Rename(from, to))
+        self.note(AskedCall::Rename(from, to))
     }
 
     fn remove(&mut self, name: &str) -> Result<(), FileFault> {
         let name = owned(self.alloc, name)?;
-        self.note(Asked::Remove(name))
+        self.note(AskedCall::Remove(name))
     }
 
     fn sync(&mut self, name: &str) -> Result<(), FileFault> {
         let name = owned(self.alloc, name)?;
-        self.note(Asked::Sync(name))
+        self.note(AskedCall::Sync(name))
     }
 
     fn sync_folder(&mut self) -> Result<(), FileFault> {
-        self.note(Asked::SyncFolder)
+        self.note(AskedCall::SyncFolder)
     }
 }
 
@@ -220,7 +220,7 @@ fn copied(bytes: &[u8], at: usize, into: &mut [u8]) -> usize
 }
 
 // The names of the files that are there. One may be listed twice.
-fn listed(alloc: Global, start: &[Stored], calls: &[Kept]) -> Result<Vec<String>, AllocError>
+fn listed(alloc: Global, start: &[Stored], calls: &[KeptCall]) -> Result<Vec<String>, AllocError>
     ensures { IfOk result (λ names. Lists (seen_after (contents_of start.now) (latest_first calls.now)) (map string_bytes names.items)) }
 {
     let mut names = Vec::new(alloc);
@@ -234,7 +234,7 @@ fn add_start(
     alloc: Global,
     names: &mut Vec<String>,
     start: &[Stored],
-    calls: &[Kept],
+    calls: &[KeptCall],
 ) -> Result<(), AllocError>
     ensures has { OnOk result ((n : List ℕ) → IsSome (seen_after (contents_of start.now) (latest_first calls.now) n) → StartsIn start.now n
         → Contains (map string_bytes names.new.items) n) }
@@ -252,7 +252,7 @@ fn add_calls(
     alloc: Global,
     names: &mut Vec<String>,
     start: &[Stored],
-    calls: &[Kept],
+    calls: &[KeptCall],
 ) -> Result<(), AllocError>
     ensures keeps { OnOk result ((n : List ℕ) → Contains (map string_bytes names.old.items) n → Contains (map string_bytes names.new.items) n) }
     ensures has { OnOk result ((n : List ℕ) → IsSome (seen_after (contents_of start.now) (latest_first calls.now) n) → NamedIn calls.now n
@@ -271,8 +271,8 @@ fn add_call(
     alloc: Global,
     names: &mut Vec<String>,
     start: &[Stored],
-    calls: &[Kept],
-    kept: &Kept,
+    calls: &[KeptCall],
+    kept: &KeptCall,
 ) -> Result<(), AllocError>
     ensures { OnOk result (Adds (seen_after (contents_of start.now) (latest_first calls.now)) (target (call_of kept.now.call))
         (map string_bytes names.old.items) (map string_bytes names.new.items)) }
@@ -283,18 +283,18 @@ fn add_call(
     }
 }
 
-fn target_of(call: &Asked) -> Option<&str>
+fn target_of(call: &AskedCall) -> Option<&str>
     ensures { MatchOption result (target (call_of call.now) ≡ None) (λ name. target (call_of call.now) ≡ Some name.now) }
 {
     match call {
-        Asked::Make(name, _) => Some(name.as_str()),
-        Asked::Rename(_, name) => Some(name.as_str()),
-        Asked::Grow(_, _) => None,
-        Asked::Write(_, _, _) => None,
-        Asked::Cut(_, _) => None,
-        Asked::Remove(_) => None,
-        Asked::Sync(_) => None,
-        Asked::SyncFolder => None,
+        AskedCall::Make(name, _) => Some(name.as_str()),
+        AskedCall::Rename(_, name) => Some(name.as_str()),
+        AskedCall::Grow(_, _) => None,
+        AskedCall::Write(_, _, _) => None,
+        AskedCall::Truncate(_, _) => None,
+        AskedCall::Remove(_) => None,
+        AskedCall::Sync(_) => None,
+        AskedCall::SyncFolder => None,
     }
 }
 
@@ -303,7 +303,7 @@ fn add_name(
     alloc: Global,
     names: &mut Vec<String>,
     start: &[Stored],
-    calls: &[Kept],
+    calls: &[KeptCall],
     name: &str,
 ) -> Result<(), AllocError>
     ensures { OnOk result (Adds (seen_after (contents_of start.now) (latest_first calls.now)) (Some name.now) (map string_bytes names.old.items)

@@ -5,7 +5,7 @@ ghost use Rattle.sv_log.specs.Pictures.{seen, zeros};
 ghost use Rattle.sv_log.specs.Crashes.{LeavesOnly, SameBut};
 ghost use Rattle.sv_log.specs.Texts.{IsText, has_line, whole};
 ghost use Rattle.sv_log.specs.Rests.{IsAtRest, Mends};
-ghost use Rattle.sv_log.specs.Logs.{Stands};
+ghost use Rattle.sv_log.specs.Logs.{LogStands};
 
 use super::folder::Folder;
 use super::replay::grown;
@@ -52,7 +52,7 @@ pub fn clear_behind<F: Folder>(
     requires file { F.is_honest folder.old → seen (F.disk folder.old) name.now ≡ Some bytes.now }
     requires text { take end bytes.now ≡ whole bytes.now }
     requires within { end ≤ length bytes.now }
-    ensures stands { F.is_honest folder.new → OnOk result (Stands (F.disk folder.new) name.now (whole bytes.now) [] (length bytes.now - end)) }
+    ensures stands { F.is_honest folder.new → OnOk result (LogStands (F.disk folder.new) name.now (whole bytes.now) [] (length bytes.now - end)) }
     ensures rest { F.is_honest folder.new → OnOk result (IsAtRest (F.disk folder.new)) }
     ensures others { F.is_honest folder.new → OnOk result (SameBut name.now (seen (F.disk folder.new)) (seen (F.disk folder.old))) }
     ensures any_moment { F.is_honest folder.new

@@ -4,10 +4,10 @@ ghost use Rattle.sv_bytes.specs.Faults.{ReadAllCause};
 ghost use Rattle.sv_log.specs.Pictures.{seen, zeros};
 ghost use Rattle.sv_log.specs.Crashes.{LeavesOnly};
 ghost use Rattle.sv_log.specs.Texts.{whole_in};
-ghost use Rattle.sv_log.specs.Rests.{IsAtRest, GoesOn};
-ghost use Rattle.sv_log.specs.Logs.{HasSizes, Stands, appended};
+ghost use Rattle.sv_log.specs.Rests.{IsAtRest, SegmentGoesOn};
+ghost use Rattle.sv_log.specs.Logs.{HasSizes, LogStands, appended};
 ghost use Rattle.sv_log.specs.Names.{world_name};
-ghost use Rattle.sv_log.specs.Chains.{Holds, Keeps};
+ghost use Rattle.sv_log.specs.Chains.{HasLog, KeepsLog};
 ghost use Rattle.sv_log.specs.OpenLogs.{IsOpenLog, shown, newest, log_text, log_synced};
 
 use super::closing::cut_synced;
@@ -36,7 +36,7 @@ impl<F: Folder> Log<F> {
         ensures world { F.is_honest self.new.segment.folder → OnOk result (shown F.disk self.new world_name ≡ shown F.disk self.old world_name) }
         ensures any_moment { F.is_honest self.new.segment.folder → (world : List ℕ) → shown F.disk self.old world_name ≡ Some world
             → LeavesOnly (F.disk self.old.segment.folder) (F.disk self.new.segment.folder)
-            (Keeps world (newest F.disk self.old) (log_synced F.disk self.old) (log_text F.disk self.old)) }
+            (KeepsLog world (newest F.disk self.old) (log_synced F.disk self.old) (log_text F.disk self.old)) }
         ensures honest { F.is_honest self.new.segment.folder → F.is_honest self.old.segment.folder }
         ensures cause { ReadAllCause (F.faults self.old.segment.folder) (F.faults self.new.segment.folder) result }
     {
@@ -65,7 +65,7 @@ impl<F: Folder> Log<F> {
         ensures world { F.is_honest self.new.segment.folder → OnOk result (shown F.disk self.new world_name ≡ shown F.disk self.old world_name) }
         ensures any_moment { F.is_honest self.new.segment.folder → (world : List ℕ) → shown F.disk self.old world_name ≡ Some world
             → LeavesOnly (F.disk self.old.segment.folder) (F.disk self.new.segment.folder)
-            (Holds world (newest F.disk self.old) (log_text F.disk self.old)) }
+            (HasLog world (newest F.disk self.old) (log_text F.disk self.old)) }
         ensures honest { F.is_honest self.new.segment.folder → F.is_honest self.old.segment.folder }
         ensures cause { ReadAllCause (F.faults self.old.segment.folder) (F.faults self.new.segment.folder) result }
     {
@@ -109,13 +109,13 @@ fn next_file<F: Folder>(
     requires size { F.is_honest folder.old → size ≡ length (whole_in (seen (F.disk folder.old) name.now)) }
     requires none { F.is_honest folder.old → seen (F.disk folder.old) next.now ≡ None }
     requires differ { F.is_honest folder.old → next.now ≢ name.now }
-    ensures stands { F.is_honest folder.new → OnOk result (Stands (F.disk folder.new) next.now [] [] spare) }
+    ensures stands { F.is_honest folder.new → OnOk result (LogStands (F.disk folder.new) next.now [] [] spare) }
     ensures rest { F.is_honest folder.new → OnOk result (IsAtRest (F.disk folder.new)) }
     ensures file { F.is_honest folder.new → OnOk result (seen (F.disk folder.new) name.now ≡ Some (whole_in (seen (F.disk folder.old) name.now))) }
     ensures others { F.is_honest folder.new
         → OnOk result ((n : List ℕ) → n ≢ name.now → n ≢ next.now → seen (F.disk folder.new) n ≡ seen (F.disk folder.old) n) }
     ensures any_moment { F.is_honest folder.new
-        → LeavesOnly (F.disk folder.old) (F.disk folder.new) (GoesOn (seen (F.disk folder.old)) name.now next.now) }
+        → LeavesOnly (F.disk folder.old) (F.disk folder.new) (SegmentGoesOn (seen (F.disk folder.old)) name.now next.now) }
     ensures honest { F.is_honest folder.new → F.is_honest folder.old }
     ensures cause { ReadAllCause (F.faults folder.old) (F.faults folder.new) result }
 {

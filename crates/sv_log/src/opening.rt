@@ -8,9 +8,9 @@ ghost use Rattle.sv_log.specs.Logs.{HasSizes, IsOpen, appended, synced};
 ghost use Rattle.sv_log.specs.Causes.{FaultCause};
 ghost use Rattle.sv_log.specs.Rests.{IsAtRest};
 ghost use Rattle.sv_log.specs.Names.{segment_name, world_name};
-ghost use Rattle.sv_log.specs.Chains.{StateFile, no_state, IsFresh, Holds, SameLog};
+ghost use Rattle.sv_log.specs.Chains.{StateFile, no_state, IsFresh, HasLog, SameLog};
 ghost use Rattle.sv_log.specs.OpenLogs.{IsOpenLog, shown, newest, log_text, log_synced};
-ghost use Rattle.sv_log.specs.Readings.{read_state, Reads, HasWorld, IsReady, LastBecomes};
+ghost use Rattle.sv_log.specs.Readings.{read_state, Reads, HasWorld, IsReadyToOpen, LastBecomes};
 
 use super::folder::Folder;
 use super::log::Log;
@@ -44,9 +44,9 @@ impl<F: Folder> Log<F> {
         ensures newest { IfOk result (λ log. F.is_honest log.segment.folder → newest F.disk log ≡ read_state reading) }
         ensures world { IfOk result (λ log. F.is_honest log.segment.folder → shown F.disk log world_name ≡ Some world.now) }
         ensures any_moment { IfOk result (λ log. F.is_honest log.segment.folder
-            → LeavesOnly (F.disk folder) (F.disk log.segment.folder) (Holds world.now (read_state reading) reading.text.items)) }
+            → LeavesOnly (F.disk folder) (F.disk log.segment.folder) (HasLog world.now (read_state reading) reading.text.items)) }
         ensures any_moment_err { IfErr result (λ e. F.is_honest e.1
-            → LeavesOnly (F.disk folder) (F.disk e.1) (Holds world.now (read_state reading) reading.text.items)) }
+            → LeavesOnly (F.disk folder) (F.disk e.1) (HasLog world.now (read_state reading) reading.text.items)) }
         ensures honest { IfOk result (λ log. F.is_honest log.segment.folder → F.is_honest folder) }
         ensures honest_err { IfErr result (λ e. F.is_honest e.1 → F.is_honest folder) }
         ensures cause { IfErr result (λ e. FaultCause (F.faults folder) (F.faults e.1) e.0) }
@@ -112,9 +112,9 @@ fn prepare<F: Folder>(
     requires rest { F.is_honest folder.old → IsAtRest (F.disk folder.old) }
     requires read { F.is_honest folder.old → Reads world.now (seen (F.disk folder.old)) reading.now }
     ensures rest { F.is_honest folder.new → OnOk result (IsAtRest (F.disk folder.new)) }
-    ensures ready { F.is_honest folder.new → IfOk result (λ name. IsReady world.now (seen (F.disk folder.new)) reading.now (string_bytes name)) }
+    ensures ready { F.is_honest folder.new → IfOk result (λ name. IsReadyToOpen world.now (seen (F.disk folder.new)) reading.now (string_bytes name)) }
     ensures any_moment { F.is_honest folder.new
-        → LeavesOnly (F.disk folder.old) (F.disk folder.new) (Holds world.now (read_state reading.now) reading.now.text.items) }
+        → LeavesOnly (F.disk folder.old) (F.disk folder.new) (HasLog world.now (read_state reading.now) reading.now.text.items) }
     ensures honest { F.is_honest folder.new → F.is_honest folder.old }
     ensures cause { ReadAllCause (F.faults folder.old) (F.faults folder.new) result }
 {
@@ -142,7 +142,7 @@ fn settle_world<F: Folder>(folder: &mut F, has_world: bool, world: &[u8]) -> Res
     ensures rest { F.is_honest folder.new → OnOk result (IsAtRest (F.disk folder.new)) }
     ensures put { F.is_honest folder.new
         → OnOk result (IsFresh world.now (seen (F.disk folder.new)) × (seen (F.disk folder.new) world_name ≡ Some world.now)) }
-    ensures any_moment { F.is_honest folder.new → LeavesOnly (F.disk folder.old) (F.disk folder.new) (Holds world.now no_state []) }
+    ensures any_moment { F.is_honest folder.new → LeavesOnly (F.disk folder.old) (F.disk folder.new) (HasLog world.now no_state []) }
     ensures honest { F.is_honest folder.new → F.is_honest folder.old }
     ensures cause { ReadAllCause (F.faults folder.old) (F.faults folder.new) result }
 {
@@ -159,7 +159,7 @@ fn put_world<F: Folder>(folder: &mut F, world: &[u8]) -> Result<(), FileFault>
     ensures rest { F.is_honest folder.new → OnOk result (IsAtRest (F.disk folder.new)) }
     ensures put { F.is_honest folder.new
         → OnOk result (IsFresh world.now (seen (F.disk folder.new)) × (seen (F.disk folder.new) world_name ≡ Some world.now)) }
-    ensures any_moment { F.is_honest folder.new → LeavesOnly (F.disk folder.old) (F.disk folder.new) (Holds world.now no_state []) }
+    ensures any_moment { F.is_honest folder.new → LeavesOnly (F.disk folder.old) (F.disk folder.new) (HasLog world.now no_state []) }
     ensures honest { F.is_honest folder.new → F.is_honest folder.old }
     ensures cause { ReadAllCause (F.faults folder.old) (F.faults folder.new) result }
 {
@@ -178,8 +178,8 @@ fn keep_rest<F: Folder>(
     ensures rest { F.is_honest folder.new → OnOk result (IsAtRest (F.disk folder.new)) }
     ensures same { F.is_honest folder.new → OnOk result (SameLog (seen (F.disk folder.new)) (seen (F.disk folder.old))) }
     ensures any_moment { F.is_honest folder.new → (world : List ℕ) → (state : StateFile) → (text : List ℕ)
-        → Holds world state text (seen (F.disk folder.old))
-        → LeavesOnly (F.disk folder.old) (F.disk folder.new) (Holds world state text) }
+        → HasLog world state text (seen (F.disk folder.old))
+        → LeavesOnly (F.disk folder.old) (F.disk folder.new) (HasLog world state text) }
     ensures honest { F.is_honest folder.new → F.is_honest folder.old }
     ensures cause { ReadAllCause (F.faults folder.old) (F.faults folder.new) result }
 {

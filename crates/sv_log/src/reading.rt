@@ -5,7 +5,7 @@ ghost use Rattle.sv_log.specs.Reads.{Lists};
 ghost use Rattle.sv_log.specs.Names.{IsNumber, IsWrongName, Tells, file_name, segment_name, world_name};
 ghost use Rattle.sv_log.specs.declared.names.FileKind.TheVariants as file;
 ghost use Rattle.sv_log.specs.Chains.{IsNewest, IsWellNamed, state_at};
-ghost use Rattle.sv_log.specs.Readings.{Reads, HasWorld, HasSome, IsFirst, IsOther, Looks, IsNothing};
+ghost use Rattle.sv_log.specs.Readings.{Reads, HasWorld, HasSome, IsFirstNumber, IsOther, Looks, IsNothing};
 ghost use Rattle.sv_log.specs.Refusals.{RefusalCause, IsCauseOf, IsWhy, HasNoLog};
 ghost use Rattle.sv_log.specs.declared.reading.Cause.TheVariants as causes;
 
@@ -39,7 +39,7 @@ pub enum Cause {
 
 /// A refusal. `line` counts from 1, and is 0 where the whole file is at fault.
 #[derive(Drop)]
-pub struct Refusal {
+pub struct LogRefusal {
     pub file: String,
     pub line: u64,
     pub cause: Cause,
@@ -78,7 +78,11 @@ struct Newest {
 /// A folder that holds a log of this world is not refused, unless the disk fails or memory is wanting. What stands in the lines is judged by
 /// the caller.
 #[tactic(auto, using(crate::proofs::Walked::fault_count, crate::proofs::Walked::calm_count, crate::proofs::Walked::fault_why))]
-pub fn read_log<F: Folder>(alloc: Global, folder: &mut F, world: &[u8]) -> Result<Reading, Refusal>
+pub fn read_log<F: Folder>(
+    alloc: Global,
+    folder: &mut F,
+    world: &[u8],
+) -> Result<Reading, LogRefusal>
     ensures reads { F.is_honest folder.new → IfOk result (λ r. Reads world.now (seen (F.disk folder.old)) r) }
     ensures refused { F.is_honest folder.new → IfErr result (λ r. IsWhy (HasNoLog world.now (seen (F.disk folder.old))) r.cause) }
     ensures same { F.disk folder.new ≡ F.disk folder.old }
@@ -101,7 +105,7 @@ fn read_named<F: Folder>(
     folder: &mut F,
     names: &[String],
     world: &[u8],
-) -> Result<Reading, Refusal>
+) -> Result<Reading, LogRefusal>
     requires listed { F.is_honest folder.old → Lists (seen (F.disk folder.old)) (map string_bytes names.now) }
     requires named { F.is_honest folder.old → IsWellNamed (seen (F.disk folder.old)) }
     ensures reads { F.is_honest folder.new → IfOk result (λ r. Reads world.now (seen (F.disk folder.old)) r) }
@@ -132,7 +136,7 @@ fn read_named<F: Folder>(
 
 // Whether there is neither a state nor a segment.
 fn has_nothing(names: &[String], state: u64) -> bool
-    ensures { MatchBool result ((state ≡ 0) × IsFirst file.Segment (map string_bytes names.now) 1 None) (HasSome (map string_bytes names.now) state) }
+    ensures { MatchBool result ((state ≡ 0) × IsFirstNumber file.Segment (map string_bytes names.now) 1 None) (HasSome (map string_bytes names.now) state) }
 {
     if state > 0 {
         return false;
@@ -164,7 +168,7 @@ fn check_world<F: Folder>(
     folder: &mut F,
     names: &[String],
     world: &[u8],
-) -> Result<bool, Refusal>
+) -> Result<bool, LogRefusal>
     requires listed { F.is_honest folder.old → Lists (seen (F.disk folder.old)) (map string_bytes names.now) }
     ensures world { F.is_honest folder.new → IfOk result (λ r. HasWorld (seen (F.disk folder.old) world_name) world.now r) }
     ensures refused { F.is_honest folder.new → IfErr result (λ r. IsWhy (HasNoLog world.now (seen (F.disk folder.old))) r.cause) }
@@ -202,7 +206,7 @@ fn newest_state<F: Folder>(
     alloc: Global,
     folder: &mut F,
     names: &[String],
-) -> Result<Newest, Refusal>
+) -> Result<Newest, LogRefusal>
     requires listed { F.is_honest folder.old → Lists (seen (F.disk folder.old)) (map string_bytes names.now) }
     ensures newest { F.is_honest folder.new → IfOk result (λ n. IsNewest (seen (F.disk folder.old)) n.state) }
     ensures refused { F.is_honest folder.new → IfErr result (λ r. (world : List ℕ) → IsWhy (HasNoLog world (seen (F.disk folder.old))) r.cause) }
@@ -227,7 +231,7 @@ fn newest_state<F: Folder>(
 }
 
 // There is a whole state, or no state.
-fn whole_or_none(alloc: Global, newest: Newest) -> Result<Newest, Refusal>
+fn whole_or_none(alloc: Global, newest: Newest) -> Result<Newest, LogRefusal>
     ensures ok { IfOk result (λ n. (n ≡ newest) × (newest.state ≡ 0 → newest.seen ≡ 0)) }
     ensures err { IfErr result (λ r. (newest.state ≡ 0) × (0 < newest.seen)) }
     ensures cause { IfErr result (λ r. r.cause ≢ causes.Failed) }
@@ -245,7 +249,7 @@ fn look_at<F: Folder>(
     folder: &mut F,
     newest: &mut Newest,
     number: u64,
-) -> Result<(), Refusal>
+) -> Result<(), LogRefusal>
     requires number { 0 < number }
     ensures looks { F.is_honest folder.new → OnOk result (Looks (seen (F.disk folder.old)) newest.old.state newest.new.state number) }
     ensures bytes { F.is_honest folder.new → OnOk result (newest.old.bytes.items ≡ state_at (seen (F.disk folder.old)) newest.old.state
@@ -276,17 +280,17 @@ fn look_at<F: Folder>(
 }
 
 /// A refusal of a file.
-pub(crate) fn refuse(alloc: Global, file: &str, line: u64, cause: Cause) -> Refusal
+pub(crate) fn refuse(alloc: Global, file: &str, line: u64, cause: Cause) -> LogRefusal
     ensures { result.cause ≡ cause }
 {
     let file = match String::from_str(alloc, file) {
         Ok(file) => file,
         Err(_) => String::new(alloc),
     };
-    Refusal { file, line, cause }
+    LogRefusal { file, line, cause }
 }
 
-pub(crate) fn refuse_fault(alloc: Global, file: &str, fault: FileFault) -> Refusal
+pub(crate) fn refuse_fault(alloc: Global, file: &str, fault: FileFault) -> LogRefusal
     ensures { IsCauseOf fault result.cause }
 {
     match fault {
@@ -302,7 +306,7 @@ pub(crate) fn refuse_file(
     number: u64,
     line: u64,
     cause: Cause,
-) -> Refusal
+) -> LogRefusal
     requires { cause ≢ causes.Failed }
     ensures { result.cause ≢ causes.Failed }
 {
@@ -346,7 +350,7 @@ fn is_wrong(kind: NameKind) -> bool
 
 /// The first number from `least` on of such a file.
 pub(crate) fn first_from(names: &[String], wanted: FileKind, least: u64) -> Option<u64>
-    ensures { IsFirst wanted (map string_bytes names.now) least result }
+    ensures { IsFirstNumber wanted (map string_bytes names.now) least result }
 {
     let mut best = None;
     for i in 0..names.len() {
@@ -391,9 +395,9 @@ fn state_number(kind: NameKind) -> Option<u64>
 
 // The first number from `least` on, where one name more has this number, and the first one was `best` without it.
 fn nearer(best: Option<u64>, wanted: FileKind, least: u64, number: Option<u64>) -> Option<u64>
-    ensures { (names : List (List ℕ)) → (name : List ℕ) → IsFirst wanted names least best
+    ensures { (names : List (List ℕ)) → (name : List ℕ) → IsFirstNumber wanted names least best
         → MatchOption number (IsOther wanted name) (λ n. IsNumber n × (name ≡ file_name wanted n))
-        → IsFirst wanted (names ++ name ∷ []) least result }
+        → IsFirstNumber wanted (names ++ name ∷ []) least result }
 {
     let Some(number) = number else {
         return best;

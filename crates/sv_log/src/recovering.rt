@@ -4,14 +4,14 @@ ghost use Rattle.sv_log.specs.Pictures.{seen};
 ghost use Rattle.sv_log.specs.Crashes.{LeavesOnly};
 ghost use Rattle.sv_log.specs.Logs.{HasSizes};
 ghost use Rattle.sv_log.specs.Rests.{IsAtRest};
-ghost use Rattle.sv_log.specs.Chains.{StateFile, Keeps};
+ghost use Rattle.sv_log.specs.Chains.{StateFile, KeepsLog};
 ghost use Rattle.sv_log.specs.OpenLogs.{IsOpenLog};
 ghost use Rattle.sv_log.specs.Refusals.{CauseCount, IsWhy, HasNoLog};
 ghost use Rattle.sv_log.specs.Recoveries.{Recovers, HasFailed};
 
 use super::folder::Folder;
 use super::log::Log;
-use super::reading::{Refusal, read_log, refuse_fault};
+use super::reading::{LogRefusal, read_log, refuse_fault};
 use std::alloc::Global;
 
 /// Opens the log of a folder: reads it, mends what a crash left, and opens it.
@@ -23,9 +23,9 @@ pub fn open_log<F: Folder>(
     mut folder: F,
     world: &[u8],
     spare: usize,
-) -> Result<Log<F>, (Refusal, F)>
+) -> Result<Log<F>, (LogRefusal, F)>
     requires rest { F.is_honest folder → IsAtRest (F.disk folder) }
-    ensures recovers { (state : StateFile) → (low high : List ℕ) → (F.is_honest folder → Keeps world.now state low high (seen (F.disk folder)))
+    ensures recovers { (state : StateFile) → (low high : List ℕ) → (F.is_honest folder → KeepsLog world.now state low high (seen (F.disk folder)))
         → MatchResult result
         (λ log. F.is_honest log.segment.folder → Recovers F.disk (F.disk folder) log world.now state low high)
         (λ e. F.is_honest e.1 → HasFailed (F.disk folder) (F.disk e.1) e.0 world.now state low high) }

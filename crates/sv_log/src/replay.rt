@@ -4,7 +4,7 @@ ghost use Rattle.sv_bytes.specs.Stored.{contents_of};
 ghost use Rattle.sv_log.specs.Pictures.{Picture, after, seen_after, over, zeros};
 ghost use Rattle.sv_log.specs.Memory.{call_of, latest_first, earlier_name, bytes_in};
 
-use super::calls::{Asked, Kept};
+use super::calls::{AskedCall, KeptCall};
 use std::alloc::{AllocError, Global};
 use std::marker::Model;
 
@@ -56,11 +56,11 @@ pub(crate) fn find(
 }
 
 // The name that a file had before the call.
-pub(crate) fn name_before<'a>(call: &'a Asked, name: &'a str) -> &'a str
+pub(crate) fn name_before<'a>(call: &'a AskedCall, name: &'a str) -> &'a str
     ensures { result.now ≡ earlier_name (call_of call.now) name.now }
 {
     match call {
-        Asked::Rename(from, to) if name == to.as_str() => from.as_str(),
+        AskedCall::Rename(from, to) if name == to.as_str() => from.as_str(),
         _ => name,
     }
 }
@@ -89,7 +89,7 @@ fn written(alloc: Global, old: &[u8], at: usize, bytes: &[u8]) -> Result<Vec<u8>
 // What a file is after a change of it that was answered Ok, where `old` is what it was.
 pub(crate) fn changed(
     alloc: Global,
-    call: &Asked,
+    call: &AskedCall,
     name: &str,
     old: Option<Vec<u8>>,
 ) -> Result<Option<Vec<u8>>, AllocError>
@@ -97,31 +97,31 @@ pub(crate) fn changed(
         → bytes_in file ≡ after (call_of call.now) p name.now) }
 {
     match call {
-        Asked::Make(of, size) if name == of.as_str() => {
+        AskedCall::Make(of, size) if name == of.as_str() => {
             let mut bytes = Vec::new(alloc);
             grown(&mut bytes, *size)?;
             Ok(Some(bytes))
         }
-        Asked::Grow(of, size) if name == of.as_str() => match old {
+        AskedCall::Grow(of, size) if name == of.as_str() => match old {
             Some(mut bytes) => {
                 grown(&mut bytes, *size)?;
                 Ok(Some(bytes))
             }
             None => Ok(None),
         },
-        Asked::Write(of, at, bytes) if name == of.as_str() => match old {
+        AskedCall::Write(of, at, bytes) if name == of.as_str() => match old {
             Some(old) => Ok(Some(written(alloc, &old, *at, bytes)?)),
             None => Ok(None),
         },
-        Asked::Cut(of, size) if name == of.as_str() => match old {
+        AskedCall::Truncate(of, size) if name == of.as_str() => match old {
             Some(mut bytes) => {
                 bytes.truncate(*size);
                 Ok(Some(bytes))
             }
             None => Ok(None),
         },
-        Asked::Rename(from, to) if name == from.as_str() && name != to.as_str() => Ok(None),
-        Asked::Remove(of) if name == of.as_str() => Ok(None),
+        AskedCall::Rename(from, to) if name == from.as_str() && name != to.as_str() => Ok(None),
+        AskedCall::Remove(of) if name == of.as_str() => Ok(None),
         _ => Ok(old),
     }
 }
@@ -130,7 +130,7 @@ pub(crate) fn changed(
 pub(crate) fn bytes_after(
     alloc: Global,
     start: &[Stored],
-    calls: &[Kept],
+    calls: &[KeptCall],
     count: usize,
     name: &str,
 ) -> Result<Option<Vec<u8>>, AllocError>

@@ -5,7 +5,7 @@ ghost use Rattle.sv_log.specs.Pictures.{seen};
 ghost use Rattle.sv_log.specs.Crashes.{LeavesOnly, SameBut};
 ghost use Rattle.sv_log.specs.Texts.{whole_in};
 ghost use Rattle.sv_log.specs.Rests.{IsAtRest, Tells, Mends};
-ghost use Rattle.sv_log.specs.Logs.{HasSizes, IsOpen, Stands, appended, synced};
+ghost use Rattle.sv_log.specs.Logs.{HasSizes, IsOpen, LogStands, appended, synced};
 ghost use Rattle.sv_log.specs.Causes.{FaultCause};
 
 use super::folder::Folder;
@@ -42,7 +42,7 @@ pub fn read_file<F: Folder>(alloc: Global, folder: &mut F, name: &str) -> Result
 pub fn make_synced<F: Folder>(folder: &mut F, name: &str, size: usize) -> Result<(), FileFault>
     requires rest { F.is_honest folder.old → IsAtRest (F.disk folder.old) }
     requires none { F.is_honest folder.old → seen (F.disk folder.old) name.now ≡ None }
-    ensures stands { F.is_honest folder.new → OnOk result (Stands (F.disk folder.new) name.now [] [] size) }
+    ensures stands { F.is_honest folder.new → OnOk result (LogStands (F.disk folder.new) name.now [] [] size) }
     ensures rest { F.is_honest folder.new → OnOk result (IsAtRest (F.disk folder.new)) }
     ensures others { F.is_honest folder.new → OnOk result (SameBut name.now (seen (F.disk folder.new)) (seen (F.disk folder.old))) }
     ensures any_moment { F.is_honest folder.new → LeavesOnly (F.disk folder.old) (F.disk folder.new) (Tells (seen (F.disk folder.old)) name.now []) }

@@ -1,6 +1,6 @@
 //! The states of a log, which have the sum of their bytes.
 ghost use Rattle.std.specs.Prelude.{◌≡◌, ◌↔◌, Some, IfOk, IsTrue, string_bytes};
-ghost use Rattle.sv_log.specs.Chains.{IsWhole, sum_line};
+ghost use Rattle.sv_log.specs.Chains.{IsWholeState, sum_line};
 
 use sha2::{Digest, Sha256};
 use std::alloc::{AllocError, Global};
@@ -18,7 +18,7 @@ pub fn sum_line(alloc: Global, bytes: &[u8]) -> Result<String, AllocError>
 
 /// Whether these are the bytes of a state whose sum is right.
 pub fn is_whole(alloc: Global, bytes: &[u8]) -> Result<bool, AllocError>
-    ensures { IfOk result (λ b. IsTrue b ↔ IsWhole (Some bytes.now)) }
+    ensures { IfOk result (λ b. IsTrue b ↔ IsWholeState (Some bytes.now)) }
 {
     if bytes.len() < SUM_LINE {
         return Ok(false);

@@ -13,14 +13,14 @@ use super::folder::Folder;
 use super::log::line_count;
 use super::mending::text_length;
 use super::names::{FileKind, segment_name};
-use super::reading::{Cause, Refusal, first_from, is_listed, refuse, refuse_fault, refuse_file};
+use super::reading::{Cause, LogRefusal, first_from, is_listed, refuse, refuse_fault, refuse_file};
 use super::starting::read_file;
 use std::alloc::{AllocError, Global};
 use sv_bytes::FileFault;
 
 /// How far the segments were read.
 #[derive(Drop)]
-pub struct Walk {
+pub struct SegmentWalk {
     /// The numbers of the segments that were read, but for the last one.
     pub closed: Vec<u64>,
     /// Their text, and that of the last one once it was read.
@@ -38,7 +38,7 @@ pub fn read_segments<F: Folder>(
     folder: &mut F,
     names: &[String],
     first: u64,
-) -> Result<Walk, Refusal>
+) -> Result<SegmentWalk, LogRefusal>
     requires listed { F.is_honest folder.old → Lists (seen (F.disk folder.old)) (map string_bytes names.now) }
     ensures arrived { F.is_honest folder.new → IfOk result (λ w. HasArrived (seen (F.disk folder.old)) first w) }
     ensures refused { F.is_honest folder.new → IfErr result (λ r. IsWhy (HasNoChain (seen (F.disk folder.old)) first) r.cause) }
@@ -59,7 +59,7 @@ fn walk_from<F: Folder>(
     folder: &mut F,
     names: &[String],
     first: u64,
-) -> Result<Walk, Refusal>
+) -> Result<SegmentWalk, LogRefusal>
     requires listed { F.is_honest folder.old → Lists (seen (F.disk folder.old)) (map string_bytes names.now) }
     requires there { IsNumber first × Contains (map string_bytes names.now) (segment_name first) }
     ensures arrived { F.is_honest folder.new → IfOk result (λ w. HasArrived (seen (F.disk folder.old)) first w) }
@@ -68,7 +68,7 @@ fn walk_from<F: Folder>(
     ensures honest { F.is_honest folder.new → F.is_honest folder.old }
     ensures cause { RefusalCause (F.faults folder.old) (F.faults folder.new) result }
 {
-    let mut walk = Walk {
+    let mut walk = SegmentWalk {
         closed: Vec::new(alloc),
         text: Vec::new(alloc),
         number: first,
@@ -88,8 +88,8 @@ fn step<F: Folder>(
     alloc: Global,
     folder: &mut F,
     names: &[String],
-    walk: &mut Walk,
-) -> Result<bool, Refusal>
+    walk: &mut SegmentWalk,
+) -> Result<bool, LogRefusal>
     requires listed { F.is_honest folder.old → Lists (seen (F.disk folder.old)) (map string_bytes names.now) }
     requires small { walk.old.number + 1 < 2 ^ 64 }
     ensures way { F.is_honest folder.new → (first : ℕ) → IsOnTheWay (seen (F.disk folder.old)) first walk.old
@@ -128,7 +128,7 @@ fn step<F: Folder>(
 }
 
 // Adds the text of the last segment.
-fn add_last(walk: &mut Walk, bytes: &[u8]) -> Result<(), FileFault>
+fn add_last(walk: &mut SegmentWalk, bytes: &[u8]) -> Result<(), FileFault>
     ensures closed { OnOk result (walk.new.closed ≡ walk.old.closed) }
     ensures number { OnOk result (walk.new.number ≡ walk.old.number) }
     ensures text { OnOk result (walk.new.text.items ≡ walk.old.text.items ++ whole bytes.now) }
@@ -147,7 +147,7 @@ fn add_last(walk: &mut Walk, bytes: &[u8]) -> Result<(), FileFault>
 }
 
 // Adds a segment behind which another one follows.
-fn add_closed(walk: &mut Walk, bytes: &[u8], following: u64) -> Result<(), AllocError>
+fn add_closed(walk: &mut SegmentWalk, bytes: &[u8], following: u64) -> Result<(), AllocError>
     ensures closed { OnOk result (walk.new.closed.items ≡ walk.old.closed.items ++ walk.old.number ∷ []) }
     ensures number { OnOk result (walk.new.number ≡ following) }
     ensures text { OnOk result (walk.new.text.items ≡ walk.old.text.items ++ bytes.now) }
@@ -160,7 +160,7 @@ fn add_closed(walk: &mut Walk, bytes: &[u8], following: u64) -> Result<(), Alloc
 }
 
 // What is wrong with a segment behind which another one follows.
-fn closed_fault(alloc: Global, bytes: &[u8], number: u64, following: u64) -> Option<Refusal>
+fn closed_fault(alloc: Global, bytes: &[u8], number: u64, following: u64) -> Option<LogRefusal>
     ensures cause { IfSome result (λ r. r.cause ≢ causes.Failed) }
     ensures leads { MatchOption result (LeadsTo number bytes.now following) (λ r. LeadsTo number bytes.now following → ⊥) }
 {

@@ -31,7 +31,7 @@ use sv_audit::run_check;
 use sv_bytes::{Files, OsFiles, OsSink, Sink};
 use sv_door::TcpDoor;
 use sv_ending::{Ending, status_of, tell};
-use sv_host::{Doors, Folders, Place, run_host};
+use sv_host::{Doors, Folders, HostParts, run_host};
 use sv_join::run_join;
 use sv_link::{OpenGate, TcpNet, ThreadCrew};
 use sv_looks::run_looks;
@@ -133,7 +133,7 @@ fn host_with<R: Wait, D: Doors, S: Folders, C: Times, F: Files, E: Sink>(
 ) -> u8
     ensures words { Knows TopCall.Host (map string_bytes call.now.words.now) result }
 {
-    let mut place = Place {
+    let mut parts = HostParts {
         rt,
         alloc: call.alloc,
         random,
@@ -143,7 +143,7 @@ fn host_with<R: Wait, D: Doors, S: Folders, C: Times, F: Files, E: Sink>(
         files,
         err,
     };
-    run_host(&mut place, call.words)
+    run_host(&mut parts, call.words)
 }
 
 /// The status of `host`, to whoever connects.

@@ -1,9 +1,9 @@
 -- What connections over TCP tell.
-use Rattle.sv_ports.specs.Told.{Told, bytes_of}
+use Rattle.sv_ports.specs.Traffic.{Traffic, bytes_of}
 use Rattle.sv_mio.specs.declared.ports.MioPorts.{MioPorts}
 
 module _ {I : Type 0} where
-  abbrev pub told_of : MioPorts I → Told
+  abbrev pub told_of : MioPorts I → Traffic
   told_of ports =
       record {
         next = ports.next;

@@ -1,6 +1,6 @@
 //! Connections over TCP.
 ghost use Rattle.std.specs.Prelude.{◌≡◌, length, IfOk};
-ghost use Rattle.sv_ports.specs.Told.{nothing_told, Accepts, ReadsSome, WritesSome};
+ghost use Rattle.sv_ports.specs.Traffic.{nothing_told, Accepts, PortReadsSome, WritesSome};
 ghost use Rattle.sv_mio.specs.Answers.{ReadAnswer, WroteAnswer};
 ghost use Rattle.sv_mio.specs.Ports.{told_of};
 
@@ -11,9 +11,10 @@ use mio::{Events, Interest, Poll, Token};
 use std::alloc::Global;
 use std::io::{self, ErrorKind, Read, Write};
 use std::net::{Net, SocketAddr};
+use std::thread;
 use std::time::Duration;
 use sv_bytes::{read_again, write_again};
-use sv_keeper::Settled;
+use sv_keeper::Durable;
 use sv_ports::{Accepted, Numbered, Pieces, PortRead, PortWrote, Ports, Ready, Waited};
 
 const DOOR: Token = Token(usize::MAX);
@@ -28,6 +29,13 @@ const STANDARD_INPUT: i32 = 0;
 
 /// How many events one wait tells.
 const EVENTS: usize = 256;
+
+/// How often a wait looks before it sleeps: some tens of microseconds. Where few players wait for each reply, the next request comes
+/// sooner than a sleeping thread wakes.
+const LOOKS_BEFORE_SLEEP: u32 = 100;
+
+/// Where looking found nothing the last time, one wait in so many looks again.
+const WAITS_FOR_A_LOOK: u64 = 16;
 
 /// A connection's stream.
 #[derive(Drop)]
@@ -49,6 +57,8 @@ pub struct MioPorts<I: Read + Drop> {
     next: u64,
     /// How many waits there were, from 1 up.
     waits: u64,
+    /// The last looking found something.
+    looks_pay: bool,
     input: Option<I>,
     /// The input is a file, which is always ready.
     input_is_file: bool,
@@ -88,6 +98,7 @@ impl<I: Read + Drop> MioPorts<I> {
             connections: Numbered::new(alloc),
             next: 0,
             waits: 1,
+            looks_pay: false,
             input,
             input_is_file,
             written: Pieces::new(),
@@ -100,6 +111,34 @@ impl<I: Read + Drop> MioPorts<I> {
     /// Where it listens.
     pub fn address(&self) -> io::Result<SocketAddr> {
         self.door.local_addr()
+    }
+
+    // Looks for what is ready, without sleep. Others may run between two looks.
+    fn look(&mut self) -> io::Result<bool>
+        ensures { told_of self.new ≡ told_of self.old }
+    {
+        for _ in 0..LOOKS_BEFORE_SLEEP {
+            self.poll.poll(&mut self.events, Some(Duration::ZERO))?;
+            if !self.events.is_empty() {
+                return Ok(true);
+            }
+            thread::yield_now();
+        }
+        Ok(false)
+    }
+
+    // Waits until something is ready, or for so many milliseconds. It looks before it sleeps, where that found something the last time.
+    fn wait_for_events(&mut self, limit: u64) -> io::Result<()>
+        ensures { told_of self.new ≡ told_of self.old }
+    {
+        if limit > 0 && (self.looks_pay || self.waits % WAITS_FOR_A_LOOK == 0) {
+            self.looks_pay = self.look()?;
+            if self.looks_pay {
+                return Ok(());
+            }
+        }
+        self.poll
+            .poll(&mut self.events, Some(Duration::from_millis(limit)))
     }
 
     // Tells what is ready.
@@ -201,7 +240,7 @@ fn wrote_of(answer: io::Result<usize>) -> PortWrote
 }
 
 fn read_from<R: Read>(reader: &mut R, into: &mut [u8]) -> PortRead
-    ensures { ReadsSome (length into.new) result }
+    ensures { PortReadsSome (length into.new) result }
 {
     if into.is_empty() {
         return PortRead::NotYet;
@@ -229,10 +268,7 @@ impl<I: Read + Drop> Ports for MioPorts<I> {
     fn wait(&mut self, limit: u64, ready: &mut Ready) -> Waited {
         self.waits = self.waits.wrapping_add(1);
         let limit = if self.input_is_file { 0 } else { limit };
-        match self
-            .poll
-            .poll(&mut self.events, Some(Duration::from_millis(limit)))
-        {
+        match self.wait_for_events(limit) {
             Ok(()) => {
                 note_stops(&self.events, &mut self.connections);
                 self.tell(ready)
@@ -266,7 +302,7 @@ impl<I: Read + Drop> Ports for MioPorts<I> {
         answer
     }
 
-    fn write(&mut self, number: u64, piece: &[u8], _settled: &Settled<'_>) -> PortWrote {
+    fn write(&mut self, number: u64, piece: &[u8], _durable: &Durable<'_>) -> PortWrote {
         let Some(connection) = self.connections.get(number) else {
             return PortWrote::Failed;
         };

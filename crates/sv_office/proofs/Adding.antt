@@ -4,7 +4,7 @@ use Rattle.sv_journal.specs.declared.entry.Entry.{Entry}
 use Rattle.sv_core.specs.Rows.{has_entry}
 use Rattle.sv_living.specs.World.{WorldView}
 use Rattle.sv_office.specs.Entering.{AreAdded, GrowsBy, GoesOn, AsksIn, KeepsOwn}
-use Rattle.sv_office.specs.Trusting.{IsAuthority, IsSerial, StaysSerial}
+use Rattle.sv_office.specs.Trusting.{IsAuthority, IsSerialWorld, StaysSerial}
 
 any_more : (b : Bool) → (b || true) ≡ true
 any_more true = refl
@@ -20,7 +20,7 @@ added_then first (AreAdded.one before m) = AreAdded.one (added_then first before
 
 -- What is serial stays so, in one call after the other.
 pub serial_same : {v w : WorldView} → w ≡ v → StaysSerial v w
-serial_same same authority is = subst IsSerial (sym same) is
+serial_same same authority is = subst IsSerialWorld (sym same) is
 
 pub serial_then : {u v w : WorldView} → v.stewardship ≡ u.stewardship → StaysSerial u v → StaysSerial v w → StaysSerial u w
 serial_then same first next authority is = next (subst IsAuthority (sym same) authority) (first authority is)

@@ -6,11 +6,11 @@ use Rattle.sv_wire.specs.declared.message.Request.TheVariants as requests
 use Rattle.sv_wire.specs.declared.message.Reply.{Reply}
 use Rattle.sv_journal.specs.declared.entry.Entry.{Entry}
 use Rattle.sv_journal.specs.Sessions.{is_end}
-use Rattle.sv_living.specs.Quiet.{IsQuiet}
+use Rattle.sv_living.specs.Quiet.{IsQuietReply}
 use Rattle.sv_living.specs.World.{WorldView}
 use Rattle.sv_keys.specs.Keeping.{KeysView}
 use Rattle.sv_office.specs.Admitting.{is_admitted, is_observe}
-use Rattle.sv_office.specs.Entering.{GoesOn, KeepsOwn, AsksIn, IsEntry, IsEndOf, Follows, CameOf, CameOfHeld, CameOfAsking}
+use Rattle.sv_office.specs.Entering.{GoesOn, KeepsOwn, AsksIn, IsEntryOf, IsEndOf, Follows, CameOf, CameOfHeld, CameOfAsking}
 use Rattle.sv_office.specs.Telling.{WouldShowNothing}
 use Rattle.sv_office.specs.declared.guest.Guest.{Guest}
 use Rattle.sv_office.proofs.Adding.{goes_as, goes_then}
@@ -19,7 +19,7 @@ use Rattle.sv_office.proofs.Entered.{asks_entered}
 
 -- An answer that shows nothing is a message.
 pub quiet_message : (v : WorldView) (guest : Guest) (request : Request) (reply : Reply)
-    → ((s : ℕ) (q : Request) (r : Reply) → IsQuiet v.rules v.stewardship v.history s q (Some r) → IsWireReply r) → WouldShowNothing v guest request reply
+    → ((s : ℕ) (q : Request) (r : Reply) → IsQuietReply v.rules v.stewardship v.history s q (Some r) → IsWireReply r) → WouldShowNothing v guest request reply
     → IsWireReply reply
 quiet_message v guest request reply all (observe, (s, has, quiet)) = all s request reply quiet
 
@@ -31,7 +31,7 @@ pub asking_kept : (h : List Entry) {mine after : Option ℕ} (s : ℕ) → AsksI
 asking_kept h {mine} s asks has t is = subst (λ (u : ℕ). AsksIn h mine u) (one (sym has ∙ is)) asks
 
 -- The request was entered, or nothing.
-pub entered_came : {v w : WorldView} (steward mine : Option ℕ) (s : ℕ) (request : Request) → AsksIn v.history mine s → GoesOn (IsEntry s request) v w
+pub entered_came : {v w : WorldView} (steward mine : Option ℕ) (s : ℕ) (request : Request) → AsksIn v.history mine s → GoesOn (IsEntryOf s request) v w
     → GoesOn (CameOf v.history steward mine request) v w
 entered_came {v} steward mine s request asks on = goes_as (λ e is. inr (asks_entered v.history mine s request asks e is, inr is.1)) on
 
@@ -40,7 +40,7 @@ ended_came steward mine request on = goes_as (λ e is. inr (inl is.0, inl is.1))
 
 -- The request was entered, and what follows its reply came.
 pub followed_came : {v mid w : WorldView} (steward mine now : Option ℕ) (s : ℕ) (request : Request) → AsksIn v.history mine s → now ≡ Some s
-    → GoesOn (IsEntry s request) v mid → GoesOn (Follows steward now) mid w → GoesOn (CameOf v.history steward mine request) v w
+    → GoesOn (IsEntryOf s request) v mid → GoesOn (Follows steward now) mid w → GoesOn (CameOf v.history steward mine request) v w
 followed_came {v} steward mine now s request asks has on more = goes_then (entered_came steward mine s request asks on) (goes_as all more)
   where
     all : (e : Entry) → Follows steward now e → CameOf v.history steward mine request e

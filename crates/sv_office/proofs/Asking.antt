@@ -9,14 +9,14 @@ use Rattle.sv_living.specs.World.{WorldView}
 use Rattle.sv_keys.specs.Keeping.{KeysView}
 use Rattle.sv_office.specs.Admitting.{is_admitted, is_observe, is_stewards_number, number_in, shows_key}
 use Rattle.sv_office.specs.Entering.{AreAdded, AsksIn, KeepsOwn, IsEndOf, IsGuests, Follows, CameOf, IsHeldOf, CameOfAsking, CameOfHeld, MayEnter, MayHold}
-use Rattle.sv_office.specs.Offices.{AreApart, HasBegun}
+use Rattle.sv_office.specs.Offices.{IsNotStewards, HasBegun}
 use Rattle.sv_office.specs.declared.guest.Guest.{Guest}
 use Rattle.sv_office.specs.declared.guest.Held.{Held}
 use Rattle.sv_office.proofs.Adding.{asks_before}
 use Rattle.sv_office.proofs.Orders.{apart}
 
 -- The steward's session is none of a connection's.
-pub apart_stays : (v : WorldView) {mine mid steward : Option ℕ} → HasBegun v steward → AreApart mine steward → KeepsOwn v.history mine mid → AreApart mid steward
+pub apart_stays : (v : WorldView) {mine mid steward : Option ℕ} → HasBegun v steward → IsNotStewards mine steward → KeepsOwn v.history mine mid → IsNotStewards mid steward
 apart_stays v {mine} begun away keeps s is stewards = go (keeps s is)
   where
     go : AsksIn v.history mine s → ⊥

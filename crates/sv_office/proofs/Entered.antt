@@ -10,20 +10,20 @@ use Rattle.sv_keeper.specs.Views.{KeeperView}
 use Rattle.sv_keeper.specs.Keeping.{Stepped, WasNotStepped}
 use Rattle.sv_keeper.specs.declared.fault.KeepFault.{KeepFault}
 use Rattle.sv_keeper.specs.declared.fault.KeepFault.TheVariants as faults
-use Rattle.sv_office.specs.Entering.{AreAdded, GrowsBy, IsEntry, WasEntered, AsksIn}
+use Rattle.sv_office.specs.Entering.{AreAdded, GrowsBy, IsEntryOf, WasEntered, AsksIn}
 use Rattle.sv_office.specs.Offices.{IsSound, session_of}
 use Rattle.sv_office.specs.declared.steward.Steward.{Steward}
 use Rattle.sv_office.proofs.Adding.{grows_nowhere, entry_stays}
 
-pub added_one : (v w : WorldView) (s : ℕ) (request : Request) → w ≡ after v s request → GrowsBy (IsEntry s request) v w
-added_one v w s request is = subst (λ (x : WorldView). GrowsBy (IsEntry s request) v x) (sym is)
+pub added_one : (v w : WorldView) (s : ℕ) (request : Request) → w ≡ after v s request → GrowsBy (IsEntryOf s request) v w
+added_one v w s request is = subst (λ (x : WorldView). GrowsBy (IsEntryOf s request) v x) (sym is)
     (record { rules = refl; stewardship = refl; added = AreAdded.one AreAdded.none (refl, refl) })
 
 module _ {F : Type 0} (old new : KeeperView F) (s : ℕ) (request : Request) where
-  same_world : new ≡ old → GrowsBy (IsEntry s request) old.world new.world
+  same_world : new ≡ old → GrowsBy (IsEntryOf s request) old.world new.world
   same_world same = grows_nowhere (ap (λ (k : KeeperView F). k.world) same)
 
-  pub added_err : (fault : KeepFault) → WasNotStepped old new s request fault → GrowsBy (IsEntry s request) old.world new.world
+  pub added_err : (fault : KeepFault) → WasNotStepped old new s request fault → GrowsBy (IsEntryOf s request) old.world new.world
   added_err faults.NotOpen why = same_world why.0
   added_err faults.NoRoom why = same_world why.0
   added_err faults.Memory why = same_world why.0
@@ -47,7 +47,7 @@ module _ {F : Type 0} (old new : KeeperView F) (s : ℕ) (request : Request) whe
   step_same (Err fault) is = same_err fault is
 
   pub step_added : (result : Result Reply KeepFault) → IfOk result (Stepped old new s request) → IfErr result (WasNotStepped old new s request)
-      → GrowsBy (IsEntry s request) old.world new.world
+      → GrowsBy (IsEntryOf s request) old.world new.world
   step_added (Ok reply) ok err = added_one old.world new.world s request ok.world
   step_added (Err fault) ok err = added_err fault err
 
@@ -59,5 +59,5 @@ sound_stays on same s = record {
 }
 
 -- What was entered in the session in which one asks.
-pub asks_entered : (h : List Entry) (mine : Option ℕ) (s : ℕ) (request : Request) → AsksIn h mine s → (e : Entry) → IsEntry s request e → AsksIn h mine e.session
+pub asks_entered : (h : List Entry) (mine : Option ℕ) (s : ℕ) (request : Request) → AsksIn h mine s → (e : Entry) → IsEntryOf s request e → AsksIn h mine e.session
 asks_entered h mine s request asks e is = subst (λ (t : ℕ). AsksIn h mine t) (sym is.0) asks

@@ -14,7 +14,7 @@ use Rattle.sv_client.specs.declared.trace.Event.{Event}
 use Rattle.sv_client.specs.declared.trace.Event.TheVariants as events
 use Rattle.sv_office.specs.Entering.{GrowsBy, WasEntered}
 use Rattle.sv_office.specs.Knowing.{IsAloneIn, IsUpToDate, HasGotAll}
-use Rattle.sv_office.specs.Trusting.{IsLawful, IsSerial}
+use Rattle.sv_office.specs.Trusting.{IsLegalWorld, IsSerialWorld}
 use Rattle.sv_office.specs.declared.steward.Steward.{Steward}
 use Rattle.sv_office.proofs.Knowing.{lacks_entered}
 
@@ -58,9 +58,9 @@ silent_of o x reply is silent = subst (λ (a : Option ℕ). IfSome a (λ (y : �
 
 -- What is reported is serial.
 pub reported_serially : (v : WorldView) (steward : Steward) (o : Option Request) (request : Request) → o ≡ Some request
-    → IfSome o (λ (q : Request). (w : WorldView) → AreWithinLimits w.rules → IsLawful w → IsSerial w → HasGotAll w steward
+    → IfSome o (λ (q : Request). (w : WorldView) → AreWithinLimits w.rules → IsLegalWorld w → IsSerialWorld w → HasGotAll w steward
     → ReportsSerial w.rules.world.values (actions_of w.history) q)
-    → AreWithinLimits v.rules → IsLawful v → IsSerial v → HasGotAll v steward → ReportsSerial v.rules.world.values (actions_of v.history) request
+    → AreWithinLimits v.rules → IsLegalWorld v → IsSerialWorld v → HasGotAll v steward → ReportsSerial v.rules.world.values (actions_of v.history) request
 reported_serially v steward o request is all limits lawful serial got =
-    subst (λ (a : Option Request). IfSome a (λ (q : Request). (w : WorldView) → AreWithinLimits w.rules → IsLawful w → IsSerial w → HasGotAll w steward
+    subst (λ (a : Option Request). IfSome a (λ (q : Request). (w : WorldView) → AreWithinLimits w.rules → IsLegalWorld w → IsSerialWorld w → HasGotAll w steward
     → ReportsSerial w.rules.world.values (actions_of w.history) q)) is all v limits lawful serial got

@@ -3,14 +3,14 @@ use Rattle.std.proofs.Common.{◌≡◌, ◌≢◌, ◌⊎◌, inl, inr, ℕ, Bo
 use Rattle.sv_wire.specs.declared.message.Request.{Request}
 use Rattle.sv_living.specs.World.{WorldView}
 use Rattle.sv_log.specs.declared.folder.Folder.{Ghosts}
-use Rattle.sv_ports.specs.Told.{Told, bytes_of, Reads}
+use Rattle.sv_ports.specs.Traffic.{Traffic, bytes_of, PortReads}
 use Rattle.sv_ports.specs.declared.ports.PortRead.{PortRead}
 use Rattle.sv_ports.specs.declared.ports.PortRead.TheVariants as reads
 use Rattle.sv_ports.proofs.Bytes.{bytes-more, own_more}
 use Rattle.sv_keys.specs.Keeping.{KeysView}
 use Rattle.sv_office.specs.Entering.{GoesOn, AsksInOne, IsEndOf, KeepsOwn, CameOfAsking, MayEnter, MayHold}
 use Rattle.sv_office.specs.Guests.{HasYetToAsk, IsHeardOf, OnlyHeard, Stays}
-use Rattle.sv_office.specs.Offices.{AreApart, session_of}
+use Rattle.sv_office.specs.Offices.{IsNotStewards, session_of}
 use Rattle.sv_office.specs.Turns.{AreLent, IsKnown, ShowsFirst, TakesTurn}
 use Rattle.sv_office.specs.declared.guest.Guest.{Guest}
 use Rattle.sv_office.specs.declared.guest.Held.{Held}
@@ -58,38 +58,38 @@ unspoken_before false b f off = refl
 
 module _ {F : Type 0} {k : Ghosts F} where
   pub turn_nowhere : (a b : Office F k) (guest next : Guest) → b.keeper.world ≡ a.keeper.world → next.session ≡ guest.session → session_of b.steward ≡ session_of a.steward
-      → b.manners ≡ a.manners → b.keys ≡ a.keys → next.key ≡ guest.key → next.has_spoken ≡ guest.has_spoken → (next.held ≡ guest.held) ⊎ (next.held ≡ None)
+      → b.policy ≡ a.policy → b.keys ≡ a.keys → next.key ≡ guest.key → next.has_spoken ≡ guest.has_spoken → (next.held ≡ guest.held) ⊎ (next.held ≡ None)
       → TakesTurn a b guest next
-  turn_nowhere a b guest next world session steward manners keys key spoken held = record {
+  turn_nowhere a b guest next world session steward policy keys key spoken held = record {
     added = goes_nowhere world;
     unspoken = λ off other shown. goes_nowhere world;
     asked = one_nowhere (ap (λ (x : WorldView). x.history) world) session;
     shown = shows_same keys key spoken;
     held = holds_still keys key held;
     steward = steward;
-    manners = manners;
+    policy = policy;
   }
 
   -- The keys were looked at.
   pub turn_looked : (a b : Office F k) (guest next : Guest) → b.keeper.world ≡ a.keeper.world → next.session ≡ guest.session → session_of b.steward ≡ session_of a.steward
-      → b.manners ≡ a.manners → guest.has_spoken ≡ false → (next.key ≡ guest.key) ⊎ ((next.has_spoken ≡ true) × IsKnown b.keys next.key)
+      → b.policy ≡ a.policy → guest.has_spoken ≡ false → (next.key ≡ guest.key) ⊎ ((next.has_spoken ≡ true) × IsKnown b.keys next.key)
       → (MayHold a.keys guest.key guest.held → MayHold b.keys next.key next.held) → TakesTurn a b guest next
-  turn_looked a b guest next world session steward manners silent known held = record {
+  turn_looked a b guest next world session steward policy silent known held = record {
     added = goes_nowhere world;
     unspoken = λ off other shown. goes_nowhere world;
     asked = one_nowhere (ap (λ (x : WorldView). x.history) world) session;
     shown = record { spoken = λ is. absurd (clash is silent); keys = λ is. absurd (clash is silent); key = λ is. absurd (clash is silent); known = known };
     held = held;
     steward = steward;
-    manners = manners;
+    policy = policy;
   }
 
   -- It was asked something.
   pub turn_asked : (a b : Office F k) (guest next : Guest) (request : Request)
       → GoesOn (CameOfAsking a.keeper.world.history (session_of a.steward) a.keys guest request) a.keeper.world b.keeper.world
       → AsksInOne (session_of a.steward) guest.session next.session a.keeper.world.history b.keeper.world.history → session_of b.steward ≡ session_of a.steward
-      → b.manners ≡ a.manners → b.keys ≡ a.keys → next.key ≡ guest.key → next.has_spoken ≡ true → MayHold a.keys guest.key next.held → TakesTurn a b guest next
-  turn_asked a b guest next request on asked steward manners keys key spoke may = record {
+      → b.policy ≡ a.policy → b.keys ≡ a.keys → next.key ≡ guest.key → next.has_spoken ≡ true → MayHold a.keys guest.key next.held → TakesTurn a b guest next
+  turn_asked a b guest next request on asked steward policy keys key spoke may = record {
     added = may_with a.keys b.keys guest.key next.key keys key (goes_as (asked_may a.keeper.world.history (session_of a.steward) a.keys guest request) on);
     unspoken = λ off. absurd (clash spoke off);
     asked = asked;
@@ -97,7 +97,7 @@ module _ {F : Type 0} {k : Ghosts F} where
     held = λ before. subst (λ (o : Option KeysView). MayHold o next.key next.held) (sym keys)
         (subst (λ (o : Option (List ℕ)). MayHold a.keys o next.held) (sym key) may);
     steward = steward;
-    manners = manners;
+    policy = policy;
   }
 
   -- It was answered again, while it was served.
@@ -110,7 +110,7 @@ module _ {F : Type 0} {k : Ghosts F} where
     shown = shows_then first.shown then_this.shown;
     held = λ may. then_this.held (first.held may);
     steward = then_this.steward ∙ first.steward;
-    manners = then_this.manners ∙ first.manners;
+    policy = then_this.policy ∙ first.policy;
   }
     where
       keeps : KeepsOwn a.keeper.world.history guest.session mid.session
@@ -129,15 +129,15 @@ module _ {F : Type 0} {k : Ghosts F} where
 
   -- Then the session that it has by then has its End.
   pub turn_then_ended : (a b c : Office F k) (guest mid next : Guest) → TakesTurn a b guest mid → GoesOn (IsEndOf mid.session) b.keeper.world c.keeper.world
-      → next.session ≡ None → session_of c.steward ≡ session_of b.steward → c.manners ≡ b.manners → c.keys ≡ b.keys → Stays mid next → TakesTurn a c guest next
-  turn_then_ended a b c guest mid next turn on none steward manners keys stays = record {
+      → next.session ≡ None → session_of c.steward ≡ session_of b.steward → c.policy ≡ b.policy → c.keys ≡ b.keys → Stays mid next → TakesTurn a c guest next
+  turn_then_ended a b c guest mid next turn on none steward policy keys stays = record {
     added = may_then_ended c.keys next.key keeps (may_with b.keys c.keys mid.key next.key keys stays.key turn.added) on;
     unspoken = λ off other shown. may_then_ended other shown keeps (turn.unspoken (sym stays.spoken ∙ off) other shown) on;
     asked = one_then_ended turn.asked on.added none;
     shown = shows_then turn.shown (shows_same keys stays.key stays.spoken);
     held = λ may. holds_still keys stays.key stays.held (turn.held may);
     steward = steward ∙ turn.steward;
-    manners = manners ∙ turn.manners;
+    policy = policy ∙ turn.policy;
   }
     where
       keeps : KeepsOwn a.keeper.world.history guest.session mid.session
@@ -145,9 +145,9 @@ module _ {F : Type 0} {k : Ghosts F} where
 
   -- It has the session still that has its End now.
   pub turn_ended_as : (a b : Office F k) (guest mid next : Guest) → IsHeardOf guest mid → GoesOn (IsEndOf mid.session) a.keeper.world b.keeper.world → next.session ≡ None
-      → session_of b.steward ≡ session_of a.steward → b.manners ≡ a.manners → b.keys ≡ a.keys → Stays mid next → TakesTurn a b guest next
-  turn_ended_as a b guest mid next heard on none steward manners keys stays =
-      turn_then_ended a a b guest mid next (turn_nowhere a a guest mid refl heard.session refl refl refl heard.key heard.spoken heard.held) on none steward manners keys stays
+      → session_of b.steward ≡ session_of a.steward → b.policy ≡ a.policy → b.keys ≡ a.keys → Stays mid next → TakesTurn a b guest next
+  turn_ended_as a b guest mid next heard on none steward policy keys stays =
+      turn_then_ended a a b guest mid next (turn_nowhere a a guest mid refl heard.session refl refl refl heard.key heard.spoken heard.held) on none steward policy keys stays
 
   -- More was heard of it, and then it was answered.
   pub turn_heard : (a b : Office F k) (guest mid next : Guest) → IsHeardOf guest mid → mid.standing ≡ standing.Open → TakesTurn a b mid next → TakesTurn a b guest next
@@ -156,15 +156,15 @@ module _ {F : Type 0} {k : Ghosts F} where
       (λ open_is none. (sym heard.session ∙ none, refl)) lives turn
 
   -- The steward's session is none of the connection's still.
-  pub turn_apart : (a b : Office F k) (guest next : Guest) → TakesTurn a b guest next → AreApart guest.session (session_of a.steward)
-      → AreApart next.session (session_of b.steward)
+  pub turn_apart : (a b : Office F k) (guest next : Guest) → TakesTurn a b guest next → IsNotStewards guest.session (session_of a.steward)
+      → IsNotStewards next.session (session_of b.steward)
   turn_apart a b guest next turn away s has is = apart_stays a.keeper.world a.sound.begun away (keeps_one turn.asked) s has (sym turn.steward ∙ is)
 
-nothing_more : (number : ℕ) (told : Told) → OnlyHeard number told told
+nothing_more : (number : ℕ) (told : Traffic) → OnlyHeard number told told
 nothing_more number told = record { more = []; own = sym (append-nil (bytes_of number told.heard)); others = λ other apart. refl; rest = refl }
 
-pub heard_piece : (number : ℕ) (old new : Told) (piece : List ℕ) → new ≡ record old { heard = old.heard ++ (number, piece) ∷ [] } → OnlyHeard number old new
-heard_piece number old new piece is = subst (λ (told : Told). OnlyHeard number old told) (sym is) (record {
+pub heard_piece : (number : ℕ) (old new : Traffic) (piece : List ℕ) → new ≡ record old { heard = old.heard ++ (number, piece) ∷ [] } → OnlyHeard number old new
+heard_piece number old new piece is = subst (λ (told : Traffic). OnlyHeard number old told) (sym is) (record {
   more = piece;
   own = own_more number old.heard piece;
   others = λ other apart. bytes-more other number old.heard piece
@@ -172,21 +172,21 @@ heard_piece number old new piece is = subst (λ (told : Told). OnlyHeard number 
   rest = refl;
 })
 
-pub heard_nothing : (number : ℕ) (old new : Told) → new ≡ old → OnlyHeard number old new
-heard_nothing number old new same = subst (λ (told : Told). OnlyHeard number old told) (sym same) (nothing_more number old)
+pub heard_nothing : (number : ℕ) (old new : Traffic) → new ≡ old → OnlyHeard number old new
+heard_nothing number old new same = subst (λ (told : Traffic). OnlyHeard number old told) (sym same) (nothing_more number old)
 
-pub reads_heard : (number : ℕ) (old new : Told) (into : List ℕ) (answer : PortRead) → Reads old number into answer new → OnlyHeard number old new
+pub reads_heard : (number : ℕ) (old new : Traffic) (into : List ℕ) (answer : PortRead) → PortReads old number into answer new → OnlyHeard number old new
 reads_heard number old new into (reads.Got n) is = heard_piece number old new (take n into) is.2
 reads_heard number old new into reads.NotYet is = heard_nothing number old new is
 reads_heard number old new into reads.Ended is = heard_nothing number old new is
 reads_heard number old new into reads.Failed is = heard_nothing number old new is
 
-pub heard_then : (number : ℕ) (old mid new : Told) → OnlyHeard number old mid → OnlyHeard number mid new → OnlyHeard number old new
+pub heard_then : (number : ℕ) (old mid new : Traffic) → OnlyHeard number old mid → OnlyHeard number mid new → OnlyHeard number old new
 heard_then number old mid new first next = record {
   more = first.more ++ next.more;
   own = next.own ∙ ap (λ (bytes : List ℕ). bytes ++ next.more) first.own ∙ append_assoc (bytes_of number old.heard) first.more next.more;
   others = λ other apart. next.others other apart ∙ first.others other apart;
-  rest = next.rest ∙ ap (λ (told : Told). record told { heard = new.heard }) first.rest;
+  rest = next.rest ∙ ap (λ (told : Traffic). record told { heard = new.heard }) first.rest;
 }
 
 -- A connection of which more was heard twice.

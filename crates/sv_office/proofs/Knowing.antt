@@ -23,11 +23,11 @@ use Rattle.sv_client.specs.Answers.{got_now}
 use Rattle.sv_client.specs.Seen.{newly_asked}
 use Rattle.sv_client.specs.Taking.{Identity}
 use Rattle.sv_office.specs.Admitting.{number_in, steward_number}
-use Rattle.sv_office.specs.Entering.{AreAdded, GrowsBy, AsksIn, IsEntry, WasEntered}
+use Rattle.sv_office.specs.Entering.{AreAdded, GrowsBy, AsksIn, IsEntryOf, WasEntered}
 use Rattle.sv_office.specs.Knowing.{IsAlone, IsAloneIn, IsTrusted, IsUpToDate}
-use Rattle.sv_office.specs.Offices.{AreApart, session_of}
-use Rattle.sv_office.specs.Telling.{IsServed, IsServedIn}
-use Rattle.sv_office.specs.Trusting.{IsLawful, IsSerial, ReportsSerially}
+use Rattle.sv_office.specs.Offices.{IsNotStewards, session_of}
+use Rattle.sv_office.specs.Telling.{IsServedGuest, IsServedIn}
+use Rattle.sv_office.specs.Trusting.{IsLegalWorld, IsSerialWorld, ReportsSerially}
 use Rattle.sv_office.specs.declared.guest.Guest.{Guest}
 use Rattle.sv_office.specs.declared.steward.Steward.{Steward}
 
@@ -58,7 +58,7 @@ up_to_date v w steward same is one has behind =
     is one has behind ∙ sym (told_as v w one.session (subst (λ (o : Option Steward). (t : ℕ) → session_of o ≡ Some t → told_to w.history t ≡ told_to v.history t) has same))
 
 -- Something was asked in a session that is not the steward's.
-pub told_asking : (v w : WorldView) (s : ℕ) (request : Request) (mine : Option ℕ) → GrowsBy (IsEntry s request) v w → AreApart (Some s) mine
+pub told_asking : (v w : WorldView) (s : ℕ) (request : Request) (mine : Option ℕ) → GrowsBy (IsEntryOf s request) v w → IsNotStewards (Some s) mine
     → (t : ℕ) → mine ≡ Some t → told_to w.history t ≡ told_to v.history t
 told_asking v w s request mine on away t is = told_beside on.added t (λ e entered same. away s refl (is ∙ ap (λ (x : ℕ). Some x) (sym same ∙ entered.0)))
 
@@ -109,7 +109,7 @@ pub reports_serial : ((k : Keeping) (r : Rules) (h : List Entry) (session : Opti
     → option_to_list done ≡ newly_asked who t (got_now t reply) → IfSome done (ReportsSerial r.world.values (actions_of h)))
     → ((w : Stewardship) → IsKeeping (living w)) → (session : Option ℕ) (who : Identity) (t now : List Event) (reply : Reply) (done : Option Request)
     → now ≡ got_now t reply ∷ t → option_to_list done ≡ newly_asked who t (got_now t reply)
-    → IfSome done (λ (request : Request). (v : WorldView) → AreWithinLimits v.rules → IsLawful v → IsSerial v → GotWhatWasTold v.history session now
+    → IfSome done (λ (request : Request). (v : WorldView) → AreWithinLimits v.rules → IsLegalWorld v → IsSerialWorld v → GotWhatWasTold v.history session now
     → ReportsSerial v.rules.world.values (actions_of v.history) request)
 reports_serial law keeping session who t now reply None is asks = tt
 reports_serial law keeping session who t now reply (Some request) is asks = λ v limits lawful serial got.
@@ -118,7 +118,7 @@ reports_serial law keeping session who t now reply (Some request) is asks = λ v
 
 -- Nobody else's reports count.
 pub others_report_nothing : (v : WorldView) (guest : Guest) (mine : Option ℕ) (s : ℕ) (request : Request)
-    → IsAlone v mine → IsServed v guest → AsksIn v.history guest.session s → AreApart (Some s) mine → ReportsSerially v s request
+    → IsAlone v mine → IsServedGuest v guest → AsksIn v.history guest.session s → IsNotStewards (Some s) mine → ReportsSerially v s request
 others_report_nothing v guest mine s request alone served asks away authority is joined = absurd (go asks)
   where
     go : AsksIn v.history guest.session s → ⊥
@@ -132,8 +132,8 @@ the_one e = cc
 
 module _ {F : Type 0} where
   -- Somebody else asked.
-  pub trusted_asked : (old new : KeeperView F) (steward : Option Steward) (s : ℕ) (request : Request) → GrowsBy (IsEntry s request) old.world new.world
-      → ((mine : Option ℕ) → IsAloneIn old mine → IsAloneIn new mine) → AreApart (Some s) (session_of steward) → IsTrusted old steward → IsTrusted new steward
+  pub trusted_asked : (old new : KeeperView F) (steward : Option Steward) (s : ℕ) (request : Request) → GrowsBy (IsEntryOf s request) old.world new.world
+      → ((mine : Option ℕ) → IsAloneIn old mine → IsAloneIn new mine) → IsNotStewards (Some s) (session_of steward) → IsTrusted old steward → IsTrusted new steward
   trusted_asked old new steward s request on others away t = record {
     alone = others (session_of steward) t.alone;
     told = up_to_date old.world new.world steward (told_asking old.world new.world s request (session_of steward) on away) t.told;
@@ -160,8 +160,8 @@ module _ {F : Type 0} where
     told = up_to_date old.world new.world steward (λ n is. ap (λ (x : WorldView). told_to x.history n) same) t.told;
   }
 
-  pub still_settled : (old new : KeeperView F) → (old.is_broken ≡ true → new ≡ old) → new.is_broken ≡ false → old.is_broken ≡ false
-  still_settled old new broken sound = go old.is_broken refl
+  pub still_durable : (old new : KeeperView F) → (old.is_broken ≡ true → new ≡ old) → new.is_broken ≡ false → old.is_broken ≡ false
+  still_durable old new broken sound = go old.is_broken refl
     where
       go : (b : Bool) → old.is_broken ≡ b → old.is_broken ≡ false
       go true is = ap (λ (k : KeeperView F). k.is_broken) (sym (broken is)) ∙ sound

@@ -15,7 +15,7 @@ use Rattle.sv_journal.specs.Serving.{LegalFor, reply_for}
 use Rattle.sv_journal.proofs.Stewards.{living-keeping}
 use Rattle.sv_core.specs.Seeing.{shows_nothing}
 use Rattle.sv_journal.specs.History.{entry_of}
-use Rattle.sv_living.specs.Quiet.{IsQuiet}
+use Rattle.sv_living.specs.Quiet.{IsQuietReply}
 use Rattle.sv_living.specs.Sessions.{is_open}
 use Rattle.sv_living.specs.World.{WorldView, after, reply_in}
 
@@ -45,7 +45,7 @@ nothing_is_message A logged.Idle e = cc
 nothing_is_message A (logged.Refused code detail) e = cc
 nothing_is_message A logged.Bye e = cc
 
-pub quiet_is_message : (v : WorldView) (s : ℕ) (request : Request) (reply : Reply) → IsQuiet v.rules v.stewardship v.history s request (Some reply) → IsWireReply reply
+pub quiet_is_message : (v : WorldView) (s : ℕ) (request : Request) (reply : Reply) → IsQuietReply v.rules v.stewardship v.history s request (Some reply) → IsWireReply reply
 quiet_is_message v s request reply q =
     let l = reply_for (living v.stewardship) v.rules v.history s request in
     subst IsWireReply (sym q.1) (nothing_is_message (accepted v.history) l (and_parts (is_open v.history s) (shows_nothing l) q.0).1)

@@ -17,7 +17,7 @@ use Rattle.sv_keeper.specs.Views.{KeeperView}
 use Rattle.sv_keeper.specs.declared.fault.KeepFault.{KeepFault}
 use Rattle.sv_keeper.specs.declared.fault.KeepFault.TheVariants as faults
 use Rattle.sv_office.specs.Admitting.{steward_number}
-use Rattle.sv_office.specs.Trusting.{IsAuthority, IsSerial, ReportsSerially, StaysSerial}
+use Rattle.sv_office.specs.Trusting.{IsAuthority, IsSerialWorld, ReportsSerially, StaysSerial}
 use Rattle.sv_office.proofs.Adding.{serial_same}
 
 module _ (stay : SerialResultsStay) (others : OthersBringNothing) (serial : SerialResultsMakeSerialWorlds) where

@@ -16,8 +16,8 @@ use Rattle.sv_living.proofs.Turns.{open-parts}
 use Rattle.sv_office.specs.Entering.{AreAdded, GrowsBy, GoesOn, AsksIn, IsGuests, WasEntered}
 use Rattle.sv_office.specs.Laws.{OthersStay, AllStay}
 use Rattle.sv_wire.specs.declared.message.Request.TheVariants as requests
-use Rattle.sv_office.specs.Guests.{Closes, closed}
-use Rattle.sv_office.specs.Telling.{WereTold, WereToldIn, is_gone, IsTold, IsServed, IsServedIn, IsOwed, WouldShowNothing}
+use Rattle.sv_office.specs.Guests.{ClosesGuest, closed}
+use Rattle.sv_office.specs.Telling.{WereTold, WereToldIn, is_gone, WasTold, IsServedGuest, IsServedIn, IsOwed, WouldShowNothing}
 use Rattle.sv_office.specs.declared.guest.Guest.{Guest}
 use Rattle.sv_office.specs.declared.guest.Standing.{Standing}
 use Rattle.sv_office.specs.declared.guest.Standing.TheVariants as standing
@@ -74,7 +74,7 @@ module _ (v w : WorldView) (rules : w.rules ≡ v.rules) (stewardship : w.stewar
 
 -- A connection stands as it stood, while entries of other sessions are added.
 pub served_grown : {may : Entry → Type 0} {v w : WorldView} (guest : Guest) → AreInOrder w.history → GrowsBy may v w
-    → ((e : Entry) (s : ℕ) → guest.session ≡ Some s → may e → e.session ≢ s) → IsServed v guest → IsServed w guest
+    → ((e : Entry) (s : ℕ) → guest.session ≡ Some s → may e → e.session ≢ s) → IsServedGuest v guest → IsServedGuest w guest
 served_grown {may} {v} {w} guest order on others = go guest.session refl
   where
     stays : (s : ℕ) (told : List Reply) → ((e : Entry) → may e → e.session ≢ s) → WereToldIn v s told → WereToldIn w s told
@@ -99,16 +99,16 @@ served_grown {may} {v} {w} guest order on others = go guest.session refl
     )
 
 pub served_stays : {may : Entry → Type 0} {v w : WorldView} (guest : Guest) → AreInOrder w.history → GoesOn may v w
-    → ((e : Entry) (s : ℕ) → guest.session ≡ Some s → may e → e.session ≢ s) → IsServed v guest → IsServed w guest
+    → ((e : Entry) (s : ℕ) → guest.session ≡ Some s → may e → e.session ≢ s) → IsServedGuest v guest → IsServedGuest w guest
 served_stays guest order on = served_grown guest order (grew on)
 
 -- A connection that was told nothing more stands as it stood.
 pub served_as : (v : WorldView) (old new : Guest) → new.session ≡ old.session → new.peer.told ≡ old.peer.told
     → (is_gone new.standing ≡ false → is_gone old.standing ≡ false) → (old.standing ≢ standing.Open → new.standing ≢ standing.Open)
-    → IsServed v old → IsServed v new
+    → IsServedGuest v old → IsServedGuest v new
 served_as v old new same told gone shut h = subst (λ (o : Option ℕ). IsServedIn v new o) (sym same) (go old.session h)
   where
-    told_as : (s : ℕ) → IsTold v s old → IsTold v s new
+    told_as : (s : ℕ) → WasTold v s old → WasTold v s new
     told_as s t = record {
       rest = t.rest;
       replies = subst (λ (xs : List Reply). WereToldIn v s (xs ++ t.rest)) (sym told) t.replies;
@@ -122,7 +122,7 @@ served_as v old new same told gone shut h = subst (λ (o : Option ℕ). IsServed
 
 -- A connection that is told what it is owed is served; or it is gone.
 pub served_told : (v : WorldView) (old new : Guest) (reply : Reply) → new.session ≡ old.session → new.peer.told ≡ old.peer.told ++ reply ∷ []
-    → IsOwed v old reply → IsServed v new
+    → IsOwed v old reply → IsServedGuest v new
 served_told v old new reply same told owed =
     subst (λ (o : Option ℕ). IsServedIn v new o) (sym (same ∙ owed.has)) (
       owed.lives,
@@ -134,7 +134,7 @@ served_told v old new reply same told owed =
     )
 
 pub served_gone : (v : WorldView) (old new : Guest) (reply : Reply) → new.session ≡ old.session → new.peer.told ≡ old.peer.told
-    → new.standing ≡ standing.Gone → IsOwed v old reply → IsServed v new
+    → new.standing ≡ standing.Gone → IsOwed v old reply → IsServedGuest v new
 served_gone v old new reply same told gone owed =
     subst (λ (o : Option ℕ). IsServedIn v new o) (sym (same ∙ owed.has)) (
       owed.lives,
@@ -146,7 +146,7 @@ served_gone v old new reply same told gone owed =
     )
 
 -- What an open connection was told before it asks.
-pub told_before : (v : WorldView) (guest : Guest) → AreInOrder v.history → guest.standing ≡ standing.Open → IsServed v guest → (s : ℕ)
+pub told_before : (v : WorldView) (guest : Guest) → AreInOrder v.history → guest.standing ≡ standing.Open → IsServedGuest v guest → (s : ℕ)
     → AsksIn v.history guest.session s → WereToldIn v s guest.peer.told
 told_before v guest order open_is served s which = go guest.session refl served which
   where
@@ -192,14 +192,14 @@ closed_gone standing.Closing e = refl
 closed_gone standing.Gone e = e
 
 -- A connection that is closed stands as it stood.
-pub served_closed : (v : WorldView) (old new : Guest) → Closes old new → IsServed v old → IsServed v new
+pub served_closed : (v : WorldView) (old new : Guest) → ClosesGuest old new → IsServedGuest v old → IsServedGuest v new
 served_closed v old new c = served_as v old new c.session c.told
     (λ here. closed_gone old.standing (subst (λ (x : Standing). is_gone x ≡ false) c.standing here))
     (λ shut is. closed_shut old.standing (sym c.standing ∙ is))
 
 -- Its session has its End.
 pub served_ended : (v w : WorldView) (s : ℕ) (old new : Guest) → old.session ≡ Some s → new.peer.told ≡ old.peer.told → new.standing ≡ closed old.standing
-    → new.session ≡ None → w ≡ after v s requests.End → IsServed v old → IsServed w new
+    → new.session ≡ None → w ≡ after v s requests.End → IsServedGuest v old → IsServedGuest w new
 served_ended v w s old new has told standing_is none world h =
     subst (λ (o : Option ℕ). IsServedIn w new o) (sym none) (inr (shut, (s, ended, is_told (subst (λ (o : Option ℕ). IsServedIn v old o) has h))))
   where
@@ -209,7 +209,7 @@ served_ended v w s old new has told standing_is none world h =
     ended : is_ended w.history s ≡ true
     ended = subst (λ (x : WorldView). is_ended x.history s ≡ true) (sym world) (ap (λ (b : Bool). (b && true) || is_ended v.history s) (eq-eqb s s refl))
 
-    is_told : (is_open v.history s ≡ true) × IsTold v s old → IsTold w s new
+    is_told : (is_open v.history s ≡ true) × WasTold v s old → WasTold w s new
     is_told (lives, t) = record {
       rest = t.rest;
       replies = subst (λ (x : WorldView). WereToldIn x s (new.peer.told ++ t.rest)) (sym world)
@@ -218,7 +218,7 @@ served_ended v w s old new has told standing_is none world h =
     }
 
 -- A connection that is served has a session with entries.
-has_begun : (v : WorldView) (guest : Guest) (s : ℕ) → guest.session ≡ Some s → IsServed v guest → has_entry v.history s ≡ true
+has_begun : (v : WorldView) (guest : Guest) (s : ℕ) → guest.session ≡ Some s → IsServedGuest v guest → has_entry v.history s ≡ true
 has_begun v guest s is h = (open-parts v.history s (subst (λ (o : Option ℕ). IsServedIn v guest o) is h).0).0
 
 pub others_stay : OthersStay
@@ -233,18 +233,18 @@ pub all_stay : AllStay
 all_stay v w guest steward order on away h = served_grown guest order on (λ e s is report same. away s is (report.0 ∙ ap (λ (t : ℕ). Some t) same)) h
 
 -- A connection that is open and has a session was told what its session was.
-pub told_now : (v : WorldView) (guest : Guest) (s : ℕ) → guest.standing ≡ standing.Open → guest.session ≡ Some s → IsServed v guest
+pub told_now : (v : WorldView) (guest : Guest) (s : ℕ) → guest.standing ≡ standing.Open → guest.session ≡ Some s → IsServedGuest v guest
     → (is_open v.history s ≡ true) × WereToldIn v s guest.peer.told
 told_now v guest s open_is has h = go (subst (λ (o : Option ℕ). IsServedIn v guest o) has h)
   where
-    go : (is_open v.history s ≡ true) × IsTold v s guest → (is_open v.history s ≡ true) × WereToldIn v s guest.peer.told
+    go : (is_open v.history s ≡ true) × WasTold v s guest → (is_open v.history s ≡ true) × WereToldIn v s guest.peer.told
     go (lives, t) = (
       lives,
       subst (λ (xs : List Reply). WereToldIn v s xs) (ap (λ (xs : List Reply). guest.peer.told ++ xs) (t.whole (ap is_gone open_is)) ∙ append-nil guest.peer.told) t.replies,
     )
 
 -- What an Observe would be answered that shows nothing is owed.
-pub owed_quiet : (v : WorldView) (guest : Guest) (request : Request) (reply : Reply) → guest.standing ≡ standing.Open → IsServed v guest
+pub owed_quiet : (v : WorldView) (guest : Guest) (request : Request) (reply : Reply) → guest.standing ≡ standing.Open → IsServedGuest v guest
     → WouldShowNothing v guest request reply → IsOwed v guest reply
 owed_quiet v guest request reply open_is h (observe, (s, has, quiet_is)) =
     let told = told_now v guest s open_is has h in
@@ -252,7 +252,7 @@ owed_quiet v guest request reply open_is h (observe, (s, has, quiet_is)) =
 
 -- The reply of what was entered is owed.
 pub owed_entered : (v w : WorldView) (guest new : Guest) (s : ℕ) (request : Request) (reply : Reply) → AreInOrder v.history → guest.standing ≡ standing.Open
-    → IsServed v guest → AsksIn v.history guest.session s → is_end request ≡ false → WasEntered v w s request reply → new.session ≡ Some s
+    → IsServedGuest v guest → AsksIn v.history guest.session s → is_end request ≡ false → WasEntered v w s request reply → new.session ≡ Some s
     → new.peer.told ≡ guest.peer.told → IsOwed w new reply
 owed_entered v w guest new s request reply order open_is served asks more e has same =
     let told = told_before v guest order open_is served s asks in

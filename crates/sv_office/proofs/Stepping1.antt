@@ -10,11 +10,11 @@ use Rattle.sv_journal.specs.History.{accepted}
 use Rattle.sv_living.specs.Sessions.{AreInOrder}
 use Rattle.sv_living.specs.World.{WorldView, after}
 use Rattle.sv_keys.specs.Keeping.{KeysView}
-use Rattle.sv_office.specs.Entering.{GoesOn, KeepsOwn, AsksIn, AsksInOne, IsEntry, IsReport, IsEndOf, IsEnded, Follows, CameOf, CameOfHeld, CameOfAsking, MayEnter, MayHold, WasAnswered, WasFollowed, WasReleased}
+use Rattle.sv_office.specs.Entering.{GoesOn, KeepsOwn, AsksIn, AsksInOne, IsEntryOf, IsReport, IsEndOf, IsEnded, Follows, CameOf, CameOfHeld, CameOfAsking, MayEnter, MayHold, WasAnswered, WasFollowed, WasReleased}
 use Rattle.sv_office.specs.Guests.{HasYetToAsk, Stays}
-use Rattle.sv_office.specs.Offices.{AreApart, HasBegun}
+use Rattle.sv_office.specs.Offices.{IsNotStewards, HasBegun}
 use Rattle.sv_office.specs.Taking.{WasTaken}
-use Rattle.sv_office.specs.Telling.{IsServed, ShowsSomething, WouldShowNothing}
+use Rattle.sv_office.specs.Telling.{IsServedGuest, ShowsSomething, WouldShowNothing}
 use Rattle.sv_office.specs.declared.guest.Guest.{Guest}
 use Rattle.sv_office.specs.declared.guest.Held.{Held}
 use Rattle.sv_office.specs.declared.guest.Standing.{Standing}
@@ -48,8 +48,8 @@ none_held (inl same) none = same ∙ none
 none_held (inr gone) none = gone
 
 -- A connection that is served is so still, while the steward reports.
-pub served_reported : (v w : WorldView) (old new : Guest) (steward : Option ℕ) → AreInOrder w.history → GoesOn (IsReport steward) v w → AreApart old.session steward
-    → new.session ≡ old.session → IsServed v new → IsServed w new
+pub served_reported : (v w : WorldView) (old new : Guest) (steward : Option ℕ) → AreInOrder w.history → GoesOn (IsReport steward) v w → IsNotStewards old.session steward
+    → new.session ≡ old.session → IsServedGuest v new → IsServedGuest w new
 served_reported v w old new steward order on away same served = all_stay v w new steward order (grew on) (λ s has is. away s (sym same ∙ has) is) served
 
 pub clash : {b : Bool} → b ≡ true → b ≡ false → ⊥
@@ -87,18 +87,18 @@ pub follows_ended : {v m w : WorldView} {own : Option ℕ} (steward mine : Optio
 follows_ended steward mine same on more = goes_then (follows_reported steward mine on) (goes_as (λ e is. inr (sym same ∙ is.0, is.1)) more)
 
 -- The sessions stay apart.
-pub away_after : (v : WorldView) {now later stewards others : Option ℕ} → HasBegun v stewards → AreApart now stewards → KeepsOwn v.history now later
-    → others ≡ stewards → AreApart later others
+pub away_after : (v : WorldView) {now later stewards others : Option ℕ} → HasBegun v stewards → IsNotStewards now stewards → KeepsOwn v.history now later
+    → others ≡ stewards → IsNotStewards later others
 away_after v begun away keeps same s has is = apart_stays v begun away keeps s has (sym same ∙ is)
 
 -- The session in which one asks is not the steward's.
-pub apart_asking : (v : WorldView) (mine steward : Option ℕ) (s : ℕ) → HasBegun v steward → AreApart mine steward → AsksIn v.history mine s
-    → AreApart (Some s) steward
+pub apart_asking : (v : WorldView) (mine steward : Option ℕ) (s : ℕ) → HasBegun v steward → IsNotStewards mine steward → AsksIn v.history mine s
+    → IsNotStewards (Some s) steward
 apart_asking v mine steward s begun away asks = apart_stays v begun away (asking_kept v.history s asks refl)
 
 -- The request may have been entered, and then the End of the session.
 pub entered_ended_came : {v m w : WorldView} {own : Option ℕ} (steward mine : Option ℕ) (s : ℕ) (request : Request) → AsksIn v.history mine s
-    → GoesOn (IsEntry s request) v m → own ≡ mine → GoesOn (IsEndOf own) m w → GoesOn (CameOf v.history steward mine request) v w
+    → GoesOn (IsEntryOf s request) v m → own ≡ mine → GoesOn (IsEndOf own) m w → GoesOn (CameOf v.history steward mine request) v w
 entered_ended_came steward mine s request asks on same more =
     goes_then (entered_came steward mine s request asks on) (goes_as (λ e is. inr (inl (sym same ∙ is.0), inl is.1)) more)
 

@@ -14,7 +14,7 @@ use Rattle.sv_living.specs.World.{WorldView, after, reply_in}
 use Rattle.sv_client.specs.Kinds.{asks_for_done}
 use Rattle.sv_client.specs.Taking.{items_of}
 use Rattle.sv_office.specs.Admitting.{number_in, steward_number}
-use Rattle.sv_office.specs.Entering.{GoesOn, GrowsBy, IsEntry, AsksIn, KeepsOwn, IsReport, IsReported, IsStewards, WasEntered, is_report}
+use Rattle.sv_office.specs.Entering.{GoesOn, GrowsBy, IsEntryOf, AsksIn, KeepsOwn, IsReport, IsReported, IsStewards, WasEntered, is_steward_ask}
 use Rattle.sv_office.specs.Offices.{HasBegun}
 use Rattle.sv_office.specs.Stewarding.{Reports, is_refused, reported_at}
 use Rattle.sv_office.specs.Trusting.{StaysSerial}
@@ -46,7 +46,7 @@ still_asking h mine s (inr none) some = absurd (some none.0)
 
 -- A Join of the steward, in the session in which it asks. It reports nothing.
 pub stewards_entered : (v w : WorldView) (mine : Option ℕ) (s : ℕ) (request : Request) → number_in request ≡ Some steward_number → AsksIn v.history mine s
-    → GrowsBy (IsEntry s request) v w → (ReportsSerial v.rules.world.values (actions_of v.history) request → StaysSerial v w)
+    → GrowsBy (IsEntryOf s request) v w → (ReportsSerial v.rules.world.values (actions_of v.history) request → StaysSerial v w)
     → GoesOn (IsStewards v.history mine) v w
 stewards_entered v w mine s request joins asks on serial =
     goes_as (λ e is. (asks_entered v.history mine s request asks e is, inr (ap number_in is.1 ∙ joins)))
@@ -57,18 +57,18 @@ pub stewards_then : (v w x : WorldView) (mine mid : Option ℕ) → KeepsOwn v.h
     → GoesOn (IsStewards w.history mid) w x → GoesOn (IsStewards v.history mine) v x
 stewards_then v w x mine mid keeps none first next = goes_then first (goes_as (λ e is. (asks_before first.added keeps none e.session is.0, is.1)) next)
 
-pub report_entered : (v w : WorldView) (mine : Option ℕ) (s : ℕ) (request : Request) → mine ≡ Some s → is_report request ≡ true
-    → GoesOn (IsEntry s request) v w → GoesOn (IsReport mine) v w
+pub report_entered : (v w : WorldView) (mine : Option ℕ) (s : ℕ) (request : Request) → mine ≡ Some s → is_steward_ask request ≡ true
+    → GoesOn (IsEntryOf s request) v w → GoesOn (IsReport mine) v w
 report_entered v w mine s request has report on =
-    goes_as (λ e is. (has ∙ ap (λ (t : ℕ). Some t) (sym is.0), ap is_report is.1 ∙ report)) on
+    goes_as (λ e is. (has ∙ ap (λ (t : ℕ). Some t) (sym is.0), ap is_steward_ask is.1 ∙ report)) on
 
 pub poll_entered : (v w : WorldView) (mine : Option ℕ) (s : ℕ) (request : Request) → mine ≡ Some s → request ≡ requests.Poll
-    → GoesOn (IsEntry s request) v w → GoesOn (IsReport mine) v w
-poll_entered v w mine s request has poll = report_entered v w mine s request has (ap is_report poll)
+    → GoesOn (IsEntryOf s request) v w → GoesOn (IsReport mine) v w
+poll_entered v w mine s request has poll = report_entered v w mine s request has (ap is_steward_ask poll)
 
 -- A Poll reports nothing.
-pub poll_on : (v w : WorldView) (s : ℕ) (request : Request) → request ≡ requests.Poll → GrowsBy (IsEntry s request) v w
-    → (ReportsSerial v.rules.world.values (actions_of v.history) request → StaysSerial v w) → GoesOn (IsEntry s request) v w
+pub poll_on : (v w : WorldView) (s : ℕ) (request : Request) → request ≡ requests.Poll → GrowsBy (IsEntryOf s request) v w
+    → (ReportsSerial v.rules.world.values (actions_of v.history) request → StaysSerial v w) → GoesOn (IsEntryOf s request) v w
 poll_on v w s request poll on serial = goes_by on (serial (polls_report_nothing v request poll))
 
 pub reported_poll : (t : ℕ) (v w : WorldView) (request : Request) (reply : Reply) → request ≡ requests.Poll → WasEntered v w t request reply

@@ -13,7 +13,7 @@ use Rattle.sv_client.specs.Traces.{joins, pending_of, submit_of}
 use Rattle.sv_client.specs.declared.trace.Event.{Event}
 use Rattle.sv_client.specs.declared.trace.Event.TheVariants as events
 use Rattle.sv_office.specs.Admitting.{number_in, steward_number}
-use Rattle.sv_office.specs.Entering.{GoesOn, IsEntry, IsReport, IsStewards, KeepsOwn, IsReported, WasEntered, is_report}
+use Rattle.sv_office.specs.Entering.{GoesOn, IsEntryOf, IsReport, IsStewards, KeepsOwn, IsReported, WasEntered, is_steward_ask}
 use Rattle.sv_office.specs.Stewarding.{Reports, is_refused}
 use Rattle.sv_office.proofs.Adding.{goes_as, goes_then, keeps_then, still_none}
 use Rattle.sv_office.proofs.Stewarding.{poll_entered, report_entered, reported_done, reported_poll, stewards_then}
@@ -60,10 +60,10 @@ reported_idle mine t v w request reply asks has poll entered is nothing taken =
 
 -- It polled, and reported.
 pub polled_and_reported : (v w x : WorldView) (mine : Option ℕ) (s : ℕ) (request done : Request) (reply : Reply) (asks : Option Request) → mine ≡ Some s
-    → request ≡ requests.Poll → asks ≡ Some done → IfSome asks (Reports reply) → GoesOn (IsEntry s request) v w → GoesOn (IsEntry s done) w x → GoesOn (IsReport mine) v x
+    → request ≡ requests.Poll → asks ≡ Some done → IfSome asks (Reports reply) → GoesOn (IsEntryOf s request) v w → GoesOn (IsEntryOf s done) w x → GoesOn (IsReport mine) v x
 polled_and_reported v w x mine s request done reply asks has poll is sent first next =
     goes_then (poll_entered v w mine s request has poll first)
-    (report_entered w x mine s done has (ap is_report (subst (λ (o : Option Request). IfSome o (Reports reply)) is sent).done) next)
+    (report_entered w x mine s done has (ap is_steward_ask (subst (λ (o : Option Request). IfSome o (Reports reply)) is sent).done) next)
 
 -- ---- The first request of a Join
 

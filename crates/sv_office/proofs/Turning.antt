@@ -5,7 +5,7 @@ use Rattle.sv_journal.specs.declared.entry.Entry.{Entry}
 use Rattle.sv_core.specs.Rows.{has_entry}
 use Rattle.sv_living.specs.World.{WorldView}
 use Rattle.sv_keys.specs.Keeping.{KeysView}
-use Rattle.sv_office.specs.Entering.{AreAdded, GoesOn, AsksIn, AsksInOne, KeepsOwn, IsEntry, IsOf, IsEndOf, IsReport, Follows, MayEnter}
+use Rattle.sv_office.specs.Entering.{AreAdded, GoesOn, AsksIn, AsksInOne, KeepsOwn, IsEntryOf, IsOf, IsEndOf, IsReport, Follows, MayEnter}
 use Rattle.sv_office.proofs.Adding.{added_as, added_then, goes_as, goes_then, asks_before}
 use Rattle.sv_office.proofs.Orders.{neither}
 
@@ -70,7 +70,7 @@ module _ {steward mine after : Option ℕ} {h : List Entry} where
       go (s, asks) = record { session = s; asks = asks; added = added_as (in_it s asks) on; kept = inr none }
 
   -- A request was entered, and what followed its reply.
-  pub one_followed : {m g : List Entry} (s : ℕ) (request : Request) → AsksIn h mine s → AreAdded (IsEntry s request) h m → AreAdded (Follows steward (Some s)) m g
+  pub one_followed : {m g : List Entry} (s : ℕ) (request : Request) → AsksIn h mine s → AreAdded (IsEntryOf s request) h m → AreAdded (Follows steward (Some s)) m g
       → (after ≡ Some s) ⊎ (after ≡ None) → AsksInOne steward mine after h g
   one_followed s request asks first next kept = record {
     session = s;
@@ -79,7 +79,7 @@ module _ {steward mine after : Option ℕ} {h : List Entry} where
     kept = kept;
   }
     where
-      of_it : (e : Entry) → IsEntry s request e → IsReport steward e ⊎ IsOf (Some s) e
+      of_it : (e : Entry) → IsEntryOf s request e → IsReport steward e ⊎ IsOf (Some s) e
       of_it e is = inr (ap (λ (t : ℕ). Some t) (sym is.0))
 
       follows : (e : Entry) → Follows steward (Some s) e → IsReport steward e ⊎ IsOf (Some s) e
@@ -87,14 +87,14 @@ module _ {steward mine after : Option ℕ} {h : List Entry} where
       follows e (inr ends) = inr ends.0
 
   -- A request was entered, or nothing, and then maybe the End of the session that one had.
-  pub one_entered : {g : List Entry} (s : ℕ) (request : Request) → AsksIn h mine s → AreAdded (IsEntry s request) h g → after ≡ mine → AsksInOne steward mine after h g
+  pub one_entered : {g : List Entry} (s : ℕ) (request : Request) → AsksIn h mine s → AreAdded (IsEntryOf s request) h g → after ≡ mine → AsksInOne steward mine after h g
   one_entered s request asks on stays = one_followed s request asks on AreAdded.none (kept (has_or_none h asks))
     where
       kept : (mine ≡ Some s) ⊎ (mine ≡ None) → (after ≡ Some s) ⊎ (after ≡ None)
       kept (inl has) = inl (stays ∙ has)
       kept (inr none) = inr (stays ∙ none)
 
-  pub one_entered_ended : {m g : List Entry} {own : Option ℕ} (s : ℕ) (request : Request) → AsksIn h mine s → AreAdded (IsEntry s request) h m → own ≡ mine
+  pub one_entered_ended : {m g : List Entry} {own : Option ℕ} (s : ℕ) (request : Request) → AsksIn h mine s → AreAdded (IsEntryOf s request) h m → own ≡ mine
       → AreAdded (IsEndOf own) m g → after ≡ None → AsksInOne steward mine after h g
   one_entered_ended {own = own} s request asks first same next none = one_followed s request asks first (added_as ends next) (inr none)
     where

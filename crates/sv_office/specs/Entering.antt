@@ -37,8 +37,8 @@ pub record GoesOn (may : Entry → Type 0) (v w : WorldView) : Type 0 where
   pub serial : StaysSerial v w
 
 -- The entry of a request of a session.
-abbrev pub IsEntry : ℕ → Request → Entry → Type 0
-IsEntry s request e = (e.session ≡ s) × (e.request ≡ request)
+abbrev pub IsEntryOf : ℕ → Request → Entry → Type 0
+IsEntryOf s request e = (e.session ≡ s) × (e.request ≡ request)
 
 -- A request of a session was entered, and answered in full.
 pub record WasEntered (v w : WorldView) (s : ℕ) (request : Request) (reply : Reply) : Type 0 where
@@ -63,18 +63,18 @@ abbrev pub IsEndOf : Option ℕ → Entry → Type 0
 IsEndOf session e = IsOf session e × (is_end e.request ≡ true)
 
 -- A Poll or a Done.
-abbrev pub is_report : Request → Bool
-is_report requests.Poll = true
-is_report (requests.Done results) = true
-is_report _ = false
+abbrev pub is_steward_ask : Request → Bool
+is_steward_ask requests.Poll = true
+is_steward_ask (requests.Done results) = true
+is_steward_ask _ = false
 
 -- A report of the steward, in its session.
 abbrev pub IsReport : Option ℕ → Entry → Type 0
-IsReport steward e = IsOf steward e × (is_report e.request ≡ true)
+IsReport steward e = IsOf steward e × (is_steward_ask e.request ≡ true)
 
 -- What the steward enters as it begins: a report, or a Join under its own number, in the session in which it asks.
 abbrev pub IsStewards : List Entry → Option ℕ → Entry → Type 0
-IsStewards h mine e = AsksIn h mine e.session × ((is_report e.request ≡ true) ⊎ (number_in e.request ≡ Some steward_number))
+IsStewards h mine e = AsksIn h mine e.session × ((is_steward_ask e.request ≡ true) ⊎ (number_in e.request ≡ Some steward_number))
 
 -- An entry of a connection, in the session in which it asks, or a report of the steward. No connection joins as the steward.
 abbrev pub IsGuests : List Entry → Option ℕ → Option ℕ → Entry → Type 0

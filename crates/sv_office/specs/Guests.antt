@@ -1,7 +1,7 @@
 -- A connection that is served no more.
 use Rattle.std.specs.Prelude.{◌≡◌, ◌≢◌, ◌⊎◌, ℕ, List, ◌++◌, None}
 use Rattle.sv_living.specs.World.{WorldView}
-use Rattle.sv_ports.specs.Told.{Told, bytes_of}
+use Rattle.sv_ports.specs.Traffic.{Traffic, bytes_of}
 use Rattle.sv_office.specs.declared.guest.Guest.{Guest}
 use Rattle.sv_office.specs.declared.guest.Standing.{Standing}
 use Rattle.sv_office.specs.declared.guest.Standing.TheVariants as standing
@@ -13,7 +13,7 @@ closed standing.Closing = standing.Closing
 closed standing.Gone = standing.Gone
 
 -- It was told nothing more, and nothing of it is held.
-pub record Closes (old new : Guest) : Type 0 where
+pub record ClosesGuest (old new : Guest) : Type 0 where
   pub told : new.peer.told ≡ old.peer.told
   pub sent : new.peer.sent ≡ old.peer.sent
   pub session : new.session ≡ old.session
@@ -42,7 +42,7 @@ abbrev pub HasYetToAsk : Guest → Guest → WorldView → WorldView → Type 0
 HasYetToAsk old new v w = new.standing ≡ standing.Open → new.session ≡ None → (old.session ≡ None) × (w ≡ v)
 
 -- More was heard of one connection, and nothing else was told: nothing was written, and no other connection was heard.
-pub record OnlyHeard (number : ℕ) (old new : Told) : Type 0 where
+pub record OnlyHeard (number : ℕ) (old new : Traffic) : Type 0 where
   pub more : List ℕ
   pub own : bytes_of number new.heard ≡ bytes_of number old.heard ++ more
   pub others : (other : ℕ) → other ≢ number → bytes_of other new.heard ≡ bytes_of other old.heard

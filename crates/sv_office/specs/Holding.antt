@@ -6,8 +6,8 @@ use Rattle.sv_living.specs.World.{WorldView}
 use Rattle.sv_office.specs.Telling.{WouldShowNothing, ShowsSomething}
 use Rattle.sv_office.specs.declared.guest.Guest.{Guest}
 use Rattle.sv_office.specs.declared.guest.Held.{Held}
-use Rattle.sv_office.specs.declared.waiting.Waiting.{Waiting}
-use Rattle.sv_office.specs.declared.waiting.Waiting.TheVariants as waiting
+use Rattle.sv_office.specs.declared.waiting.HeldObserve.{HeldObserve}
+use Rattle.sv_office.specs.declared.waiting.HeldObserve.TheVariants as waiting
 
 -- A request may be held: what it would be answered now shows nothing.
 pub record IsHeld (v : WorldView) (now : ℕ) (guest : Guest) (request : Request) (until : ℕ) : Type 0 where
@@ -15,7 +15,7 @@ pub record IsHeld (v : WorldView) (now : ℕ) (guest : Guest) (request : Request
   pub quiet : (reply : Reply) × WouldShowNothing v guest request reply
 
 -- How what is held of a connection stands at a time.
-abbrev pub IsWaitingFor : WorldView → ℕ → Guest → Option Held → Waiting → Type 0
+abbrev pub IsWaitingFor : WorldView → ℕ → Guest → Option Held → HeldObserve → Type 0
 IsWaitingFor v now guest None waiting.Nothing = Unit {0}
 IsWaitingFor v now guest None waiting.Due = ⊥
 IsWaitingFor v now guest None (waiting.Until time) = ⊥
@@ -24,5 +24,5 @@ IsWaitingFor v now guest (Some held) waiting.Due = (held.until ≤ now) ⊎ Show
 IsWaitingFor v now guest (Some held) (waiting.Until time) =
     (time ≡ held.until) × (now < time) × ((reply : Reply) × WouldShowNothing v guest held.request reply)
 
-abbrev pub IsWaiting : WorldView → ℕ → Guest → Waiting → Type 0
+abbrev pub IsWaiting : WorldView → ℕ → Guest → HeldObserve → Type 0
 IsWaiting v now guest standing = IsWaitingFor v now guest guest.held standing

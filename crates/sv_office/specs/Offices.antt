@@ -15,8 +15,8 @@ abbrev pub HasBegun : WorldView → Option ℕ → Type 0
 HasBegun v session = (s : ℕ) → session ≡ Some s → has_entry v.history s ≡ true
 
 -- The steward's session is not that of a connection.
-abbrev pub AreApart : Option ℕ → Option ℕ → Type 0
-AreApart mine steward = (s : ℕ) → mine ≡ Some s → steward ≡ Some s → ⊥
+abbrev pub IsNotStewards : Option ℕ → Option ℕ → Type 0
+IsNotStewards mine steward = (s : ℕ) → mine ≡ Some s → steward ≡ Some s → ⊥
 
 -- What an office keeps: the rules of its world are within the limits, and its steward's session has entries.
 pub record IsSound (v : WorldView) (steward : Option Steward) : Type 0 where

@@ -37,7 +37,7 @@ pub record TakesTurn {F : Type 0} {k : Ghosts F} (old new : Office F k) (guest n
   pub shown : ShowsFirst old.keys new.keys guest next
   pub held : MayHold old.keys guest.key guest.held → MayHold new.keys next.key next.held
   pub steward : session_of new.steward ≡ session_of old.steward
-  pub manners : new.manners ≡ old.manners
+  pub policy : new.policy ≡ old.policy
 
 -- The same ports, files and lines are lent.
 pub record AreLent {P L E : Type 0} (old new : Outside P L E) : Type 0 where

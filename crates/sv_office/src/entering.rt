@@ -6,9 +6,9 @@ ghost use Rattle.sv_keeper.specs.declared.fault.KeepFault.TheVariants as faults;
 ghost use Rattle.sv_living.specs.Sessions.{AreInOrder};
 ghost use Rattle.sv_living.specs.World.{after};
 ghost use Rattle.sv_office.specs.Admitting.{is_stewards_number, number_in};
-ghost use Rattle.sv_office.specs.Entering.{AsksIn, GoesOn, GrowsBy, IsEntry, WasEntered};
+ghost use Rattle.sv_office.specs.Entering.{AsksIn, GoesOn, GrowsBy, IsEntryOf, WasEntered};
 ghost use Rattle.sv_office.specs.Knowing.{IsAloneIn, IsTrusted};
-ghost use Rattle.sv_office.specs.Trusting.{IsLawful, ReportsSerially, StaysSerial};
+ghost use Rattle.sv_office.specs.Trusting.{IsLegalWorld, ReportsSerially, StaysSerial};
 ghost use Rattle.sv_office.specs.declared.steward.Steward.{Steward};
 ghost use Rattle.sv_wire.specs.declared.message.Request.TheVariants as requests;
 
@@ -40,7 +40,7 @@ fn step_lawfully<F: Folder>(
     ensures ok { IfOk result (Stepped keeper.old keeper.new session request.now) }
     ensures err { IfErr result (WasNotStepped keeper.old keeper.new session request.now) }
     ensures broken { keeper.old.is_broken ≡ true → (keeper.new ≡ keeper.old) × (result ≡ Err faults.Broken) }
-    ensures legal { IsLawful keeper.new.world }
+    ensures legal { IsLegalWorld keeper.new.world }
     ensures order { AreInOrder keeper.new.world.history }
 {
     let stepped = keeper.step(session, request);
@@ -58,7 +58,7 @@ pub(crate) fn enter<F: Folder>(
     ensures ok { IfOk result (WasEntered keeper.old.world keeper.new.world session request.now) }
     ensures one { (keeper.new.world ≡ keeper.old.world) ⊎ (keeper.new.world ≡ after keeper.old.world session request.now) }
     ensures same { IfErr result (λ fault. fault ≢ faults.Broken → keeper.new.world ≡ keeper.old.world) }
-    ensures added { GrowsBy (IsEntry session request.now) keeper.old.world keeper.new.world }
+    ensures added { GrowsBy (IsEntryOf session request.now) keeper.old.world keeper.new.world }
     ensures serial { (keeper.old.is_broken ≡ false → ReportsSerially keeper.old.world session request.now) → StaysSerial keeper.old.world keeper.new.world }
     // Whose the open sessions are that were joined as the steward, where another asked, and where it asked itself.
     ensures others { is_stewards_number (number_in request.now) ≡ false → (mine : Option ℕ) → IsAloneIn keeper.old mine → IsAloneIn keeper.new mine }
@@ -74,7 +74,7 @@ pub(crate) fn enter<F: Folder>(
 /// Enters the End of a session, where it is open.
 pub fn end_session<F: Folder>(keeper: &mut Keeper<F>, session: u64) -> Result<(), Halt>
     requires limits { AreWithinLimits keeper.old.world.rules }
-    ensures added { GoesOn (IsEntry session requests.End) keeper.old.world keeper.new.world }
+    ensures added { GoesOn (IsEntryOf session requests.End) keeper.old.world keeper.new.world }
     ensures trusted { (steward : Option Steward) → IsTrusted keeper.old steward → IsTrusted keeper.new steward }
 {
     match enter(keeper, session, &Request::End) {

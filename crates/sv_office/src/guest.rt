@@ -55,7 +55,7 @@ impl Guest {
     ghost use Rattle.std.specs.Prelude.{◌↔◌, false, None, IsTrue};
     ghost use Rattle.sv_peer.specs.View.{new_peer};
     ghost use Rattle.sv_office.specs.declared.guest.Standing.TheVariants as standing;
-    ghost use Rattle.sv_office.specs.Guests.{Closes};
+    ghost use Rattle.sv_office.specs.Guests.{ClosesGuest};
 
     pub fn new(alloc: Global, now: u64) -> Guest
         ensures peer { result.peer ≡ new_peer }
@@ -83,7 +83,7 @@ impl Guest {
 
     /// Nothing more is taken of it.
     pub fn close(&mut self)
-        ensures { Closes self.old self.new }
+        ensures { ClosesGuest self.old self.new }
     {
         if self.standing == Standing::Open {
             self.standing = Standing::Closing;

@@ -4,9 +4,9 @@ ghost use Rattle.sv_journal.specs.Sessions.{is_end};
 ghost use Rattle.sv_living.specs.World.{WorldView};
 ghost use Rattle.sv_office.specs.Entering.{GoesOn, KeepsOwn, AsksInOne, MayEnter, MayHold};
 ghost use Rattle.sv_office.specs.Guests.{HasYetToAsk, IsHeardOf, OnlyHeard};
-ghost use Rattle.sv_office.specs.Offices.{AreApart, session_of};
+ghost use Rattle.sv_office.specs.Offices.{IsNotStewards, session_of};
 ghost use Rattle.sv_office.specs.Renewing.{KeepsKeys};
-ghost use Rattle.sv_office.specs.Telling.{IsServed};
+ghost use Rattle.sv_office.specs.Telling.{IsServedGuest};
 ghost use Rattle.sv_office.specs.Turns.{AreLent, HasHeardKey, ShowsFirst, TakesTurn};
 ghost use Rattle.sv_office.specs.declared.guest.Standing.TheVariants as standing;
 ghost use Rattle.sv_office.specs.declared.hearing.Course.TheVariants as courses;
@@ -23,10 +23,10 @@ use sv_site::Site;
 use sv_wire::Request;
 
 /// How many requests of one connection are stepped before another's turn.
-pub const MOST_REQUESTS: u32 = 16;
+pub const REQUESTS_A_TURN: u32 = 16;
 
 /// How many reads of one connection are made before another's turn.
-const MOST_READS: u32 = 64;
+const READS_A_TURN: u32 = 64;
 
 /// While so many bytes wait to be sent to a connection, nothing is taken of it.
 pub const FULL: usize = 65_536;
@@ -62,7 +62,7 @@ pub enum Half {
 fn read_piece<P: Ports>(ports: &mut P, number: u64, guest: &mut Guest, piece: &mut [u8]) -> usize
     ensures count { result ≤ length piece.new }
     ensures told { OnlyHeard number (P.told ports.old) (P.told ports.new) }
-    ensures served { (v : WorldView) → IsServed v guest.old → IsServed v guest.new }
+    ensures served { (v : WorldView) → IsServedGuest v guest.old → IsServedGuest v guest.new }
     ensures guest { IsHeardOf guest.old guest.new }
 {
     let room = guest.peer.spare().min(piece.len());
@@ -87,10 +87,10 @@ fn read_piece<P: Ports>(ports: &mut P, number: u64, guest: &mut Guest, piece: &m
 #[inline(never)]
 fn drain<P: Ports>(ports: &mut P, number: u64, guest: &mut Guest, piece: &mut [u8])
     ensures told { OnlyHeard number (P.told ports.old) (P.told ports.new) }
-    ensures served { (v : WorldView) → IsServed v guest.old → IsServed v guest.new }
+    ensures served { (v : WorldView) → IsServedGuest v guest.old → IsServedGuest v guest.new }
     ensures guest { IsHeardOf guest.old guest.new }
 {
-    for _ in 0..MOST_READS {
+    for _ in 0..READS_A_TURN {
         match ports.read(number, piece) {
             PortRead::Got(_) => {}
             PortRead::NotYet => return,
@@ -123,9 +123,9 @@ impl<F: Folder> Office<F> {
         room: &mut [u8],
         half: Half,
     ) -> Result<(), Halt>
-        requires served { IsServed self.old.keeper.world guest.old }
-        requires apart { AreApart guest.old.session (session_of self.old.steward) }
-        ensures served { OnOk result (IsServed self.new.keeper.world guest.new) }
+        requires served { IsServedGuest self.old.keeper.world guest.old }
+        requires apart { IsNotStewards guest.old.session (session_of self.old.steward) }
+        ensures served { OnOk result (IsServedGuest self.new.keeper.world guest.new) }
         ensures added { GoesOn (MayEnter self.old.keeper.world.history (session_of self.old.steward) guest.old.session self.new.keys guest.new.key) self.old.keeper.world self.new.keeper.world }
         ensures asked { AsksInOne (session_of self.old.steward) guest.old.session guest.new.session self.old.keeper.world.history self.new.keeper.world.history }
         ensures session { KeepsOwn self.old.keeper.world.history guest.old.session guest.new.session }
@@ -133,7 +133,7 @@ impl<F: Folder> Office<F> {
         ensures shown { ShowsFirst self.old.keys self.new.keys guest.old guest.new }
         ensures held { MayHold self.old.keys guest.old.key guest.old.held → MayHold self.new.keys guest.new.key guest.new.held }
         ensures steward { session_of self.new.steward ≡ session_of self.old.steward }
-        ensures manners { self.new.manners ≡ self.old.manners }
+        ensures policy { self.new.policy ≡ self.old.policy }
         ensures told { OnlyHeard number (P.told outside.old.ports.now) (P.told outside.new.ports.now) }
         ensures lent { AreLent outside.old outside.new }
         ensures sent { guest.new.peer.sent ≡ guest.old.peer.sent }
@@ -161,9 +161,9 @@ impl<F: Folder> Office<F> {
         guest: &mut Guest,
         room: &mut [u8],
     ) -> Result<(), Halt>
-        requires served { IsServed self.old.keeper.world guest.old }
-        requires apart { AreApart guest.old.session (session_of self.old.steward) }
-        ensures served { OnOk result (IsServed self.new.keeper.world guest.new) }
+        requires served { IsServedGuest self.old.keeper.world guest.old }
+        requires apart { IsNotStewards guest.old.session (session_of self.old.steward) }
+        ensures served { OnOk result (IsServedGuest self.new.keeper.world guest.new) }
         ensures turn { TakesTurn self.old self.new guest.old guest.new }
         ensures shut { guest.old.standing ≢ standing.Open → self.new.keeper.world ≡ self.old.keeper.world }
         ensures told { OnlyHeard number (P.told outside.old.ports.now) (P.told outside.new.ports.now) }
@@ -181,7 +181,7 @@ impl<F: Folder> Office<F> {
     // Answers the HTTP requests that wait. Whether more may be taken of the connection.
     fn take_waiting<L: Files>(&self, files: &mut L, guest: &mut Guest) -> bool
         ensures open { IsTrue result → guest.new.standing ≡ standing.Open }
-        ensures served { (v : WorldView) → IsServed v guest.old → IsServed v guest.new }
+        ensures served { (v : WorldView) → IsServedGuest v guest.old → IsServedGuest v guest.new }
         ensures guest { IsHeardOf guest.old guest.new }
         ensures files { (name : List ℕ) → L.contents files.new name ≡ L.contents files.old name }
     {
@@ -203,9 +203,9 @@ impl<F: Folder> Office<F> {
         room: &mut [u8],
     ) -> Result<(), Halt>
         requires open { guest.old.standing ≡ standing.Open }
-        requires served { IsServed self.old.keeper.world guest.old }
-        requires apart { AreApart guest.old.session (session_of self.old.steward) }
-        ensures served { OnOk result (IsServed self.new.keeper.world guest.new) }
+        requires served { IsServedGuest self.old.keeper.world guest.old }
+        requires apart { IsNotStewards guest.old.session (session_of self.old.steward) }
+        ensures served { OnOk result (IsServedGuest self.new.keeper.world guest.new) }
         ensures turn { TakesTurn self.old self.new guest.old guest.new }
         ensures idle { OnOk result (HasYetToAsk guest.old guest.new self.old.keeper.world self.new.keeper.world) }
         ensures told { OnlyHeard number (P.told outside.old.ports.now) (P.told outside.new.ports.now) }
@@ -213,8 +213,8 @@ impl<F: Folder> Office<F> {
         ensures sent { guest.new.peer.sent ≡ guest.old.peer.sent }
         ensures kept { KeepsKeys (L.contents outside.old.files.now) (L.contents outside.new.files.now) self.old.keys self.new.keys }
     {
-        let mut left = MOST_REQUESTS;
-        for _ in 0..MOST_READS {
+        let mut left = REQUESTS_A_TURN;
+        for _ in 0..READS_A_TURN {
             match self.take_and_read(outside, number, guest, room, &mut left)? {
                 Course::On => {}
                 Course::Over => return Ok(()),
@@ -234,10 +234,10 @@ impl<F: Folder> Office<F> {
         left: &mut u32,
     ) -> Result<Course, Halt>
         requires open { guest.old.standing ≡ standing.Open }
-        requires served { IsServed self.old.keeper.world guest.old }
-        requires apart { AreApart guest.old.session (session_of self.old.steward) }
+        requires served { IsServedGuest self.old.keeper.world guest.old }
+        requires apart { IsNotStewards guest.old.session (session_of self.old.steward) }
         ensures open { IfOk result (λ course. course ≡ courses.On → guest.new.standing ≡ standing.Open) }
-        ensures served { OnOk result (IsServed self.new.keeper.world guest.new) }
+        ensures served { OnOk result (IsServedGuest self.new.keeper.world guest.new) }
         ensures turn { TakesTurn self.old self.new guest.old guest.new }
         ensures idle { OnOk result (HasYetToAsk guest.old guest.new self.old.keeper.world self.new.keeper.world) }
         ensures told { OnlyHeard number (P.told outside.old.ports.now) (P.told outside.new.ports.now) }
@@ -261,10 +261,10 @@ impl<F: Folder> Office<F> {
         room: &mut [u8],
     ) -> Result<Course, Halt>
         requires open { guest.old.standing ≡ standing.Open }
-        requires served { IsServed self.old.keeper.world guest.old }
-        requires apart { AreApart guest.old.session (session_of self.old.steward) }
+        requires served { IsServedGuest self.old.keeper.world guest.old }
+        requires apart { IsNotStewards guest.old.session (session_of self.old.steward) }
         ensures open { IfOk result (λ course. course ≡ courses.On → guest.new.standing ≡ standing.Open) }
-        ensures served { OnOk result (IsServed self.new.keeper.world guest.new) }
+        ensures served { OnOk result (IsServedGuest self.new.keeper.world guest.new) }
         ensures turn { TakesTurn self.old self.new guest.old guest.new }
         ensures idle { OnOk result (HasYetToAsk guest.old guest.new self.old.keeper.world self.new.keeper.world) }
         ensures told { OnlyHeard number (P.told ports.old) (P.told ports.new) }
@@ -293,7 +293,7 @@ impl<F: Folder> Office<F> {
         guest: &mut Guest,
         room: &mut [u8],
     ) -> usize
-        ensures served { (v : WorldView) → IsServed v guest.old → IsServed v guest.new }
+        ensures served { (v : WorldView) → IsServedGuest v guest.old → IsServedGuest v guest.new }
         ensures guest { IsHeardOf guest.old guest.new }
         ensures told { OnlyHeard number (P.told ports.old) (P.told ports.new) }
         ensures files { (name : List ℕ) → L.contents files.new name ≡ L.contents files.old name }
@@ -308,7 +308,7 @@ impl<F: Folder> Office<F> {
 
     // Takes bytes in that came. HTTP requests are answered at once.
     fn take_piece<L: Files>(&self, files: &mut L, guest: &mut Guest, piece: &[u8])
-        ensures served { (v : WorldView) → IsServed v guest.old → IsServed v guest.new }
+        ensures served { (v : WorldView) → IsServedGuest v guest.old → IsServedGuest v guest.new }
         ensures guest { IsHeardOf guest.old guest.new }
         ensures files { (name : List ℕ) → L.contents files.new name ≡ L.contents files.old name }
     {
@@ -338,16 +338,16 @@ impl<F: Folder> Office<F> {
         left: &mut u32,
     ) -> Result<Course, Halt>
         requires open { guest.old.standing ≡ standing.Open }
-        requires served { IsServed self.old.keeper.world guest.old }
-        requires apart { AreApart guest.old.session (session_of self.old.steward) }
+        requires served { IsServedGuest self.old.keeper.world guest.old }
+        requires apart { IsNotStewards guest.old.session (session_of self.old.steward) }
         ensures open { IfOk result (λ course. course ≡ courses.On → guest.new.standing ≡ standing.Open) }
-        ensures served { OnOk result (IsServed self.new.keeper.world guest.new) }
+        ensures served { OnOk result (IsServedGuest self.new.keeper.world guest.new) }
         ensures turn { TakesTurn self.old self.new guest.old guest.new }
         ensures idle { OnOk result (HasYetToAsk guest.old guest.new self.old.keeper.world self.new.keeper.world) }
         ensures sent { guest.new.peer.sent ≡ guest.old.peer.sent }
         ensures kept { KeepsKeys (L.contents files.old) (L.contents files.new) self.old.keys self.new.keys }
     {
-        for _ in 0..=MOST_REQUESTS {
+        for _ in 0..=REQUESTS_A_TURN {
             if *left == 0 {
                 break;
             }
@@ -372,10 +372,10 @@ impl<F: Folder> Office<F> {
         left: &mut u32,
     ) -> Result<Option<Course>, Halt>
         requires open { guest.old.standing ≡ standing.Open }
-        requires served { IsServed self.old.keeper.world guest.old }
-        requires apart { AreApart guest.old.session (session_of self.old.steward) }
+        requires served { IsServedGuest self.old.keeper.world guest.old }
+        requires apart { IsNotStewards guest.old.session (session_of self.old.steward) }
         ensures open { IfOk result (λ course. course ≢ Some courses.Over → guest.new.standing ≡ standing.Open) }
-        ensures served { OnOk result (IsServed self.new.keeper.world guest.new) }
+        ensures served { OnOk result (IsServedGuest self.new.keeper.world guest.new) }
         ensures turn { TakesTurn self.old self.new guest.old guest.new }
         ensures idle { OnOk result (HasYetToAsk guest.old guest.new self.old.keeper.world self.new.keeper.world) }
         ensures sent { guest.new.peer.sent ≡ guest.old.peer.sent }
@@ -405,9 +405,9 @@ impl<F: Folder> Office<F> {
         guest: &mut Guest,
     ) -> Result<Taken, Halt>
         requires open { guest.old.standing ≡ standing.Open }
-        requires served { IsServed self.old.keeper.world guest.old }
-        requires apart { AreApart guest.old.session (session_of self.old.steward) }
-        ensures served { OnOk result (IsServed self.new.keeper.world guest.new) }
+        requires served { IsServedGuest self.old.keeper.world guest.old }
+        requires apart { IsNotStewards guest.old.session (session_of self.old.steward) }
+        ensures served { OnOk result (IsServedGuest self.new.keeper.world guest.new) }
         ensures turn { TakesTurn self.old self.new guest.old guest.new }
         ensures idle { OnOk result (HasYetToAsk guest.old guest.new self.old.keeper.world self.new.keeper.world) }
         ensures sent { guest.new.peer.sent ≡ guest.old.peer.sent }
@@ -445,9 +445,9 @@ impl<F: Folder> Office<F> {
         digest: [u8; 32],
     ) -> Result<(), Halt>
         requires open { guest.old.standing ≡ standing.Open }
-        requires served { IsServed self.old.keeper.world guest.old }
-        requires apart { AreApart guest.old.session (session_of self.old.steward) }
-        ensures served { OnOk result (IsServed self.new.keeper.world guest.new) }
+        requires served { IsServedGuest self.old.keeper.world guest.old }
+        requires apart { IsNotStewards guest.old.session (session_of self.old.steward) }
+        ensures served { OnOk result (IsServedGuest self.new.keeper.world guest.new) }
         ensures turn { TakesTurn self.old self.new guest.old guest.new }
         ensures idle { OnOk result (HasYetToAsk guest.old guest.new self.old.keeper.world self.new.keeper.world) }
         ensures sent { guest.new.peer.sent ≡ guest.old.peer.sent }

@@ -3,14 +3,14 @@ ghost use Rattle.std.specs.Prelude.{◌≡◌, ◌≤◌, ◌<◌, ℕ, false, N
 ghost use Rattle.sv_office.specs.Entering.{GoesOn, KeepsOwn, AsksInOne, CameOfHeld, MayEnter, MayHold, WasReleased};
 ghost use Rattle.sv_office.specs.Guests.{HasYetToAsk};
 ghost use Rattle.sv_office.specs.Holding.{IsHeld, IsWaiting};
-ghost use Rattle.sv_office.specs.Offices.{AreApart, session_of};
-ghost use Rattle.sv_office.specs.Telling.{IsServed};
+ghost use Rattle.sv_office.specs.Offices.{IsNotStewards, session_of};
+ghost use Rattle.sv_office.specs.Telling.{IsServedGuest};
 ghost use Rattle.sv_office.specs.declared.guest.Standing.TheVariants as standing;
 
 use crate::guest::Guest;
 use crate::halt::Halt;
 use crate::office::Office;
-use crate::waiting::Waiting;
+use crate::waiting::HeldObserve;
 use sv_log::Folder;
 use sv_wire::Request;
 
@@ -32,10 +32,10 @@ impl<F: Folder> Office<F> {
     /// Answers the held Observe of a connection, where it has one. Then none is held of it.
     pub fn release(&mut self, guest: &mut Guest) -> Result<(), Halt>
         requires open { guest.old.standing ≡ standing.Open }
-        requires served { IsServed self.old.keeper.world guest.old }
-        requires apart { AreApart guest.old.session (session_of self.old.steward) }
-        ensures served { OnOk result (IsServed self.new.keeper.world guest.new) }
-        ensures once { OnOk result (WasReleased (session_of self.old.steward) self.old.manners.authority guest.old.session guest.new.session self.old.keeper.world self.new.keeper.world guest.old.held) }
+        requires served { IsServedGuest self.old.keeper.world guest.old }
+        requires apart { IsNotStewards guest.old.session (session_of self.old.steward) }
+        ensures served { OnOk result (IsServedGuest self.new.keeper.world guest.new) }
+        ensures once { OnOk result (WasReleased (session_of self.old.steward) self.old.policy.authority guest.old.session guest.new.session self.old.keeper.world self.new.keeper.world guest.old.held) }
         ensures held { guest.new.held ≡ None }
         ensures added { GoesOn (CameOfHeld self.old.keeper.world.history (session_of self.old.steward) guest.old.session guest.old.held) self.old.keeper.world self.new.keeper.world }
         ensures may { MayHold self.old.keys guest.old.key guest.old.held
@@ -45,7 +45,7 @@ impl<F: Folder> Office<F> {
         ensures session { KeepsOwn self.old.keeper.world.history guest.old.session guest.new.session }
         ensures steward { session_of self.new.steward ≡ session_of self.old.steward }
         ensures keys { self.new.keys ≡ self.old.keys }
-        ensures manners { self.new.manners ≡ self.old.manners }
+        ensures policy { self.new.policy ≡ self.old.policy }
         ensures key { guest.new.key ≡ guest.old.key }
         ensures spoken { guest.new.has_spoken ≡ guest.old.has_spoken }
         ensures sent { guest.new.peer.sent ≡ guest.old.peer.sent }
@@ -60,18 +60,18 @@ impl<F: Folder> Office<F> {
     }
 
     /// How the held Observe of a connection stands.
-    pub fn standing_of_held(&self, guest: &Guest) -> Waiting
+    pub fn standing_of_held(&self, guest: &Guest) -> HeldObserve
         ensures { self.now.keeper.is_broken ≡ false → IsWaiting self.now.keeper.world self.now.time guest.now result }
     {
         let Some(held) = &guest.held else {
-            return Waiting::Nothing;
+            return HeldObserve::Nothing;
         };
         if held.until <= self.time {
-            return Waiting::Due;
+            return HeldObserve::Due;
         }
         match self.quiet_answer(guest, &held.request) {
-            Some(_) => Waiting::Until(held.until),
-            None => Waiting::Due,
+            Some(_) => HeldObserve::Until(held.until),
+            None => HeldObserve::Due,
         }
     }
 }

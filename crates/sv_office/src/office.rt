@@ -15,7 +15,7 @@ use sv_site::{Counts, Figures};
 
 /// How the server is to behave. Times are in milliseconds.
 #[derive(Clone, Copy, Debug, Drop, PartialEq, Eq)]
-pub struct Manners {
+pub struct Policy {
     pub idle: u64,
     pub report_within: u64,
     /// The steward's reports alone count.
@@ -30,7 +30,7 @@ pub struct Manners {
 pub struct Office<F: Folder> {
     pub alloc: Global,
     pub keeper: Keeper<F>,
-    pub manners: Manners,
+    pub policy: Policy,
     pub counts: Counts,
     pub steward: Option<Steward>,
     pub keys: Option<Keys>,

@@ -1,6 +1,6 @@
 //! When the steward reports.
 ghost use Rattle.std.specs.Prelude.{◌≡◌, OnOk};
-ghost use Rattle.sv_keeper.specs.Keeping.{AreSettled};
+ghost use Rattle.sv_keeper.specs.Keeping.{AreDurable};
 ghost use Rattle.sv_office.specs.Entering.{GoesOn, IsReport, IsStewards, KeepsOwn, WasReported};
 ghost use Rattle.sv_office.specs.Offices.{session_of};
 
@@ -12,7 +12,7 @@ use sv_log::Folder;
 const MOST_REPORTS: u32 = 64;
 
 impl<F: Folder> Office<F> {
-    // Has the steward report what its polls are answered, at most so often.
+    // Has the steward poll once and report what it was answered. Says whether there was something.
     #[tactic(auto, using(crate::proofs::Adding::goes_nowhere, crate::proofs::Entered::sound_stays))]
     #[inline(never)]
     fn report_once(&mut self) -> Result<bool, Halt>
@@ -20,7 +20,7 @@ impl<F: Folder> Office<F> {
         ensures reported { OnOk result (WasReported (session_of self.old.steward) self.old.keeper.world.history self.new.keeper.world.history) }
         ensures added { GoesOn (IsReport (session_of self.old.steward)) self.old.keeper.world self.new.keeper.world }
         ensures keys { self.new.keys ≡ self.old.keys }
-        ensures manners { self.new.manners ≡ self.old.manners }
+        ensures policy { self.new.policy ≡ self.old.policy }
     {
         let Some(steward) = &mut self.steward else {
             return Ok(false);
@@ -36,7 +36,7 @@ impl<F: Folder> Office<F> {
         ensures reported { OnOk result (WasReported (session_of self.old.steward) self.old.keeper.world.history self.new.keeper.world.history) }
         ensures added { GoesOn (IsReport (session_of self.old.steward)) self.old.keeper.world self.new.keeper.world }
         ensures keys { self.new.keys ≡ self.old.keys }
-        ensures manners { self.new.manners ≡ self.old.manners }
+        ensures policy { self.new.policy ≡ self.old.policy }
     {
         self.report_once()?;
         Ok(())
@@ -47,13 +47,13 @@ impl<F: Folder> Office<F> {
         ensures keeper { self.new.keeper ≡ self.old.keeper }
         ensures steward { self.new.steward ≡ self.old.steward }
         ensures keys { self.new.keys ≡ self.old.keys }
-        ensures manners { self.new.manners ≡ self.old.manners }
+        ensures policy { self.new.policy ≡ self.old.policy }
     {
-        if self.steward.is_none() || self.manners.authority {
+        if self.steward.is_none() || self.policy.authority {
             return None;
         }
         let oldest = self.ages.oldest(self.keeper.commit())?;
-        Some(oldest.saturating_add(self.manners.report_within))
+        Some(oldest.saturating_add(self.policy.report_within))
     }
 
     // Notes up to which position actions were accepted, where some have no result.
@@ -61,7 +61,7 @@ impl<F: Folder> Office<F> {
         ensures keeper { self.new.keeper ≡ self.old.keeper }
         ensures steward { self.new.steward ≡ self.old.steward }
         ensures keys { self.new.keys ≡ self.old.keys }
-        ensures manners { self.new.manners ≡ self.old.manners }
+        ensures policy { self.new.policy ≡ self.old.policy }
     {
         if self.keeper.commit() < self.keeper.last() {
             self.ages.note(self.keeper.last(), self.time)?;
@@ -74,7 +74,7 @@ impl<F: Folder> Office<F> {
         ensures keeper { self.new.keeper ≡ self.old.keeper }
         ensures steward { self.new.steward ≡ self.old.steward }
         ensures keys { self.new.keys ≡ self.old.keys }
-        ensures manners { self.new.manners ≡ self.old.manners }
+        ensures policy { self.new.policy ≡ self.old.policy }
     {
         match self.report_due() {
             Some(due) => due <= self.time,
@@ -88,9 +88,9 @@ impl<F: Folder> Office<F> {
         ensures steward { session_of self.new.steward ≡ session_of self.old.steward }
         ensures added { GoesOn (IsReport (session_of self.old.steward)) self.old.keeper.world self.new.keeper.world }
         ensures keys { self.new.keys ≡ self.old.keys }
-        ensures manners { self.new.manners ≡ self.old.manners }
+        ensures policy { self.new.policy ≡ self.old.policy }
     {
-        if self.steward.is_none() || self.manners.authority {
+        if self.steward.is_none() || self.policy.authority {
             return Ok(());
         }
         self.note_last()?;
@@ -108,7 +108,7 @@ impl<F: Folder> Office<F> {
         ensures steward { session_of self.new.steward ≡ session_of self.old.steward }
         ensures added { GoesOn (IsReport (session_of self.old.steward)) self.old.keeper.world self.new.keeper.world }
         ensures keys { self.new.keys ≡ self.old.keys }
-        ensures manners { self.new.manners ≡ self.old.manners }
+        ensures policy { self.new.policy ≡ self.old.policy }
     {
         for _ in 0..u64::MAX {
             if !self.report_once()? {
@@ -124,7 +124,7 @@ impl<F: Folder> Office<F> {
         ensures session { KeepsOwn self.old.keeper.world.history (session_of self.old.steward) (session_of self.new.steward) }
         ensures added { GoesOn (IsStewards self.old.keeper.world.history (session_of self.old.steward)) self.old.keeper.world self.new.keeper.world }
         ensures keys { self.new.keys ≡ self.old.keys }
-        ensures manners { self.new.manners ≡ self.old.manners }
+        ensures policy { self.new.policy ≡ self.old.policy }
     {
         if let Some(steward) = &mut self.steward {
             steward.join(&mut self.keeper)?;
@@ -135,13 +135,13 @@ impl<F: Folder> Office<F> {
     /// The steward joins and reports, before anybody is served.
     pub fn begin(&mut self) -> Result<(), Halt>
         ensures added { GoesOn (IsStewards self.old.keeper.world.history (session_of self.old.steward)) self.old.keeper.world self.new.keeper.world }
-        ensures settled { OnOk result (AreSettled F.disk F.is_honest self.new.keeper) }
+        ensures durable { OnOk result (AreDurable F.disk F.is_honest self.new.keeper) }
         ensures keys { self.new.keys ≡ self.old.keys }
-        ensures manners { self.new.manners ≡ self.old.manners }
+        ensures policy { self.new.policy ≡ self.old.policy }
     {
         self.join()?;
         self.report_all()?;
-        match self.keeper.settle() {
+        match self.keeper.make_durable() {
             Ok(()) => Ok(()),
             Err(_) => Err(Halt::Log),
         }

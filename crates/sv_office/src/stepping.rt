@@ -6,7 +6,7 @@ ghost use Rattle.sv_journal.specs.declared.entry.Entry.{Entry};
 ghost use Rattle.sv_journal.specs.History.{accepted, full_reply};
 ghost use Rattle.sv_journal.specs.Laws.{AreWithinLimits};
 ghost use Rattle.sv_journal.specs.Sessions.{is_end};
-ghost use Rattle.sv_living.specs.Quiet.{IsQuiet};
+ghost use Rattle.sv_living.specs.Quiet.{IsQuietReply};
 ghost use Rattle.sv_living.specs.Sessions.{AreInOrder};
 ghost use Rattle.sv_living.specs.World.{WorldView, after, reply_in};
 ghost use Rattle.sv_wire.specs.declared.message.Reply.{Reply};
@@ -14,9 +14,9 @@ ghost use Rattle.sv_wire.specs.declared.message.Request.{Request};
 ghost use Rattle.sv_office.specs.Admitting.{is_admitted, is_stewards_number, number_in, shows_key};
 ghost use Rattle.sv_office.specs.Entering.{GoesOn, KeepsOwn, AsksInOne, IsEndOf, IsEnded, Follows, CameOf, CameOfAsking, MayHold, WasFollowed, WasAnswered, IsReport};
 ghost use Rattle.sv_office.specs.Guests.{HasYetToAsk, Stays};
-ghost use Rattle.sv_office.specs.Offices.{AreApart, session_of};
+ghost use Rattle.sv_office.specs.Offices.{IsNotStewards, session_of};
 ghost use Rattle.sv_office.specs.Taking.{WasTaken};
-ghost use Rattle.sv_office.specs.Telling.{IsServed, IsOwed, WouldShowNothing, ShowsSomething};
+ghost use Rattle.sv_office.specs.Telling.{IsServedGuest, IsOwed, WouldShowNothing, ShowsSomething};
 ghost use Rattle.sv_office.specs.declared.guest.Standing.TheVariants as standing;
 
 use crate::entering::{asking_session, enter};
@@ -89,7 +89,7 @@ fn answers_are_messages<F: Folder>(keeper: &Keeper<F>)
         → IsWireReply (full_reply (accepted (after keeper.now.world s request).history) (reply_in keeper.now.world s request)) }
     ensures order { AreInOrder keeper.now.world.history }
     ensures quiet { (s : ℕ) → (request : Request) → (reply : Reply)
-        → IsQuiet keeper.now.world.rules keeper.now.world.stewardship keeper.now.world.history s request (Some reply) → IsWireReply reply }
+        → IsQuietReply keeper.now.world.rules keeper.now.world.stewardship keeper.now.world.history s request (Some reply) → IsWireReply reply }
 {
     keeper.is_lawful();
     served_replies_are_messages();
@@ -106,7 +106,7 @@ fn count(counts: &mut Counts, is_new: bool, reply: &Reply) {
 fn tell(guest: &mut Guest, reply: &Reply)
     requires message { IsWireReply reply.now }
     requires open { guest.old.standing ≡ standing.Open }
-    ensures served { (v : WorldView) → IsOwed v guest.old reply.now → IsServed v guest.new }
+    ensures served { (v : WorldView) → IsOwed v guest.old reply.now → IsServedGuest v guest.new }
     ensures session { guest.new.session ≡ guest.old.session }
     ensures guest { Stays guest.old guest.new }
 {
@@ -129,19 +129,19 @@ impl<F: Folder> Office<F> {
     pub fn take_request(&mut self, guest: &mut Guest, request: Request) -> Result<(), Halt>
         requires asks { is_end request ≡ false }
         requires open { guest.old.standing ≡ standing.Open }
-        requires served { IsServed self.old.keeper.world guest.old }
-        requires apart { AreApart guest.old.session (session_of self.old.steward) }
-        ensures served { OnOk result (IsServed self.new.keeper.world guest.new) }
+        requires served { IsServedGuest self.old.keeper.world guest.old }
+        requires apart { IsNotStewards guest.old.session (session_of self.old.steward) }
+        ensures served { OnOk result (IsServedGuest self.new.keeper.world guest.new) }
         ensures added { GoesOn (CameOfAsking self.old.keeper.world.history (session_of self.old.steward) self.old.keys guest.old request) self.old.keeper.world self.new.keeper.world }
         ensures asked { AsksInOne (session_of self.old.steward) guest.old.session guest.new.session self.old.keeper.world.history self.new.keeper.world.history }
         ensures idle { OnOk result (HasYetToAsk guest.old guest.new self.old.keeper.world self.new.keeper.world) }
         ensures session { KeepsOwn self.old.keeper.world.history guest.old.session guest.new.session }
         ensures steward { session_of self.new.steward ≡ session_of self.old.steward }
         ensures keys { self.new.keys ≡ self.old.keys }
-        ensures manners { self.new.manners ≡ self.old.manners }
+        ensures policy { self.new.policy ≡ self.old.policy }
         ensures key { guest.new.key ≡ guest.old.key }
         ensures sent { guest.new.peer.sent ≡ guest.old.peer.sent }
-        ensures taken { is_admitted self.old.keys guest.old.key request ≡ true → OnOk result (WasTaken (session_of self.old.steward) self.old.manners.authority
+        ensures taken { is_admitted self.old.keys guest.old.key request ≡ true → OnOk result (WasTaken (session_of self.old.steward) self.old.policy.authority
             guest.old.session guest.new.session guest.old.held self.old.keeper.world self.new.keeper.world request) }
         ensures refused { is_admitted self.old.keys guest.old.key request ≡ false → OnOk result (IsEnded guest.old.session guest.new.session self.old.keeper.world.history self.new.keeper.world.history) }
         ensures spoken { guest.new.has_spoken ≡ true }
@@ -171,17 +171,17 @@ impl<F: Folder> Office<F> {
         requires asks { is_end request.now ≡ false }
         requires another { is_stewards_number (number_in request.now) ≡ false }
         requires open { guest.old.standing ≡ standing.Open }
-        requires served { IsServed self.old.keeper.world guest.old }
-        requires apart { AreApart guest.old.session (session_of self.old.steward) }
-        ensures served { OnOk result (IsServed self.new.keeper.world guest.new) }
-        ensures answered { OnOk result (WasAnswered (session_of self.old.steward) self.old.manners.authority guest.old.session guest.new.session self.old.keeper.world self.new.keeper.world request.now) }
+        requires served { IsServedGuest self.old.keeper.world guest.old }
+        requires apart { IsNotStewards guest.old.session (session_of self.old.steward) }
+        ensures served { OnOk result (IsServedGuest self.new.keeper.world guest.new) }
+        ensures answered { OnOk result (WasAnswered (session_of self.old.steward) self.old.policy.authority guest.old.session guest.new.session self.old.keeper.world self.new.keeper.world request.now) }
         ensures added { GoesOn (CameOf self.old.keeper.world.history (session_of self.old.steward) guest.old.session request.now) self.old.keeper.world self.new.keeper.world }
         ensures asked { AsksInOne (session_of self.old.steward) guest.old.session guest.new.session self.old.keeper.world.history self.new.keeper.world.history }
         ensures idle { OnOk result (HasYetToAsk guest.old guest.new self.old.keeper.world self.new.keeper.world) }
         ensures session { KeepsOwn self.old.keeper.world.history guest.old.session guest.new.session }
         ensures steward { session_of self.new.steward ≡ session_of self.old.steward }
         ensures keys { self.new.keys ≡ self.old.keys }
-        ensures manners { self.new.manners ≡ self.old.manners }
+        ensures policy { self.new.policy ≡ self.old.policy }
         ensures guest { Stays guest.old guest.new }
         // An Observe that would show nothing is not entered.
         ensures quiet { self.old.keeper.is_broken ≡ false → (reply : Reply) → WouldShowNothing self.old.keeper.world guest.old request.now reply
@@ -212,17 +212,17 @@ impl<F: Folder> Office<F> {
         requires asks { is_end request.now ≡ false }
         requires another { is_stewards_number (number_in request.now) ≡ false }
         requires open { guest.old.standing ≡ standing.Open }
-        requires served { IsServed self.old.keeper.world guest.old }
-        requires apart { AreApart guest.old.session (session_of self.old.steward) }
-        ensures served { OnOk result (IsServed self.new.keeper.world guest.new) }
-        ensures answered { OnOk result (WasAnswered (session_of self.old.steward) self.old.manners.authority guest.old.session guest.new.session self.old.keeper.world self.new.keeper.world request.now) }
+        requires served { IsServedGuest self.old.keeper.world guest.old }
+        requires apart { IsNotStewards guest.old.session (session_of self.old.steward) }
+        ensures served { OnOk result (IsServedGuest self.new.keeper.world guest.new) }
+        ensures answered { OnOk result (WasAnswered (session_of self.old.steward) self.old.policy.authority guest.old.session guest.new.session self.old.keeper.world self.new.keeper.world request.now) }
         ensures added { GoesOn (CameOf self.old.keeper.world.history (session_of self.old.steward) guest.old.session request.now) self.old.keeper.world self.new.keeper.world }
         ensures asked { AsksInOne (session_of self.old.steward) guest.old.session guest.new.session self.old.keeper.world.history self.new.keeper.world.history }
         ensures idle { OnOk result (HasYetToAsk guest.old guest.new self.old.keeper.world self.new.keeper.world) }
         ensures session { KeepsOwn self.old.keeper.world.history guest.old.session guest.new.session }
         ensures steward { session_of self.new.steward ≡ session_of self.old.steward }
         ensures keys { self.new.keys ≡ self.old.keys }
-        ensures manners { self.new.manners ≡ self.old.manners }
+        ensures policy { self.new.policy ≡ self.old.policy }
         ensures guest { Stays guest.old guest.new }
     {
         let session = asking_session(&self.keeper, guest.session);
@@ -272,14 +272,14 @@ impl<F: Folder> Office<F> {
 
     // With authority the steward reports what was accepted.
     fn report_at_once(&mut self, before: Before) -> Result<(), Halt>
-        ensures followed { OnOk result (WasFollowed (session_of self.old.steward) self.old.manners.authority before.last None None
+        ensures followed { OnOk result (WasFollowed (session_of self.old.steward) self.old.policy.authority before.last None None
             self.old.keeper.world.history self.new.keeper.world.history) }
         ensures added { GoesOn (IsReport (session_of self.old.steward)) self.old.keeper.world self.new.keeper.world }
         ensures steward { session_of self.new.steward ≡ session_of self.old.steward }
         ensures keys { self.new.keys ≡ self.old.keys }
-        ensures manners { self.new.manners ≡ self.old.manners }
+        ensures policy { self.new.policy ≡ self.old.policy }
     {
-        if !self.manners.authority {
+        if !self.policy.authority {
             return Ok(());
         }
         if self.keeper.last() == before.last {
@@ -293,16 +293,16 @@ impl<F: Folder> Office<F> {
         requires message { IsWireReply reply.now }
         requires open { guest.old.standing ≡ standing.Open }
         requires owed { IsOwed self.old.keeper.world guest.old reply.now }
-        requires apart { AreApart guest.old.session (session_of self.old.steward) }
-        ensures served { OnOk result (IsServed self.new.keeper.world guest.new) }
-        ensures followed { OnOk result (WasFollowed (session_of self.old.steward) self.old.manners.authority before.last guest.old.session guest.new.session
+        requires apart { IsNotStewards guest.old.session (session_of self.old.steward) }
+        ensures served { OnOk result (IsServedGuest self.new.keeper.world guest.new) }
+        ensures followed { OnOk result (WasFollowed (session_of self.old.steward) self.old.policy.authority before.last guest.old.session guest.new.session
             self.old.keeper.world.history self.new.keeper.world.history) }
         ensures added { GoesOn (Follows (session_of self.old.steward) guest.old.session) self.old.keeper.world self.new.keeper.world }
         ensures session { guest.new.session ≡ guest.old.session ⊎ guest.new.session ≡ None }
         ensures still { guest.new.standing ≡ standing.Open → guest.new.session ≡ guest.old.session }
         ensures steward { session_of self.new.steward ≡ session_of self.old.steward }
         ensures keys { self.new.keys ≡ self.old.keys }
-        ensures manners { self.new.manners ≡ self.old.manners }
+        ensures policy { self.new.policy ≡ self.old.policy }
         ensures guest { Stays guest.old guest.new }
     {
         let is_new = self.has_new_outcome(guest.client, before);
@@ -320,8 +320,8 @@ impl<F: Folder> Office<F> {
     /// Enters the End of a connection's session, where it has one. Then it has none, and is served no more.
     #[inline(never)]
     pub fn end(&mut self, guest: &mut Guest) -> Result<(), Halt>
-        requires served { IsServed self.old.keeper.world guest.old }
-        ensures served { OnOk result (IsServed self.new.keeper.world guest.new) }
+        requires served { IsServedGuest self.old.keeper.world guest.old }
+        ensures served { OnOk result (IsServedGuest self.new.keeper.world guest.new) }
         ensures ended { OnOk result (IsEnded guest.old.session guest.new.session self.old.keeper.world.history self.new.keeper.world.history) }
         ensures added { GoesOn (IsEndOf guest.old.session) self.old.keeper.world self.new.keeper.world }
         ensures session { guest.new.session ≡ None }
@@ -330,7 +330,7 @@ impl<F: Folder> Office<F> {
         ensures standing { guest.old.session ≢ None → guest.new.standing ≢ standing.Open }
         ensures steward { session_of self.new.steward ≡ session_of self.old.steward }
         ensures keys { self.new.keys ≡ self.old.keys }
-        ensures manners { self.new.manners ≡ self.old.manners }
+        ensures policy { self.new.policy ≡ self.old.policy }
         ensures guest { Stays guest.old guest.new }
     {
         let Some(session) = guest.session else {

@@ -9,9 +9,9 @@ ghost use Rattle.law_system.specs.Told.{ReportsSerial, all_got};
 ghost use Rattle.sv_living.specs.World.{after};
 ghost use Rattle.sv_wire.specs.declared.message.Request.TheVariants as requests;
 ghost use Rattle.sv_office.specs.Admitting.{steward_number};
-ghost use Rattle.sv_office.specs.Entering.{KeepsOwn, GoesOn, IsEntry, IsReport, IsReported, IsStewards};
+ghost use Rattle.sv_office.specs.Entering.{KeepsOwn, GoesOn, IsEntryOf, IsReport, IsReported, IsStewards};
 ghost use Rattle.sv_office.specs.Stewarding.{Reports, is_refused};
-ghost use Rattle.sv_office.specs.Trusting.{IsLawful, IsSerial};
+ghost use Rattle.sv_office.specs.Trusting.{IsLegalWorld, IsSerialWorld};
 
 use crate::entering::{asking_session, enter};
 use crate::halt::Halt;
@@ -27,7 +27,7 @@ use sv_wire::{Refusal, Reply, Request};
 use sv_world::{ClientId, Shape};
 
 /// How many sessions the steward begins at most.
-const MOST_SESSIONS: u32 = 4_000_000_000;
+const MOST_LIVES: u32 = 4_000_000_000;
 
 /// A client that is asked by calls and not over a connection.
 #[derive(Drop)]
@@ -89,7 +89,7 @@ impl Steward {
         ensures none { IfOk result (λ done. IfNone done (asks_for_done reply.now ≡ false)) }
         ensures taken { OnOk result (is_refused reply.now ≡ false) }
         ensures told { OnOk result ((v : WorldView) → LacksOnly v self.old reply.now → HasGotAll v self.new) }
-        ensures serial { IfOk result (λ done. IfSome done (λ request. (v : WorldView) → AreWithinLimits v.rules → IsLawful v → IsSerial v → HasGotAll v self.new
+        ensures serial { IfOk result (λ done. IfSome done (λ request. (v : WorldView) → AreWithinLimits v.rules → IsLegalWorld v → IsSerialWorld v → HasGotAll v self.new
             → ReportsSerial v.rules.world.values (actions_of v.history) request)) }
         ensures behind { OnErr result (self.new.is_behind ≡ self.old.is_behind) }
     {
@@ -118,7 +118,7 @@ impl Steward {
         ensures alone { IsAloneIn keeper.old self.old.session → IsAloneIn keeper.new self.new.session }
     {
         self.is_behind = true;
-        if self.client.sessions() >= MOST_SESSIONS {
+        if self.client.sessions() >= MOST_LIVES {
             return Err(Halt::Steward);
         }
         let requests = self.client.join()?;
@@ -245,10 +245,10 @@ impl Steward {
         requires limits { AreWithinLimits keeper.old.world.rules }
         requires own { self.old.session ≡ Some session }
         requires told { HasGotAll keeper.old.world self.old }
-        requires serial { IsSerial keeper.old.world → ReportsSerial keeper.old.world.rules.world.values (actions_of keeper.old.world.history) done.now }
+        requires serial { IsSerialWorld keeper.old.world → ReportsSerial keeper.old.world.rules.world.values (actions_of keeper.old.world.history) done.now }
         ensures session { self.new.session ≡ self.old.session }
         ensures reported { OnOk result (keeper.new.world ≡ after keeper.old.world session done.now) }
-        ensures added { GoesOn (IsEntry session done.now) keeper.old.world keeper.new.world }
+        ensures added { GoesOn (IsEntryOf session done.now) keeper.old.world keeper.new.world }
         ensures told { IsUpToDate keeper.new.world self.new }
         ensures alone { IsAloneIn keeper.old self.old.session → IsAloneIn keeper.new self.new.session }
     {

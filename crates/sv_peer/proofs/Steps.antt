@@ -21,7 +21,7 @@ use Rattle.http_server.proofs.Theorems.{always_served}
 use Rattle.sv_peer.specs.declared.web.Web.{Web}
 use Rattle.sv_peer.specs.Https.{IsHttp}
 use Rattle.sv_peer.specs.Webs.{handed_by, HandsOut}
-use Rattle.sv_peer.specs.View.{PeerView, Says, Puts, Keeps, begun, is_letter}
+use Rattle.sv_peer.specs.View.{PeerView, Says, Puts, PeerKeeps, begun, is_letter}
 use Rattle.sv_peer.specs.Invariant.{manner_of, view_of, IsHandedOut}
 
 frames-last : (ps : List (List ℕ)) (p : List ℕ) → frames_of (ps ++ p ∷ []) ≡ frames_of ps ++ frame p
@@ -164,7 +164,7 @@ step_added old new told after sent before behind payload reply same says puts sp
     (record { says = says_told (manner_of old) told sent before behind reply says whole; handed = handed_put old payload before behind (sent ++ behind) puts }))
 
 -- control frames alone were put behind what waits
-pub keeps_controls : (peer : Inside) (now new : PeerView) → view_of peer ≡ now → new.told ≡ peer.told → new.sent ≡ peer.sent → GainsControls peer.output.items new.output → Keeps now new
+pub keeps_controls : (peer : Inside) (now new : PeerView) → view_of peer ≡ now → new.told ≡ peer.told → new.sent ≡ peer.sent → GainsControls peer.output.items new.output → PeerKeeps now new
 keeps_controls peer now new is told sent gains =
     record {
       told = told ∙ ap (λ (p : PeerView). p.told) is;

@@ -39,7 +39,7 @@ abbrev pub IsInStep : PeerView → Type 0
 IsInStep peer = Says peer.manner peer.told (peer.sent ++ peer.output)
 
 -- nothing more was told or sent, and what waits still does
-pub record Keeps (old new : PeerView) : Type 0 where
+pub record PeerKeeps (old new : PeerView) : Type 0 where
   pub told : new.told ≡ old.told
   pub sent : new.sent ≡ old.sent
   pub more : List ℕ
@@ -54,7 +54,7 @@ Puts manner.Socket payload old new = new ≡ old ++ message_frame payload
 Puts manner.Closed payload old new = ⊥
 
 -- a reply was told, and nothing else changed but that it waits
-pub record Tells (old : PeerView) (reply : Reply) (new : PeerView) : Type 0 where
+pub record PeerTells (old : PeerView) (reply : Reply) (new : PeerView) : Type 0 where
   pub puts : Puts old.manner (reply_bytes reply) old.output new.output
   pub rest : new ≡ record old { told = old.told ++ reply ∷ []; output = new.output }
 
@@ -108,12 +108,12 @@ abbrev pub Hears : PeerView → List ℕ → PeerView → Type 0
 Hears old piece new = HearsBy old.manner old piece new
 
 -- what the first frame is heard as: it is taken off, or there was no memory. A length over the limit is a request that is Bad, and stays
-abbrev pub TakesFirst : Option (List ℕ × List ℕ) → List ℕ → Heard → List ℕ → Type 0
-TakesFirst (Some first) old answer new = ((answer ≡ heard_in first.0) × (new ≡ first.1)) ⊎ ((answer ≡ heard.Memory) × (new ≡ old))
-TakesFirst None old answer new = (answer ≡ (if is_some (too_long old) then heard.Request Bad else heard.NotYet)) × (new ≡ old)
+abbrev pub TakesFirstFrame : Option (List ℕ × List ℕ) → List ℕ → Heard → List ℕ → Type 0
+TakesFirstFrame (Some first) old answer new = ((answer ≡ heard_in first.0) × (new ≡ first.1)) ⊎ ((answer ≡ heard.Memory) × (new ≡ old))
+TakesFirstFrame None old answer new = (answer ≡ (if is_some (too_long old) then heard.Request Bad else heard.NotYet)) × (new ≡ old)
 
 abbrev pub TakesFrame : List ℕ → Heard → List ℕ → Type 0
-TakesFrame old answer new = TakesFirst (first_frame old) old answer new
+TakesFrame old answer new = TakesFirstFrame (first_frame old) old answer new
 
 abbrev pub NextBy : Manner → PeerView → Heard → PeerView → Type 0
 NextBy manner.Unknown old answer new = (answer ≡ heard.NotYet) × (new ≡ old)

@@ -2,7 +2,7 @@
 ghost use Rattle.std.specs.Prelude.{◌≡◌, ◌⊎◌, ◌+◌, ◌-◌, ◌++◌, [], length, take, drop, IfOk, OnOk, OnErr, IsTrue};
 ghost use Rattle.sv_wire.specs.Laws.{IsReply};
 ghost use Rattle.sv_frame.specs.Frames.{greatest_frame, FitsFrame};
-ghost use Rattle.sv_peer.specs.View.{new_peer, is_letter, begun, IsInStep, Keeps, Tells, Upgrades, Answers, TakesIn, Hears, Nexts, TakesFrame, Puts, after_sent};
+ghost use Rattle.sv_peer.specs.View.{new_peer, is_letter, begun, IsInStep, PeerKeeps, PeerTells, Upgrades, Answers, TakesIn, Hears, Nexts, TakesFrame, Puts, after_sent};
 ghost use Rattle.sv_peer.specs.Invariant.{manner_of, heard_by, HandsNothing};
 
 use crate::desk::WebDesk;
@@ -16,7 +16,7 @@ use std::alloc::{AllocError, Global};
 use std::hash::RandomState;
 use std::marker::Model;
 use sv_exchange::Message;
-use sv_frame::{FrameReader, Next, put_frame};
+use sv_frame::{FrameReader, NextFrame, put_frame};
 use sv_wire::{Reply, Request};
 use websocket::protocol::CloseCode;
 
@@ -71,10 +71,10 @@ fn next_framed(alloc: Global, reader: &mut FrameReader) -> Heard
     ensures { TakesFrame reader.old result reader.new }
 {
     let heard = match reader.first() {
-        Next::NotYet => return Heard::NotYet,
+        NextFrame::NotYet => return Heard::NotYet,
         // It stays: no frame can be read from here on.
-        Next::TooLong(_) => return Heard::Request(Request::Bad),
-        Next::Frame(payload) => heard_of(alloc, payload),
+        NextFrame::TooLong(_) => return Heard::Request(Request::Bad),
+        NextFrame::Frame(payload) => heard_of(alloc, payload),
     };
     if let Heard::Memory = &heard {
         return heard;
@@ -91,13 +91,13 @@ fn is_letter(byte: u8) -> bool
 
 // The first byte tells how a connection is spoken: HTTP, where it is a letter, and else frames.
 #[inline(never)]
-fn begin(alloc: Global, first: u8, keys: RandomState) -> Result<Voice, AllocError>
+fn begin(alloc: Global, first: u8, random: RandomState) -> Result<Voice, AllocError>
     ensures manner { IfOk result (λ voice. manner_of voice ≡ begun first) }
     ensures heard { IfOk result (λ voice. heard_by voice ≡ []) }
     ensures handed { IfOk result HandsNothing }
 {
     if is_letter(first) {
-        Ok(Voice::Web(Box::new(alloc, Web::new(alloc, keys))?))
+        Ok(Voice::Web(Box::new(alloc, Web::new(alloc, random))?))
     } else {
         Ok(Voice::Plain(FrameReader::new(alloc)?))
     }
@@ -191,12 +191,12 @@ impl Peer {
 
     // The first byte tells how the connection is spoken: HTTP, where it is a letter, and else frames.
     #[inline(never)]
-    fn begin(&mut self, first: u8, keys: RandomState) -> Result<(), AllocError>
+    fn begin(&mut self, first: u8, random: RandomState) -> Result<(), AllocError>
         requires { self.old.manner ≡ Manner.Unknown }
         ensures ok { OnOk result (self.new ≡ record self.old { manner = begun first }) }
         ensures err { OnErr result (self.new ≡ self.old) }
     {
-        self.voice = begin(self.alloc, first, keys)?;
+        self.voice = begin(self.alloc, first, random)?;
         Ok(())
     }
 
@@ -233,7 +233,7 @@ impl Peer {
 
     fn take_in<D: WebDesk>(&mut self, piece: &[u8], desk: &mut D) -> Result<(), AllocError>
         ensures ok { OnOk result (TakesIn self.old.manner self.old piece.now self.new) }
-        ensures kept { Keeps self.old self.new }
+        ensures kept { PeerKeeps self.old self.new }
         ensures desk { D.keeps desk.old desk.new }
     {
         match &mut self.voice {
@@ -252,11 +252,11 @@ impl Peer {
     pub fn hear<D: WebDesk>(
         &mut self,
         piece: &[u8],
-        keys: RandomState,
+        random: RandomState,
         desk: &mut D,
     ) -> Result<(), AllocError>
         ensures ok { OnOk result (Hears self.old piece.now self.new) }
-        ensures kept { Keeps self.old self.new }
+        ensures kept { PeerKeeps self.old self.new }
         // What a desk keeps stays.
         ensures desk { D.keeps desk.old desk.new }
     {
@@ -264,7 +264,7 @@ impl Peer {
             let Some(first) = piece.first() else {
                 return Ok(());
             };
-            self.begin(*first, keys)?;
+            self.begin(*first, random)?;
         }
         self.take_in(piece, desk)
     }
@@ -282,7 +282,7 @@ impl Peer {
     /// Takes what came next.
     pub fn next(&mut self) -> Heard
         ensures next { Nexts self.old result self.new }
-        ensures kept { Keeps self.old self.new }
+        ensures kept { PeerKeeps self.old self.new }
     {
         if let Some(digest) = self.shown.take() {
             return Heard::Hello(digest);
@@ -299,7 +299,7 @@ impl Peer {
     /// it can only be closed then.
     pub fn say(&mut self, reply: &Reply) -> Result<(), AllocError>
         requires { IsReply reply.now }
-        ensures ok { OnOk result (Tells self.old reply.now self.new) }
+        ensures ok { OnOk result (PeerTells self.old reply.now self.new) }
         ensures err { OnErr result (self.new ≡ self.old) }
     {
         reply.encode_into(&mut self.payload)?;
@@ -310,7 +310,7 @@ impl Peer {
 
     /// Puts the end behind what is to be sent, where the way it is spoken has one.
     pub fn finish(&mut self)
-        ensures kept { Keeps self.old self.new }
+        ensures kept { PeerKeeps self.old self.new }
         ensures same { self.new ≡ record self.old { output = self.new.output } }
         ensures frames { self.old.manner ≡ Manner.Frames → self.new ≡ self.old }
     {

@@ -6,13 +6,14 @@ use crate::heard::Heard;
 use crate::hello::heard_of;
 use std::alloc::{AllocError, Global};
 use std::marker::Model;
+use sv_frame::GREATEST_PAYLOAD;
 use websocket::error::Error;
 use websocket::protocol::{
     CloseCode, CloseFrame, FrameStatus, Message, NoMask, Role, WebSocketConfig, WebSocketContext,
 };
 
 /// How long a message may be.
-const MOST_MESSAGE: usize = 65_536;
+const MOST_MESSAGE: usize = GREATEST_PAYLOAD;
 
 /// How many bytes are kept that were not taken: a frame of the greatest length, and its head.
 const ROOM: usize = MOST_MESSAGE + 14;

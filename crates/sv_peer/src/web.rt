@@ -40,13 +40,13 @@ pub enum WebCourse {
 
 impl Web {
     /// A connection of which nothing came.
-    pub fn new(alloc: Global, keys: RandomState) -> Web
+    pub fn new(alloc: Global, random: RandomState) -> Web
         ensures { handed_by result ≡ [] }
     {
         let mut config = Config::default();
         config.max_body_len = MOST_BODY;
         Web {
-            connection: Connection::new(alloc, keys, config),
+            connection: Connection::new(alloc, random, config),
             rest: Vec::new(alloc),
             is_paused: false,
         }

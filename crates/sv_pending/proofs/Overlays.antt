@@ -2,7 +2,7 @@
 use Rattle.std.proofs.Common.{◌≡◌, ℕ, zero, suc, ◌+◌, ◌-◌, ◌<◌, List, [], ◌∷◌, ◌++◌, length, slice_get, get_or, drop, take, ◌⊎◌, inl, inr, Option, Some, None, option_map, refl, sym, ap, ◌∙◌, arith}
 use Rattle.std.specs.Prelude.{ℤ}
 use Rattle.sv_versions.specs.Held.{Held}
-use Rattle.sv_pending.specs.Pending.{PendingAction, Overlaid, Unwritten, Unknown, Kept, kept_of, last_of, overlay_of, redone_after}
+use Rattle.sv_pending.specs.Pending.{PendingAction, Overlaid, Unwritten, Unknown, KeptValues, kept_of, last_of, overlay_of, redone_after}
 use Rattle.sv_pending.specs.declared.made.Made.{Made}
 use Rattle.sv_pending.specs.Made.{paired, overlay_by, IsWholeResult, AreWhole}
 
@@ -90,12 +90,12 @@ with_views vs rest = option_map (λ ws. vs ++ ws) rest
 last_alone : (o : Overlaid) → last_of Unwritten o ≡ o
 last_alone Unwritten = refl
 last_alone Unknown = refl
-last_alone (Kept v) = refl
+last_alone (KeptValues v) = refl
 
 last_again : (a b c : Overlaid) → last_of a (last_of b c) ≡ last_of (last_of a b) c
 last_again a b Unwritten = refl
 last_again a b Unknown = refl
-last_again a b (Kept v) = refl
+last_again a b (KeptValues v) = refl
 
 -- one more of the first actions
 pub overlay_more : (ms : List Made) (ks : List (Option (List (List ℤ)))) (n x : ℕ) (d : Made) (e : Option (List (List ℤ))) → n < length ms → n < length ks →
@@ -118,7 +118,7 @@ pub overlay_unknown : (ms : List Made) (ks : List (Option (List (List ℤ)))) (n
 overlay_unknown ms ks n x d e h g u = overlay_more ms ks n x d e h g ∙ ap (λ o. last_of (overlay_of (take n (paired ms ks)) x) o) u
 
 pub overlay_kept : (ms : List Made) (ks : List (Option (List (List ℤ)))) (n x : ℕ) (d : Made) (e : Option (List (List ℤ))) (v : List ℤ) → n < length ms → n < length ks →
-    overlay_by (entry (get_or ms n d) (get_or ks n e)) x ≡ Kept v → overlay_of (take (suc n) (paired ms ks)) x ≡ Kept v
+    overlay_by (entry (get_or ms n d) (get_or ks n e)) x ≡ KeptValues v → overlay_of (take (suc n) (paired ms ks)) x ≡ KeptValues v
 overlay_kept ms ks n x d e v h g u = overlay_more ms ks n x d e h g ∙ ap (λ o. last_of (overlay_of (take n (paired ms ks)) x) o) u
 
 pub whole_at : (ms : List Made) (ks : List (Option (List (List ℤ)))) (n : ℕ) (d : Made) (e : Option (List (List ℤ))) → n < length ms → n < length ks → AreWhole ms ks →

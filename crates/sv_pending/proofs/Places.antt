@@ -8,7 +8,7 @@ use Rattle.sv_world.specs.Control.{is_in}
 use Rattle.sv_world.specs.Sets.{is_in_mask, at_mask, read_set, write_set}
 use Rattle.sv_world.specs.declared.action.Action.{Action}
 use Rattle.sv_world.specs.declared.world.ObjectId.{ObjectId}
-use Rattle.sv_pending.specs.Pending.{PendingAction, Unwritten, Kept, value_beside, kept_for}
+use Rattle.sv_pending.specs.Pending.{PendingAction, Unwritten, KeptValues, value_beside, kept_for}
 use Rattle.sv_pending.specs.Made.{place_in, overlay_by, ReadsWithin}
 
 -- the written objects from a slot on
@@ -111,9 +111,9 @@ pub overlay_placed : (p : PendingAction) (x : ℕ) → is_in x (write_set p.acti
 overlay_placed p x e = cond-true (is_in x (write_set p.action)) _ _ e
 
 -- the value kept at the place is what the action says
-pub overlay_value : (p : PendingAction) (x k : ℕ) (vs : List (List ℤ)) (v : List ℤ) → p.kept ≡ Some vs → length vs ≡ length (write_set p.action) → place_in x (write_set p.action) ≡ Some k → v ≡ get_or vs k v → Kept v ≡ overlay_by p x
+pub overlay_value : (p : PendingAction) (x k : ℕ) (vs : List (List ℤ)) (v : List ℤ) → p.kept ≡ Some vs → length vs ≡ length (write_set p.action) → place_in x (write_set p.action) ≡ Some k → v ≡ get_or vs k v → KeptValues v ≡ overlay_by p x
 overlay_value p x k vs v kept l e here =
-    ap (λ w. Kept w) (here ∙ sym ((value_placed x k (write_set p.action) vs l e).1 v))
+    ap (λ w. KeptValues w) (here ∙ sym ((value_placed x k (write_set p.action) vs l e).1 v))
     ∙ ap (λ o. kept_for p o x) (sym kept)
     ∙ sym (overlay_placed p x (placed_in x k (write_set p.action) e))
 

@@ -13,7 +13,7 @@ use Rattle.sv_eval.specs.Evaluation.{effect_of}
 use Rattle.sv_eval.proofs.Effects.{effect_shaped, effect_counted}
 use Rattle.sv_versions.specs.Held.{Held, latest}
 use Rattle.sv_versions.proofs.Laws.{latest_has}
-use Rattle.sv_pending.specs.Pending.{PendingAction, Overlaid, Unwritten, Unknown, Kept, value_beside, kept_for, last_of, overlay_of, view_under, view_over, views_over, kept_of, redone_after, redone}
+use Rattle.sv_pending.specs.Pending.{PendingAction, Overlaid, Unwritten, Unknown, KeptValues, value_beside, kept_for, last_of, overlay_of, view_under, view_over, views_over, kept_of, redone_after, redone}
 use Rattle.sv_pending.specs.Made.{overlay_by}
 use Rattle.sv_pending.specs.Shapes.{IsLong, KeepsShaped, AreShaped, ShowsShaped}
 
@@ -38,7 +38,7 @@ by_long attrs x p s (inr e) = subst (ShowsShaped attrs) (sym (cond-false (is_in 
 last_long : (attrs : ℕ) (earlier later : Overlaid) → ShowsShaped attrs earlier → ShowsShaped attrs later → ShowsShaped attrs (last_of earlier later)
 last_long attrs earlier Unwritten a b = a
 last_long attrs earlier Unknown a b = tt
-last_long attrs earlier (Kept v) a b = b
+last_long attrs earlier (KeptValues v) a b = b
 
 pub overlay_shaped : (attrs x : ℕ) (ps : List PendingAction) → AreShaped attrs ps → ShowsShaped attrs (overlay_of ps x)
 overlay_shaped attrs x [] s = tt
@@ -48,7 +48,7 @@ overlay_shaped attrs x (p ∷ ps) s =
 under_long : (attrs : ℕ) (o : Overlaid) (stable : Option (List ℤ)) → ShowsShaped attrs o → IfSome stable (IsLong attrs) → IfSome (view_under o stable) (IsLong attrs)
 under_long attrs Unwritten stable s l = l
 under_long attrs Unknown stable s l = tt
-under_long attrs (Kept v) stable s l = s
+under_long attrs (KeptValues v) stable s l = s
 
 -- each view is of the right length
 pub view_shaped : (attrs x : ℕ) (held : List Held) (ps : List PendingAction) → All (λ h. IsLong attrs h.value) held → AreShaped attrs ps → IfSome (view_over held ps x) (IsLong attrs)

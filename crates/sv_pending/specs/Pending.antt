@@ -17,7 +17,7 @@ pub record PendingAction : Type 0 where
 pub data Overlaid : Type 0 where
   Unwritten : Overlaid
   Unknown : Overlaid
-  Kept : List ℤ → Overlaid
+  KeptValues : List ℤ → Overlaid
 
 -- The value that stands beside an object.
 abbrev pub value_beside : List ℕ → List (List ℤ) → ℕ → List ℤ
@@ -25,14 +25,14 @@ value_beside (o ∷ os) (v ∷ vs) x = if o == x then v else value_beside os vs 
 value_beside _ _ x = []
 
 abbrev pub kept_for : PendingAction → Option (List (List ℤ)) → ℕ → Overlaid
-kept_for p (Some values) x = Kept (value_beside (write_set p.action) values x)
+kept_for p (Some values) x = KeptValues (value_beside (write_set p.action) values x)
 kept_for p None x = Unknown
 
 -- The later of two, if it writes the object.
 abbrev pub last_of : Overlaid → Overlaid → Overlaid
 last_of earlier Unwritten = earlier
 last_of earlier Unknown = Unknown
-last_of earlier (Kept v) = Kept v
+last_of earlier (KeptValues v) = KeptValues v
 
 abbrev pub overlay_of : List PendingAction → ℕ → Overlaid
 overlay_of [] x = Unwritten
@@ -41,7 +41,7 @@ overlay_of (p ∷ ps) x = last_of (if is_in x (write_set p.action) then kept_for
 abbrev pub view_under : Overlaid → Option (List ℤ) → Option (List ℤ)
 view_under Unwritten stable = stable
 view_under Unknown stable = None
-view_under (Kept v) stable = Some v
+view_under (KeptValues v) stable = Some v
 
 -- The view of an object: the last pending action that writes it decides, and without one the value held at the greatest position.
 abbrev pub view_over : List Held → List PendingAction → ℕ → Option (List ℤ)

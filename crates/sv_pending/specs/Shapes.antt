@@ -2,7 +2,7 @@
 use Rattle.std.specs.Prelude.{ℕ, ℤ, ◌≡◌, List, [], ◌∷◌, length, All}
 use Rattle.std.specs.Option.{IfSome}
 use Rattle.sv_world.specs.Sets.{write_set}
-use Rattle.sv_pending.specs.Pending.{PendingAction, Overlaid, Unwritten, Unknown, Kept}
+use Rattle.sv_pending.specs.Pending.{PendingAction, Overlaid, Unwritten, Unknown, KeptValues}
 
 -- a value has so many numbers
 abbrev pub IsLong : ℕ → List ℤ → Type 0
@@ -19,4 +19,4 @@ AreShaped attrs (p ∷ ps) = KeepsShaped attrs p × AreShaped attrs ps
 abbrev pub ShowsShaped : ℕ → Overlaid → Type 0
 ShowsShaped attrs Unwritten = Unit {0}
 ShowsShaped attrs Unknown = Unit {0}
-ShowsShaped attrs (Kept v) = length v ≡ attrs
+ShowsShaped attrs (KeptValues v) = length v ≡ attrs

@@ -13,7 +13,7 @@ pub struct Made {
 }
 
 /// The values that an action would give its written objects, in order, and `None` where what it reads is not all known.
-pub type Kept = Option<List<Value>>;
+pub type KeptValues = Option<List<Value>>;
 
 pub fn copy_made(alloc: Global, made: &[Made]) -> Result<Vec<Made>, AllocError>
     ensures { IfOk result (λ copies. copies.items ≡ made.now) }
@@ -29,7 +29,7 @@ pub fn copy_made(alloc: Global, made: &[Made]) -> Result<Vec<Made>, AllocError>
     Ok(copies)
 }
 
-pub fn copy_kept(alloc: Global, kept: &[Kept]) -> Result<Vec<Kept>, AllocError>
+pub fn copy_kept(alloc: Global, kept: &[KeptValues]) -> Result<Vec<KeptValues>, AllocError>
     ensures { IfOk result (λ copies. copies.items ≡ kept.now) }
 {
     let mut copies = Vec::with_capacity(alloc, kept.len())?;
@@ -39,7 +39,7 @@ pub fn copy_kept(alloc: Global, kept: &[Kept]) -> Result<Vec<Kept>, AllocError>
     Ok(copies)
 }
 
-fn copy_result(alloc: Global, kept: &Kept) -> Result<Kept, AllocError>
+fn copy_result(alloc: Global, kept: &KeptValues) -> Result<KeptValues, AllocError>
     ensures { IfOk result (λ copy. copy ≡ kept.now) }
 {
     match kept {

@@ -5,7 +5,7 @@ ghost use Rattle.sv_world.specs.Faults.{IsGoodAction};
 ghost use Rattle.sv_pending.specs.Pending.{kept_of, redone, overlay_of};
 ghost use Rattle.sv_pending.specs.Seen.{overlay_seen, item_seen};
 
-use crate::made::{Kept, Made, copy_kept, copy_made};
+use crate::made::{KeptValues, Made, copy_kept, copy_made};
 use crate::redo::{kept_in, overlay_in, results_in};
 use crate::{Overlay, PendingItem};
 use std::alloc::{AllocError, Global};
@@ -22,7 +22,7 @@ pub struct Pending {
     shape: Shape,
     made: Vec<Made>,
     /// One for each action, in order.
-    kept: Vec<Kept>,
+    kept: Vec<KeptValues>,
 }
 
 impl Model for Pending {
@@ -152,7 +152,7 @@ impl Pending {
     }
 }
 
-fn item_of<'a>(made: &'a Made, kept: &'a Kept) -> PendingItem<'a>
+fn item_of<'a>(made: &'a Made, kept: &'a KeptValues) -> PendingItem<'a>
     ensures { item_seen result ≡ record { seq = made.now.seq; action = made.now.action; kept = kept.now } }
 {
     PendingItem {

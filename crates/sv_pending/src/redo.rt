@@ -7,7 +7,7 @@ ghost use Rattle.sv_pending.specs.Made.{paired, overlay_by, place_in, IsWholeRes
 ghost use Rattle.sv_pending.specs.Seen.{overlay_seen};
 
 use crate::Overlay;
-use crate::made::{Kept, Made};
+use crate::made::{KeptValues, Made};
 use std::alloc::{AllocError, Global};
 use sv_eval::eval;
 use sv_lists::List as Items;
@@ -32,7 +32,7 @@ fn place_of(action: &Action, object: ObjectId) -> Option<usize>
 }
 
 /// What one action says of an object.
-fn overlay_by<'a>(made: &'a Made, kept: &'a Kept, object: ObjectId) -> Overlay<'a>
+fn overlay_by<'a>(made: &'a Made, kept: &'a KeptValues, object: ObjectId) -> Overlay<'a>
     requires { IsWholeResult made.now.action kept.now }
     ensures { overlay_seen result ≡ overlay_by (record { seq = made.now.seq; action = made.now.action; kept = kept.now }) object.0 }
 {
@@ -50,7 +50,7 @@ fn overlay_by<'a>(made: &'a Made, kept: &'a Kept, object: ObjectId) -> Overlay<'
 #[tactic(auto, using(crate::proofs::Overlays::overlay_passed, crate::proofs::Overlays::overlay_unknown, crate::proofs::Overlays::overlay_kept, crate::proofs::Overlays::whole_at))]
 fn overlay_before<'a>(
     made: &'a [Made],
-    kept: &'a [Kept],
+    kept: &'a [KeptValues],
     count: usize,
     object: ObjectId,
 ) -> Overlay<'a>
@@ -72,7 +72,7 @@ fn overlay_before<'a>(
 
 /// What the last of the actions that writes an object says of it.
 #[tactic(auto, using(crate::proofs::Overlays::paired_within))]
-pub fn overlay_in<'a>(made: &'a [Made], kept: &'a [Kept], object: ObjectId) -> Overlay<'a>
+pub fn overlay_in<'a>(made: &'a [Made], kept: &'a [KeptValues], object: ObjectId) -> Overlay<'a>
     requires { AreWhole made.now kept.now }
     ensures { overlay_seen result ≡ overlay_of (paired made.now kept.now) object.0 }
 {
@@ -87,7 +87,7 @@ pub fn overlay_in<'a>(made: &'a [Made], kept: &'a [Kept], object: ObjectId) -> O
 /// An object's value over these actions, where it is known.
 fn view_in<'a>(
     made: &'a [Made],
-    kept: &'a [Kept],
+    kept: &'a [KeptValues],
     versions: &'a Versions,
     object: ObjectId,
 ) -> Option<&'a Value>
@@ -106,10 +106,10 @@ fn view_in<'a>(
 fn views_in(
     alloc: Global,
     made: &[Made],
-    kept: &[Kept],
+    kept: &[KeptValues],
     versions: &Versions,
     objects: &[ObjectId],
-) -> Result<Kept, AllocError>
+) -> Result<KeptValues, AllocError>
     requires whole { AreWhole made.now kept.now }
     requires objects { All (λ (o : ObjectId). o.0 < versions.now.shape.objects) objects.now }
     ensures views { IfOk result (λ views. views ≡ views_over versions.now.held (paired made.now kept.now) (map (λ (o : ObjectId). o.0) objects.now)) }
@@ -129,10 +129,10 @@ fn views_in(
 pub fn kept_in(
     alloc: Global,
     made: &[Made],
-    kept: &[Kept],
+    kept: &[KeptValues],
     versions: &Versions,
     action: &Action,
-) -> Result<Kept, AllocError>
+) -> Result<KeptValues, AllocError>
     requires whole { AreWhole made.now kept.now }
     requires reads { ReadsWithin versions.now.shape.objects action.now }
     ensures kept { IfOk result (λ values. values ≡ kept_of versions.now.held (paired made.now kept.now) action.now) }
@@ -150,7 +150,7 @@ pub fn results_in(
     alloc: Global,
     made: &[Made],
     versions: &Versions,
-) -> Result<Vec<Kept>, AllocError>
+) -> Result<Vec<KeptValues>, AllocError>
     requires { All (λ m. ReadsWithin versions.now.shape.objects m.action) made.now }
     ensures redone { IfOk result (λ done. (ks : List (Option (List (List ℤ)))) → length ks ≡ length made.now → paired made.now done.items ≡ redone versions.now.held (paired made.now ks)) }
     ensures whole { IfOk result (λ done. AreWhole made.now done.items) }

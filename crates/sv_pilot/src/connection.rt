@@ -10,7 +10,7 @@ use crate::trouble::Trouble;
 use std::alloc::Global;
 use std::marker::Model;
 use sv_exchange::Outbox;
-use sv_frame::{FrameReader, Next};
+use sv_frame::{FrameReader, NextFrame};
 use sv_link::{End, EndRead, Sent};
 use sv_wire::{Reply, Request, WireFault, decode_reply, read_request};
 
@@ -134,9 +134,9 @@ impl<E: End> Connection<E> {
         ensures { IsFrontOf self.now.came result }
     {
         match self.reader.first() {
-            Next::Frame(payload) => Some(reply_of(self.alloc, payload)),
-            Next::NotYet => None,
-            Next::TooLong(_) => Some(Err(Trouble::Reply)),
+            NextFrame::Frame(payload) => Some(reply_of(self.alloc, payload)),
+            NextFrame::NotYet => None,
+            NextFrame::TooLong(_) => Some(Err(Trouble::Reply)),
         }
     }
 

@@ -2,7 +2,7 @@
 use Rattle.std.proofs.Common.{◌≡◌, ℕ, Bool, true, false, cond, List, [], ◌∷◌, ◌++◌, nat_eq, refl, sym, ◌∙◌, ap, append_assoc, eq-eqb}
 use Rattle.std.proofs.lemmas.Bool.{cond-true}
 use Rattle.std.proofs.lemmas.List.{append-nil}
-use Rattle.sv_ports.specs.Told.{bytes_of}
+use Rattle.sv_ports.specs.Traffic.{bytes_of}
 
 -- One piece more, of this connection or another.
 pub bytes-more : (n m : ℕ) (ps : List (ℕ × List ℕ)) (bytes : List ℕ) → bytes_of n (ps ++ (m, bytes) ∷ []) ≡ cond (nat_eq n m) (bytes_of n ps ++ bytes) (bytes_of n ps)

@@ -1,7 +1,7 @@
 -- What holds of each thing of a table by numbers goes on holding, for who keeps such a table.
 use Rattle.std.proofs.Common.{◌≡◌, ℕ, inl, inr, ◌⊎◌, Bool, true, false, not, cond, List, [], ◌∷◌, ◌++◌, nat_eq, Option, Some, None, refl, sym, ◌∙◌, ap, subst, eq-eqb, ne_eqb}
 use Rattle.std.proofs.lemmas.Bool.{cond-true, cond-false, cases_eq}
-use Rattle.sv_ports.specs.declared.numbered.Place.{Place}
+use Rattle.sv_ports.specs.declared.numbered.NumberedPlace.{NumberedPlace}
 use Rattle.sv_ports.specs.Numbered.{item_of, with_item, without, AllItems}
 
 module _ {T : Type 0} where
@@ -13,33 +13,33 @@ module _ {T : Type 0} where
   some-same : (a b : T) → ◌≡◌ {A = Option T} (Some a) (Some b) → a ≡ b
   some-same a b e = cc
 
-  pub other-with : (k n : ℕ) (o : Option T) (xs : List (Place T)) → (k ≡ n → ⊥) → item_of k (with_item n o xs) ≡ item_of k xs
+  pub other-with : (k n : ℕ) (o : Option T) (xs : List (NumberedPlace T)) → (k ≡ n → ⊥) → item_of k (with_item n o xs) ≡ item_of k xs
   other-with k n o [] apart = refl
   other-with k n o (x ∷ xs) apart = elim (cases_eq n x.number) [
     | inl same ↦ (
         let unlike : nat_eq k x.number ≡ false = ne_eqb k x.number (λ e. apart (e ∙ sym same)) in
-        ap (λ (p : Place T). item_of k (p ∷ with_item n o xs)) (cond-true (nat_eq n x.number) (record x { item = o }) x (eq-eqb n x.number same))
+        ap (λ (p : NumberedPlace T). item_of k (p ∷ with_item n o xs)) (cond-true (nat_eq n x.number) (record x { item = o }) x (eq-eqb n x.number same))
         ∙ cond-false (nat_eq k x.number) o (item_of k (with_item n o xs)) unlike ∙ other-with k n o xs apart
         ∙ sym (cond-false (nat_eq k x.number) x.item (item_of k xs) unlike))
     | inr other ↦ (
-        ap (λ (p : Place T). item_of k (p ∷ with_item n o xs)) (cond-false (nat_eq n x.number) (record x { item = o }) x (ne_eqb n x.number other))
+        ap (λ (p : NumberedPlace T). item_of k (p ∷ with_item n o xs)) (cond-false (nat_eq n x.number) (record x { item = o }) x (ne_eqb n x.number other))
         ∙ ap (λ (r : Option T). cond (nat_eq k x.number) x.item r) (other-with k n o xs apart))
   ]
 
-  pub own-with : (n : ℕ) (o : Option T) (xs : List (Place T)) → (item_of n (with_item n o xs) ≡ o) ⊎ (item_of n (with_item n o xs) ≡ None)
+  pub own-with : (n : ℕ) (o : Option T) (xs : List (NumberedPlace T)) → (item_of n (with_item n o xs) ≡ o) ⊎ (item_of n (with_item n o xs) ≡ None)
   own-with n o [] = inr refl
   own-with n o (x ∷ xs) = elim (cases_eq n x.number) [
     | inl same ↦ inl (
-        ap (λ (p : Place T). item_of n (p ∷ with_item n o xs)) (cond-true (nat_eq n x.number) (record x { item = o }) x (eq-eqb n x.number same))
+        ap (λ (p : NumberedPlace T). item_of n (p ∷ with_item n o xs)) (cond-true (nat_eq n x.number) (record x { item = o }) x (eq-eqb n x.number same))
         ∙ cond-true (nat_eq n x.number) o (item_of n (with_item n o xs)) (eq-eqb n x.number same))
     | inr other ↦ (
         let step : item_of n (with_item n o (x ∷ xs)) ≡ item_of n (with_item n o xs) =
-        ap (λ (p : Place T). item_of n (p ∷ with_item n o xs)) (cond-false (nat_eq n x.number) (record x { item = o }) x (ne_eqb n x.number other))
+        ap (λ (p : NumberedPlace T). item_of n (p ∷ with_item n o xs)) (cond-false (nat_eq n x.number) (record x { item = o }) x (ne_eqb n x.number other))
         ∙ cond-false (nat_eq n x.number) x.item (item_of n (with_item n o xs)) (ne_eqb n x.number other) in
         elim (own-with n o xs) [ inl is ↦ inl (step ∙ is) | inr out ↦ inr (step ∙ out) ])
   ]
 
-  other-without : (k n : ℕ) (xs : List (Place T)) → (k ≡ n → ⊥) → item_of k (without n xs) ≡ item_of k xs
+  other-without : (k n : ℕ) (xs : List (NumberedPlace T)) → (k ≡ n → ⊥) → item_of k (without n xs) ≡ item_of k xs
   other-without k n [] apart = refl
   other-without k n (x ∷ xs) apart = elim (cases_eq n x.number) [
     | inl same ↦ (
@@ -50,7 +50,7 @@ module _ {T : Type 0} where
         ∙ ap (λ (r : Option T). cond (nat_eq k x.number) x.item r) (other-without k n xs apart))
   ]
 
-  own-without : (n : ℕ) (xs : List (Place T)) → item_of n (without n xs) ≡ None
+  own-without : (n : ℕ) (xs : List (NumberedPlace T)) → item_of n (without n xs) ≡ None
   own-without n [] = refl
   own-without n (x ∷ xs) = elim (cases_eq n x.number) [
     | inl same ↦ ap (λ (b : Bool). item_of n (cond (not b) (x ∷ without n xs) (without n xs))) (eq-eqb n x.number same) ∙ own-without n xs
@@ -62,7 +62,7 @@ module _ {T : Type 0} where
   -- ---- All of them
 
   -- One is taken out.
-  pub all-taken : (P : ℕ → T → Type 0) (n : ℕ) (xs : List (Place T)) → AllItems P xs → AllItems P (with_item n None xs)
+  pub all-taken : (P : ℕ → T → Type 0) (n : ℕ) (xs : List (NumberedPlace T)) → AllItems P xs → AllItems P (with_item n None xs)
   all-taken P n xs all k x is = elim (cases_eq k n) [
     | inl same ↦ absurd (elim (own-with n None xs) [
       | inl none ↦ none-some x (sym none ∙ subst (λ (j : ℕ). item_of j (with_item n None xs) ≡ Some x) same is)
@@ -72,7 +72,7 @@ module _ {T : Type 0} where
   ]
 
   -- One is put in.
-  pub all-put : (P : ℕ → T → Type 0) (n : ℕ) (y : T) (xs : List (Place T)) → AllItems P xs → P n y → AllItems P (with_item n (Some y) xs)
+  pub all-put : (P : ℕ → T → Type 0) (n : ℕ) (y : T) (xs : List (NumberedPlace T)) → AllItems P xs → P n y → AllItems P (with_item n (Some y) xs)
   all-put P n y xs all holds k x is = elim (cases_eq k n) [
     | inl same ↦ (
         let own : item_of n (with_item n (Some y) xs) ≡ Some x = subst (λ (j : ℕ). item_of j (with_item n (Some y) xs) ≡ Some x) same is in
@@ -84,7 +84,7 @@ module _ {T : Type 0} where
   ]
 
   -- While one is out, something changes that is no other's.
-  pub all-else : (P Q : ℕ → T → Type 0) (n : ℕ) (xs : List (Place T)) → ((k : ℕ) (x : T) → (k ≡ n → ⊥) → P k x → Q k x) → AllItems P (with_item n None xs) → AllItems Q (with_item n None xs)
+  pub all-else : (P Q : ℕ → T → Type 0) (n : ℕ) (xs : List (NumberedPlace T)) → ((k : ℕ) (x : T) → (k ≡ n → ⊥) → P k x → Q k x) → AllItems P (with_item n None xs) → AllItems Q (with_item n None xs)
   all-else P Q n xs weaker all k x is = weaker k x apart (all k x is)
     where
       apart : k ≡ n → ⊥
@@ -94,14 +94,14 @@ module _ {T : Type 0} where
       ]
 
   -- A number goes.
-  pub all-without : (P : ℕ → T → Type 0) (n : ℕ) (xs : List (Place T)) → AllItems P xs → AllItems P (without n xs)
+  pub all-without : (P : ℕ → T → Type 0) (n : ℕ) (xs : List (NumberedPlace T)) → AllItems P xs → AllItems P (without n xs)
   all-without P n xs all k x is = elim (cases_eq k n) [
     | inl same ↦ absurd (none-some x (sym (own-without n xs) ∙ subst (λ (j : ℕ). item_of j (without n xs) ≡ Some x) same is))
     | inr other ↦ all k x (sym (other-without k n xs other) ∙ is)
   ]
 
   -- One comes.
-  pushed : (k n : ℕ) (y x : T) (xs : List (Place T)) → item_of k (xs ++ record { number = n; item = Some y } ∷ []) ≡ Some x → (item_of k xs ≡ Some x) ⊎ ((k ≡ n) × (y ≡ x))
+  pushed : (k n : ℕ) (y x : T) (xs : List (NumberedPlace T)) → item_of k (xs ++ record { number = n; item = Some y } ∷ []) ≡ Some x → (item_of k xs ≡ Some x) ⊎ ((k ≡ n) × (y ≡ x))
   pushed k n y x [] is = elim (cases_eq k n) [
     | inl same ↦ inr (same, some-same y x (sym (cond-true (nat_eq k n) (Some y) None (eq-eqb k n same)) ∙ is))
     | inr other ↦ absurd (none-some x (sym (cond-false (nat_eq k n) (Some y) None (ne_eqb k n other)) ∙ is))
@@ -118,7 +118,7 @@ module _ {T : Type 0} where
         ])
   ]
 
-  pub all-pushed : (P : ℕ → T → Type 0) (n : ℕ) (y : T) (xs : List (Place T)) → AllItems P xs → P n y → AllItems P (xs ++ record { number = n; item = Some y } ∷ [])
+  pub all-pushed : (P : ℕ → T → Type 0) (n : ℕ) (y : T) (xs : List (NumberedPlace T)) → AllItems P xs → P n y → AllItems P (xs ++ record { number = n; item = Some y } ∷ [])
   all-pushed P n y xs all holds k x is = elim (pushed k n y x xs is) [
     | inl there ↦ all k x there
     | inr new ↦ subst (λ (j : ℕ). P j x) (sym new.0) (subst (λ (z : T). P n z) new.1 holds)

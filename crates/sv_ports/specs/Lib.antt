@@ -1,4 +1,4 @@
 -- The definitions of this crate.
 pub mod Memory
 pub mod Numbered
-pub mod Told
+pub mod Traffic

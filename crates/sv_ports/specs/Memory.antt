@@ -1,9 +1,9 @@
 -- What connections in memory tell.
-use Rattle.sv_ports.specs.Told.{Told, bytes_of}
+use Rattle.sv_ports.specs.Traffic.{Traffic, bytes_of}
 use Rattle.sv_ports.specs.declared.memory.MemPorts.{MemPorts}
 
-abbrev pub told_of : MemPorts → Told
-told_of ports =
+abbrev pub traffic_of : MemPorts → Traffic
+traffic_of ports =
     record {
       next = ports.accepted;
       written = ports.written.items;

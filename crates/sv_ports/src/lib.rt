@@ -10,6 +10,6 @@ mod wires;
 
 pub use clock::{Clock, MemClock};
 pub use memory::{MemPorts, Step};
-pub use numbered::{Numbered, Place, PushFault};
+pub use numbered::{Numbered, NumberedPlace, PushFault};
 pub use pieces::Pieces;
 pub use ports::{Accepted, PortRead, PortWrote, Ports, Ready, Waited};

@@ -1,13 +1,13 @@
 //! Connections in memory, which a script moves.
 ghost use Rattle.std.specs.Prelude.{◌≡◌, false, length};
-ghost use Rattle.sv_ports.specs.Told.{nothing_told, bytes_of, ReadsSome, WritesSome};
-ghost use Rattle.sv_ports.specs.Memory.{told_of};
+ghost use Rattle.sv_ports.specs.Traffic.{nothing_told, bytes_of, PortReadsSome, WritesSome};
+ghost use Rattle.sv_ports.specs.Memory.{traffic_of};
 
 use crate::pieces::Pieces;
 use crate::ports::{Accepted, PortRead, PortWrote, Ports, Ready, Waited};
 use crate::wires::Wires;
 use std::alloc::Global;
-use sv_keeper::Settled;
+use sv_keeper::Durable;
 
 /// What comes next at the door, the input or a connection.
 #[derive(Drop)]
@@ -46,7 +46,7 @@ pub struct MemPorts {
 impl MemPorts {
     /// No connection is made. `script` has the last step first.
     pub fn new(alloc: Global, script: Vec<Step>) -> MemPorts
-        ensures { told_of result ≡ nothing_told }
+        ensures { traffic_of result ≡ nothing_told }
     {
         MemPorts {
             wires: Wires::new(alloc, script),
@@ -69,7 +69,7 @@ impl MemPorts {
 }
 
 impl Ports for MemPorts {
-    ghost told = { told_of };
+    ghost told = { traffic_of };
 
     fn wait(&mut self, _limit: u64, ready: &mut Ready) -> Waited {
         match self.wires.run(ready) {
@@ -95,7 +95,7 @@ impl Ports for MemPorts {
         answer
     }
 
-    fn write(&mut self, number: u64, piece: &[u8], _settled: &Settled<'_>) -> PortWrote {
+    fn write(&mut self, number: u64, piece: &[u8], _durable: &Durable<'_>) -> PortWrote {
         let answer = self.wires.write(number, piece);
         if let PortWrote::Took(count) = answer {
             self.written.note(number, &piece[..count]);

@@ -1,6 +1,6 @@
 //! Things under numbers that ascend.
 ghost use Rattle.std.specs.Prelude.{◌≡◌, ◌≢◌, ◌++◌, ◌∷◌, [], ◌==◌, false, true, length, map, slice_get, option_map, option_copied, MatchOption, OnOk, OnErr};
-ghost use Rattle.sv_ports.specs.declared.numbered.Place.{Place};
+ghost use Rattle.sv_ports.specs.declared.numbered.NumberedPlace.{NumberedPlace};
 ghost use Rattle.sv_ports.specs.declared.numbered.PushFault.TheVariants as faults;
 ghost use Rattle.sv_ports.specs.Numbered.{IsByNumber, IsAbove, IsPlaceOf, has_number, item_of, with_item, without};
 
@@ -9,7 +9,7 @@ use std::marker::Model;
 
 /// A place of a number. Its thing lies there, or was taken out.
 #[derive(Drop)]
-pub struct Place<T: Drop> {
+pub struct NumberedPlace<T: Drop> {
     number: u64,
     item: Option<T>,
 }
@@ -25,15 +25,15 @@ pub enum PushFault {
 /// Things under numbers, in the order of their numbers. One of them may be taken out and put back.
 #[derive(Drop)]
 pub struct Numbered<T: Drop> {
-    places: Vec<Place<T>>,
+    places: Vec<NumberedPlace<T>>,
 }
 
 impl<T: Drop> Model for Numbered<T> {
     ghost use Rattle.std.specs.Prelude.{List};
-    ghost use Rattle.sv_ports.specs.declared.numbered.Place.{Place};
+    ghost use Rattle.sv_ports.specs.declared.numbered.NumberedPlace.{NumberedPlace};
     ghost use Rattle.sv_ports.specs.Numbered.{IsByNumber};
 
-    ghost Value = { List (Place T) };
+    ghost Value = { List (NumberedPlace T) };
 
     ghost view = { λ a. a.places.items };
 
@@ -118,7 +118,7 @@ impl<T: Drop> Numbered<T> {
 }
 
 // The place that a number has where the numbers up to it have no gap.
-fn guess<T: Drop>(places: &[Place<T>], number: u64) -> usize {
+fn guess<T: Drop>(places: &[NumberedPlace<T>], number: u64) -> usize {
     match places.first() {
         Some(first) => number.saturating_sub(first.number) as usize,
         None => 0,
@@ -126,7 +126,7 @@ fn guess<T: Drop>(places: &[Place<T>], number: u64) -> usize {
 }
 
 // The place of a number among numbers that ascend. It is looked for where it mostly is, and then among all.
-fn place_of<T: Drop>(places: &[Place<T>], number: u64) -> Option<usize>
+fn place_of<T: Drop>(places: &[NumberedPlace<T>], number: u64) -> Option<usize>
     requires { IsByNumber places.now }
     ensures { MatchOption result (has_number number places.now ≡ false) (IsPlaceOf number places.now) }
 {
@@ -138,7 +138,7 @@ fn place_of<T: Drop>(places: &[Place<T>], number: u64) -> Option<usize>
 }
 
 // By halves.
-fn find_place<T: Drop>(places: &[Place<T>], number: u64) -> Option<usize>
+fn find_place<T: Drop>(places: &[NumberedPlace<T>], number: u64) -> Option<usize>
     requires { IsByNumber places.now }
     ensures { MatchOption result (has_number number places.now ≡ false) (IsPlaceOf number places.now) }
 {
@@ -152,7 +152,7 @@ fn find_place<T: Drop>(places: &[Place<T>], number: u64) -> Option<usize>
     None
 }
 
-fn is_above<T: Drop>(places: &[Place<T>], number: u64) -> bool
+fn is_above<T: Drop>(places: &[NumberedPlace<T>], number: u64) -> bool
     requires { IsByNumber places.now }
     ensures yes { result ≡ true → IsAbove number places.now }
     ensures no { IsAbove number places.now → result ≡ true }
@@ -163,11 +163,15 @@ fn is_above<T: Drop>(places: &[Place<T>], number: u64) -> bool
     }
 }
 
-fn append<T: Drop>(places: &mut Vec<Place<T>>, number: u64, item: T) -> Result<(), AllocError>
+fn append<T: Drop>(
+    places: &mut Vec<NumberedPlace<T>>,
+    number: u64,
+    item: T,
+) -> Result<(), AllocError>
     ensures ok { OnOk result (places.new.items ≡ places.old.items ++ record { number = number; item = Some item } ∷ []) }
     ensures err { OnErr result (places.new.items ≡ places.old.items) }
 {
-    places.push(Place {
+    places.push(NumberedPlace {
         number,
         item: Some(item),
     })?;
@@ -175,7 +179,7 @@ fn append<T: Drop>(places: &mut Vec<Place<T>>, number: u64, item: T) -> Result<(
 }
 
 // Takes out what is in the place of a number.
-fn take_out<T: Drop>(places: &mut [Place<T>], number: u64) -> Option<T>
+fn take_out<T: Drop>(places: &mut [NumberedPlace<T>], number: u64) -> Option<T>
     requires { IsByNumber places.old }
     ensures item { result ≡ item_of number places.old }
     ensures left { places.new ≡ with_item number None places.old }
@@ -185,7 +189,7 @@ fn take_out<T: Drop>(places: &mut [Place<T>], number: u64) -> Option<T>
 }
 
 // Puts this into the place of a number, where it has one.
-fn put_in<T: Drop>(places: &mut [Place<T>], number: u64, item: T)
+fn put_in<T: Drop>(places: &mut [NumberedPlace<T>], number: u64, item: T)
     requires { IsByNumber places.old }
     ensures { places.new ≡ with_item number (Some item) places.old }
 {

@@ -1,8 +1,8 @@
 //! Connections that come and go.
 ghost use Rattle.std.specs.Prelude.{◌≡◌};
-ghost use Rattle.sv_ports.specs.Told.{Told, Accepts, Reads, Writes, ReadsInput};
+ghost use Rattle.sv_ports.specs.Traffic.{Traffic, Accepts, PortReads, Writes, ReadsInput};
 
-use sv_keeper::Settled;
+use sv_keeper::Durable;
 
 /// What a wait tells of what may go on now.
 #[derive(Drop)]
@@ -80,7 +80,7 @@ pub enum PortWrote {
 /// Who is told that a connection is ready has to go on until `NotYet`: else it is not told again. Contracts see the bytes that the calls moved, and
 /// no more: what became of them at the other end is not told.
 pub trait Ports {
-    ghost told: { Self → Told };
+    ghost told: { Self → Traffic };
 
     /// Waits until something is ready, for so many milliseconds at most. It adds to what is ready already.
     fn wait(&mut self, limit: u64, ready: &mut Ready) -> Waited
@@ -92,10 +92,10 @@ pub trait Ports {
 
     /// Reads what has come, as much as fits. Where there is no room, it is `NotYet`.
     fn read(&mut self, number: u64, into: &mut [u8]) -> PortRead
-        ensures { Reads (told self.old) number into.new result (told self.new) };
+        ensures { PortReads (told self.old) number into.new result (told self.new) };
 
-    /// Writes the front of a piece, as much as is taken at once. Nothing is written before all lines are settled.
-    fn write(&mut self, number: u64, piece: &[u8], settled: &Settled<'_>) -> PortWrote
+    /// Writes the front of a piece, as much as is taken at once. Nothing is written before all lines are durable.
+    fn write(&mut self, number: u64, piece: &[u8], durable: &Durable<'_>) -> PortWrote
         ensures { Writes (told self.old) number piece.now result (told self.new) };
 
     /// Closes a connection.

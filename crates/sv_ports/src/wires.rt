@@ -1,6 +1,6 @@
 //! What a script moves: connections that are made, and the bytes on them.
 ghost use Rattle.std.specs.Prelude.{◌≡◌, ◌≤◌, length, vec_len};
-ghost use Rattle.sv_ports.specs.Told.{ReadsSome, WritesSome};
+ghost use Rattle.sv_ports.specs.Traffic.{PortReadsSome, WritesSome};
 
 use crate::memory::Step;
 use crate::ports::{PortRead, PortWrote, Ready};
@@ -44,7 +44,7 @@ impl Wire {
     }
 
     fn read(&mut self, into: &mut [u8]) -> PortRead
-        ensures { ReadsSome (length into.new) result }
+        ensures { PortReadsSome (length into.new) result }
     {
         if self.fails_read {
             return PortRead::Failed;
@@ -72,7 +72,7 @@ impl Wire {
 
 // Moves what waits into the buffer, as much as fits.
 fn read_front(waiting: &mut Vec<u8>, is_ended: bool, into: &mut [u8]) -> PortRead
-    ensures { ReadsSome (length into.new) result }
+    ensures { PortReadsSome (length into.new) result }
 {
     let count = waiting.len().min(into.len());
     if count > 0 {
@@ -184,7 +184,7 @@ impl Wires {
     }
 
     pub(crate) fn read(&mut self, number: u64, into: &mut [u8]) -> PortRead
-        ensures { ReadsSome (length into.new) result }
+        ensures { PortReadsSome (length into.new) result }
     {
         match self.wires.get_mut(number as usize) {
             Some(wire) => wire.read(into),
@@ -208,7 +208,7 @@ impl Wires {
     }
 
     pub(crate) fn read_input(&mut self, into: &mut [u8]) -> PortRead
-        ensures { ReadsSome (length into.new) result }
+        ensures { PortReadsSome (length into.new) result }
     {
         read_front(&mut self.input, self.input_ended, into)
     }

@@ -5,8 +5,8 @@ use Rattle.std.proofs.lemmas.Bool.Decides.{nat_tests}
 use Rattle.std.proofs.lemmas.List.{get_or_past, get_or-map, length-map, length-set, length-replicate, get_or-set_same, get_or-set_other, same_lists}
 use Rattle.sv_world.specs.declared.action.Action.{Action}
 use Rattle.sv_world.specs.Control.{is_in}
-use Rattle.sv_queue.specs.Blocks.{HasAt, AreCovered, AreTold, HaveBlocks}
-use Rattle.sv_queue.specs.Invariant.{HasRoom}
+use Rattle.sv_queue.specs.Blocks.{HasAt, AreCovered, AreMarked, HaveBlocks}
+use Rattle.sv_queue.specs.Invariant.{SetHasRoom}
 use Rattle.sv_queue.specs.Rooms.{AreWithout, HaveGrown}
 use Rattle.sv_queue.specs.Slots.{SlotSet, no_slots, all_but, set_but, set_with, set_joined}
 use Rattle.sv_queue.specs.Written.{CanWrite, IsChangedAt}
@@ -181,7 +181,7 @@ module _ (s n : ℕ) where
 
 -- ---- Blocks that are told of slots
 
-pub told-none : (slots : List ℕ) (blocks : List SlotSet) → AreTold [] slots blocks blocks
+pub told-none : (slots : List ℕ) (blocks : List SlotSet) → AreMarked [] slots blocks blocks
 told-none slots blocks = record { count = refl; room = λ i low. refl; kept = λ i s small h. h; told = λ x s small h g. cc }
 
 has_joined : (more : List ℕ) (r : SlotSet) (s : ℕ) → s < 1024 → is_in s (set_joined more r).slots ≡ (is_in s r.slots || is_in s more)
@@ -196,8 +196,8 @@ or_right true c e = refl
 or_right false c e = e
 
 -- One object more.
-pub told-next : (objects slots : List ℕ) (old new' : List SlotSet) (x : ℕ) (r : SlotSet) → AreTold objects slots old new' → x / 64 < length old →
-    r ≡ set_joined slots (get_or new' (x / 64) no_slots) → AreTold (objects ++ x ∷ []) slots old (set new' (x / 64) r)
+pub told-next : (objects slots : List ℕ) (old new' : List SlotSet) (x : ℕ) (r : SlotSet) → AreMarked objects slots old new' → x / 64 < length old →
+    r ≡ set_joined slots (get_or new' (x / 64) no_slots) → AreMarked (objects ++ x ∷ []) slots old (set new' (x / 64) r)
 told-next objects slots old new' x r h low is = record {
   count = length-set new' i r ∙ h.count;
   room = λ k small. room k small (cases_eq k i);
@@ -283,7 +283,7 @@ blocks-but room slot rows blocks h = record {
     both false c e = cc
 
 -- With one slot more in a row and in its block.
-pub blocks-with : (room slot x : ℕ) (rows blocks : List SlotSet) (row block : SlotSet) → HaveBlocks room rows blocks → All (HasRoom room) rows → room ≤ 1024 →
+pub blocks-with : (room slot x : ℕ) (rows blocks : List SlotSet) (row block : SlotSet) → HaveBlocks room rows blocks → All (SetHasRoom room) rows → room ≤ 1024 →
     x < length rows → row ≡ set_with slot (get_or rows x no_slots) → block ≡ set_with slot (get_or blocks (x / 64) no_slots) →
     HaveBlocks room (set rows x row) (set blocks (x / 64) block)
 blocks-with room slot x rows blocks row block h rooms limit low is same = record {
@@ -338,8 +338,8 @@ blocks-with room slot x rows blocks row block h rooms limit low is same = record
         ]
 
 -- With the written objects' rows replaced, and their blocks told.
-pub blocks-given : (room : ℕ) (objects : List ℕ) (m : SlotSet) (rows next blocks told : List SlotSet) → HaveBlocks room rows blocks → All (HasRoom room) rows → HasRoom room m → room ≤ 1024 →
-    IsChangedAt no_slots (λ (r : SlotSet). record r { slots = m.slots }) objects rows next → AreTold objects m.slots blocks told → HaveBlocks room next told
+pub blocks-given : (room : ℕ) (objects : List ℕ) (m : SlotSet) (rows next blocks told : List SlotSet) → HaveBlocks room rows blocks → All (SetHasRoom room) rows → SetHasRoom room m → room ≤ 1024 →
+    IsChangedAt no_slots (λ (r : SlotSet). record r { slots = m.slots }) objects rows next → AreMarked objects m.slots blocks told → HaveBlocks room next told
 blocks-given room objects m rows next blocks told h rooms has limit changed told' = record {
   count = omega (arith, h.count, changed.count, told'.count);
   enough = λ k d l.

@@ -6,7 +6,7 @@ use Rattle.sv_world.specs.declared.action.Action.{Action}
 use Rattle.sv_world.specs.declared.world.Shape.{Shape}
 use Rattle.sv_world.specs.Control.{is_in}
 use Rattle.sv_world.specs.Sets.{write_set}
-use Rattle.sv_queue.specs.declared.waiting.Waiting.{Waiting}
+use Rattle.sv_queue.specs.declared.waiting.WaitingAction.{WaitingAction}
 use Rattle.sv_queue.specs.Invariant.{AgreeOn, IsGoodEntry, slots_in, writers_above}
 use Rattle.sv_queue.specs.Marks.{all_queued, marks_of, queued_of, waiting_but}
 use Rattle.sv_queue.specs.Pairs.{is_pair, pairs_where, pairs_of, pairs_but}
@@ -16,11 +16,11 @@ use Rattle.sv_queue.proofs.Members.{is_in-filtered}
 use Rattle.sv_queue.proofs.PairSets.{pairs_where-ext}
 use Rattle.sv_queue.proofs.SlotWords.{all_but-where}
 
-pub queued-but : (s : ℕ) (ws : List Waiting) → all_queued (map (waiting_but s) ws) ≡ map (unmarked s) (all_queued ws)
+pub queued-but : (s : ℕ) (ws : List WaitingAction) → all_queued (map (waiting_but s) ws) ≡ map (unmarked s) (all_queued ws)
 queued-but s [] = refl
 queued-but s (w ∷ ws) = ap (λ (es : List Queued). unmarked s (queued_of w) ∷ es) (queued-but s ws)
 
-pub marks-but : (s : ℕ) (ws : List Waiting) → marks_of (map (waiting_but s) ws) ≡ map (set_but s) (marks_of ws)
+pub marks-but : (s : ℕ) (ws : List WaitingAction) → marks_of (map (waiting_but s) ws) ≡ map (set_but s) (marks_of ws)
 marks-but s [] = refl
 marks-but s (w ∷ ws) = ap (λ (rs : List SlotSet). set_but s w.marks ∷ rs) (marks-but s ws)
 

@@ -6,8 +6,8 @@ use Rattle.std.proofs.lemmas.List.{get_or_read, get_or-map, length-map, map-set,
 use Rattle.sv_world.specs.declared.action.Action.{Action}
 use Rattle.sv_world.specs.Control.{is_in, blank}
 use Rattle.sv_eval.proofs.Lists.{all_set}
-use Rattle.sv_queue.specs.declared.waiting.Waiting.{Waiting}
-use Rattle.sv_queue.specs.Invariant.{HasRoom, HaveRoom, slots_in}
+use Rattle.sv_queue.specs.declared.waiting.WaitingAction.{WaitingAction}
+use Rattle.sv_queue.specs.Invariant.{SetHasRoom, HaveRoom, slots_in}
 use Rattle.sv_queue.specs.Marks.{queued_of, all_queued, marks_of}
 use Rattle.sv_queue.specs.Queue.{Queued, no_entry}
 use Rattle.sv_queue.specs.Rooms.{HaveGrown}
@@ -17,47 +17,47 @@ use Rattle.sv_queue.proofs.Kept.{All-push, All-front}
 use Rattle.sv_queue.proofs.Members.{is_in-filtered}
 use Rattle.sv_queue.proofs.SlotSets.{in_slots, out_of_slots}
 
-abbrev pub no_waiting : Waiting
+abbrev pub no_waiting : WaitingAction
 no_waiting = record { author = record { 0 = 0 }; seq = 0; action = blank; result = None; marks = no_slots }
 
 -- ---- What is read, replaced and added
 
-pub read_queued : (ws : List Waiting) (i : ℕ) (w : Waiting) → i < length ws → w ≡ get_or ws i w → queued_of w ≡ get_or (all_queued ws) i no_entry
+pub read_queued : (ws : List WaitingAction) (i : ℕ) (w : WaitingAction) → i < length ws → w ≡ get_or ws i w → queued_of w ≡ get_or (all_queued ws) i no_entry
 read_queued ws i w low read = ap queued_of (get_or_read ws i w low read no_waiting) ∙ sym (get_or-map queued_of ws i no_waiting no_entry low)
 
-pub read_marks : (ws : List Waiting) (i : ℕ) (w : Waiting) → i < length ws → w ≡ get_or ws i w → w.marks ≡ get_or (marks_of ws) i no_slots
-read_marks ws i w low read = ap (λ (v : Waiting). v.marks) (get_or_read ws i w low read no_waiting) ∙ sym (get_or-map (λ (v : Waiting). v.marks) ws i no_waiting no_slots low)
+pub read_marks : (ws : List WaitingAction) (i : ℕ) (w : WaitingAction) → i < length ws → w ≡ get_or ws i w → w.marks ≡ get_or (marks_of ws) i no_slots
+read_marks ws i w low read = ap (λ (v : WaitingAction). v.marks) (get_or_read ws i w low read no_waiting) ∙ sym (get_or-map (λ (v : WaitingAction). v.marks) ws i no_waiting no_slots low)
 
 pub read_row : (rows : List SlotSet) (i : ℕ) (r : SlotSet) → i < length rows → r ≡ get_or rows i r → r.slots ≡ get_or (slots_in rows) i []
 read_row rows i r low read = ap (λ (v : SlotSet). v.slots) (get_or_read rows i r low read no_slots) ∙ sym (get_or-map (λ (v : SlotSet). v.slots) rows i no_slots [] low)
 
-pub queued_count : (ws : List Waiting) → length (all_queued ws) ≡ length ws
+pub queued_count : (ws : List WaitingAction) → length (all_queued ws) ≡ length ws
 queued_count ws = length-map ws queued_of
 
 pub rows_count : (rows : List SlotSet) → length (slots_in rows) ≡ length rows
 rows_count rows = length-map rows (λ (r : SlotSet). r.slots)
 
-pub queued-set : (ws : List Waiting) (i : ℕ) (w : Waiting) → all_queued (set ws i w) ≡ set (all_queued ws) i (queued_of w)
+pub queued-set : (ws : List WaitingAction) (i : ℕ) (w : WaitingAction) → all_queued (set ws i w) ≡ set (all_queued ws) i (queued_of w)
 queued-set ws i w = map-set queued_of ws i w
 
-pub marks-set : (ws : List Waiting) (i : ℕ) (w : Waiting) → marks_of (set ws i w) ≡ set (marks_of ws) i w.marks
-marks-set ws i w = map-set (λ (v : Waiting). v.marks) ws i w
+pub marks-set : (ws : List WaitingAction) (i : ℕ) (w : WaitingAction) → marks_of (set ws i w) ≡ set (marks_of ws) i w.marks
+marks-set ws i w = map-set (λ (v : WaitingAction). v.marks) ws i w
 
 pub rows-set : (rows : List SlotSet) (i : ℕ) (r : SlotSet) → slots_in (set rows i r) ≡ set (slots_in rows) i r.slots
 rows-set rows i r = map-set (λ (v : SlotSet). v.slots) rows i r
 
-pub queued-push : (ws : List Waiting) (w : Waiting) → all_queued (ws ++ w ∷ []) ≡ all_queued ws ++ queued_of w ∷ []
+pub queued-push : (ws : List WaitingAction) (w : WaitingAction) → all_queued (ws ++ w ∷ []) ≡ all_queued ws ++ queued_of w ∷ []
 queued-push ws w = map_push queued_of ws w
 
-pub marks-push : (ws : List Waiting) (w : Waiting) → marks_of (ws ++ w ∷ []) ≡ marks_of ws ++ w.marks ∷ []
-marks-push ws w = map_push (λ (v : Waiting). v.marks) ws w
+pub marks-push : (ws : List WaitingAction) (w : WaitingAction) → marks_of (ws ++ w ∷ []) ≡ marks_of ws ++ w.marks ∷ []
+marks-push ws w = map_push (λ (v : WaitingAction). v.marks) ws w
 
 pub rows-none : (n : ℕ) → slots_in (replicate n no_slots) ≡ replicate n []
 rows-none zero = refl
 rows-none (suc n) = ap (λ (rows : List (List ℕ)). [] ∷ rows) (rows-none n)
 
 -- A waiting action whose marks have more room is the same to callers.
-pub queued-kept : (ws : List Waiting) (i : ℕ) (w : Waiting) (r : SlotSet) → i < length ws → w ≡ get_or ws i w → r.slots ≡ w.marks.slots →
+pub queued-kept : (ws : List WaitingAction) (i : ℕ) (w : WaitingAction) (r : SlotSet) → i < length ws → w ≡ get_or ws i w → r.slots ≡ w.marks.slots →
     all_queued (set ws i (record w { marks = r })) ≡ all_queued ws
 queued-kept ws i w r low read same =
     queued-set ws i (record w { marks = r })
@@ -65,25 +65,25 @@ queued-kept ws i w r low read same =
     ∙ set-get_or (all_queued ws) i no_entry
 
 -- One that has a result has the marks that it had.
-pub marks-same : (ws : List Waiting) (i : ℕ) (w : Waiting) (result : Option (List (List ℤ))) → i < length ws → w ≡ get_or ws i w →
+pub marks-same : (ws : List WaitingAction) (i : ℕ) (w : WaitingAction) (result : Option (List (List ℤ))) → i < length ws → w ≡ get_or ws i w →
     marks_of (set ws i (record w { result = result })) ≡ marks_of ws
 marks-same ws i w result low read =
     marks-set ws i (record w { result = result }) ∙ ap (set (marks_of ws) i) (read_marks ws i w low read) ∙ set-get_or (marks_of ws) i no_slots
 
 -- ---- Room
 
-pub room_at : (room : ℕ) (sets : List SlotSet) (i : ℕ) (r : SlotSet) → All (HasRoom room) sets → i < length sets → r ≡ get_or sets i r → HasRoom room r
-room_at room sets i r h low read = subst (HasRoom room) (sym (get_or_read sets i r low read no_slots)) (h i no_slots low)
+pub room_at : (room : ℕ) (sets : List SlotSet) (i : ℕ) (r : SlotSet) → All (SetHasRoom room) sets → i < length sets → r ≡ get_or sets i r → SetHasRoom room r
+room_at room sets i r h low read = subst (SetHasRoom room) (sym (get_or_read sets i r low read no_slots)) (h i no_slots low)
 
-pub room_none : (room n : ℕ) → room ≤ 64 → All (HasRoom room) (replicate n no_slots)
+pub room_none : (room n : ℕ) → room ≤ 64 → All (SetHasRoom room) (replicate n no_slots)
 room_none room n low k d l =
     let e : get_or (replicate n no_slots) k d ≡ no_slots = get_or-replicate n k no_slots d (omega (arith, l, length-replicate n no_slots)) in
-    subst (HasRoom room) (sym e) (record { enough = low; within = λ s h. cc })
+    subst (SetHasRoom room) (sym e) (record { enough = low; within = λ s h. cc })
 
-pub room_empty : (room : ℕ) (r : SlotSet) → r.slots ≡ [] → room ≤ r.room → HasRoom room r
+pub room_empty : (room : ℕ) (r : SlotSet) → r.slots ≡ [] → room ≤ r.room → SetHasRoom room r
 room_empty room r none enough = record { enough = enough; within = λ s h. (let e : false ≡ true = sym (ap (is_in s) none) ∙ h in cc) }
 
-pub room_with : (room s : ℕ) (r : SlotSet) → HasRoom room r → s < room → HasRoom room (set_with s r)
+pub room_with : (room s : ℕ) (r : SlotSet) → SetHasRoom room r → s < room → SetHasRoom room (set_with s r)
 room_with room s r h low = record {
   enough = h.enough;
   within = λ t m. go t m (cases_lt t 1024);
@@ -96,7 +96,7 @@ room_with room s r h low = record {
     ]
     go t m (inr large) = (let e : false ≡ true = sym (out_of_slots (λ u. nat_eq u s || is_in u r.slots) t large) ∙ m in cc)
 
-pub room_but : (room s : ℕ) (r : SlotSet) → HasRoom room r → HasRoom room (set_but s r)
+pub room_but : (room s : ℕ) (r : SlotSet) → SetHasRoom room r → SetHasRoom room (set_but s r)
 room_but room s r h = record {
   enough = h.enough;
   within = λ t m. h.within t (left (is_in t r.slots) (not (nat_eq t s)) (sym (is_in-filtered (λ u. not (nat_eq u s)) t r.slots) ∙ m));
@@ -106,17 +106,17 @@ room_but room s r h = record {
     left true b e = refl
     left false b e = cc
 
-pub rooms-but : (room s : ℕ) (sets : List SlotSet) → All (HasRoom room) sets → All (HasRoom room) (map (set_but s) sets)
+pub rooms-but : (room s : ℕ) (sets : List SlotSet) → All (SetHasRoom room) sets → All (SetHasRoom room) (map (set_but s) sets)
 rooms-but room s sets h k d low =
     let small : k < length sets = omega (arith, low, length-map sets (set_but s)) in
-    subst (HasRoom room) (sym (get_or-map (set_but s) sets k no_slots d small)) (room_but room s (get_or sets k no_slots) (h k no_slots small))
+    subst (SetHasRoom room) (sym (get_or-map (set_but s) sets k no_slots d small)) (room_but room s (get_or sets k no_slots) (h k no_slots small))
 
 -- Sets that have grown have the room that they had, or what all of them have.
-pub rooms-grown : (room more : ℕ) (old new' : List SlotSet) → HaveGrown old new' → All (HasRoom room) old → room ≤ more →
-    All (λ (r : SlotSet). more ≤ r.room) new' → All (HasRoom more) new'
+pub rooms-grown : (room more : ℕ) (old new' : List SlotSet) → HaveGrown old new' → All (SetHasRoom room) old → room ≤ more →
+    All (λ (r : SlotSet). more ≤ r.room) new' → All (SetHasRoom more) new'
 rooms-grown room more old new' g h low enough k d l =
     let small : k < length old = omega (arith, l, g.count) in
-    subst (HasRoom more) (default no_slots d new' k l) (record {
+    subst (SetHasRoom more) (default no_slots d new' k l) (record {
       enough = enough k no_slots l;
       within = λ s m. (let within = (h k no_slots small).within s (ap (is_in s) (sym (g.slots k small)) ∙ m) in omega (arith, within, low));
     })
@@ -126,10 +126,10 @@ rooms-grown room more old new' g h low enough k d l =
     default a b (x ∷ xs) zero low = refl
     default a b (x ∷ xs) (suc i) low = default a b xs i (omega arith)
 
-pub rooms-kept : (room : ℕ) (old new' : List SlotSet) → HaveGrown old new' → All (HasRoom room) old → All (HasRoom room) new'
+pub rooms-kept : (room : ℕ) (old new' : List SlotSet) → HaveGrown old new' → All (SetHasRoom room) old → All (SetHasRoom room) new'
 rooms-kept room old new' g h k d l =
     let small : k < length old = omega (arith, l, g.count) in
-    subst (HasRoom room) (default no_slots d new' k l) (record {
+    subst (SetHasRoom room) (default no_slots d new' k l) (record {
       enough = (let a = (h k no_slots small).enough in let b = g.room k small in omega (arith, a, b));
       within = λ s m. (h k no_slots small).within s (ap (is_in s) (sym (g.slots k small)) ∙ m);
     })
@@ -230,23 +230,23 @@ rows-given places rows next slots h = record {
     go false r = refl
 
 pub rooms-given : (room : ℕ) (places : List ℕ) (rows next : List SlotSet) (m : SlotSet) →
-    IsChangedAt no_slots (λ (r : SlotSet). record r { slots = m.slots }) places rows next → All (HasRoom room) rows → HasRoom room m → All (HasRoom room) next
+    IsChangedAt no_slots (λ (r : SlotSet). record r { slots = m.slots }) places rows next → All (SetHasRoom room) rows → SetHasRoom room m → All (SetHasRoom room) next
 rooms-given room places rows next m h rooms has k d low =
     let l : k < length rows = omega (arith, low, h.count) in
     let e : get_or next k d ≡ get_or next k no_slots = default next k low in
-    subst (HasRoom room) (sym (e ∙ h.elements k l)) (go (is_in k places) (get_or rows k no_slots) (rooms k no_slots l))
+    subst (SetHasRoom room) (sym (e ∙ h.elements k l)) (go (is_in k places) (get_or rows k no_slots) (rooms k no_slots l))
   where
     default : (xs : List SlotSet) (i : ℕ) → i < length xs → get_or xs i d ≡ get_or xs i no_slots
     default [] i low = absurd (omega arith)
     default (x ∷ xs) zero low = refl
     default (x ∷ xs) (suc i) low = default xs i (omega arith)
 
-    go : (b : Bool) (r : SlotSet) → HasRoom room r → HasRoom room (cond b (record r { slots = m.slots }) r)
+    go : (b : Bool) (r : SlotSet) → SetHasRoom room r → SetHasRoom room (cond b (record r { slots = m.slots }) r)
     go true r g = record { enough = g.enough; within = has.within }
     go false r g = g
 
 -- No set of a queue has a slot from 1,024 on.
-pub room_out : (room s : ℕ) (r : SlotSet) → room ≤ 1024 → HasRoom room r → 1024 ≤ s → is_in s r.slots ≡ false
+pub room_out : (room s : ℕ) (r : SlotSet) → room ≤ 1024 → SetHasRoom room r → 1024 ≤ s → is_in s r.slots ≡ false
 room_out room s r low h high = go (is_in s r.slots) refl
   where
     go : (b : Bool) → is_in s r.slots ≡ b → b ≡ false

@@ -13,7 +13,7 @@ abbrev pub AreCovered : List SlotSet → List SlotSet → Type 0
 AreCovered rows blocks = (x s : ℕ) → HasAt rows x s → HasAt blocks (x / 64) s
 
 -- The blocks have what they had, and those of the objects have the slots too. Their room is the same.
-pub record AreTold (objects slots : List ℕ) (old new : List SlotSet) : Type 0 where
+pub record AreMarked (objects slots : List ℕ) (old new : List SlotSet) : Type 0 where
   pub count : length new ≡ length old
   pub room : (i : ℕ) → i < length old → (slice_index_or new i no_slots).room ≡ (slice_index_or old i no_slots).room
   pub kept : (i s : ℕ) → s < most_open → HasAt old i s → HasAt new i s

@@ -65,15 +65,15 @@ pub record HaveSources (commit : ℕ) (actions : List Action) (sources : List (L
       ≡ last_writer (replicate commit blank ++ actions) (slice_index_or (read_set (slice_index_or actions i blank)) k 0) (suc (commit + i))
 
 -- A set has room for so many slots, and its slots are among them.
-pub record HasRoom (room : ℕ) (r : SlotSet) : Type 0 where
+pub record SetHasRoom (room : ℕ) (r : SlotSet) : Type 0 where
   pub enough : room ≤ r.room
   pub within : (s : ℕ) → is_in s r.slots ≡ true → s < room
 
 -- The sets of a queue have its room.
 pub record HaveRoom (room : ℕ) (sent rows : List SlotSet) : Type 0 where
   pub limit : room ≤ most_open
-  pub marks : All (HasRoom room) sent
-  pub given : All (HasRoom room) rows
+  pub marks : All (SetHasRoom room) sent
+  pub given : All (SetHasRoom room) rows
 
 pub record IsQueue (a : Inside) : Type 0 where
   pub agree : AgreeOn a.shape a.commit a.committed (all_queued a.entries.items) a.writers (slots_in a.given.items)

@@ -13,7 +13,7 @@ use crate::rooms::{BLOCK, forget_given, forget_marks, make_given_room, make_mark
 use crate::slots::Slots;
 use crate::sources::Sources;
 use crate::steps::Steps;
-use crate::waiting::Waiting;
+use crate::waiting::WaitingAction;
 use crate::writers::Writers;
 use crate::written::{give_written, no_rows, put_values, tell_blocks};
 use std::alloc::{AllocError, Global};
@@ -39,7 +39,7 @@ pub struct Queue {
     /// Each set of slots has room for so many.
     room: u16,
     committed: List<Value>,
-    entries: VecDeque<Waiting>,
+    entries: VecDeque<WaitingAction>,
     /// The last writers of what each entry reads, found when it was pushed: later ones are above it.
     sources: VecDeque<Sources>,
     writers: Writers,
@@ -283,7 +283,7 @@ impl Queue {
         self.sources.reserve(1)?;
         self.writers.add(&action, pos)?;
         self.sources.push_back_reserved(sources);
-        let entry = Waiting {
+        let entry = WaitingAction {
             author,
             seq,
             action,
@@ -396,7 +396,7 @@ impl Queue {
     {
         let entry = self.entries.pop_front().unwrap();
         self.sources.pop_front();
-        let Waiting {
+        let WaitingAction {
             author: _,
             seq: _,
             action,

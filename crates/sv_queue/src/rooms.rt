@@ -7,7 +7,7 @@ ghost use Rattle.sv_queue.specs.Rooms.{HaveGrown, AreWithout};
 ghost use Rattle.sv_queue.specs.Marks.{all_queued, marks_of, waiting_but};
 
 use crate::slots::Slots;
-use crate::waiting::Waiting;
+use crate::waiting::WaitingAction;
 use std::alloc::AllocError;
 use std::collections::VecDeque;
 
@@ -15,7 +15,7 @@ use std::collections::VecDeque;
 pub const BLOCK: usize = 64;
 
 /// Makes room in the marks of each action. After running out of memory some have more room, and all have the slots that they had.
-pub fn make_marks_room(entries: &mut VecDeque<Waiting>, room: u16) -> Result<(), AllocError>
+pub fn make_marks_room(entries: &mut VecDeque<WaitingAction>, room: u16) -> Result<(), AllocError>
     requires { room ≤ most_open }
     ensures queued { all_queued entries.new.items ≡ all_queued entries.old.items }
     ensures grown { HaveGrown (marks_of entries.old.items) (marks_of entries.new.items) }
@@ -42,7 +42,7 @@ pub fn make_given_room(rows: &mut Vec<Slots>, room: u16) -> Result<(), AllocErro
 }
 
 /// Takes a slot out of the marks of each action.
-pub fn forget_marks(entries: &mut VecDeque<Waiting>, slot: u16)
+pub fn forget_marks(entries: &mut VecDeque<WaitingAction>, slot: u16)
     ensures { entries.new.items ≡ map (waiting_but slot) entries.old.items }
 {
     for place in 0..entries.len() {

@@ -5,7 +5,7 @@ use sv_world::{Action, ClientId, Value};
 
 /// An accepted action that is not committed yet.
 #[derive(Debug, Drop)]
-pub struct Waiting {
+pub struct WaitingAction {
     pub author: ClientId,
     pub seq: u32,
     pub action: Action,

@@ -6,7 +6,7 @@ ghost use Rattle.sv_world.specs.Faults.{is_ascending};
 ghost use Rattle.sv_world.specs.Limits.{most_reads};
 ghost use Rattle.sv_world.specs.Sets.{read_set, write_set};
 ghost use Rattle.sv_eval.specs.Serial.{put_all};
-ghost use Rattle.sv_queue.specs.Blocks.{AreTold};
+ghost use Rattle.sv_queue.specs.Blocks.{AreMarked};
 ghost use Rattle.sv_queue.specs.Slots.{SlotSet, no_slots};
 ghost use Rattle.sv_queue.specs.Written.{CanWrite, IsChangedAt, writes_before};
 
@@ -77,7 +77,7 @@ pub fn give_written(rows: &mut Vec<Slots>, action: &Action, slots: &Slots)
 pub fn tell_blocks(blocks: &mut Vec<Slots>, action: &Action, slots: &Slots)
     requires can { CanWrite (64 * length blocks.old.items) action.now }
     requires room { All (λ (r : SlotSet). (s : ℕ) → is_in s slots.now.slots ≡ true → s < r.room) blocks.old.items }
-    ensures { AreTold (write_set action.now) slots.now.slots blocks.old.items blocks.new.items }
+    ensures { AreMarked (write_set action.now) slots.now.slots blocks.old.items blocks.new.items }
 {
     for slot in 0..action.reads.len() {
         if let Some(object) = written_at(action, slot) {

@@ -33,7 +33,7 @@ use Rattle.sv_replay.specs.declared.playing.Playing.{Playing}
 use Rattle.sv_exchange.specs.View.{ExchangeView, TakesReply}
 use Rattle.sv_replay.specs.Messages.{AsksMessages}
 use Rattle.sv_replay.specs.Players.{session_of, asked_by_player, IsFit, Moves, is_closing, taken_from}
-use Rattle.sv_replay.specs.Machine.{player_of, AreFlags, IsReady, Does, MovedPlayer}
+use Rattle.sv_replay.specs.Machine.{player_of, AreFlags, IsInSession, Does, MovedPlayer}
 use Rattle.sv_replay.proofs.Events.{up_must}
 use Rattle.sv_replay.proofs.Doing.{player, session_latest, JoinsNext, event_moves, close_moves, got_moves, still_moves, left_moves}
 
@@ -170,7 +170,7 @@ no_join : (t : List Event) (e : Event) → is_join e ≡ false → must_join t �
 no_join t e j m = record { needed = j ∙ sym m; next = λ n is. absurd (let other : is_join e ≡ true = ap is_join is in cc) }
 
 -- A ready client did an event that is no join.
-pub ready_moved : (e : Event) (rest : List Step) (next : Player) (p q : Playing) (c d : ExchangeView) → IsReady p → is_got e ≡ false → is_join e ≡ false →
+pub ready_moved : (e : Event) (rest : List Step) (next : Player) (p q : Playing) (c d : ExchangeView) → IsInSession p → is_got e ≡ false → is_join e ≡ false →
     next ≡ next_player p e rest → Does e rest (is_quit e) p q c d → MovedPlayer next p q c d
 ready_moved e rest next p q c d ready g j is did =
     subst (λ (n : Player). MovedPlayer n p q c d) (sym is)
@@ -217,7 +217,7 @@ sync_moved p q rest c is flags = record {
 }
 
 -- A client closed its link for good.
-pub closed_moved : (p : Playing) (c d : ExchangeView) → IsReady p → AreFlags p → d ≡ record c { closed = true } → MovedPlayer (record (player_of p) { closed = true }) p (record p { closed = true }) c d
+pub closed_moved : (p : Playing) (c d : ExchangeView) → IsInSession p → AreFlags p → d ≡ record c { closed = true } → MovedPlayer (record (player_of p) { closed = true }) p (record p { closed = true }) c d
 closed_moved p c d ready flags is =
     let who = p.client.who in
     let t = p.client.events in
@@ -331,7 +331,7 @@ pub asks_join : (p : Playing) → IsFit 64 (player_of p) → p.closed ≡ false 
 asks_join p fit linked m asks =
     asks_event p (events.Join (joins p.client.events)) p.left.now fit linked (record { needed = sym m; next = λ n is. (cc) }) refl (subst AsksMessages (joins_player p linked m) asks)
 
-pub asks_ready : (p : Playing) (e : Event) (rest : List Step) (next : Player) → IsReady p → is_got e ≡ false → is_join e ≡ false → next ≡ next_player p e rest → AsksMessages next →
+pub asks_ready : (p : Playing) (e : Event) (rest : List Step) (next : Player) → IsInSession p → is_got e ≡ false → is_join e ≡ false → next ≡ next_player p e rest → AsksMessages next →
     All IsRequest (newly_asked p.client.who p.client.events e)
 asks_ready p e rest next ready g j is asks = asks_event p e rest ready.fit ready.linked (no_join p.client.events e j ready.joined) g (subst AsksMessages is asks)
 

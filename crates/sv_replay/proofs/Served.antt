@@ -18,7 +18,7 @@ use Rattle.law_schedule.specs.Schedule.{plain_server}
 use Rattle.law_schedule.specs.Served.{RepliesNameAccepted}
 use Rattle.law_schedule.proofs.SoundReplies.{replies-grow}
 use Rattle.sv_journal.specs.History.{entry_of}
-use Rattle.sv_sequencer.specs.Step.{SequencerView, history, GrewByEntry, Answered}
+use Rattle.sv_sequencer.specs.Step.{SequencerView, history, GrewByEntry, StepAnswered}
 use Rattle.sv_session.specs.Requests.{stop_of}
 use Rattle.sv_exchange.specs.View.{ExchangeView, TakesRequest}
 use Rattle.sv_journal.proofs.Stays.{logged-back}
@@ -129,7 +129,7 @@ end_entered v w s reply b d done stop = record { rules = done.rules; server = do
 grew_history : (v w : SequencerView) (e : Entry) → GrewByEntry v w e → history w ≡ e ∷ history v
 grew_history v w e g = ap reverse g.entries ∙ reverse-append v.journal.entries (e ∷ [])
 
-pub sequencer_answers : (v w : SequencerView) (s : ℕ) (q : Request) (r : Result Reply AllocError) → IfOk r (Answered v w s q) → IfOk r (Answers (sequencer_view v) (sequencer_view w) s q)
+pub sequencer_answers : (v w : SequencerView) (s : ℕ) (q : Request) (r : Result Reply AllocError) → IfOk r (StepAnswered v w s q) → IfOk r (Answers (sequencer_view v) (sequencer_view w) s q)
 sequencer_answers v w s q (Err e) done = tt
 sequencer_answers v w s q (Ok reply) done =
     let grown : history w ≡ served (plain_server v.rules) (history v) s q = grew_history v w (entry_of s q (reply_to v.rules (history v) s q)) done.grew in

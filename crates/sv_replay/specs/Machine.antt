@@ -40,7 +40,7 @@ pub record AreFlags (p : Playing) : Type 0 where
   pub welcomed : p.welcomed ≡ is_welcomed p.client.events
 
 -- A client in a session that has its Welcome, with an open link.
-pub record IsReady (p : Playing) : Type 0 where
+pub record IsInSession (p : Playing) : Type 0 where
   pub fit : IsFit most_sessions (player_of p)
   pub linked : p.closed ≡ false
   pub joined : must_join p.client.events ≡ false

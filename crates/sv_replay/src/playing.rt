@@ -14,7 +14,7 @@ ghost use Rattle.sv_exchange.specs.View.{ExchangeView};
 ghost use Rattle.sv_replay.specs.Messages.{AsksMessages, IsAfterTurn};
 ghost use Rattle.sv_replay.specs.Players.{session_of, IsFit, IsNextFine, taken_from};
 ghost use Rattle.sv_replay.specs.Serving.{one_if};
-ghost use Rattle.sv_replay.specs.Machine.{player_of, AreFlags, IsReady, Does, MovedPlayer};
+ghost use Rattle.sv_replay.specs.Machine.{player_of, AreFlags, IsInSession, Does, MovedPlayer};
 
 use std::alloc::{AllocError, Global};
 use sv_client::{Client, MakeFault, ObserveFault, PollFault, TakeFault, Trace, TraceMark};
@@ -112,7 +112,7 @@ impl<'a> Playing<'a> {
     /// Its next step, in a session that has its Welcome. A step that can't be done yet waits.
     fn step(&mut self, alloc: Global, channel: &mut Exchange) -> Result<(), AllocError>
         requires flags { AreFlags self.old }
-        requires ready { IsReady self.old }
+        requires ready { IsInSession self.old }
         requires after { IsAfterTurn (next_step (player_of self.old) self.old.left.now) }
         requires open { channel.old.closed ≡ false }
         ensures { OnOk result (MovedPlayer (next_step (player_of self.old) self.old.left.now) self.old self.new channel.old channel.new) }
@@ -156,7 +156,7 @@ impl<'a> Playing<'a> {
         rest: &'a [Step],
     ) -> Result<(), AllocError>
         requires flags { AreFlags self.old }
-        requires ready { IsReady self.old }
+        requires ready { IsInSession self.old }
         requires after { IsAfterTurn (next_step (player_of self.old) (steps.Act action.now ∷ rest.now)) }
         requires open { channel.old.closed ≡ false }
         ensures { OnOk result (MovedPlayer (next_step (player_of self.old) (steps.Act action.now ∷ rest.now)) self.old self.new channel.old channel.new) }
@@ -176,7 +176,7 @@ impl<'a> Playing<'a> {
         rest: &'a [Step],
     ) -> Result<(), AllocError>
         requires flags { AreFlags self.old }
-        requires ready { IsReady self.old }
+        requires ready { IsInSession self.old }
         requires may { MayMake self.old.client.who self.old.client.events action.now }
         requires messages { All IsRequest (newly_asked self.old.client.who self.old.client.events (events.Make action.now)) }
         requires open { channel.old.closed ≡ false }
@@ -194,7 +194,7 @@ impl<'a> Playing<'a> {
 
     fn poll(&mut self, channel: &mut Exchange, rest: &'a [Step]) -> Result<(), AllocError>
         requires flags { AreFlags self.old }
-        requires ready { IsReady self.old }
+        requires ready { IsInSession self.old }
         requires after { IsAfterTurn (next_step (player_of self.old) (steps.Poll ∷ rest.now)) }
         requires open { channel.old.closed ≡ false }
         ensures { OnOk result (MovedPlayer (next_step (player_of self.old) (steps.Poll ∷ rest.now)) self.old self.new channel.old channel.new) }
@@ -209,7 +209,7 @@ impl<'a> Playing<'a> {
     /// Asks for an abandoned action.
     fn ask(&mut self, channel: &mut Exchange, rest: &'a [Step]) -> Result<(), AllocError>
         requires flags { AreFlags self.old }
-        requires ready { IsReady self.old }
+        requires ready { IsInSession self.old }
         requires may { MayPoll self.old.client.who self.old.client.events }
         requires open { channel.old.closed ≡ false }
         ensures { OnOk result (Does events.Poll rest.now self.old.closed self.old self.new channel.old channel.new) }
@@ -231,7 +231,7 @@ impl<'a> Playing<'a> {
         rest: &'a [Step],
     ) -> Result<(), AllocError>
         requires flags { AreFlags self.old }
-        requires ready { IsReady self.old }
+        requires ready { IsInSession self.old }
         requires after { IsAfterTurn (next_step (player_of self.old) (steps.Observe objects.now ∷ rest.now)) }
         requires open { channel.old.closed ≡ false }
         ensures { OnOk result (MovedPlayer (next_step (player_of self.old) (steps.Observe objects.now ∷ rest.now)) self.old self.new channel.old channel.new) }
@@ -252,7 +252,7 @@ impl<'a> Playing<'a> {
         rest: &'a [Step],
     ) -> Result<(), AllocError>
         requires flags { AreFlags self.old }
-        requires ready { IsReady self.old }
+        requires ready { IsInSession self.old }
         requires may { MayObserve self.old.client.who self.old.client.events objects.now }
         requires messages { All IsRequest (newly_asked self.old.client.who self.old.client.events (events.Observe objects.now 0)) }
         requires open { channel.old.closed ≡ false }
@@ -285,7 +285,7 @@ impl<'a> Playing<'a> {
         rest: &'a [Step],
     ) -> Result<(), AllocError>
         requires flags { AreFlags self.old }
-        requires ready { IsReady self.old }
+        requires ready { IsInSession self.old }
         ensures { (c : ExchangeView) → OnOk result (Does (events.Show objects.now) rest.now self.old.closed self.old self.new c c) }
     {
         let copy = copy_objects(alloc, objects.as_slice())?;
@@ -296,7 +296,7 @@ impl<'a> Playing<'a> {
 
     fn cut(&mut self, channel: &mut Exchange, rest: &'a [Step]) -> Result<(), AllocError>
         requires flags { AreFlags self.old }
-        requires ready { IsReady self.old }
+        requires ready { IsInSession self.old }
         ensures { OnOk result (Does events.Cut rest.now self.old.closed self.old self.new channel.old channel.new) }
     {
         self.client.note(TraceMark::Cut)?;
@@ -308,7 +308,7 @@ impl<'a> Playing<'a> {
 
     fn quit(&mut self, channel: &mut Exchange, rest: &'a [Step]) -> Result<(), AllocError>
         requires flags { AreFlags self.old }
-        requires ready { IsReady self.old }
+        requires ready { IsInSession self.old }
         ensures { OnOk result (Does events.Quit rest.now true self.old self.new channel.old channel.new) }
     {
         self.client.note(TraceMark::Quit)?;
@@ -321,7 +321,7 @@ impl<'a> Playing<'a> {
     /// With all steps done, it leaves, and closes its link when it has its Bye; each when nothing is outstanding.
     fn finish(&mut self, channel: &mut Exchange) -> Result<(), AllocError>
         requires flags { AreFlags self.old }
-        requires ready { IsReady self.old }
+        requires ready { IsInSession self.old }
         requires after { IsAfterTurn (last_steps (player_of self.old)) }
         requires open { channel.old.closed ≡ false }
         requires none { self.old.left.now ≡ [] }
@@ -340,7 +340,7 @@ impl<'a> Playing<'a> {
 
     fn leave(&mut self, channel: &mut Exchange) -> Result<(), AllocError>
         requires flags { AreFlags self.old }
-        requires ready { IsReady self.old }
+        requires ready { IsInSession self.old }
         requires may { MayLeave self.old.client.who self.old.client.events }
         requires open { channel.old.closed ≡ false }
         ensures { OnOk result (Does events.Leave self.old.left.now self.old.closed self.old self.new channel.old channel.new) }

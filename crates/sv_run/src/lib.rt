@@ -1,4 +1,4 @@
-//! The top call of the program.
+//! The top call of `play`, `replay` and `load`.
 #![tactic(auto)]
 
 mod playing;

@@ -50,37 +50,37 @@ value_ok attrs d v is =
     let high : count_items p.0 ≤ attrs = size.1 in
     omega arith
 
-values_ok : (attrs : ℕ) (d : Data) (vs : List (List ℤ)) → values_of attrs d ≡ Ok vs → AllByRecursion (λ v. length v ≡ attrs) vs × (1 ≤ length vs) × (length vs ≤ 4096)
+values_ok : (most attrs : ℕ) (d : Data) (vs : List (List ℤ)) → values_of most attrs d ≡ Ok vs → AllByRecursion (λ v. length v ≡ attrs) vs × (1 ≤ length vs) × (length vs ≤ most)
 unfolding values_of
-values_ok attrs d vs is =
-    let p = bound (list_within 1 4096 d) (each (value_of attrs) []) vs is in
+values_ok most attrs d vs is =
+    let p = bound (list_within 1 most d) (each (value_of attrs) []) vs is in
     let r = all_ok (value_of attrs) (λ v. length v ≡ attrs) (value_ok attrs) p.0 vs p.2 in
-    let size = list_ok 1 4096 d p.0 p.1 in
+    let size = list_ok 1 most d p.0 p.1 in
     let count : length vs ≡ count_items p.0 = r.1 in
     let low : 1 ≤ count_items p.0 = size.0 in
-    let high : count_items p.0 ≤ 4096 = size.1 in
+    let high : count_items p.0 ≤ most = size.1 in
     (r.0, omega arith, omega arith)
 
-good_world : (attrs : ℕ) (values : List (List ℤ)) → 1 ≤ attrs → attrs ≤ 4 → AllByRecursion (λ v. length v ≡ attrs) values → 1 ≤ length values → length values ≤ 4096
+good_world : (attrs : ℕ) (values : List (List ℤ)) → 1 ≤ attrs → attrs ≤ 4 → AllByRecursion (λ v. length v ≡ attrs) values → 1 ≤ length values → length values ≤ 65535
     → IsGoodWorld (world_with attrs values)
 good_world attrs values some few all some_values few_values =
     record {
-      shape = record { some_objects = some_values; few_objects = omega (arith, few_values); some_attrs = some; few_attrs = few };
+      shape = record { some_objects = some_values; few_objects = few_values; some_attrs = some; few_attrs = few };
       objects = refl;
       attrs = All-from_recursion (λ (v : List ℤ). length v ≡ attrs) values all;
     }
 
-world_ok : (d : Data) (w : World) → world_of d ≡ Ok w → IsGoodWorld w × (w.shape.objects ≤ 4096)
+pub world_ok : (most : ℕ) → most ≤ 65535 → (d : Data) (w : World) → world_of most d ≡ Ok w → IsGoodWorld w × (w.shape.objects ≤ most)
 unfolding world_of
-world_ok d w is =
-    let p = bound (value_at (codes "attrs") (number_within 1 4) d) (λ attrs. value_at (codes "objects") (values_of attrs) d >>= λ values. Ok (world_with attrs values)) w is in
-    let q = bound (value_at (codes "objects") (values_of p.0) d) (λ values. Ok (world_with p.0 values)) w p.2 in
+world_ok most few d w is =
+    let p = bound (value_at (codes "attrs") (number_within 1 4) d) (λ attrs. value_at (codes "objects") (values_of most attrs) d >>= λ values. Ok (world_with attrs values)) w is in
+    let q = bound (value_at (codes "objects") (values_of most p.0) d) (λ values. Ok (world_with p.0 values)) w p.2 in
     let a = at_key_of (codes "attrs") (number_within 1 4) d p.0 p.1 in
-    let v = at_key_of (codes "objects") (values_of p.0) d q.0 q.1 in
+    let v = at_key_of (codes "objects") (values_of most p.0) d q.0 q.1 in
     let n = number_ok 1 4 a.0 p.0 a.1 in
-    let m = values_ok p.0 v.0 q.0 v.1 in
+    let m = values_ok most p.0 v.0 q.0 v.1 in
     let e : world_with p.0 q.0 ≡ w = cc in
-    subst (λ (x : World). IsGoodWorld x × (x.shape.objects ≤ 4096)) e (good_world p.0 q.0 n.0 n.1 m.0 m.1 m.2, m.2)
+    subst (λ (x : World). IsGoodWorld x × (x.shape.objects ≤ most)) e (good_world p.0 q.0 n.0 n.1 m.0 m.1 (omega (arith, few, m.2)), m.2)
 
 -- ---- objects
 
@@ -396,7 +396,7 @@ scenario_ok : (d : Data) (s : Scenario) → scenario_in d ≡ Ok s → IsGoodSce
 unfolding scenario_in
 scenario_ok d s is =
     let k = bound (keys_of (codes "attrs" ∷ codes "objects" ∷ codes "bound" ∷ codes "clients" ∷ []) (codes "reach" ∷ codes "schedule" ∷ []) d) _ s is in
-    let w = bound (world_of d) _ s k.2 in
+    let w = bound (world_of 4096 d) _ s k.2 in
     let b = bound (value_at (codes "bound") (number_within 0 32) d) _ s w.2 in
     let r = bound (value_if (codes "reach") None reach_of d) _ s b.2 in
     let c = bound (value_at (codes "clients") (clients_of w.0.shape) d) _ s r.2 in
@@ -408,8 +408,8 @@ scenario_ok d s is =
     at_key_if (codes "schedule") [] (turns_of (length c.0) (sessions_in c.0)) (get (codes "schedule") d) t.0 (AreTurns (length c.0) (sessions_in c.0)) (tt, omega arith) (λ e h. turns_ok (length c.0) (sessions_in c.0) e t.0 h) t.1 in
     just IsGoodScenario s (record { world = w.0; bound = b.0; reach = r.0; clients = c.0; schedule = t.0 })
     (record {
-      world = (world_ok d w.0 w.1).0;
-      few_objects = (world_ok d w.0 w.1).1;
+      world = (world_ok 4096 (omega arith) d w.0 w.1).0;
+      few_objects = (world_ok 4096 (omega arith) d w.0 w.1).1;
       bound = (number_ok 0 32 bv.0 b.0 bv.1).1;
       reach = at_key_if (codes "reach") None reach_of (get (codes "reach") d) r.0 IsReach tt (λ e h. reach_ok e r.0 h) r.1;
       some_clients = good_clients.some;

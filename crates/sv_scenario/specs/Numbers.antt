@@ -2,7 +2,6 @@
 use Rattle.std.specs.Prelude.{ℕ, suc, ℤ, pos, negsuc, cond, ◌&&◌, nat_le, List, [], option_and_then, Ok}
 use Rattle.serde_json.specs.Data.{Data, Items, no_items, item}
 use Rattle.serde_json.specs.Find.{as_array, as_integer, as_number}
-use Rattle.sv_world.specs.Limits.{most_scenario_objects}
 use Rattle.sv_world.specs.Ranges.{is_i64}
 use Rattle.sv_scenario.specs.declared.fault.ScenarioCause.TheVariants as causes
 use Rattle.sv_scenario.specs.Faults.{Read, ◌>>=◌, refuse, given, each}
@@ -41,6 +40,6 @@ list_within low high d = given causes.Kind (as_array d) >>= items_within low hig
 unfoldable pub value_of : ℕ → Data → Read (List ℤ)
 value_of attrs d = list_within attrs attrs d >>= each attribute_of []
 
--- The values of all objects.
-unfoldable pub values_of : ℕ → Data → Read (List (List ℤ))
-values_of attrs d = list_within 1 most_scenario_objects d >>= each (value_of attrs) []
+-- The values of all objects, at most so many.
+unfoldable pub values_of : ℕ → ℕ → Data → Read (List (List ℤ))
+values_of most attrs d = list_within 1 most d >>= each (value_of attrs) []

@@ -5,7 +5,7 @@ use Rattle.serde_json.specs.Data.{Data}
 use Rattle.serde_json.specs.Read.{read}
 use Rattle.sv_world.specs.declared.world.Shape.{Shape}
 use Rattle.sv_world.specs.declared.world.World.{World}
-use Rattle.sv_world.specs.Limits.{most_attrs, most_sessions, most_bound, most_reach}
+use Rattle.sv_world.specs.Limits.{most_scenario_objects, most_attrs, most_sessions, most_bound, most_reach}
 use Rattle.sv_scenario.specs.declared.fault.ScenarioCause.TheVariants as causes
 use Rattle.sv_scenario.specs.declared.scenario.Plan.{Plan}
 use Rattle.sv_scenario.specs.declared.scenario.Scenario.{Scenario}
@@ -19,10 +19,11 @@ use Rattle.sv_scenario.specs.Turns.{turns_of}
 abbrev pub world_with : ℕ → List (List ℤ) → World
 world_with attrs values = record { shape = record { objects = length values; attrs = attrs }; values = values }
 
-unfoldable pub world_of : Data → Read World
-world_of d = do
+-- A world of at most so many objects.
+unfoldable pub world_of : ℕ → Data → Read World
+world_of most d = do
   attrs ← value_at (codes "attrs") (number_within 1 most_attrs) d
-  values ← value_at (codes "objects") (values_of attrs) d
+  values ← value_at (codes "objects") (values_of most attrs) d
   Ok (world_with attrs values)
 
 unfoldable pub reach_of : Data → Read (Option ℕ)
@@ -39,7 +40,7 @@ clients_of shape d = plans_of shape d >>= few_sessions
 unfoldable pub scenario_in : Data → Read Scenario
 scenario_in d = do
   _ ← keys_of (codes "attrs" ∷ codes "objects" ∷ codes "bound" ∷ codes "clients" ∷ []) (codes "reach" ∷ codes "schedule" ∷ []) d
-  world ← world_of d
+  world ← world_of most_scenario_objects d
   bound ← value_at (codes "bound") (number_within 0 most_bound) d
   reach ← value_if (codes "reach") None reach_of d
   clients ← value_at (codes "clients") (clients_of world.shape) d

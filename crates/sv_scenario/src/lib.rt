@@ -22,6 +22,6 @@ pub use line::append_fault_line;
 pub use numbers::{each_value, list_within, number_within};
 pub use objects::next_object;
 pub use place::{at_key, at_place, refuse};
-pub use read::{MOST_SCENARIO_BYTES, number_of_key, reach_in, read_scenario, value_in};
+pub use read::{MOST_SCENARIO_BYTES, number_of_key, reach_in, read_scenario, value_in, world_of};
 pub use scenario::{Plan, Scenario, Step, Turn};
 pub use sessions::{sessions_of, sessions_of_plan};

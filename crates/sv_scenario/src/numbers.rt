@@ -2,7 +2,6 @@
 
 ghost use Rattle.std.specs.Prelude.{◌≡◌, ◌≤◌, [], length, vec_len, IfOk};
 ghost use Rattle.serde_json.specs.View.{view, items_view};
-ghost use Rattle.sv_world.specs.Limits.{most_scenario_objects};
 ghost use Rattle.sv_scenario.specs.Faults.{Gives, each};
 ghost use Rattle.sv_scenario.specs.Numbers.{whole_number, number_within, attribute_of, list_within, value_of, values_of};
 
@@ -10,7 +9,7 @@ use crate::place::{at_place, refuse};
 use crate::{ReadFault, ScenarioCause};
 use serde_json::Value;
 use std::alloc::Global;
-use sv_world::{MOST_SCENARIO_OBJECTS, Value as ObjectValue};
+use sv_world::Value as ObjectValue;
 
 #[tactic(auto, unfolding(crate::specs::Numbers::whole_number))]
 fn whole_number(alloc: Global, value: &Value) -> Result<i128, ReadFault>
@@ -114,16 +113,17 @@ pub fn each_value(
     Ok(all)
 }
 
-/// The values of all objects, each of so many numbers.
+/// The values of all objects, at most so many, each of so many numbers.
 #[tactic(auto, unfolding(crate::specs::Numbers::values_of))]
 pub(crate) fn values_of(
     alloc: Global,
+    most: u16,
     attrs: u32,
     value: &Value,
 ) -> Result<Vec<ObjectValue>, ReadFault>
-    ensures reads { Gives (λ v. v.items) result (values_of attrs (view value.now)) }
-    ensures count { IfOk result (λ v. vec_len v ≤ most_scenario_objects) }
+    ensures reads { Gives (λ v. v.items) result (values_of most attrs (view value.now)) }
+    ensures count { IfOk result (λ v. vec_len v ≤ most) }
 {
-    let values = list_within(alloc, 1, MOST_SCENARIO_OBJECTS as usize, value)?;
+    let values = list_within(alloc, 1, most as usize, value)?;
     each_value(alloc, attrs, values)
 }

@@ -4,7 +4,7 @@ ghost use Rattle.std.specs.Prelude.{◌≡◌, ◌≤◌, ◌∷◌, [], codes, 
 ghost use Rattle.serde_json.specs.Errors.{IsMemory};
 ghost use Rattle.serde_json.specs.Read.{read};
 ghost use Rattle.serde_json.specs.View.{view};
-ghost use Rattle.sv_world.specs.Limits.{most_scenario_objects, most_clients, most_sessions};
+ghost use Rattle.sv_world.specs.Limits.{most_clients, most_sessions};
 ghost use Rattle.sv_scenario.specs.Faults.{Gives};
 ghost use Rattle.sv_scenario.specs.Keys.{keys_of, value_at, value_if};
 ghost use Rattle.sv_scenario.specs.Limits.{IsGoodScenario};
@@ -23,7 +23,9 @@ use crate::{Plan, ReadFault, Scenario, ScenarioCause, Turn};
 use serde_json::Value;
 use std::alloc::Global;
 use sv_lists::List;
-use sv_world::{MOST_ATTRS, MOST_BOUND, MOST_REACH, Shape, Value as ObjectValue, World};
+use sv_world::{
+    MOST_ATTRS, MOST_BOUND, MOST_REACH, MOST_SCENARIO_OBJECTS, Shape, Value as ObjectValue, World,
+};
 
 /// The bytes that a file may have.
 pub const MOST_SCENARIO_BYTES: usize = 4_194_304;
@@ -43,20 +45,26 @@ pub fn number_of_key(
     at_key(alloc, key, number_within(alloc, low, high, number))
 }
 
-fn values_in(alloc: Global, attrs: u32, value: &Value) -> Result<Vec<ObjectValue>, ReadFault>
-    ensures reads { Gives (λ v. v.items) result (value_at (codes "objects") (values_of attrs) (view value.now)) }
-    ensures count { IfOk result (λ v. vec_len v ≤ most_scenario_objects) }
+fn values_in(
+    alloc: Global,
+    most: u16,
+    attrs: u32,
+    value: &Value,
+) -> Result<Vec<ObjectValue>, ReadFault>
+    ensures reads { Gives (λ v. v.items) result (value_at (codes "objects") (values_of most attrs) (view value.now)) }
+    ensures count { IfOk result (λ v. vec_len v ≤ most) }
 {
     let values = needed(alloc, "objects", value)?;
-    at_key(alloc, "objects", values_of(alloc, attrs, values))
+    at_key(alloc, "objects", values_of(alloc, most, attrs, values))
 }
 
+/// A world of at most so many objects, by the keys `attrs` and `objects`.
 #[tactic(auto, unfolding(crate::specs::Scenarios::world_of))]
-fn world_of(alloc: Global, value: &Value) -> Result<World, ReadFault>
-    ensures { Gives (λ w. w) result (world_of (view value.now)) }
+pub fn world_of(alloc: Global, most: u16, value: &Value) -> Result<World, ReadFault>
+    ensures { Gives (λ w. w) result (world_of most (view value.now)) }
 {
     let attrs = number_of_key(alloc, "attrs", 1, MOST_ATTRS as u32, value)?;
-    let values = values_in(alloc, attrs, value)?;
+    let values = values_in(alloc, most, attrs, value)?;
     let shape = Shape {
         objects: values.len() as u16,
         attrs: attrs as u8,
@@ -119,7 +127,7 @@ fn scenario_in(alloc: Global, value: &Value) -> Result<Scenario, ReadFault>
         &["reach", "schedule"],
         value,
     )?;
-    let world = world_of(alloc, value)?;
+    let world = world_of(alloc, MOST_SCENARIO_OBJECTS, value)?;
     let bound = number_of_key(alloc, "bound", 0, MOST_BOUND as u32, value)?;
     let reach = reach_in(alloc, value)?;
     let clients = clients_in(alloc, world.shape, value)?;

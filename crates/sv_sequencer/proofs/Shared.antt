@@ -12,11 +12,11 @@ use Rattle.sv_journal.specs.Answer.{reply_to}
 use Rattle.sv_journal.proofs.Stays.{logged-back}
 use Rattle.sv_lock.specs.Histories.{entries_of}
 use Rattle.sv_journal.specs.History.{entry_of}
-use Rattle.sv_sequencer.specs.Step.{SequencerView, history, Answered}
-use Rattle.sv_sequencer.specs.Shared.{IsFullReply, IsWhole}
+use Rattle.sv_sequencer.specs.Step.{SequencerView, history, StepAnswered}
+use Rattle.sv_sequencer.specs.Shared.{IsFullReply, IsFullInOrder}
 
 -- The journal grew by the entry of the answer.
-pub answer-entered : (old new : SequencerView) (s : ℕ) (q : Request) (r : Reply) → Answered old new s q r →
+pub answer-entered : (old new : SequencerView) (s : ℕ) (q : Request) (r : Reply) → StepAnswered old new s q r →
     new.journal.entries ≡ old.journal.entries ++ entry_of s q (logged_of r) ∷ []
 answer-entered old new s q r a =
     a.grew.entries ∙ ap (λ l. old.journal.entries ++ entry_of s q l ∷ []) (sym (ap logged_of a.whole ∙ logged-back (accepted (history new)) (reply_to old.rules (history old) s q)))
@@ -25,7 +25,7 @@ last-whole : (r : Reply) (h h' : List Entry) (e : Entry) → h ≡ e ∷ h' → 
 last-whole r h h' e is whole = subst (IsFullReply r) (sym is) (whole ∙ ap (λ x. full_reply (accepted x) e.reply) is)
 
 -- The answer is whole over the journal that it was entered into.
-pub answer-whole : (old new : SequencerView) (s : ℕ) (q : Request) (r : Reply) → Answered old new s q r → IsWhole r new.journal.entries
+pub answer-whole : (old new : SequencerView) (s : ℕ) (q : Request) (r : Reply) → StepAnswered old new s q r → IsFullInOrder r new.journal.entries
 answer-whole old new s q r a =
     let e : Entry = entry_of s q (reply_to old.rules (history old) s q) in
     last-whole r (history new) (history old) e (ap reverse a.grew.entries ∙ reverse-append old.journal.entries (e ∷ [])) a.whole
@@ -34,12 +34,12 @@ both-ok : {T E : Type 0} {P Q : T → Type 0} (o : Result T E) → ((t : T) → 
 both-ok (Ok t) gives p = gives t p
 both-ok (Err e) gives p = p
 
-pub step-entered : {E : Type 0} (old new : SequencerView) (s : ℕ) (q : Request) (o : Result Reply E) → IfOk o (λ r. Answered old new s q r) →
+pub step-entered : {E : Type 0} (old new : SequencerView) (s : ℕ) (q : Request) (o : Result Reply E) → IfOk o (λ r. StepAnswered old new s q r) →
     IfOk o (λ r. new.journal.entries ≡ old.journal.entries ++ entry_of s q (logged_of r) ∷ [])
 step-entered old new s q o answers = both-ok o (λ r a. answer-entered old new s q r a) answers
 
-pub step-whole : {E : Type 0} (old new : SequencerView) (s : ℕ) (q : Request) (o : Result Reply E) → IfOk o (λ r. Answered old new s q r) →
-    IfOk o (λ r. IsWhole r new.journal.entries)
+pub step-whole : {E : Type 0} (old new : SequencerView) (s : ℕ) (q : Request) (o : Result Reply E) → IfOk o (λ r. StepAnswered old new s q r) →
+    IfOk o (λ r. IsFullInOrder r new.journal.entries)
 step-whole old new s q o answers = both-ok o (λ r a. answer-whole old new s q r a) answers
 
 -- ---- A session has no End yet

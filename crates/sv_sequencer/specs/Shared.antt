@@ -13,8 +13,8 @@ IsFullReply reply [] = ⊥
 IsFullReply reply (e ∷ h) = reply ≡ full_reply (accepted (e ∷ h)) e.reply
 
 -- The same for entries in their order.
-abbrev pub IsWhole : Reply → List Entry → Type 0
-IsWhole reply entries = IsFullReply reply (reverse entries)
+abbrev pub IsFullInOrder : Reply → List Entry → Type 0
+IsFullInOrder reply entries = IsFullReply reply (reverse entries)
 
 -- A request of a session may be answered: there is such a session; and an End is its first, where `mine` are its entries so far.
 pub record MayAsk (rules : Rules) (s : ℕ) (request : Request) (mine : List Entry) : Type 0 where

@@ -22,7 +22,7 @@ pub record GrewByEntry (old new : SequencerView) (e : Entry) : Type 0 where
   pub entries : new.journal.entries ≡ old.journal.entries ++ e ∷ []
 
 -- A step answered a request by the reply that the journal's history gives, in full.
-pub record Answered (old new : SequencerView) (s : ℕ) (request : Request) (reply : Reply) : Type 0 where
+pub record StepAnswered (old new : SequencerView) (s : ℕ) (request : Request) (reply : Reply) : Type 0 where
   pub grew : GrewByEntry old new (entry_of s request (reply_to old.rules (history old) s request))
   pub whole : reply ≡ full_reply (accepted (history new)) (reply_to old.rules (history old) s request)
 

@@ -6,7 +6,7 @@ ghost use Rattle.sv_journal.specs.declared.entry.Entry.{Entry};
 ghost use Rattle.sv_journal.specs.Sessions.{is_end, is_ended};
 ghost use Rattle.sv_journal.specs.Answer.{scenario_rules};
 ghost use Rattle.sv_core.specs.Cores.{core_rules, owed_by, session_at, Keeps, CarriedOut, SitByNumber};
-ghost use Rattle.sv_core.specs.Decisions.{Holds};
+ghost use Rattle.sv_core.specs.Decisions.{DecisionHolds};
 ghost use Rattle.sv_sequencer.specs.Entering.{HasRoomForEnds, TookEntry, EnteredReply, NothingEntered};
 ghost use Rattle.sv_journal.specs.History.{entry_of, end_entry};
 
@@ -50,10 +50,7 @@ pub fn enter_end(core: &mut Core, journal: &mut Journal, session: u16)
     requires room { HasRoomForEnds core.old journal.old }
     ensures { TookEntry core.old core.new journal.old journal.new h (end_entry session) (end_entry session) }
 {
-    let seat = Seat {
-        slot: session,
-        session: session as u64,
-    };
+    let seat = Seat::own(session);
     core.end(seat);
     journal.push(Entry {
         session,
@@ -77,7 +74,7 @@ pub fn enter_reply(
     requires keeps { Keeps core.old h }
     requires seat { session_at core.old decided.session ≡ Some decided.session }
     requires more { is_end request ≡ false }
-    requires holds { Holds (core_rules core.old) h decided.session request decided.decision }
+    requires holds { DecisionHolds (core_rules core.old) h decided.session request decided.decision }
     ensures ok { IfOk result (EnteredReply core.old core.new journal.old journal.new h decided.session request request decided.decision) }
     ensures err { OnErr result (NothingEntered core.old core.new journal.old journal.new h) }
 {
@@ -103,7 +100,7 @@ pub fn enter_asked(
     requires keeps { Keeps core.old h }
     requires seat { session_at core.old decided.session ≡ Some decided.session }
     requires more { is_end taken.now ≡ false }
-    requires holds { Holds (core_rules core.old) h decided.session taken.now decided.decision }
+    requires holds { DecisionHolds (core_rules core.old) h decided.session taken.now decided.decision }
     ensures ok { IfOk result (EnteredReply core.old core.new journal.old journal.new h decided.session asked taken.now decided.decision) }
     ensures err { OnErr result (NothingEntered core.old core.new journal.old journal.new h) }
 {
@@ -127,7 +124,7 @@ fn carry_out(
     requires keeps { Keeps core.old h }
     requires seat { session_at core.old decided.session ≡ Some decided.session }
     requires more { is_end request.now ≡ false }
-    requires holds { Holds (core_rules core.old) h decided.session request.now decided.decision }
+    requires holds { DecisionHolds (core_rules core.old) h decided.session request.now decided.decision }
     ensures ok { IfOk result (CarriedOut core.old core.new h decided.session request.now decided.decision) }
     ensures entries { journal.new.entries ≡ journal.old.entries }
     ensures room { OnOk result (owed_by core.new < journal.new.spare) }
@@ -135,10 +132,7 @@ fn carry_out(
 {
     let Decided { session, decision } = decided;
     journal.reserve(core.owed() as usize + 1)?;
-    let seat = Seat {
-        slot: session,
-        session: session as u64,
-    };
+    let seat = Seat::own(session);
     core.carry_out(seat, request, decision)
 }
 

@@ -2,7 +2,7 @@
 ghost use Rattle.std.specs.Prelude.{◌≡◌, true, reverse, refl};
 ghost use Rattle.sv_journal.specs.Sessions.{is_end};
 ghost use Rattle.sv_journal.specs.Answer.{Legal};
-ghost use Rattle.sv_sequencer.specs.Shared.{IsWhole, MayAsk};
+ghost use Rattle.sv_sequencer.specs.Shared.{IsFullInOrder, MayAsk};
 ghost use Rattle.sv_journal.specs.History.{logged_of};
 ghost use Rattle.sv_journal.specs.History.{entry_of};
 
@@ -32,7 +32,7 @@ impl Object for Sequencer {
 
     ghost number_of = { λ e. e.session };
 
-    ghost whole = { IsWhole };
+    ghost whole = { IsFullInOrder };
 
     ghost can_step = { MayAsk };
 

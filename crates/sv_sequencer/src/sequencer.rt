@@ -106,9 +106,6 @@ impl Sequencer {
         requires { MayBeSession self.now.rules.sessions session }
         ensures { result ≡ is_ended (history self.now) session }
     {
-        self.core.is_ended(Seat {
-            slot: session,
-            session: session as u64,
-        })
+        self.core.is_ended(Seat::own(session))
     }
 }

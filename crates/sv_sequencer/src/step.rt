@@ -4,7 +4,7 @@ ghost use Rattle.sv_journal.specs.declared.entry.Entry.{Entry};
 ghost use Rattle.sv_journal.specs.Sessions.{is_end, is_ended};
 ghost use Rattle.sv_journal.specs.Answer.{MayBeSession, Legal};
 ghost use Rattle.sv_journal.specs.History.{end_entry};
-ghost use Rattle.sv_sequencer.specs.Step.{history, GrewByEntry, Answered, Stayed};
+ghost use Rattle.sv_sequencer.specs.Step.{history, GrewByEntry, StepAnswered, Stayed};
 
 use crate::entering::{enter_end, enter_reply};
 use crate::sequencer::Sequencer;
@@ -20,7 +20,7 @@ impl Sequencer {
     pub fn step(&mut self, session: u16, request: Request) -> Result<Reply, AllocError>
         requires session { MayBeSession self.old.rules.sessions session }
         requires first { is_end request ≡ true → is_ended (history self.old) session ≡ false }
-        ensures ok { IfOk result (Answered self.old self.new session request) }
+        ensures ok { IfOk result (StepAnswered self.old self.new session request) }
         ensures err { OnErr result (Stayed self.old self.new) }
         ensures legal { Legal self.new.rules (history self.new) }
         ensures end { is_end request ≡ true → IsOk result }
@@ -61,13 +61,10 @@ impl Sequencer {
         requires past { h ≡ history self.old }
         requires session { MayBeSession self.old.rules.sessions session }
         requires more { is_end request ≡ false }
-        ensures ok { IfOk result (Answered self.old self.new session request) }
+        ensures ok { IfOk result (StepAnswered self.old self.new session request) }
         ensures err { OnErr result (Stayed self.old self.new) }
     {
-        let seat = Seat {
-            slot: session,
-            session: session as u64,
-        };
+        let seat = Seat::own(session);
         let decision = self.core.decide(seat, &request);
         enter_reply(
             &mut self.core,

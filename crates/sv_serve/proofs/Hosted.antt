@@ -19,7 +19,7 @@ use Rattle.sv_threads.specs.declared.tasks.Service.{Service}
 use Rattle.sv_threads.specs.declared.tasks.Serviced.{Serviced}
 use Rattle.sv_threads.specs.Tasks.{WasServed}
 use Rattle.sv_threads.specs.Given.{Setting, keeper_after, IsService}
-use Rattle.sv_threads.specs.Left.{is_memory, IsOfLock, JoinedPasses, IsServiced}
+use Rattle.sv_threads.specs.RunRemains.{is_memory, IsOfLock, JoinedPasses, IsServiced}
 use Rattle.sv_threads.specs.Moved.{Moved}
 use Rattle.sv_threads.specs.Playing.{TookAllIn}
 use Rattle.sv_threads.proofs.Leaving.{served_left, all_of_lock}

@@ -11,7 +11,7 @@ use Rattle.sv_journal.specs.Text.{RelaysNameAccepted}
 use Rattle.law_system.specs.Places.{EachPlace}
 use Rattle.sv_threads.specs.declared.tasks.Service.{Service}
 use Rattle.sv_threads.specs.declared.tasks.Serviced.{Serviced}
-use Rattle.sv_threads.specs.Left.{is_memory}
+use Rattle.sv_threads.specs.RunRemains.{is_memory}
 use Rattle.sv_door.specs.Doors.{Passage}
 use Rattle.sv_serve.specs.Giving.{doorway, passage_kept, kept_unserved, kept_served, unused_passage, GaveAllBack, GaveUnused}
 

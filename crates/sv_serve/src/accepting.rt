@@ -19,7 +19,7 @@ use sv_threads::{PlayFault, Service};
 
 /// What all sessions share.
 #[derive(Drop)]
-pub(crate) struct Host<'a, G> {
+pub(crate) struct ServeShared<'a, G> {
     pub(crate) alloc: Global,
     pub(crate) scenario: &'a Scenario,
     pub(crate) lock: &'a SeqLock<Sequencer>,
@@ -28,7 +28,7 @@ pub(crate) struct Host<'a, G> {
     pub(crate) port: u16,
 }
 
-impl<'a, G: Gate> Host<'a, G> {
+impl<'a, G: Gate> ServeShared<'a, G> {
     /// Accepts the connection of the next session, and makes its pass.
     fn accept_next<D: Door>(
         &self,

@@ -9,7 +9,7 @@ ghost use Rattle.sv_threads.specs.Playing.{PlayCause, RunsOnce, TookAllIn};
 ghost use Rattle.sv_serve.specs.Giving.{doorway, GivesBack};
 ghost use Rattle.sv_serve.specs.Hosting.{IsHosted};
 
-use crate::accepting::{Host, give_back_all};
+use crate::accepting::{ServeShared, give_back_all};
 use crate::taking::take_in;
 use law_asked::read_scenario_numbers;
 use std::alloc::Global;
@@ -27,7 +27,7 @@ use sv_threads::{PlayFault, lock_sequencer};
 /// Serves each session over a connection of its own, all at once, and waits for all of them.
 fn serve_sessions<D: Door, C: Crew, G: Gate + Sync, R: Threads + Wait + Sync>(
     rt: &R,
-    host: &Host<'_, G>,
+    host: &ServeShared<'_, G>,
     keeper: &mut Pass<Sequencer>,
     door: &mut D,
     crew: &mut C,
@@ -87,7 +87,7 @@ pub fn serve_scenario<D: Door, C: Crew, G: Gate + Sync, R: Threads + Wait + Sync
 {
     let sequencer = open_sequencer(alloc, scenario)?;
     let (lock, mut keeper) = lock_sequencer(alloc, scenario, sequencer)?;
-    let host = Host {
+    let host = ServeShared {
         alloc,
         scenario,
         lock: &lock,

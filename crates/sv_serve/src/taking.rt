@@ -1,7 +1,7 @@
 //! Taking in what the sessions left.
 ghost use Rattle.std.specs.Prelude.{◌≡◌, ◌+◌, ◌≤◌, ◌++◌, ◌||◌, length, None};
 ghost use Rattle.std.specs.List.{AllByRecursion, list_any};
-ghost use Rattle.sv_threads.specs.Left.{is_memory, IsOfLock, JoinedPasses};
+ghost use Rattle.sv_threads.specs.RunRemains.{is_memory, IsOfLock, JoinedPasses};
 ghost use Rattle.sv_threads.specs.declared.tasks.Serviced.{Serviced as Left};
 ghost use Rattle.sv_serve.specs.Giving.{kept_served, IsServedOf};
 

@@ -10,7 +10,7 @@ use Rattle.sv_journal.specs.declared.entry.Logged.TheVariants as logged
 use Rattle.sv_journal.specs.Answer.{Legal}
 use Rattle.sv_journal.specs.Laws.{FullRepliesStay}
 use Rattle.sv_journal.specs.History.{entry_of}
-use Rattle.sv_lock.specs.Histories.{entries_of, GoesOn}
+use Rattle.sv_lock.specs.Histories.{entries_of, GoesOnTo}
 use Rattle.sv_lock.specs.Passes.{session_number}
 use Rattle.sv_link.specs.Ends.{Told}
 use Rattle.sv_journal.specs.History.{logged_of}
@@ -23,7 +23,7 @@ use Rattle.sv_session.proofs.Joined.{same_twice}
 use Rattle.sv_session.proofs.Rounds.{latest, goes_on_prefix, legal_latest}
 
 module _ (law : FullRepliesStay) (old : Told) (before : SessionPass) (out : SessionOut) (told : Told) (between after : SessionPass) (new : Told) (reply : Reply) (h : Halts (stand old before [] []) out told between)
-    (same : IsSamePass between after) (on : GoesOn between.seen (entry_of (session_number between) requests.End (logged_of reply)) after.seen) (legal : Legal after.base (reverse after.seen)) where
+    (same : IsSamePass between after) (on : GoesOnTo between.seen (entry_of (session_number between) requests.End (logged_of reply)) after.seen) (legal : Legal after.base (reverse after.seen)) where
   end_replied : logged_of reply ≡ logged.Bye
   end_replied =
       let at = latest between.seen (entry_of (session_number between) requests.End (logged_of reply)) after.seen on in

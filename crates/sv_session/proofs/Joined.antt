@@ -16,8 +16,8 @@ use Rattle.sv_lock.specs.Passes.{LockView, session_number}
 use Rattle.sv_lock.proofs.Histories.{prefix_self, prefix_trans}
 use Rattle.sv_link.specs.Ends.{Told}
 use Rattle.sv_session.specs.Requests.{requests_read, entry_requests, due_frames, stop_after, StopsFor}
-use Rattle.sv_session.specs.Serving.{SessionPass, IsSamePass, MayServe, BreaksOff, TookAll, ExplainsOut, ended_by}
-use Rattle.sv_session.specs.Rounds.{Stand, BeginsWithRequests, StepsOn, Onward, Halts}
+use Rattle.sv_session.specs.Serving.{SessionPass, IsSamePass, MayServe, LoopBreaksOff, TookAll, ExplainsOut, ended_by}
+use Rattle.sv_session.specs.Rounds.{Stand, BeginsWithRequests, StepsOn, LoopGoesOn, Halts}
 use Rattle.sv_session.specs.declared.outcome.SessionOut.{SessionOut}
 use Rattle.sv_session.specs.declared.outcome.SessionOut.TheVariants as outs
 use Rattle.sv_session.proofs.Streams.{begins_with_none, begins_and_more, begins_twice, begins_so, leaves_so}
@@ -92,7 +92,7 @@ explains_later out stream rest x y s t due left on asked same is = by_out out
       ap (λ l. s ++ l) f.1 ∙ sym is,
     )
 
-    breaks_later : BreaksOff y → BreaksOff (x ++ y)
+    breaks_later : LoopBreaksOff y → LoopBreaksOff (x ++ y)
     breaks_later f = record {
       before = x ++ f.before;
       last = f.last;
@@ -122,7 +122,7 @@ explains_later out stream rest x y s t due left on asked same is = by_out out
 
 -- ---- Rounds
 
-module _ (law : FullRepliesStay) (a b : Stand) (p : Onward a b) where
+module _ (law : FullRepliesStay) (a b : Stand) (p : LoopGoesOn a b) where
   -- what is due after more rounds, and what was sent of it
   due_later : (after : SessionPass) (y : List Entry) → IsPrefix b.pass.seen after.seen → a.outbox ++ due_frames after.seen (p.answered ++ y) ≡ p.sent ++ (b.outbox ++ due_frames after.seen y)
   due_later after y goes_on =
@@ -137,7 +137,7 @@ module _ (law : FullRepliesStay) (a b : Stand) (p : Onward a b) where
       subst (λ s. BeginsWithRequests s (entry_requests p.answered) (b.inbox ++ more)) (append_assoc a.inbox p.received more)
       (begins_and_more (a.inbox ++ p.received) more (entry_requests p.answered) b.inbox p.requests)
 
-  pub onward_twice : (c : Stand) → Onward b c → Onward a c
+  pub onward_twice : (c : Stand) → LoopGoesOn b c → LoopGoesOn a c
   onward_twice c q =
       record {
         received = p.received ++ q.received;
@@ -172,7 +172,7 @@ module _ (law : FullRepliesStay) (a b : Stand) (p : Onward a b) where
         exactly = λ reason stop all. q.exactly reason (sym (on_after p.answered q.answered p.on) ∙ stop) (append_cancel_left p.sent q.sent _ (all ∙ due));
       }
 
-pub onward_self : (a : Stand) → Onward a a
+pub onward_self : (a : Stand) → LoopGoesOn a a
 onward_self a =
     record {
       received = [];

@@ -18,15 +18,15 @@ use Rattle.sv_journal.specs.Sessions.{is_end}
 use Rattle.sv_journal.specs.Answer.{Rules, Legal, reply_to}
 use Rattle.sv_journal.specs.Laws.{AreWithinLimits, LegalRelaysNameAccepted, LegalRepliesAreMessages}
 use Rattle.sv_journal.specs.Text.{NamesAccepted, RelaysNameAccepted}
-use Rattle.sv_sequencer.specs.Shared.{IsFullReply, IsWhole}
+use Rattle.sv_sequencer.specs.Shared.{IsFullReply, IsFullInOrder}
 use Rattle.sv_journal.specs.History.{entry_of}
-use Rattle.sv_lock.specs.Histories.{GoesOn}
+use Rattle.sv_lock.specs.Histories.{GoesOnTo}
 use Rattle.sv_lock.specs.Passes.{session_number}
 use Rattle.sv_link.specs.Ends.{Told}
 use Rattle.sv_session.specs.Requests.{requests_read, due_frames, stop_of, stop_after, StopsFor}
-use Rattle.sv_session.specs.Serving.{SessionPass, IsSamePass, BreaksOff, ExplainsOut, ended_by}
+use Rattle.sv_session.specs.Serving.{SessionPass, IsSamePass, LoopBreaksOff, ExplainsOut, ended_by}
 use Rattle.sv_session.specs.Answers.{IsReplyPosted, ReadsOnOrEnds, IsRound}
-use Rattle.sv_session.specs.Rounds.{Stand, stand, BeginsWithRequests, TakesOffRequest, StepsOn, Steps, IsBroken, PostsOn, PostsLast, ReadsOn, ReadsLast, Onward, Halts}
+use Rattle.sv_session.specs.Rounds.{Stand, stand, BeginsWithRequests, TakesOffRequest, StepsOn, Steps, IsBroken, PostsOn, PostsLast, ReadsOn, ReadsLast, LoopGoesOn, Halts}
 use Rattle.sv_session.specs.declared.outcome.SessionOut.{SessionOut}
 use Rattle.sv_session.specs.declared.outcome.SessionOut.TheVariants as outs
 use Rattle.sv_session.proofs.Streams.{begins_with_none, none_yet, none_left}
@@ -47,10 +47,10 @@ last_of : {X : Type 0} (P : X → Type 0) (xs : List X) (x : X) → All P (xs ++
 last_of P xs x all = lasts P xs x (recursion_from_All P (xs ++ x ∷ []) all)
 
 -- the latest entry of a history that went on
-pub latest : (seen : List Entry) (e : Entry) (after : List Entry) → GoesOn seen e after → (h : List Entry) × (reverse after ≡ e ∷ h)
+pub latest : (seen : List Entry) (e : Entry) (after : List Entry) → GoesOnTo seen e after → (h : List Entry) × (reverse after ≡ e ∷ h)
 latest seen e after on = (reverse (seen ++ on.0), ap reverse on.1 ∙ reverse-append (seen ++ on.0) (e ∷ []))
 
-pub goes_on_prefix : (seen : List Entry) (e : Entry) (after : List Entry) → GoesOn seen e after → IsPrefix seen after
+pub goes_on_prefix : (seen : List Entry) (e : Entry) (after : List Entry) → GoesOnTo seen e after → IsPrefix seen after
 goes_on_prefix seen e after on = (on.0 ++ e ∷ [], sym (append_assoc seen on.0 (e ∷ [])) ∙ sym on.1)
 
 whole_of : (reply : Reply) (h : List Entry) (e : Entry) (rest : List Entry) → h ≡ e ∷ rest → IsFullReply reply h → reply ≡ full_reply (accepted h) e.reply
@@ -64,8 +64,8 @@ all_latest P h e rest is all = (recursion_from_All P (e ∷ rest) (subst (All P)
 
 -- a call of the lock steps a request of the session
 pub steps : (before after : SessionPass) (request : Request) (reply : Reply) → LegalRelaysNameAccepted → LegalRepliesAreMessages → AreWithinLimits before.base → is_end request ≡ false →
-    IsSamePass before after → GoesOn before.seen (entry_of (session_number before) request (logged_of reply)) after.seen →
-    after.mine ≡ before.mine ++ entry_of (session_number before) request (logged_of reply) ∷ [] → IsWhole reply after.seen → Legal after.base (reverse after.seen) → Steps before request reply after
+    IsSamePass before after → GoesOnTo before.seen (entry_of (session_number before) request (logged_of reply)) after.seen →
+    after.mine ≡ before.mine ++ entry_of (session_number before) request (logged_of reply) ∷ [] → IsFullInOrder reply after.seen → Legal after.base (reverse after.seen) → Steps before request reply after
 steps before after request reply names messages limits no_end same on mine whole legal =
     let e = entry_of (session_number before) request (logged_of reply) in
     let at = latest before.seen e after.seen on in
@@ -91,8 +91,8 @@ steps before after request reply names messages limits no_end same on mine whole
 
 -- the same, where the call was answered
 pub steps_if : {X : Type 0} (before after : SessionPass) (request : Request) (o : Result Reply X) → LegalRelaysNameAccepted → LegalRepliesAreMessages → AreWithinLimits before.base → is_end request ≡ false →
-    IsSamePass before after → IfOk o (λ r. GoesOn before.seen (entry_of (session_number before) request (logged_of r)) after.seen) →
-    IfOk o (λ r. after.mine ≡ before.mine ++ entry_of (session_number before) request (logged_of r) ∷ []) → IfOk o (λ r. IsWhole r after.seen) → Legal after.base (reverse after.seen) →
+    IsSamePass before after → IfOk o (λ r. GoesOnTo before.seen (entry_of (session_number before) request (logged_of r)) after.seen) →
+    IfOk o (λ r. after.mine ≡ before.mine ++ entry_of (session_number before) request (logged_of r) ∷ []) → IfOk o (λ r. IsFullInOrder r after.seen) → Legal after.base (reverse after.seen) →
     IfOk o (λ r. Steps before request r after)
 steps_if before after request (Ok reply) names messages limits no_end same on mine whole legal = steps before after request reply names messages limits no_end same on mine whole legal
 steps_if before after request (Err e) names messages limits no_end same on mine whole legal = tt
@@ -120,7 +120,7 @@ module _ (a : Stand) (q : Request) (reply : Reply) (inbox : List ℕ) (told : To
       none_is_some (Some out) e there = cc
 
   pub on_answered : (outbox : List ℕ) → stop_of (logged_of reply) ≡ None → PostsOn a.told (a.outbox ++ frame (reply_bytes reply)) told outbox →
-      Onward a (record { told = told; pass = pass; inbox = inbox; outbox = outbox })
+      LoopGoesOn a (record { told = told; pass = pass; inbox = inbox; outbox = outbox })
   on_answered outbox none posts =
       record {
         received = [];
@@ -144,7 +144,7 @@ module _ (a : Stand) (q : Request) (reply : Reply) (inbox : List ℕ) (told : To
     leave = λ left. s.asks ∙ s.leave (ap stop_of s.told ∙ (is ∙ ap Some left));
   }
 
-  breaks : BreaksOff (s.entry ∷ [])
+  breaks : LoopBreaksOff (s.entry ∷ [])
   breaks = record { before = []; last = s.entry ∷ []; are = refl; few = omega arith; on = refl }
 
   ended_same : (out : SessionOut) → (stop_of (logged_of reply) ≡ Some out) ⊎ IsBroken out → (b : Bool) → ended_by out b ≡ b
@@ -217,7 +217,7 @@ module _ (a : Stand) where
   due_none : a.outbox ++ due_frames a.pass.seen [] ≡ a.outbox
   due_none = ap (λ l. a.outbox ++ l) (frames_of_none a.pass.seen) ∙ append-nil a.outbox
 
-  pub on_read : (told : Told) (inbox : List ℕ) → ReadsOn a.told a.outbox a.inbox told inbox → Onward a (record { told = told; pass = a.pass; inbox = inbox; outbox = [] })
+  pub on_read : (told : Told) (inbox : List ℕ) → ReadsOn a.told a.outbox a.inbox told inbox → LoopGoesOn a (record { told = told; pass = a.pass; inbox = inbox; outbox = [] })
   on_read told inbox reads = record {
     received = reads.bytes;
     sent = a.outbox;
@@ -244,7 +244,7 @@ module _ (a : Stand) where
     exactly = λ reason stop all. absurd (none_stop reason stop);
   }
     where
-      breaks_none : BreaksOff []
+      breaks_none : LoopBreaksOff []
       breaks_none = record { before = []; last = []; are = refl; few = omega arith; on = refl }
 
       cause : ((out ≡ outs.Closed) × (reads.sent ≡ a.outbox)) ⊎ IsBroken out → ExplainsOut out (a.inbox ++ []) [] reads.sent (a.outbox ++ due_frames a.pass.seen [])
@@ -262,5 +262,5 @@ round_posted (Some out) a q reply inbox told pass outbox takes s posts = halts_a
 
 pub round_read : (result : Option SessionOut) (a : Stand) (told : Told) (inbox outbox : List ℕ) → first_frame a.inbox ≡ None → too_long a.inbox ≡ None → ReadsOnOrEnds result a.told a.outbox a.inbox told inbox outbox →
     IsRound result a (stand told a.pass inbox outbox)
-round_read None a told inbox outbox no_frame no_length reads = subst (λ l. Onward a (stand told a.pass inbox l)) (sym reads.1) (on_read a told inbox reads.0)
+round_read None a told inbox outbox no_frame no_length reads = subst (λ l. LoopGoesOn a (stand told a.pass inbox l)) (sym reads.1) (on_read a told inbox reads.0)
 round_read (Some out) a told inbox outbox no_frame no_length reads = halts_read a out told no_frame no_length reads

@@ -3,16 +3,16 @@ use Rattle.std.specs.Prelude.{◌≡◌, ℕ, ◌<◌, List, [], length, Option,
 use Rattle.sv_frame.specs.Frames.{first_frame, too_long, greatest_frame}
 use Rattle.sv_link.specs.Ends.{Told}
 use Rattle.sv_session.specs.Serving.{SessionCause}
-use Rattle.sv_session.specs.Rounds.{Stand, TakesOffRequest, PostsOn, PostsLast, ReadsOn, ReadsLast, Onward, Halts}
+use Rattle.sv_session.specs.Rounds.{Stand, TakesOffRequest, PostsOn, PostsLast, ReadsOn, ReadsLast, LoopGoesOn, Halts}
 use Rattle.sv_session.specs.declared.outcome.SessionOut.{SessionOut}
 use Rattle.sv_session.specs.declared.taking.Taken.{Taken}
 use Rattle.sv_session.specs.declared.taking.Taken.TheVariants as taken
 
 -- a request was taken off; or less than a frame waits; or there was no memory. The last two take nothing off
-abbrev pub IsTaken : Taken → List ℕ → List ℕ → Type 0
-IsTaken (taken.Request request) old new = TakesOffRequest old request new
-IsTaken taken.NotYet old new = (new ≡ old) × (first_frame old ≡ None) × (too_long old ≡ None) × (length old < greatest_frame)
-IsTaken taken.Memory old new = new ≡ old
+abbrev pub IsTakenOff : Taken → List ℕ → List ℕ → Type 0
+IsTakenOff (taken.Request request) old new = TakesOffRequest old request new
+IsTakenOff taken.NotYet old new = (new ≡ old) × (first_frame old ≡ None) × (too_long old ≡ None) × (length old < greatest_frame)
+IsTakenOff taken.Memory old new = new ≡ old
 
 -- a reply was put behind what is due, and the loop goes on; or it ends
 abbrev pub IsReplyPosted : Option SessionOut → Option SessionOut → Told → List ℕ → Told → List ℕ → Type 0
@@ -26,7 +26,7 @@ ReadsOnOrEnds (Some out) old due inbox new after left = ReadsLast old due out ne
 
 -- the loop goes on, or it ends
 abbrev pub IsRound : Option SessionOut → Stand → Stand → Type 0
-IsRound None a b = Onward a b
+IsRound None a b = LoopGoesOn a b
 IsRound (Some out) a b = Halts a out b.told b.pass
 
 -- the end's count of faults, where the loop goes on and where it ends

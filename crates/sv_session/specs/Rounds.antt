@@ -101,7 +101,7 @@ pub record ReadsLast (old : Told) (due : List ℕ) (out : SessionOut) (new : Tol
 -- ---- Rounds
 
 -- The loop goes on from where it stood to where it stands.
-pub record Onward (a b : Stand) : Type 0 where
+pub record LoopGoesOn (a b : Stand) : Type 0 where
   pub received : List ℕ
   pub sent : List ℕ
   pub answered : List Entry

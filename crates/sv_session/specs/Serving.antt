@@ -39,7 +39,7 @@ pub record IsSamePass (before after : SessionPass) : Type 0 where
   pub ended : after.ended ≡ before.ended
 
 -- The loop went on after each of these entries, but maybe for the last.
-pub record BreaksOff (entries : List Entry) : Type 0 where
+pub record LoopBreaksOff (entries : List Entry) : Type 0 where
   pub before : List Entry
   pub last : List Entry
   pub are : entries ≡ before ++ last
@@ -55,8 +55,8 @@ pub record TookAll (stream : List ℕ) (answered : List Entry) : Type 0 where
 -- What an outcome says of the bytes that came, the requests that were answered, what was sent, and what was due.
 abbrev pub ExplainsOut : SessionOut → List ℕ → List Entry → List ℕ → List ℕ → Type 0
 ExplainsOut outs.Closed stream answered sent due = TookAll stream answered × (sent ≡ due)
-ExplainsOut outs.LinkFault stream answered sent due = BreaksOff answered
-ExplainsOut outs.Memory stream answered sent due = BreaksOff answered
+ExplainsOut outs.LinkFault stream answered sent due = LoopBreaksOff answered
+ExplainsOut outs.Memory stream answered sent due = LoopBreaksOff answered
 ExplainsOut reason stream answered sent due = StopsFor reason answered × (sent ≡ due)
 
 -- The end's answer Ended is the last that is read.

@@ -1,6 +1,6 @@
 //! Taking requests off what came.
 ghost use Rattle.std.specs.Prelude.{◌≡◌};
-ghost use Rattle.sv_session.specs.Answers.{IsTaken};
+ghost use Rattle.sv_session.specs.Answers.{IsTakenOff};
 
 use std::alloc::Global;
 use sv_exchange::{Inbox, Incoming};
@@ -21,7 +21,7 @@ pub(crate) enum Taken {
 
 /// Takes the next request. A frame that is taken for `Bad` stays where it is, since nothing is read after it.
 pub(crate) fn take_request(alloc: Global, inbox: &mut Inbox) -> Taken
-    ensures { IsTaken result inbox.old inbox.new }
+    ensures { IsTakenOff result inbox.old inbox.new }
 {
     match inbox.next(alloc) {
         Incoming::Whole(request) => Taken::Request(request),

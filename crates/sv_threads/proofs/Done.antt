@@ -19,11 +19,11 @@ use Rattle.law_traffic.specs.Runs.{IsGoodRun, IsRun, TrafficIsRecorded, RunsLeav
 use Rattle.sv_threads.specs.declared.tasks.Serviced.{Serviced}
 use Rattle.sv_threads.specs.declared.tasks.Task.{Task}
 use Rattle.sv_threads.specs.declared.tasks.TaskOut.{TaskOut}
-use Rattle.sv_threads.specs.declared.gathering.Left.{Left}
+use Rattle.sv_threads.specs.declared.gathering.RunRemains.{RunRemains}
 use Rattle.sv_threads.specs.Places.{EachClient}
 use Rattle.sv_threads.specs.Tasks.{services_of, parts_of, serviced_of, played_of, KeepsTask}
 use Rattle.sv_threads.specs.Given.{Setting, keeper_after, IsPart, IsService}
-use Rattle.sv_threads.specs.Left.{own_of, ends_of, is_memory, is_unplayed, transcripts_of, EndsAgree, HasRoom, HasFewSessions, Gathered, JoinedPasses, IsOfLock, IsServiced, HasPlayed}
+use Rattle.sv_threads.specs.RunRemains.{own_of, ends_of, is_memory, is_unplayed, transcripts_of, EndsAgree, RemainsHaveRoom, HasFewSessions, Gathered, JoinedPasses, IsOfLock, IsServiced, HasPlayed}
 use Rattle.sv_threads.specs.Settling.{ArePair, AreCalm, IsSince}
 use Rattle.sv_threads.specs.Playing.{IsThreadedRun, TookAllIn}
 use Rattle.sv_threads.proofs.Places.{clients_count}
@@ -57,12 +57,12 @@ module _ {E G W : Type 0} (told : E → Told) (faults : E → ℕ) (calm : E →
   pub numbers : AllByRecursion HasFewSessions ps
   numbers = all_few told faults calm run ps played
 
-  pub room : (left : Left E) → HasRoom (session_count run.scenario) (session_count run.scenario) (length run.scenario.clients) left →
-      HasRoom (length ys) (length (flat_map ends_of ps)) (length ps) left
+  pub room : (left : RunRemains E) → RemainsHaveRoom (session_count run.scenario) (session_count run.scenario) (length run.scenario.clients) left →
+      RemainsHaveRoom (length ys) (length (flat_map ends_of ps)) (length ps) left
   room left r =
-      subst (λ n. HasRoom n (length (flat_map ends_of ps)) (length ps) left) (sym all_served)
-      (subst (λ n. HasRoom (session_count run.scenario) n (length ps) left) (sym (ends_are_all told faults calm run ps played))
-      (subst (λ n. HasRoom (session_count run.scenario) (session_count run.scenario) n left)
+      subst (λ n. RemainsHaveRoom n (length (flat_map ends_of ps)) (length ps) left) (sym all_served)
+      (subst (λ n. RemainsHaveRoom (session_count run.scenario) n (length ps) left) (sym (ends_are_all told faults calm run ps played))
+      (subst (λ n. RemainsHaveRoom (session_count run.scenario) (session_count run.scenario) n left)
       (sym (clients_count (HasPlayed told faults calm run) 0 0 run.scenario.clients ps played)) r))
 
   pub jobs : length ts ≡ session_count run.scenario + length run.scenario.clients
@@ -71,7 +71,7 @@ module _ {E G W : Type 0} (told : E → Told) (faults : E → ℕ) (calm : E →
       ∙ (ap (λ n. n + length (parts_of ts)) count
       ∙ ap (λ n. session_count run.scenario + n) (clients_count (IsPart told faults calm telling_of run) 0 0 run.scenario.clients (parts_of ts) parts))
 
-  module _ (left : Left E) (k : SessionPass) (gathered : Gathered os left) (joined : JoinedPasses ys (keeper_after (session_count run.scenario) run.lock run.scenario) k) where
+  module _ (left : RunRemains E) (k : SessionPass) (gathered : Gathered os left) (joined : JoinedPasses ys (keeper_after (session_count run.scenario) run.lock run.scenario) k) where
     pub are_pairs : (made : ℕ) → made ≡ run.pairs + session_count run.scenario → AllZip (ArePair told made) left.servers.items left.clients.items
     are_pairs made is =
         subst (λ servers. AllZip (ArePair told made) servers left.clients.items) (sym gathered.servers)

@@ -14,7 +14,7 @@ use Rattle.law_system.specs.Places.{EachPlace}
 use Rattle.law_traffic.specs.Runs.{IsGoodRun}
 use Rattle.sv_threads.specs.declared.tasks.Serviced.{Serviced}
 use Rattle.sv_threads.specs.Given.{Setting, keeper_after}
-use Rattle.sv_threads.specs.Left.{own_of, KeeperKnows, JoinedPasses, IsServiced}
+use Rattle.sv_threads.specs.RunRemains.{own_of, KeeperKnows, JoinedPasses, IsServiced}
 use Rattle.sv_threads.specs.Playing.{TookAllIn}
 use Rattle.sv_threads.proofs.Whole.{numbers_are, in_range, number_of}
 

@@ -30,7 +30,7 @@ use Rattle.law_system.proofs.Places.{each_all, at_place, unmap_at}
 use Rattle.sv_threads.specs.Places.{EachClient}
 use Rattle.sv_threads.specs.Tasks.{services_of, parts_of, serviced_of, played_of, TookPart, WasServed, KeepsTask}
 use Rattle.sv_threads.specs.Given.{Setting, IsPart, IsService, pass_of}
-use Rattle.sv_threads.specs.Left.{ends_from, ends_of, HasFewSessions, IsOfLock, IsServiced, HasPlayed}
+use Rattle.sv_threads.specs.RunRemains.{ends_from, ends_of, HasFewSessions, IsOfLock, IsServiced, HasPlayed}
 use Rattle.sv_threads.specs.Settling.{ArePair, AreCalm, IsSince}
 use Rattle.sv_threads.proofs.Places.{each_zip, each_client_zip, each_client_all, each_client_map, zip_from, flat_length, flat_each}
 

@@ -17,9 +17,9 @@ use Rattle.sv_threads.specs.declared.tasks.Serviced.{Serviced}
 use Rattle.sv_threads.specs.declared.tasks.TaskOut.{TaskOut}
 use Rattle.sv_threads.specs.declared.tasks.TaskOut.TheVariants as outs
 use Rattle.sv_threads.specs.declared.gathering.ClientEnd.{ClientEnd}
-use Rattle.sv_threads.specs.declared.gathering.Left.{Left}
+use Rattle.sv_threads.specs.declared.gathering.RunRemains.{RunRemains}
 use Rattle.sv_threads.specs.Tasks.{serviced_of, played_of}
-use Rattle.sv_threads.specs.Left.{own_of, ends_of, is_memory, is_unplayed, is_lacking, Gathered, KeeperKnows, JoinedPasses}
+use Rattle.sv_threads.specs.RunRemains.{own_of, ends_of, is_memory, is_unplayed, is_lacking, Gathered, KeeperKnows, JoinedPasses}
 
 module _ {E : Type 0} where
   served_more : (os : List (TaskOut E)) (y : Serviced E) → serviced_of (os ++ outs.Served y ∷ []) ≡ serviced_of os ++ y ∷ []
@@ -42,13 +42,13 @@ module _ {E : Type 0} where
   played_more (outs.Served x ∷ os) y = played_more os y
   played_more (outs.Played x ∷ os) y = ap (λ (l : List (PlayerOut E)). x ∷ l) (played_more os y)
 
-  lacking_more : (os : List (TaskOut E)) (o : TaskOut E) (a b : Left E) → a.lacked ≡ list_any is_lacking os → b.lacked ≡ (a.lacked || is_lacking o) → b.lacked ≡ list_any is_lacking (os ++ o ∷ [])
+  lacking_more : (os : List (TaskOut E)) (o : TaskOut E) (a b : RunRemains E) → a.lacked ≡ list_any is_lacking os → b.lacked ≡ (a.lacked || is_lacking o) → b.lacked ≡ list_any is_lacking (os ++ o ∷ [])
   lacking_more os o a b was now =
       now
       ∙ (ap (λ l. l || is_lacking o) was
       ∙ sym (list_any-append is_lacking os (o ∷ []) ∙ ap (λ l. list_any is_lacking os || l) (or-false (is_lacking o))))
 
-  pub gathered_server : (os : List (TaskOut E)) (y : Serviced E) (a b : Left E) → Gathered os a → b.servers.items ≡ a.servers.items ++ y.end ∷ [] → b.lacked ≡ (a.lacked || is_memory y.out) →
+  pub gathered_server : (os : List (TaskOut E)) (y : Serviced E) (a b : RunRemains E) → Gathered os a → b.servers.items ≡ a.servers.items ++ y.end ∷ [] → b.lacked ≡ (a.lacked || is_memory y.out) →
       b.clients.items ≡ a.clients.items → b.traces.items ≡ a.traces.items → b.lines.items ≡ a.lines.items → Gathered (os ++ outs.Served y ∷ []) b
   gathered_server os y a b g servers lacked clients traces lines =
       record {
@@ -61,7 +61,7 @@ module _ {E : Type 0} where
         lacked = lacking_more os (outs.Served y) a b g.lacked lacked;
       }
 
-  pub gathered_client : (os : List (TaskOut E)) (y : PlayerOut E) (a b : Left E) → Gathered os a → b.clients.items ≡ a.clients.items ++ ends_of y → b.traces.items ≡ a.traces.items ++ y.trace ∷ [] →
+  pub gathered_client : (os : List (TaskOut E)) (y : PlayerOut E) (a b : RunRemains E) → Gathered os a → b.clients.items ≡ a.clients.items ++ ends_of y → b.traces.items ≡ a.traces.items ++ y.trace ∷ [] →
       b.lines.items ≡ a.lines.items ++ y.lines ∷ [] → b.lacked ≡ (a.lacked || is_unplayed y.cause) → b.servers.items ≡ a.servers.items → Gathered (os ++ outs.Played y ∷ []) b
   gathered_client os y a b g clients traces lines lacked servers =
       record {

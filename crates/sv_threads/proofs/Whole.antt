@@ -36,7 +36,7 @@ use Rattle.sv_threads.specs.declared.tasks.Serviced.{Serviced}
 use Rattle.sv_threads.specs.declared.gathering.ClientEnd.{ClientEnd}
 use Rattle.sv_threads.specs.Places.{EachClient}
 use Rattle.sv_threads.specs.Given.{Setting, pass_of}
-use Rattle.sv_threads.specs.Left.{own_of, is_memory, is_unplayed, ends_of, over_of, overs_of, transcripts_of, EndsAgree, IsServiced, HasPlayed}
+use Rattle.sv_threads.specs.RunRemains.{own_of, is_memory, is_unplayed, ends_of, over_of, overs_of, transcripts_of, EndsAgree, IsServiced, HasPlayed}
 use Rattle.sv_threads.proofs.Places.{zip_at, each_client_map, each_client_both, each_client_with, each_client_all, each_client_trace, flat_place}
 use Rattle.sv_threads.proofs.Leaving.{end_at, own_count}
 

@@ -3,7 +3,7 @@ pub mod Telling
 pub mod Places
 pub mod Tasks
 pub mod Given
-pub mod Left
+pub mod RunRemains
 pub mod Pairs
 pub mod Settling
 pub mod Opening

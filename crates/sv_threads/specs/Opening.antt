@@ -16,7 +16,7 @@ use Rattle.sv_threads.specs.declared.outcome.PlayFault.{PlayFault}
 use Rattle.sv_threads.specs.declared.outcome.PlayFault.TheVariants as faults
 use Rattle.sv_threads.specs.declared.gathering.ClientEnd.{ClientEnd}
 use Rattle.sv_threads.specs.declared.opening.Entrant.{Entrant}
-use Rattle.sv_threads.specs.declared.opening.Room.{Room}
+use Rattle.sv_threads.specs.declared.opening.OpeningRoom.{OpeningRoom}
 use Rattle.sv_threads.specs.declared.tasks.Service.{Service}
 use Rattle.sv_threads.specs.Given.{IsNewEnd}
 use Rattle.sv_threads.specs.Pairs.{Pairing}
@@ -49,7 +49,7 @@ EachEntrant shape k (plan ∷ plans) (x ∷ xs) = IsEntrant shape k plan x × Ea
 EachEntrant shape k _ _ = ⊥
 
 -- There is room for all that these sessions and clients need.
-pub record IsRoomFor {E G W : Type 0} (sessions clients : ℕ) (room : Room E G W) : Type 0 where
+pub record IsRoomFor {E G W : Type 0} (sessions clients : ℕ) (room : OpeningRoom E G W) : Type 0 where
   pub services : (room.services.items ≡ []) × (sessions ≤ vec_capacity room.services)
   pub ends : (room.ends.items ≡ []) × (sessions ≤ vec_capacity room.ends)
   pub parts : (room.parts.items ≡ []) × (clients ≤ vec_capacity room.parts)

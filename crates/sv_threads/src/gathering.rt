@@ -9,7 +9,7 @@ ghost use Rattle.sv_player.specs.Stops.{is_cut};
 ghost use Rattle.sv_threads.specs.Given.{ends_given};
 ghost use Rattle.sv_threads.specs.Opening.{server_end, uncut};
 ghost use Rattle.sv_threads.specs.Tasks.{services_of, parts_of, serviced_of, played_of};
-ghost use Rattle.sv_threads.specs.Left.{ends_from, ends_of, is_memory, is_unplayed, HasRoom, HasFewSessions, Gathered, JoinedPasses, IsOfLock};
+ghost use Rattle.sv_threads.specs.RunRemains.{ends_from, ends_of, is_memory, is_unplayed, RemainsHaveRoom, HasFewSessions, Gathered, JoinedPasses, IsOfLock};
 
 use crate::tasks::{Part, Service, Serviced, Task, TaskOut};
 use std::alloc::{AllocError, Global};
@@ -30,7 +30,7 @@ pub(crate) struct ClientEnd<E> {
 
 /// The ends of all sessions, in the order of their numbers, and what each client did. `lacked` says whether a task had no memory.
 #[derive(Drop)]
-pub(crate) struct Left<E> {
+pub(crate) struct RunRemains<E> {
     pub(crate) servers: Vec<E>,
     pub(crate) clients: Vec<ClientEnd<E>>,
     pub(crate) traces: Vec<Trace>,
@@ -71,13 +71,17 @@ fn was_cut(trace: &Trace, session: u16) -> bool
     cut
 }
 
-impl<E: Drop> Left<E> {
+impl<E: Drop> RunRemains<E> {
     /// Nothing, with room for so many sessions and clients.
-    pub(crate) fn new(alloc: Global, sessions: u16, clients: usize) -> Result<Left<E>, AllocError>
-        ensures room { IfOk result (HasRoom sessions sessions clients) }
+    pub(crate) fn new(
+        alloc: Global,
+        sessions: u16,
+        clients: usize,
+    ) -> Result<RunRemains<E>, AllocError>
+        ensures room { IfOk result (RemainsHaveRoom sessions sessions clients) }
         ensures empty { IfOk result (Gathered []) }
     {
-        Ok(Left {
+        Ok(RunRemains {
             servers: Vec::with_capacity(alloc, sessions as usize)?,
             clients: Vec::with_capacity(alloc, sessions as usize)?,
             traces: Vec::with_capacity(alloc, clients)?,
@@ -178,13 +182,13 @@ pub(crate) fn gather<E: End>(
     lock: &SeqLock<Sequencer>,
     keeper: &mut Pass<Sequencer>,
     outs: Vec<TaskOut<E>>,
-    left: &mut Left<E>,
+    left: &mut RunRemains<E>,
 )
     requires keeper { (keeper.old.lock ≡ lock.now.id) × (keeper.old.session ≡ None) }
     requires passes { AllByRecursion (IsOfLock lock.now) (serviced_of outs.items) }
     requires numbers { AllByRecursion HasFewSessions (played_of outs.items) }
     requires empty { Gathered [] left.old }
-    requires room { HasRoom (length (serviced_of outs.items)) (length (flat_map ends_of (played_of outs.items))) (length (played_of outs.items)) left.old }
+    requires room { RemainsHaveRoom (length (serviced_of outs.items)) (length (flat_map ends_of (played_of outs.items))) (length (played_of outs.items)) left.old }
     ensures gathered { Gathered outs.items left.new }
     ensures joined { JoinedPasses (serviced_of outs.items) keeper.old keeper.new }
 {
@@ -200,7 +204,7 @@ pub(crate) fn gather<E: End>(
 }
 
 /// Takes the ends of tasks back that were not done. It takes no memory.
-pub(crate) fn take_back<E: Drop, G, W>(tasks: Vec<Task<'_, E, G, W>>, left: &mut Left<E>)
+pub(crate) fn take_back<E: Drop, G, W>(tasks: Vec<Task<'_, E, G, W>>, left: &mut RunRemains<E>)
     requires servers { vec_len left.old.servers + length (services_of tasks.items) ≤ vec_capacity left.old.servers }
     requires clients { vec_len left.old.clients + length (flat_map ends_given (parts_of tasks.items)) ≤ vec_capacity left.old.clients }
     ensures servers { left.new.servers.items ≡ left.old.servers.items ++ map server_end (services_of tasks.entry.items) }

@@ -11,11 +11,11 @@ ghost use Rattle.law_system.specs.Places.{EachPlace};
 ghost use Rattle.sv_threads.specs.Places.{EachClient};
 ghost use Rattle.sv_threads.specs.Tasks.{services_of, parts_of};
 ghost use Rattle.sv_threads.specs.Given.{keeper_after, pass_of, setting, ends_given, IsNewEnd, IsEndOf, IsPartOf, IsPart, IsService};
-ghost use Rattle.sv_threads.specs.Left.{HasRoom};
+ghost use Rattle.sv_threads.specs.RunRemains.{RemainsHaveRoom};
 ghost use Rattle.sv_threads.specs.Opening.{OpeningCause, IsEntrant, EachEntrant, IsRoomFor, HoldsUnused};
 ghost use Rattle.sv_threads.specs.Pairs.{pairing};
 
-use crate::gathering::Left;
+use crate::gathering::RunRemains;
 use crate::outcome::PlayFault;
 use crate::tasks::{Part, Service, Task, Teller};
 use std::alloc::{AllocError, Global};
@@ -29,7 +29,7 @@ use sv_world::{ClientId, copy_objects};
 
 /// What the threads of a run share.
 #[derive(Drop)]
-pub(crate) struct Hall<'a, G, W> {
+pub(crate) struct RunShared<'a, G, W> {
     pub(crate) alloc: Global,
     pub(crate) scenario: &'a Scenario,
     pub(crate) lock: &'a SeqLock<Sequencer>,
@@ -46,21 +46,25 @@ pub(crate) struct Entrant<E> {
 
 /// Room for what is opened.
 #[derive(Drop)]
-pub(crate) struct Room<'a, E, G, W> {
+pub(crate) struct OpeningRoom<'a, E, G, W> {
     services: Vec<Service<'a, E, G>>,
     ends: Vec<E>,
     parts: Vec<Part<'a, E, W>>,
     tasks: Vec<Task<'a, E, G, W>>,
 }
 
-impl<'a, E: Drop, G, W> Room<'a, E, G, W> {
+impl<'a, E: Drop, G, W> OpeningRoom<'a, E, G, W> {
     /// Room for so many sessions and clients.
-    fn new(alloc: Global, sessions: u16, clients: usize) -> Result<Room<'a, E, G, W>, AllocError>
+    fn new(
+        alloc: Global,
+        sessions: u16,
+        clients: usize,
+    ) -> Result<OpeningRoom<'a, E, G, W>, AllocError>
         requires { clients ≤ most_clients }
         ensures { IfOk result (IsRoomFor sessions clients) }
     {
         let sessions = sessions as usize;
-        Ok(Room {
+        Ok(OpeningRoom {
             services: Vec::with_capacity(alloc, sessions)?,
             ends: Vec::with_capacity(alloc, sessions)?,
             parts: Vec::with_capacity(alloc, clients)?,
@@ -69,7 +73,7 @@ impl<'a, E: Drop, G, W> Room<'a, E, G, W> {
     }
 }
 
-impl<'a, G, W: Teller> Hall<'a, G, W> {
+impl<'a, G, W: Teller> RunShared<'a, G, W> {
     /// A client, before it has any end.
     fn make_entrant<E: Drop>(&self, number: u16, plan: &Plan) -> Result<Entrant<E>, AllocError>
         requires number { number < most_clients }
@@ -225,7 +229,7 @@ impl<'a, G, W: Teller> Hall<'a, G, W> {
         &self,
         net: &mut N,
         keeper: &mut Pass<Sequencer>,
-        left: &mut Left<N::E>,
+        left: &mut RunRemains<N::E>,
     ) -> Result<Vec<Task<'a, N::E, G, W>>, PlayFault>
         requires good { IsGoodScenario self.now.scenario.now }
         requires teller { (W.telling self.now.teller.now).shape ≡ self.now.scenario.now.world.shape }
@@ -246,12 +250,12 @@ impl<'a, G, W: Teller> Hall<'a, G, W> {
         ensures calm { N.calm net.old → (result ≢ Err PlayFault.Link) × N.calm net.new }
     {
         let entrants = self.make_entrants()?;
-        let Room {
+        let OpeningRoom {
             mut services,
             mut ends,
             parts,
             tasks,
-        } = Room::new(
+        } = OpeningRoom::new(
             self.alloc,
             sessions_of(self.scenario),
             self.scenario.clients.len(),

@@ -8,8 +8,8 @@ ghost use Rattle.sv_threads.specs.Given.{keeper_after};
 ghost use Rattle.sv_threads.specs.Pairs.{pairing, LeavesPairs, SomeDiffered};
 ghost use Rattle.sv_threads.specs.Playing.{IsThreadedRun, TookAllIn, PlayCause, RunsOnce};
 
-use crate::gathering::{Left, gather, take_back};
-use crate::opening::Hall;
+use crate::gathering::{RunRemains, gather, take_back};
+use crate::opening::RunShared;
 use crate::outcome::{PlayFault, PlayedAll};
 use crate::settling::{settle_after, settle_all};
 use crate::tasks::{Silence, Teller};
@@ -58,7 +58,7 @@ pub fn play_all<N: Net, C: Crew, G: Gate + Sync, R: Threads + Wait + Sync>(
     ensures certain { N.calm net.old → result ≡ Err PlayFault.Link → SomeDiffered (pairing (N.settled net.old) (N.unmatched net.old) (N.made net.old) (N.owed net.old)) (pairing (N.settled net.new) (N.unmatched net.new) (N.made net.new) (N.owed net.new)) }
 {
     match watch {
-        Some(watch) => Hall {
+        Some(watch) => RunShared {
             alloc,
             scenario,
             lock,
@@ -66,7 +66,7 @@ pub fn play_all<N: Net, C: Crew, G: Gate + Sync, R: Threads + Wait + Sync>(
             teller: watch,
         }
         .play(rt, keeper, net, crew),
-        None => Hall {
+        None => RunShared {
             alloc,
             scenario,
             lock,
@@ -79,7 +79,7 @@ pub fn play_all<N: Net, C: Crew, G: Gate + Sync, R: Threads + Wait + Sync>(
     }
 }
 
-impl<'a, G: Gate + Sync, W: Teller + Sync> Hall<'a, G, W> {
+impl<'a, G: Gate + Sync, W: Teller + Sync> RunShared<'a, G, W> {
     /// The run, with whatever tells the changes.
     fn play<N: Net, C: Crew, R: Threads + Wait + Sync>(
         &self,
@@ -105,7 +105,7 @@ impl<'a, G: Gate + Sync, W: Teller + Sync> Hall<'a, G, W> {
     {
         read_scenario_numbers(self.scenario);
         threaded_runs_leave_records();
-        let mut left = Left::new(
+        let mut left = RunRemains::new(
             self.alloc,
             sessions_of(self.scenario),
             self.scenario.clients.len(),
@@ -123,7 +123,7 @@ impl<'a, G: Gate + Sync, W: Teller + Sync> Hall<'a, G, W> {
             }
         };
         gather(self.lock, keeper, outs, &mut left);
-        let Left {
+        let RunRemains {
             servers,
             clients,
             traces,

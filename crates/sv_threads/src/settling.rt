@@ -1,12 +1,12 @@
 //! Settling all pairs of a run.
 ghost use Rattle.std.specs.Prelude.{◌≡◌, ◌≤◌, true, false, length, ◌++◌};
 ghost use Rattle.std.specs.List.{AllZip};
-ghost use Rattle.sv_threads.specs.Left.{transcripts_of, EndsAgree};
+ghost use Rattle.sv_threads.specs.RunRemains.{transcripts_of, EndsAgree};
 ghost use Rattle.sv_threads.specs.Opening.{SettledAfter};
 ghost use Rattle.sv_threads.specs.Pairs.{pairing};
 ghost use Rattle.sv_threads.specs.Settling.{SettledCause, SettledEach, ArePair, AreCalm, AnyZip, Differ};
 
-use crate::gathering::{ClientEnd, Left};
+use crate::gathering::{ClientEnd, RunRemains};
 use crate::outcome::PlayFault;
 use sv_link::{Net, Settle};
 
@@ -41,14 +41,18 @@ pub(crate) fn settle_all<N: Net>(
 }
 
 /// Settles the pairs of a run that could not go on, and gives the fault that it ends with.
-pub(crate) fn settle_after<N: Net>(net: &mut N, left: Left<N::E>, fault: PlayFault) -> PlayFault
+pub(crate) fn settle_after<N: Net>(
+    net: &mut N,
+    left: RunRemains<N::E>,
+    fault: PlayFault,
+) -> PlayFault
     requires pairs { AllZip (ArePair N.E.told (N.made net.old)) left.servers.items left.clients.items }
     requires owed { length left.servers.items ≤ N.owed net.old }
     ensures settled { SettledAfter N.E.told N.E.calm (N.calm net.old) left.servers.items left.clients.items (N.faults net.old) (N.faults net.new)
         (pairing (N.settled net.old) (N.unmatched net.old) (N.made net.old) (N.owed net.old)) (pairing (N.settled net.new) (N.unmatched net.new) (N.made net.new) (N.owed net.new)) fault result }
     ensures calm { N.calm net.old → N.calm net.new }
 {
-    let Left {
+    let RunRemains {
         servers,
         clients,
         ..

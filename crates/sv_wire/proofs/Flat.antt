@@ -20,8 +20,8 @@ use Rattle.sv_world.specs.Spelled.{expr_spelled, cond_spelled, stmt_spelled, run
 use Rattle.sv_world.proofs.Spells.{body_is, body_view}
 use Rattle.sv_world.proofs.Layers.{lit_spelled, attr_spelled, binary_spelled, compare_spelled, join_spelled, not_spelled, set_spelled, if_spelled}
 use Rattle.sv_wire.specs.declared.fault.Stop.{Stop}
-use Rattle.sv_wire.specs.declared.fault.ReadFault.{ReadFault}
-use Rattle.sv_wire.specs.declared.fault.ReadFault.TheVariants as faults
+use Rattle.sv_wire.specs.declared.fault.DecodeFault.{DecodeFault}
+use Rattle.sv_wire.specs.declared.fault.DecodeFault.TheVariants as faults
 use Rattle.sv_wire.specs.Steps.{Read, Turn, ◌>>=◌, Fails, in_turn}
 use Rattle.sv_wire.specs.Fields.{byte_from, int_from}
 use Rattle.sv_wire.specs.Nodes.{node_from, expr_kind_of, cond_kind_of, stmt_kind_of}
@@ -70,7 +70,7 @@ appended_longer spell old (Ok x) out nodes rest h = longer old (spell x.0) out x
 appended_longer spell old (Err e) out nodes rest h = absurd cc
 
 -- what is said of a reader's first fault, with nothing appended
-pub appended_fails : {A : Type 0} (spell : A → List Node) (old : List Node) (e : ReadFault) (read : Turn A) → Fails e read → Fails e (appended spell old read)
+pub appended_fails : {A : Type 0} (spell : A → List Node) (old : List Node) (e : DecodeFault) (read : Turn A) → Fails e read → Fails e (appended spell old read)
 appended_fails spell old faults.Memory read h = tt
 appended_fails spell old (faults.Stop s) read h = rw h refl
 
@@ -201,7 +201,7 @@ module _ (stmts : Reader Stmt) (old : List Node) (count i from : ℕ) (bytes : L
   pub run_goes_on : (out : List Node) (next : ℕ) (after : List ℕ) → i < count → appended stmt_spelled old (stmts from bytes) ≡ Ok (out, next, after) → appended run_spelled out (in_turn stmts (count - (i + 1)) next after) ≡ total
   run_goes_on out next after lt h = sym (turn_is lt ∙ rw h refl)
 
-  pub run_ends : (e : ReadFault) → i < count → Fails e (appended stmt_spelled old (stmts from bytes)) → Fails e total
+  pub run_ends : (e : DecodeFault) → i < count → Fails e (appended stmt_spelled old (stmts from bytes)) → Fails e total
   run_ends e lt h = subst (λ (read : Turn (List Node)). Fails e read) (sym (turn_is lt)) (fails_first e (appended stmt_spelled old (stmts from bytes)) (λ a. appended run_spelled a.0 (in_turn stmts (count - (i + 1)) a.1 a.2)) h)
 
   pub run_is_done : count ≤ i → total ≡ Ok (old, from, bytes)

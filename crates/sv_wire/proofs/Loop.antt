@@ -2,8 +2,8 @@
 use Rattle.std.proofs.Common.{◌≡◌, ℕ, suc, ◌-◌, ◌+◌, ◌≤◌, ◌<◌, List, [], ◌∷◌, ◌++◌, Result, Ok, Err, refl, sym, ap, ◌∙◌, append_assoc, arith}
 use Rattle.std.proofs.lemmas.List.{append-nil}
 use Rattle.sv_wire.specs.declared.fault.Stop.{Stop}
-use Rattle.sv_wire.specs.declared.fault.ReadFault.{ReadFault}
-use Rattle.sv_wire.specs.declared.fault.ReadFault.TheVariants as faults
+use Rattle.sv_wire.specs.declared.fault.DecodeFault.{DecodeFault}
+use Rattle.sv_wire.specs.declared.fault.DecodeFault.TheVariants as faults
 use Rattle.sv_wire.specs.Steps.{◌>>=◌, Read, Turn, Fails, several, in_turn}
 
 -- what was read before, and what is still read
@@ -22,7 +22,7 @@ goes_on reader front count i bytes n after total lt h so_far =
     let one : with_front front (several reader (count - i) bytes) ≡ with_front (front ++ n ∷ []) (several reader (count - (i + 1)) after) = rw (k, h) (regroup front n (several reader (count - (i + 1)) after)) in
     sym one ∙ so_far
 
-pub ends : {A : Type 0} (reader : List ℕ → Read A) (e : ReadFault) (front : List A) (count i : ℕ) (bytes : List ℕ) (total : Read (List A)) → i < count → Fails e (reader bytes)
+pub ends : {A : Type 0} (reader : List ℕ → Read A) (e : DecodeFault) (front : List A) (count i : ℕ) (bytes : List ℕ) (total : Read (List A)) → i < count → Fails e (reader bytes)
     → with_front front (several reader (count - i) bytes) ≡ total → Fails e total
 unfolding several
 ends reader faults.Memory front count i bytes total lt h so_far = tt
@@ -54,7 +54,7 @@ turn_goes_on reader front count i from bytes n next after total lt h so_far =
     let one : turn_front front (in_turn reader (count - i) from bytes) ≡ turn_front (front ++ n ∷ []) (in_turn reader (count - (i + 1)) next after) = rw (k, h) (turn_regroup front n (in_turn reader (count - (i + 1)) next after)) in
     sym one ∙ so_far
 
-pub turn_ends : {A : Type 0} (reader : ℕ → List ℕ → Turn A) (e : ReadFault) (front : List A) (count i from : ℕ) (bytes : List ℕ) (total : Turn (List A)) → i < count → Fails e (reader from bytes)
+pub turn_ends : {A : Type 0} (reader : ℕ → List ℕ → Turn A) (e : DecodeFault) (front : List A) (count i from : ℕ) (bytes : List ℕ) (total : Turn (List A)) → i < count → Fails e (reader from bytes)
     → turn_front front (in_turn reader (count - i) from bytes) ≡ total → Fails e total
 unfolding in_turn
 turn_ends reader faults.Memory front count i from bytes total lt h so_far = tt
@@ -71,6 +71,6 @@ turn_is_done {A = A} reader front count i from bytes total le so_far =
     sym so_far ∙ one
 
 -- what Fails says of a step, of the steps that begin with it
-pub fails_first : {A B : Type 0} (e : ReadFault) (read : Result A Stop) (f : A → Result B Stop) → Fails e read → Fails e (read >>= f)
+pub fails_first : {A B : Type 0} (e : DecodeFault) (read : Result A Stop) (f : A → Result B Stop) → Fails e read → Fails e (read >>= f)
 fails_first faults.Memory read f h = tt
 fails_first (faults.Stop s) read f h = rw h refl

@@ -2,8 +2,8 @@
 use Rattle.std.specs.Prelude.{◌≡◌, ℕ, zero, suc, List, [], ◌∷◌, length, Result, Ok, Err}
 use Rattle.sv_wire.specs.declared.fault.WireCause.{WireCause}
 use Rattle.sv_wire.specs.declared.fault.Stop.{Stop}
-use Rattle.sv_wire.specs.declared.fault.ReadFault.{ReadFault}
-use Rattle.sv_wire.specs.declared.fault.ReadFault.TheVariants as faults
+use Rattle.sv_wire.specs.declared.fault.DecodeFault.{DecodeFault}
+use Rattle.sv_wire.specs.declared.fault.DecodeFault.TheVariants as faults
 
 -- What reading a field gives: its value and the bytes after it, or where reading stops.
 abbrev pub Read : Type 0 → Type 0
@@ -23,11 +23,11 @@ abbrev pub stop : {A : Type 0} → List ℕ → WireCause → Result A Stop
 stop bytes cause = Err (record { left = length bytes; cause = cause })
 
 -- What a function returned, seen by view, is what reading gives, unless memory ran out.
-abbrev pub Fails : {Y : Type 0} → ReadFault → Result Y Stop → Type 0
+abbrev pub Fails : {Y : Type 0} → DecodeFault → Result Y Stop → Type 0
 Fails faults.Memory read = Unit {0}
 Fails (faults.Stop s) read = read ≡ Err s
 
-abbrev pub Gives : {X Y : Type 0} → (X → Y) → Result X ReadFault → Result Y Stop → Type 0
+abbrev pub Gives : {X Y : Type 0} → (X → Y) → Result X DecodeFault → Result Y Stop → Type 0
 Gives view (Ok x) read = read ≡ Ok (view x)
 Gives view (Err e) read = Fails e read
 

@@ -9,7 +9,7 @@ use Rattle.sv_world.specs.declared.action.Cond.TheVariants as test
 use Rattle.sv_world.specs.declared.action.Stmt.{Stmt}
 use Rattle.sv_world.specs.declared.action.Stmt.TheVariants as stmt
 use Rattle.sv_wire.specs.declared.fault.WireCause.TheVariants.{Deep}
-use Rattle.sv_wire.specs.declared.fault.ReadFault.{ReadFault}
+use Rattle.sv_wire.specs.declared.fault.DecodeFault.{DecodeFault}
 use Rattle.sv_wire.specs.declared.exprs.BodyReader.{BodyReader}
 use Rattle.sv_world.specs.declared.node.Node.{Node}
 use Rattle.sv_world.specs.declared.node.Operator.{Operator}
@@ -151,5 +151,5 @@ appended spelled old (Ok x) = Ok (old ++ spelled x.0, x.1, x.2)
 appended spelled old (Err e) = Err e
 
 -- What a call answers that reads a tree and appends its nodes, by the body that is read before and after it.
-abbrev pub Appends : {A X : Type 0} → (A → List Node) → Reader A → BodyReader → Result X ReadFault → BodyReader → Type 0
+abbrev pub Appends : {A X : Type 0} → (A → List Node) → Reader A → BodyReader → Result X DecodeFault → BodyReader → Type 0
 Appends spelled read old answer new = Gives (λ _. (new.out.items, new.nodes, new.rest.now)) answer (appended spelled old.out.items (read old.nodes old.rest.now))

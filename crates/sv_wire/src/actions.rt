@@ -4,7 +4,7 @@ ghost use Rattle.sv_world.specs.Limits.{most_reads};
 ghost use Rattle.sv_wire.specs.Steps.{Gives, several};
 ghost use Rattle.sv_wire.specs.Messages.{mask_from, point_from, action_from, item_from};
 
-use crate::fault::{ReadFault, WireCause, stop_at};
+use crate::fault::{DecodeFault, WireCause, stop_at};
 use crate::fields::{count_of, i32_of, list_for, objects_of, u16_of, u32_of};
 use crate::message::Item;
 use crate::stmts::body_of;
@@ -13,7 +13,7 @@ use sv_lists::List;
 use sv_world::{Action, ClientId, MOST_READS, Point};
 
 #[tactic(auto, unfolding(crate::specs::Messages::mask_from))]
-fn mask_of(count: u8, bytes: &[u8]) -> Result<(u16, &[u8]), ReadFault>
+fn mask_of(count: u8, bytes: &[u8]) -> Result<(u16, &[u8]), DecodeFault>
     requires { count ≤ most_reads }
     ensures { Gives (λ x. (x.0, x.1.now)) result (mask_from count bytes.now) }
 {
@@ -25,7 +25,7 @@ fn mask_of(count: u8, bytes: &[u8]) -> Result<(u16, &[u8]), ReadFault>
 }
 
 #[tactic(auto, unfolding(crate::specs::Messages::point_from))]
-fn point_of(bytes: &[u8]) -> Result<(Point, &[u8]), ReadFault>
+fn point_of(bytes: &[u8]) -> Result<(Point, &[u8]), DecodeFault>
     ensures { Gives (λ x. (x.0, x.1.now)) result (point_from bytes.now) }
 {
     let (x, rest) = i32_of(bytes)?;
@@ -34,7 +34,7 @@ fn point_of(bytes: &[u8]) -> Result<(Point, &[u8]), ReadFault>
 }
 
 #[tactic(auto, unfolding(crate::specs::Messages::action_from))]
-pub fn action_of(alloc: Global, bytes: &[u8]) -> Result<(Action, &[u8]), ReadFault>
+pub fn action_of(alloc: Global, bytes: &[u8]) -> Result<(Action, &[u8]), DecodeFault>
     ensures { Gives (λ x. (x.0, x.1.now)) result (action_from bytes.now) }
 {
     let (count, rest) = count_of(1, MOST_READS as u8, bytes)?;
@@ -54,7 +54,7 @@ pub fn action_of(alloc: Global, bytes: &[u8]) -> Result<(Action, &[u8]), ReadFau
 }
 
 #[tactic(auto, unfolding(crate::specs::Messages::item_from))]
-fn item_of(alloc: Global, bytes: &[u8]) -> Result<(Item, &[u8]), ReadFault>
+fn item_of(alloc: Global, bytes: &[u8]) -> Result<(Item, &[u8]), DecodeFault>
     ensures { Gives (λ x. (x.0, x.1.now)) result (item_from bytes.now) }
 {
     let (pos, rest) = u32_of(bytes)?;
@@ -72,7 +72,7 @@ fn item_of(alloc: Global, bytes: &[u8]) -> Result<(Item, &[u8]), ReadFault>
     ))
 }
 
-pub fn items_of(alloc: Global, count: u8, bytes: &[u8]) -> Result<(List<Item>, &[u8]), ReadFault>
+pub fn items_of(alloc: Global, count: u8, bytes: &[u8]) -> Result<(List<Item>, &[u8]), DecodeFault>
     ensures { Gives (λ x. (x.0, x.1.now)) result (several item_from count bytes.now) }
 {
     let mut items = list_for(alloc, usize::from(count))?;

@@ -5,7 +5,7 @@ ghost use Rattle.sv_world.specs.Spelled.{cond_spelled};
 ghost use Rattle.sv_wire.specs.Trees.{Appends, expr_from, compare_from, join_from, not_from, cond_from};
 
 use crate::exprs::{BodyReader, expr_next};
-use crate::fault::ReadFault;
+use crate::fault::DecodeFault;
 use crate::nodes::{CondKind, cond_node};
 use sv_world::{Comparison, Connective, Node};
 
@@ -14,7 +14,7 @@ fn compare_next(
     reader: &mut BodyReader<'_>,
     depth: u8,
     comparison: Comparison,
-) -> Result<(), ReadFault>
+) -> Result<(), DecodeFault>
     ensures gives { Appends cond_spelled (compare_from (λ n rest. expr_from depth n rest) comparison) reader.old result reader.new }
     ensures few { OnOk result (reader.new.nodes ≤ most_nodes) }
 {
@@ -29,7 +29,7 @@ fn join_next(
     reader: &mut BodyReader<'_>,
     depth: u8,
     connective: Connective,
-) -> Result<(), ReadFault>
+) -> Result<(), DecodeFault>
     ensures gives { Appends cond_spelled (join_from (λ n rest. cond_from depth n rest) connective) reader.old result reader.new }
     ensures few { OnOk result (reader.new.nodes ≤ most_nodes) }
 {
@@ -40,7 +40,7 @@ fn join_next(
 
 #[cycle(conds)]
 #[tactic(auto, using(crate::proofs::Flat::not_appended))]
-fn not_next(reader: &mut BodyReader<'_>, depth: u8) -> Result<(), ReadFault>
+fn not_next(reader: &mut BodyReader<'_>, depth: u8) -> Result<(), DecodeFault>
     ensures gives { Appends cond_spelled (not_from (λ n rest. cond_from depth n rest)) reader.old result reader.new }
     ensures few { OnOk result (reader.new.nodes ≤ most_nodes) }
 {
@@ -50,7 +50,7 @@ fn not_next(reader: &mut BodyReader<'_>, depth: u8) -> Result<(), ReadFault>
 
 #[cycle(conds)]
 #[tactic(auto, using(crate::proofs::Trees::cond_from_is, crate::proofs::Flat::cond_level_appended))]
-pub fn cond_next(reader: &mut BodyReader<'_>, depth: u8) -> Result<(), ReadFault>
+pub fn cond_next(reader: &mut BodyReader<'_>, depth: u8) -> Result<(), DecodeFault>
     ensures gives { Appends cond_spelled (λ n rest. cond_from depth n rest) reader.old result reader.new }
     ensures few { OnOk result (reader.new.nodes ≤ most_nodes) }
 {

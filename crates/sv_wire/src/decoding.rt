@@ -7,7 +7,7 @@ ghost use Rattle.sv_wire.specs.Laws.{IsRequest, IsReply};
 ghost use Rattle.sv_wire.specs.declared.message.Request.{Request};
 ghost use Rattle.sv_wire.specs.declared.message.Reply.{Reply};
 
-use crate::fault::{Malformed, ReadFault, Stop, WireFault};
+use crate::fault::{DecodeFault, Malformed, Stop, WireFault};
 use crate::message::{Reply, Request};
 use crate::replies::whole_reply;
 use crate::requests::whole_request;
@@ -30,8 +30,8 @@ fn read_request(alloc: Global, payload: &[u8]) -> Result<Request, WireFault>
 {
     match whole_request(alloc, payload) {
         Ok(request) => Ok(request),
-        Err(ReadFault::Stop(stop)) => Err(WireFault::Malformed(placed(payload, stop))),
-        Err(ReadFault::Memory) => Err(WireFault::Memory),
+        Err(DecodeFault::Stop(stop)) => Err(WireFault::Malformed(placed(payload, stop))),
+        Err(DecodeFault::Memory) => Err(WireFault::Memory),
     }
 }
 
@@ -41,8 +41,8 @@ fn read_reply(alloc: Global, payload: &[u8]) -> Result<Reply, WireFault>
 {
     match whole_reply(alloc, payload) {
         Ok(reply) => Ok(reply),
-        Err(ReadFault::Stop(stop)) => Err(WireFault::Malformed(placed(payload, stop))),
-        Err(ReadFault::Memory) => Err(WireFault::Memory),
+        Err(DecodeFault::Stop(stop)) => Err(WireFault::Malformed(placed(payload, stop))),
+        Err(DecodeFault::Memory) => Err(WireFault::Memory),
     }
 }
 

@@ -4,7 +4,7 @@ ghost use Rattle.sv_world.specs.Limits.{most_nodes};
 ghost use Rattle.sv_world.specs.Spelled.{expr_spelled};
 ghost use Rattle.sv_wire.specs.Trees.{Appends, lit_from, attr_from, pair_from, expr_from};
 
-use crate::fault::ReadFault;
+use crate::fault::DecodeFault;
 use crate::fields::{byte_of, i64_of};
 use crate::nodes::{ExprKind, expr_node};
 use sv_world::{Node, Operator};
@@ -21,7 +21,7 @@ pub struct BodyReader<'a> {
 }
 
 #[tactic(auto, using(crate::proofs::Flat::lit_appended))]
-fn lit_next(reader: &mut BodyReader<'_>) -> Result<(), ReadFault>
+fn lit_next(reader: &mut BodyReader<'_>) -> Result<(), DecodeFault>
     ensures gives { Appends expr_spelled lit_from reader.old result reader.new }
     ensures few { OnOk result (reader.new.nodes ≡ reader.old.nodes) }
 {
@@ -32,7 +32,7 @@ fn lit_next(reader: &mut BodyReader<'_>) -> Result<(), ReadFault>
 }
 
 #[tactic(auto, using(crate::proofs::Flat::attr_appended))]
-fn attr_next(reader: &mut BodyReader<'_>) -> Result<(), ReadFault>
+fn attr_next(reader: &mut BodyReader<'_>) -> Result<(), DecodeFault>
     ensures gives { Appends expr_spelled attr_from reader.old result reader.new }
     ensures few { OnOk result (reader.new.nodes ≡ reader.old.nodes) }
 {
@@ -45,7 +45,7 @@ fn attr_next(reader: &mut BodyReader<'_>) -> Result<(), ReadFault>
 
 #[cycle(exprs)]
 #[tactic(auto, using(crate::proofs::Flat::pair_appended))]
-fn pair_next(reader: &mut BodyReader<'_>, depth: u8, operator: Operator) -> Result<(), ReadFault>
+fn pair_next(reader: &mut BodyReader<'_>, depth: u8, operator: Operator) -> Result<(), DecodeFault>
     ensures gives { Appends expr_spelled (pair_from (λ n rest. expr_from depth n rest) operator) reader.old result reader.new }
     ensures few { OnOk result (reader.new.nodes ≤ most_nodes) }
 {
@@ -56,7 +56,7 @@ fn pair_next(reader: &mut BodyReader<'_>, depth: u8, operator: Operator) -> Resu
 
 #[cycle(exprs)]
 #[tactic(auto, using(crate::proofs::Trees::expr_from_is, crate::proofs::Flat::expr_level_appended))]
-pub fn expr_next(reader: &mut BodyReader<'_>, depth: u8) -> Result<(), ReadFault>
+pub fn expr_next(reader: &mut BodyReader<'_>, depth: u8) -> Result<(), DecodeFault>
     ensures gives { Appends expr_spelled (λ n rest. expr_from depth n rest) reader.old result reader.new }
     ensures few { OnOk result (reader.new.nodes ≤ most_nodes) }
 {

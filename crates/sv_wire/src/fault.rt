@@ -1,6 +1,6 @@
 //! Why a payload is no message.
 ghost use Rattle.std.specs.Prelude.{◌≡◌, length};
-ghost use Rattle.sv_wire.specs.declared.fault.ReadFault.TheVariants as faults;
+ghost use Rattle.sv_wire.specs.declared.fault.DecodeFault.TheVariants as faults;
 
 use std::alloc::{AllocError, AllocFailed};
 
@@ -49,38 +49,38 @@ pub struct Stop {
 }
 
 #[derive(Clone, Copy)]
-pub enum ReadFault {
+pub enum DecodeFault {
     Stop(Stop),
     Memory,
 }
 
-impl From<AllocError> for ReadFault {
+impl From<AllocError> for DecodeFault {
     ghost use Rattle.std.specs.Prelude.{◌≡◌};
-    ghost use Rattle.sv_wire.specs.declared.fault.ReadFault.TheVariants as faults;
+    ghost use Rattle.sv_wire.specs.declared.fault.DecodeFault.TheVariants as faults;
 
     ghost from_gives = { λ _ e. e ≡ faults.Memory };
 
-    fn from(_e: AllocError) -> ReadFault {
-        ReadFault::Memory
+    fn from(_e: AllocError) -> DecodeFault {
+        DecodeFault::Memory
     }
 }
 
-impl<T: Drop> From<AllocFailed<T>> for ReadFault {
+impl<T: Drop> From<AllocFailed<T>> for DecodeFault {
     ghost use Rattle.std.specs.Prelude.{◌≡◌};
-    ghost use Rattle.sv_wire.specs.declared.fault.ReadFault.TheVariants as faults;
+    ghost use Rattle.sv_wire.specs.declared.fault.DecodeFault.TheVariants as faults;
 
     ghost from_gives = { λ _ e. e ≡ faults.Memory };
 
-    fn from(_e: AllocFailed<T>) -> ReadFault {
-        ReadFault::Memory
+    fn from(_e: AllocFailed<T>) -> DecodeFault {
+        DecodeFault::Memory
     }
 }
 
 /// Stops at the field that begins these bytes.
-pub fn stop_at(bytes: &[u8], cause: WireCause) -> ReadFault
+pub fn stop_at(bytes: &[u8], cause: WireCause) -> DecodeFault
     ensures { result ≡ faults.Stop (record { left = length bytes.now; cause = cause }) }
 {
-    ReadFault::Stop(Stop {
+    DecodeFault::Stop(Stop {
         left: bytes.len(),
         cause,
     })

@@ -4,7 +4,7 @@ ghost use Rattle.std.specs.Int.{w32, w64};
 ghost use Rattle.sv_wire.specs.Steps.{Gives, several, in_turn};
 ghost use Rattle.sv_wire.specs.Fields.{byte_from, number_from, int_from, count_from, head_count_from, object_from, objects_from, value_from, held_from, helds_from, head_from, result_from};
 
-use crate::fault::{ReadFault, WireCause, stop_at};
+use crate::fault::{DecodeFault, WireCause, stop_at};
 use crate::message::{Done1, ObjectValue};
 use byteorder::{BigEndian, ByteOrder};
 use std::alloc::{AllocError, Global};
@@ -25,7 +25,7 @@ pub fn list_for<T>(alloc: Global, count: usize) -> Result<List<T>, AllocError>
 }
 
 #[tactic(auto, unfolding(crate::specs::Fields::byte_from))]
-pub fn byte_of(bytes: &[u8]) -> Result<(u8, &[u8]), ReadFault>
+pub fn byte_of(bytes: &[u8]) -> Result<(u8, &[u8]), DecodeFault>
     ensures { Gives (λ x. (x.0, x.1.now)) result (byte_from bytes.now) }
 {
     match bytes {
@@ -35,7 +35,7 @@ pub fn byte_of(bytes: &[u8]) -> Result<(u8, &[u8]), ReadFault>
 }
 
 #[tactic(auto, unfolding(crate::specs::Fields::number_from))]
-pub fn u16_of(bytes: &[u8]) -> Result<(u16, &[u8]), ReadFault>
+pub fn u16_of(bytes: &[u8]) -> Result<(u16, &[u8]), DecodeFault>
     ensures { Gives (λ x. (x.0, x.1.now)) result (number_from 2 bytes.now) }
 {
     if bytes.len() < 2 {
@@ -45,7 +45,7 @@ pub fn u16_of(bytes: &[u8]) -> Result<(u16, &[u8]), ReadFault>
 }
 
 #[tactic(auto, unfolding(crate::specs::Fields::number_from))]
-pub fn u32_of(bytes: &[u8]) -> Result<(u32, &[u8]), ReadFault>
+pub fn u32_of(bytes: &[u8]) -> Result<(u32, &[u8]), DecodeFault>
     ensures { Gives (λ x. (x.0, x.1.now)) result (number_from 4 bytes.now) }
 {
     if bytes.len() < 4 {
@@ -55,7 +55,7 @@ pub fn u32_of(bytes: &[u8]) -> Result<(u32, &[u8]), ReadFault>
 }
 
 #[tactic(auto, unfolding(crate::specs::Fields::number_from, crate::specs::Fields::int_from))]
-pub fn i32_of(bytes: &[u8]) -> Result<(i32, &[u8]), ReadFault>
+pub fn i32_of(bytes: &[u8]) -> Result<(i32, &[u8]), DecodeFault>
     ensures { Gives (λ x. (x.0, x.1.now)) result (int_from w32 bytes.now) }
 {
     if bytes.len() < 4 {
@@ -65,7 +65,7 @@ pub fn i32_of(bytes: &[u8]) -> Result<(i32, &[u8]), ReadFault>
 }
 
 #[tactic(auto, unfolding(crate::specs::Fields::number_from, crate::specs::Fields::int_from))]
-pub fn i64_of(bytes: &[u8]) -> Result<(i64, &[u8]), ReadFault>
+pub fn i64_of(bytes: &[u8]) -> Result<(i64, &[u8]), DecodeFault>
     ensures gives { Gives (λ x. (x.0, x.1.now)) result (int_from w64 bytes.now) }
     ensures signed { IfOk result (λ x. FitsSigned w64 x.0) }
 {
@@ -76,7 +76,7 @@ pub fn i64_of(bytes: &[u8]) -> Result<(i64, &[u8]), ReadFault>
 }
 
 #[tactic(auto, unfolding(crate::specs::Fields::count_from))]
-pub fn count_of(low: u8, high: u8, bytes: &[u8]) -> Result<(u8, &[u8]), ReadFault>
+pub fn count_of(low: u8, high: u8, bytes: &[u8]) -> Result<(u8, &[u8]), DecodeFault>
     ensures { Gives (λ x. (x.0, x.1.now)) result (count_from low high bytes.now) }
 {
     let (count, rest) = byte_of(bytes)?;
@@ -87,7 +87,7 @@ pub fn count_of(low: u8, high: u8, bytes: &[u8]) -> Result<(u8, &[u8]), ReadFaul
 }
 
 #[tactic(auto, unfolding(crate::specs::Fields::head_count_from))]
-fn head_count_of(most: u16, bytes: &[u8]) -> Result<(u16, &[u8]), ReadFault>
+fn head_count_of(most: u16, bytes: &[u8]) -> Result<(u16, &[u8]), DecodeFault>
     ensures { Gives (λ x. (x.0, x.1.now)) result (head_count_from most bytes.now) }
 {
     let (count, rest) = u16_of(bytes)?;
@@ -98,7 +98,7 @@ fn head_count_of(most: u16, bytes: &[u8]) -> Result<(u16, &[u8]), ReadFault>
 }
 
 #[tactic(auto, unfolding(crate::specs::Fields::object_from))]
-fn object_of(least: u32, bytes: &[u8]) -> Result<(ObjectId, u32, &[u8]), ReadFault>
+fn object_of(least: u32, bytes: &[u8]) -> Result<(ObjectId, u32, &[u8]), DecodeFault>
     ensures { Gives (λ x. (x.0, x.1, x.2.now)) result (object_from least bytes.now) }
 {
     let (number, rest) = u16_of(bytes)?;
@@ -109,7 +109,7 @@ fn object_of(least: u32, bytes: &[u8]) -> Result<(ObjectId, u32, &[u8]), ReadFau
     Ok((ObjectId(number), number_wide + 1, rest))
 }
 
-pub fn objects_of(alloc: Global, count: u8, bytes: &[u8]) -> Result<(Reads, &[u8]), ReadFault>
+pub fn objects_of(alloc: Global, count: u8, bytes: &[u8]) -> Result<(Reads, &[u8]), DecodeFault>
     ensures { Gives (λ x. (x.0, x.1.now)) result (objects_from count bytes.now) }
 {
     let mut objects = Reads::new(alloc);
@@ -124,7 +124,7 @@ pub fn objects_of(alloc: Global, count: u8, bytes: &[u8]) -> Result<(Reads, &[u8
     Ok((objects, rest))
 }
 
-fn numbers_of(alloc: Global, count: u8, bytes: &[u8]) -> Result<(Value, &[u8]), ReadFault>
+fn numbers_of(alloc: Global, count: u8, bytes: &[u8]) -> Result<(Value, &[u8]), DecodeFault>
     ensures { Gives (λ x. (x.0, x.1.now)) result (several (int_from w64) count bytes.now) }
 {
     let mut numbers = Value::new(alloc);
@@ -138,7 +138,7 @@ fn numbers_of(alloc: Global, count: u8, bytes: &[u8]) -> Result<(Value, &[u8]), 
 }
 
 #[tactic(auto, unfolding(crate::specs::Fields::value_from))]
-fn value_of(alloc: Global, bytes: &[u8]) -> Result<(Value, &[u8]), ReadFault>
+fn value_of(alloc: Global, bytes: &[u8]) -> Result<(Value, &[u8]), DecodeFault>
     ensures { Gives (λ x. (x.0, x.1.now)) result (value_from bytes.now) }
 {
     let (count, rest) = count_of(1, MOST_ATTRS, bytes)?;
@@ -146,7 +146,11 @@ fn value_of(alloc: Global, bytes: &[u8]) -> Result<(Value, &[u8]), ReadFault>
 }
 
 #[tactic(auto, unfolding(crate::specs::Fields::held_from))]
-fn held_of(alloc: Global, least: u32, bytes: &[u8]) -> Result<(ObjectValue, u32, &[u8]), ReadFault>
+fn held_of(
+    alloc: Global,
+    least: u32,
+    bytes: &[u8],
+) -> Result<(ObjectValue, u32, &[u8]), DecodeFault>
     ensures { Gives (λ x. (x.0, x.1, x.2.now)) result (held_from least bytes.now) }
 {
     let (object, next, rest) = object_of(least, bytes)?;
@@ -158,7 +162,7 @@ fn helds_of(
     alloc: Global,
     count: u16,
     bytes: &[u8],
-) -> Result<(List<ObjectValue>, &[u8]), ReadFault>
+) -> Result<(List<ObjectValue>, &[u8]), DecodeFault>
     ensures { Gives (λ x. (x.0, x.1.now)) result (helds_from count bytes.now) }
 {
     let mut head = list_for(alloc, usize::from(count))?;
@@ -178,14 +182,14 @@ pub fn head_of(
     alloc: Global,
     most: u16,
     bytes: &[u8],
-) -> Result<(List<ObjectValue>, &[u8]), ReadFault>
+) -> Result<(List<ObjectValue>, &[u8]), DecodeFault>
     ensures { Gives (λ x. (x.0, x.1.now)) result (head_from most bytes.now) }
 {
     let (count, rest) = head_count_of(most, bytes)?;
     helds_of(alloc, count, rest)
 }
 
-fn values_of(alloc: Global, count: u8, bytes: &[u8]) -> Result<(List<Value>, &[u8]), ReadFault>
+fn values_of(alloc: Global, count: u8, bytes: &[u8]) -> Result<(List<Value>, &[u8]), DecodeFault>
     ensures { Gives (λ x. (x.0, x.1.now)) result (several value_from count bytes.now) }
 {
     let mut values = list_for(alloc, usize::from(count))?;
@@ -199,7 +203,7 @@ fn values_of(alloc: Global, count: u8, bytes: &[u8]) -> Result<(List<Value>, &[u
 }
 
 #[tactic(auto, unfolding(crate::specs::Fields::result_from))]
-fn result_of(alloc: Global, bytes: &[u8]) -> Result<(Done1, &[u8]), ReadFault>
+fn result_of(alloc: Global, bytes: &[u8]) -> Result<(Done1, &[u8]), DecodeFault>
     ensures { Gives (λ x. (x.0, x.1.now)) result (result_from bytes.now) }
 {
     let (pos, rest) = u32_of(bytes)?;
@@ -208,7 +212,11 @@ fn result_of(alloc: Global, bytes: &[u8]) -> Result<(Done1, &[u8]), ReadFault>
     Ok((Done1 { pos, values }, rest))
 }
 
-pub fn results_of(alloc: Global, count: u8, bytes: &[u8]) -> Result<(List<Done1>, &[u8]), ReadFault>
+pub fn results_of(
+    alloc: Global,
+    count: u8,
+    bytes: &[u8],
+) -> Result<(List<Done1>, &[u8]), DecodeFault>
     ensures { Gives (λ x. (x.0, x.1.now)) result (several result_from count bytes.now) }
 {
     let mut results = list_for(alloc, usize::from(count))?;

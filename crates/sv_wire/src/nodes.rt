@@ -4,7 +4,7 @@ ghost use Rattle.sv_world.specs.Limits.{most_nodes};
 ghost use Rattle.sv_wire.specs.Steps.{Gives};
 ghost use Rattle.sv_wire.specs.Nodes.{room_at, node_from, expr_kind_of, cond_kind_of, stmt_kind_of};
 
-use crate::fault::{ReadFault, WireCause, stop_at};
+use crate::fault::{DecodeFault, WireCause, stop_at};
 use crate::fields::byte_of;
 use sv_world::{Comparison, Connective, MOST_NODES, Operator};
 
@@ -74,7 +74,7 @@ fn stmt_kind(byte: u8) -> Option<StmtKind>
 
 /// Whether a node may stand here, with so many levels left for it and so many nodes before it.
 #[tactic(auto, unfolding(crate::specs::Nodes::room_at))]
-fn has_room(depth: u8, nodes: u8, bytes: &[u8]) -> Result<(), ReadFault>
+fn has_room(depth: u8, nodes: u8, bytes: &[u8]) -> Result<(), DecodeFault>
     ensures gives { Gives (λ _. tt) result (room_at depth nodes bytes.now) }
     ensures few { OnOk result ((nodes < most_nodes) × (0 < depth)) }
 {
@@ -88,7 +88,7 @@ fn has_room(depth: u8, nodes: u8, bytes: &[u8]) -> Result<(), ReadFault>
 }
 
 #[tactic(auto, unfolding(crate::specs::Nodes::node_from))]
-pub fn expr_node(depth: u8, nodes: u8, bytes: &[u8]) -> Result<(ExprKind, &[u8]), ReadFault>
+pub fn expr_node(depth: u8, nodes: u8, bytes: &[u8]) -> Result<(ExprKind, &[u8]), DecodeFault>
     ensures gives { Gives (λ x. (x.0, x.1.now)) result (node_from expr_kind_of depth nodes bytes.now) }
     ensures few { OnOk result ((nodes < most_nodes) × (0 < depth)) }
 {
@@ -101,7 +101,7 @@ pub fn expr_node(depth: u8, nodes: u8, bytes: &[u8]) -> Result<(ExprKind, &[u8])
 }
 
 #[tactic(auto, unfolding(crate::specs::Nodes::node_from))]
-pub fn cond_node(depth: u8, nodes: u8, bytes: &[u8]) -> Result<(CondKind, &[u8]), ReadFault>
+pub fn cond_node(depth: u8, nodes: u8, bytes: &[u8]) -> Result<(CondKind, &[u8]), DecodeFault>
     ensures gives { Gives (λ x. (x.0, x.1.now)) result (node_from cond_kind_of depth nodes bytes.now) }
     ensures few { OnOk result ((nodes < most_nodes) × (0 < depth)) }
 {
@@ -114,7 +114,7 @@ pub fn cond_node(depth: u8, nodes: u8, bytes: &[u8]) -> Result<(CondKind, &[u8])
 }
 
 #[tactic(auto, unfolding(crate::specs::Nodes::node_from))]
-pub fn stmt_node(depth: u8, nodes: u8, bytes: &[u8]) -> Result<(StmtKind, &[u8]), ReadFault>
+pub fn stmt_node(depth: u8, nodes: u8, bytes: &[u8]) -> Result<(StmtKind, &[u8]), DecodeFault>
     ensures gives { Gives (λ x. (x.0, x.1.now)) result (node_from stmt_kind_of depth nodes bytes.now) }
     ensures few { OnOk result ((nodes < most_nodes) × (0 < depth)) }
 {

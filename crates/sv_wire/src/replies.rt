@@ -5,7 +5,7 @@ ghost use Rattle.sv_wire.specs.Fields.{most_held, most_seen};
 ghost use Rattle.sv_wire.specs.Messages.{welcome_from, work_from, relay_from, seen_from, dropped_from, denied_from, settled_from, noted_from, code_from, refused_from, reply_front, whole};
 
 use crate::actions::items_of;
-use crate::fault::{ReadFault, WireCause, stop_at};
+use crate::fault::{DecodeFault, WireCause, stop_at};
 use crate::fields::{MOST_HELD, MOST_SEEN, byte_of, count_of, head_of, u16_of, u32_of};
 use crate::kinds::{ReplyKind, reply_kind};
 use crate::message::{Item, ObjectValue, Reply};
@@ -18,7 +18,7 @@ use sv_world::{MOST_ITEMS, ObjectId};
 type Work = (List<ObjectValue>, List<Item>);
 
 #[tactic(auto, unfolding(crate::specs::Messages::welcome_from))]
-fn welcome_of(alloc: Global, bytes: &[u8]) -> Result<(Reply, &[u8]), ReadFault>
+fn welcome_of(alloc: Global, bytes: &[u8]) -> Result<(Reply, &[u8]), DecodeFault>
     ensures { Gives (λ x. (x.0, x.1.now)) result (welcome_from bytes.now) }
 {
     let (commit, rest) = u32_of(bytes)?;
@@ -27,7 +27,7 @@ fn welcome_of(alloc: Global, bytes: &[u8]) -> Result<(Reply, &[u8]), ReadFault>
 }
 
 #[tactic(auto, unfolding(crate::specs::Messages::work_from))]
-fn work_of(alloc: Global, most: u16, bytes: &[u8]) -> Result<(Work, &[u8]), ReadFault>
+fn work_of(alloc: Global, most: u16, bytes: &[u8]) -> Result<(Work, &[u8]), DecodeFault>
     ensures { Gives (λ x. (x.0, x.1.now)) result (work_from most bytes.now) }
 {
     let (head, rest) = head_of(alloc, most, bytes)?;
@@ -37,7 +37,7 @@ fn work_of(alloc: Global, most: u16, bytes: &[u8]) -> Result<(Work, &[u8]), Read
 }
 
 #[tactic(auto, unfolding(crate::specs::Messages::relay_from))]
-fn relay_of(alloc: Global, bytes: &[u8]) -> Result<(Reply, &[u8]), ReadFault>
+fn relay_of(alloc: Global, bytes: &[u8]) -> Result<(Reply, &[u8]), DecodeFault>
     ensures { Gives (λ x. (x.0, x.1.now)) result (relay_from bytes.now) }
 {
     let (seq, rest) = u32_of(bytes)?;
@@ -55,7 +55,7 @@ fn relay_of(alloc: Global, bytes: &[u8]) -> Result<(Reply, &[u8]), ReadFault>
 }
 
 #[tactic(auto, unfolding(crate::specs::Messages::seen_from))]
-fn seen_of(alloc: Global, bytes: &[u8]) -> Result<(Reply, &[u8]), ReadFault>
+fn seen_of(alloc: Global, bytes: &[u8]) -> Result<(Reply, &[u8]), DecodeFault>
     ensures { Gives (λ x. (x.0, x.1.now)) result (seen_from bytes.now) }
 {
     let (last, rest) = u32_of(bytes)?;
@@ -73,7 +73,7 @@ fn seen_of(alloc: Global, bytes: &[u8]) -> Result<(Reply, &[u8]), ReadFault>
 }
 
 #[tactic(auto, unfolding(crate::specs::Messages::dropped_from))]
-fn dropped_of(bytes: &[u8]) -> Result<(Reply, &[u8]), ReadFault>
+fn dropped_of(bytes: &[u8]) -> Result<(Reply, &[u8]), DecodeFault>
     ensures { Gives (λ x. (x.0, x.1.now)) result (dropped_from bytes.now) }
 {
     let (seq, rest) = u32_of(bytes)?;
@@ -83,7 +83,7 @@ fn dropped_of(bytes: &[u8]) -> Result<(Reply, &[u8]), ReadFault>
 }
 
 #[tactic(auto, unfolding(crate::specs::Messages::denied_from))]
-fn denied_of(bytes: &[u8]) -> Result<(Reply, &[u8]), ReadFault>
+fn denied_of(bytes: &[u8]) -> Result<(Reply, &[u8]), DecodeFault>
     ensures { Gives (λ x. (x.0, x.1.now)) result (denied_from bytes.now) }
 {
     let (seq, rest) = u32_of(bytes)?;
@@ -98,7 +98,7 @@ fn denied_of(bytes: &[u8]) -> Result<(Reply, &[u8]), ReadFault>
 }
 
 #[tactic(auto, unfolding(crate::specs::Messages::settled_from))]
-fn settled_of(bytes: &[u8]) -> Result<(Reply, &[u8]), ReadFault>
+fn settled_of(bytes: &[u8]) -> Result<(Reply, &[u8]), DecodeFault>
     ensures { Gives (λ x. (x.0, x.1.now)) result (settled_from bytes.now) }
 {
     let (seq, rest) = u32_of(bytes)?;
@@ -107,7 +107,7 @@ fn settled_of(bytes: &[u8]) -> Result<(Reply, &[u8]), ReadFault>
 }
 
 #[tactic(auto, unfolding(crate::specs::Messages::noted_from))]
-fn noted_of(bytes: &[u8]) -> Result<(Reply, &[u8]), ReadFault>
+fn noted_of(bytes: &[u8]) -> Result<(Reply, &[u8]), DecodeFault>
     ensures { Gives (λ x. (x.0, x.1.now)) result (noted_from bytes.now) }
 {
     let (commit, rest) = u32_of(bytes)?;
@@ -115,7 +115,7 @@ fn noted_of(bytes: &[u8]) -> Result<(Reply, &[u8]), ReadFault>
 }
 
 #[tactic(auto, unfolding(crate::specs::Messages::code_from))]
-fn code_of(bytes: &[u8]) -> Result<(u8, &[u8]), ReadFault>
+fn code_of(bytes: &[u8]) -> Result<(u8, &[u8]), DecodeFault>
     ensures { Gives (λ x. (x.0, x.1.now)) result (code_from bytes.now) }
 {
     let (code, rest) = byte_of(bytes)?;
@@ -126,7 +126,7 @@ fn code_of(bytes: &[u8]) -> Result<(u8, &[u8]), ReadFault>
 }
 
 #[tactic(auto, unfolding(crate::specs::Messages::refused_from))]
-fn refused_of(bytes: &[u8]) -> Result<(Reply, &[u8]), ReadFault>
+fn refused_of(bytes: &[u8]) -> Result<(Reply, &[u8]), DecodeFault>
     ensures { Gives (λ x. (x.0, x.1.now)) result (refused_from bytes.now) }
 {
     let (code, rest) = code_of(bytes)?;
@@ -135,7 +135,7 @@ fn refused_of(bytes: &[u8]) -> Result<(Reply, &[u8]), ReadFault>
 }
 
 #[tactic(auto, unfolding(crate::specs::Messages::reply_front))]
-fn reply_of(alloc: Global, payload: &[u8]) -> Result<(Reply, &[u8]), ReadFault>
+fn reply_of(alloc: Global, payload: &[u8]) -> Result<(Reply, &[u8]), DecodeFault>
     ensures { Gives (λ x. (x.0, x.1.now)) result (reply_front payload.now) }
 {
     let (byte, rest) = byte_of(payload)?;
@@ -158,7 +158,7 @@ fn reply_of(alloc: Global, payload: &[u8]) -> Result<(Reply, &[u8]), ReadFault>
 
 /// The reply that a payload is, all of it.
 #[tactic(auto, unfolding(crate::specs::Messages::whole))]
-pub fn whole_reply(alloc: Global, payload: &[u8]) -> Result<Reply, ReadFault>
+pub fn whole_reply(alloc: Global, payload: &[u8]) -> Result<Reply, DecodeFault>
     ensures { Gives (λ x. x) result (whole reply_front payload.now) }
 {
     let (reply, rest) = reply_of(alloc, payload)?;

@@ -4,7 +4,7 @@ ghost use Rattle.sv_wire.specs.Steps.{Gives};
 ghost use Rattle.sv_wire.specs.Messages.{join_request_from, submit_from, done_from, observe_from, request_front, whole};
 
 use crate::actions::action_of;
-use crate::fault::{ReadFault, WireCause, stop_at};
+use crate::fault::{DecodeFault, WireCause, stop_at};
 use crate::fields::{byte_of, count_of, objects_of, results_of, u16_of, u32_of};
 use crate::kinds::{RequestKind, request_kind};
 use crate::message::Request;
@@ -12,7 +12,7 @@ use std::alloc::Global;
 use sv_world::{ClientId, MOST_INTEREST, MOST_ITEMS, MOST_READS, copy_objects};
 
 #[tactic(auto, unfolding(crate::specs::Messages::join_request_from))]
-fn join_of(alloc: Global, bytes: &[u8]) -> Result<(Request, &[u8]), ReadFault>
+fn join_of(alloc: Global, bytes: &[u8]) -> Result<(Request, &[u8]), DecodeFault>
     ensures { Gives (λ x. (x.0, x.1.now)) result (join_request_from bytes.now) }
 {
     let (client, rest) = u16_of(bytes)?;
@@ -31,7 +31,7 @@ fn join_of(alloc: Global, bytes: &[u8]) -> Result<(Request, &[u8]), ReadFault>
 }
 
 #[tactic(auto, unfolding(crate::specs::Messages::submit_from))]
-fn submit_of(alloc: Global, bytes: &[u8]) -> Result<(Request, &[u8]), ReadFault>
+fn submit_of(alloc: Global, bytes: &[u8]) -> Result<(Request, &[u8]), DecodeFault>
     ensures { Gives (λ x. (x.0, x.1.now)) result (submit_from bytes.now) }
 {
     let (seq, rest) = u32_of(bytes)?;
@@ -40,7 +40,7 @@ fn submit_of(alloc: Global, bytes: &[u8]) -> Result<(Request, &[u8]), ReadFault>
 }
 
 #[tactic(auto, unfolding(crate::specs::Messages::done_from))]
-fn done_of(alloc: Global, bytes: &[u8]) -> Result<(Request, &[u8]), ReadFault>
+fn done_of(alloc: Global, bytes: &[u8]) -> Result<(Request, &[u8]), DecodeFault>
     ensures { Gives (λ x. (x.0, x.1.now)) result (done_from bytes.now) }
 {
     let (count, rest) = count_of(1, MOST_ITEMS as u8, bytes)?;
@@ -49,7 +49,7 @@ fn done_of(alloc: Global, bytes: &[u8]) -> Result<(Request, &[u8]), ReadFault>
 }
 
 #[tactic(auto, unfolding(crate::specs::Messages::observe_from))]
-fn observe_of(alloc: Global, bytes: &[u8]) -> Result<(Request, &[u8]), ReadFault>
+fn observe_of(alloc: Global, bytes: &[u8]) -> Result<(Request, &[u8]), DecodeFault>
     ensures { Gives (λ x. (x.0, x.1.now)) result (observe_from bytes.now) }
 {
     let (count, rest) = count_of(1, MOST_READS as u8, bytes)?;
@@ -60,7 +60,7 @@ fn observe_of(alloc: Global, bytes: &[u8]) -> Result<(Request, &[u8]), ReadFault
 }
 
 #[tactic(auto, unfolding(crate::specs::Messages::request_front))]
-fn request_of(alloc: Global, payload: &[u8]) -> Result<(Request, &[u8]), ReadFault>
+fn request_of(alloc: Global, payload: &[u8]) -> Result<(Request, &[u8]), DecodeFault>
     ensures { Gives (λ x. (x.0, x.1.now)) result (request_front payload.now) }
 {
     let (byte, rest) = byte_of(payload)?;
@@ -79,7 +79,7 @@ fn request_of(alloc: Global, payload: &[u8]) -> Result<(Request, &[u8]), ReadFau
 
 /// The request that a payload is, all of it.
 #[tactic(auto, unfolding(crate::specs::Messages::whole))]
-pub fn whole_request(alloc: Global, payload: &[u8]) -> Result<Request, ReadFault>
+pub fn whole_request(alloc: Global, payload: &[u8]) -> Result<Request, DecodeFault>
     ensures { Gives (λ x. x) result (whole request_front payload.now) }
 {
     let (request, rest) = request_of(alloc, payload)?;

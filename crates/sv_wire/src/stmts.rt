@@ -7,14 +7,14 @@ ghost use Rattle.sv_wire.specs.Trees.{Appends, expr_from, cond_from, set_from, l
 
 use crate::conds::cond_next;
 use crate::exprs::{BodyReader, expr_next};
-use crate::fault::ReadFault;
+use crate::fault::DecodeFault;
 use crate::fields::byte_of;
 use crate::nodes::{StmtKind, stmt_node};
 use std::alloc::Global;
 use sv_world::{Body, MOST_DEPTH, Node};
 
 #[tactic(auto, using(crate::proofs::Flat::set_appended))]
-fn set_next(reader: &mut BodyReader<'_>, depth: u8) -> Result<(), ReadFault>
+fn set_next(reader: &mut BodyReader<'_>, depth: u8) -> Result<(), DecodeFault>
     ensures gives { Appends stmt_spelled (set_from (λ n rest. expr_from depth n rest)) reader.old result reader.new }
     ensures few { OnOk result (reader.new.nodes ≤ most_nodes) }
 {
@@ -26,7 +26,7 @@ fn set_next(reader: &mut BodyReader<'_>, depth: u8) -> Result<(), ReadFault>
 }
 
 #[cycle(stmts)]
-fn stmts_next(reader: &mut BodyReader<'_>, depth: u8, count: u8) -> Result<(), ReadFault>
+fn stmts_next(reader: &mut BodyReader<'_>, depth: u8, count: u8) -> Result<(), DecodeFault>
     requires { reader.old.nodes ≤ most_nodes }
     ensures gives { Appends run_spelled (in_turn (λ n rest. stmt_from depth n rest) count) reader.old result reader.new }
     ensures few { OnOk result (reader.new.nodes ≤ most_nodes) }
@@ -40,7 +40,7 @@ fn stmts_next(reader: &mut BodyReader<'_>, depth: u8, count: u8) -> Result<(), R
 // How many nodes the statements have is known behind them.
 #[cycle(stmts)]
 #[tactic(auto, using(crate::proofs::Flat::list_appended, crate::proofs::Flat::appended_longer))]
-fn list_next(reader: &mut BodyReader<'_>, depth: u8) -> Result<(), ReadFault>
+fn list_next(reader: &mut BodyReader<'_>, depth: u8) -> Result<(), DecodeFault>
     requires { reader.old.nodes ≤ most_nodes }
     ensures gives { Appends body_spelled (list_by (λ n rest. stmt_from depth n rest)) reader.old result reader.new }
     ensures few { OnOk result (reader.new.nodes ≤ most_nodes) }
@@ -57,7 +57,7 @@ fn list_next(reader: &mut BodyReader<'_>, depth: u8) -> Result<(), ReadFault>
 
 #[cycle(stmts)]
 #[tactic(auto, using(crate::proofs::Flat::if_appended))]
-fn if_next(reader: &mut BodyReader<'_>, depth: u8) -> Result<(), ReadFault>
+fn if_next(reader: &mut BodyReader<'_>, depth: u8) -> Result<(), DecodeFault>
     ensures gives { Appends stmt_spelled (if_from (λ n rest. cond_from depth n rest) (λ n rest. stmt_from depth n rest)) reader.old result reader.new }
     ensures few { OnOk result (reader.new.nodes ≤ most_nodes) }
 {
@@ -69,7 +69,7 @@ fn if_next(reader: &mut BodyReader<'_>, depth: u8) -> Result<(), ReadFault>
 
 #[cycle(stmts)]
 #[tactic(auto, using(crate::proofs::Trees::stmt_from_is, crate::proofs::Flat::stmt_level_appended))]
-fn stmt_next(reader: &mut BodyReader<'_>, depth: u8) -> Result<(), ReadFault>
+fn stmt_next(reader: &mut BodyReader<'_>, depth: u8) -> Result<(), DecodeFault>
     ensures gives { Appends stmt_spelled (λ n rest. stmt_from depth n rest) reader.old result reader.new }
     ensures few { OnOk result (reader.new.nodes ≤ most_nodes) }
 {
@@ -86,7 +86,7 @@ fn stmt_next(reader: &mut BodyReader<'_>, depth: u8) -> Result<(), ReadFault>
 const BODY_ROOM: usize = 16;
 
 #[tactic(auto, using(crate::proofs::Flat::body_found), unfolding(crate::specs::Trees::body_from))]
-pub fn body_of(alloc: Global, bytes: &[u8]) -> Result<(Body, &[u8]), ReadFault>
+pub fn body_of(alloc: Global, bytes: &[u8]) -> Result<(Body, &[u8]), DecodeFault>
     ensures { Gives (λ x. (x.0, x.1.now)) result (body_from bytes.now) }
 {
     let mut reader = BodyReader {

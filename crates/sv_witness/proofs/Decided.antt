@@ -23,7 +23,7 @@ use Rattle.sv_journal.specs.Answer.{Rules, refused_as, is_above, is_full, is_bad
 use Rattle.sv_journal.specs.Serving.{is_poll, with_last_rows, noted_after, polled_after}
 use Rattle.sv_core.specs.declared.decision.Decision.{Decision}
 use Rattle.sv_core.specs.declared.decision.Decision.TheVariants as decisions
-use Rattle.sv_core.specs.Decisions.{reply_by, results_in, IsOld, Holds}
+use Rattle.sv_core.specs.Decisions.{reply_by, results_in, IsOld, DecisionHolds}
 use Rattle.sv_core.proofs.Kept.{old-poll}
 use Rattle.law_system.proofs.Aligned.{is_submit}
 use Rattle.sv_witness.specs.Reports.{agreed_history, due_to}
@@ -122,10 +122,10 @@ module _ (r : Rules) (h : List Entry) (s : ℕ) (q : Request) (d : Decision) (mo
   -- ---- A Done is noted
 
   -- It is a Done, and not bad.
-  pub note-done : d ≡ decisions.Note → Holds r (agreed_history h) s q d → q ≡ requests.Done (results_in q)
-  note-done is holds = (subst (Holds r (agreed_history h) s q) is holds).0
+  pub note-done : d ≡ decisions.Note → DecisionHolds r (agreed_history h) s q d → q ≡ requests.Done (results_in q)
+  note-done is holds = (subst (DecisionHolds r (agreed_history h) s q) is holds).0
 
-  pub note-good : d ≡ decisions.Note → Holds r (agreed_history h) s q d → is_bad_done r (agreed_history h) s (results_in q) ≡ false
+  pub note-good : d ≡ decisions.Note → DecisionHolds r (agreed_history h) s q d → is_bad_done r (agreed_history h) s (results_in q) ≡ false
   note-good is holds =
       (noted-may r (agreed_history h) s (results_in q)
       (ap (λ (x : Request). is_noted (reply_to_request r (agreed_history h) s x)) (sym (note-done is holds))
@@ -174,7 +174,7 @@ module _ (r : Rules) (h : List Entry) (s : ℕ) (q : Request) (d : Decision) (mo
 
 -- ---- Other decisions
 
-is-plain : (r : Rules) (g : List Entry) (s : ℕ) (q : Request) (d : Decision) → (d ≡ decisions.Note → ⊥) → answers_poll q d ≡ false → Holds r g s q d → IsPlain q d
+is-plain : (r : Rules) (g : List Entry) (s : ℕ) (q : Request) (d : Decision) → (d ≡ decisions.Note → ⊥) → answers_poll q d ≡ false → DecisionHolds r g s q d → IsPlain q d
 is-plain r g s q decisions.Note other unasked holds = other refl
 is-plain r g s q decisions.Idle other unasked holds = true≢false unasked
 is-plain r g s q (decisions.Relay seq pos) other unasked holds = unasked
@@ -201,8 +201,8 @@ done-old g s results = record { accepts = accepts (client_of g s); outcomes = ou
     outcomes None k = refl
     outcomes (Some j) k = and-false (j == k)
 
-done-holds : (r : Rules) (g : List Entry) (s : ℕ) (results : List Done1) (d : Decision) → IsPlain (requests.Done results) d → Holds r g s (requests.Done results) d →
-    Holds r g s (requests.Done []) d
+done-holds : (r : Rules) (g : List Entry) (s : ℕ) (results : List Done1) (d : Decision) → IsPlain (requests.Done results) d → DecisionHolds r g s (requests.Done results) d →
+    DecisionHolds r g s (requests.Done []) d
 done-holds r g s results decisions.Note plain holds = absurd plain
 done-holds r g s results decisions.Idle plain holds = tt
 done-holds r g s results (decisions.Relay seq pos) plain holds = (done-old g s [], holds.1)
@@ -218,7 +218,7 @@ done-holds r g s results decisions.See plain holds = (done-old g s [], holds.1)
 done-holds r g s results decisions.Leave plain holds = tt
 
 -- They hold as well of a Done without its results.
-emptied-holds : (r : Rules) (g : List Entry) (s : ℕ) (q : Request) (d : Decision) → IsPlain q d → Holds r g s q d → Holds r g s (emptied q) d
+emptied-holds : (r : Rules) (g : List Entry) (s : ℕ) (q : Request) (d : Decision) → IsPlain q d → DecisionHolds r g s q d → DecisionHolds r g s (emptied q) d
 emptied-holds r g s (requests.Done results) d plain holds = done-holds r g s results d plain holds
 emptied-holds r g s (requests.Join client life interest) d plain holds = holds
 emptied-holds r g s (requests.Submit seq a) d plain holds = holds
@@ -255,12 +255,12 @@ emptied-reply r g s requests.Bad d plain = refl
 emptied-reply r g s requests.End d plain = refl
 
 module _ (r : Rules) (h : List Entry) (s : ℕ) (q : Request) (d : Decision) (more : is_end q ≡ false)
-    (told : reply_by r (agreed_history h) s q d ≡ reply_to_request r (agreed_history h) s q) (holds : Holds r (agreed_history h) s q d)
+    (told : reply_by r (agreed_history h) s q d ≡ reply_to_request r (agreed_history h) s q) (holds : DecisionHolds r (agreed_history h) s q d)
     (other : d ≡ decisions.Note → ⊥) (no_poll : answers_poll q d ≡ false) where
   plain : IsPlain q d
   plain = is-plain r (agreed_history h) s q d other no_poll holds
 
-  pub keep-holds : Holds r (agreed_history h) s (emptied q) d
+  pub keep-holds : DecisionHolds r (agreed_history h) s (emptied q) d
   keep-holds = emptied-holds r (agreed_history h) s q d plain holds
 
   same-reply : witnessed_reply r h s q ≡ reply_by r (agreed_history h) s q d
@@ -276,7 +276,7 @@ module _ (r : Rules) (h : List Entry) (s : ℕ) (q : Request) (d : Decision) (mo
 
 -- What is decided on a Poll that is not refused.
 module _ (r : Rules) (h : List Entry) (s : ℕ) where
-  due-holds : (ps : List ℕ) → due_to h s ≡ ps → Holds r (agreed_history h) s requests.Poll (first_relay ps)
+  due-holds : (ps : List ℕ) → due_to h s ≡ ps → DecisionHolds r (agreed_history h) s requests.Poll (first_relay ps)
   due-holds [] is = tt
   due-holds (p ∷ ps) is =
       let open_still = due-uncommitted h s p ps is in
@@ -287,10 +287,10 @@ module _ (r : Rules) (h : List Entry) (s : ℕ) where
   due-reply (p ∷ ps) is = sym (poll-some r h s p ps is)
 
   module _ (q : Request) (d : Decision) (poll : q ≡ requests.Poll) (is : d ≡ first_relay (due_to h s)) (reply : witnessed_reply r h s q ≡ polled_after agreed r h s) where
-    pub poll-holds : Holds r (agreed_history h) s (emptied q) d
+    pub poll-holds : DecisionHolds r (agreed_history h) s (emptied q) d
     poll-holds =
-        subst (λ (x : Decision). Holds r (agreed_history h) s (emptied q) x) (sym is)
-        (subst (λ (x : Request). Holds r (agreed_history h) s (emptied x) (first_relay (due_to h s))) (sym poll) (due-holds (due_to h s) refl))
+        subst (λ (x : Decision). DecisionHolds r (agreed_history h) s (emptied q) x) (sym is)
+        (subst (λ (x : Request). DecisionHolds r (agreed_history h) s (emptied x) (first_relay (due_to h s))) (sym poll) (due-holds (due_to h s) refl))
 
     pub poll-told : reply_by r (agreed_history h) s (emptied q) d ≡ witnessed_reply r h s q
     poll-told =

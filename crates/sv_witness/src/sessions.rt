@@ -21,10 +21,7 @@ impl Witness {
         requires { MayBeSession self.now.rules.sessions session }
         ensures { result ≡ is_ended (history self.now) session }
     {
-        self.core.is_ended(Seat {
-            slot: session,
-            session: session as u64,
-        })
+        self.core.is_ended(Seat::own(session))
     }
 
     /// The client of a session, once it has joined.
@@ -32,10 +29,7 @@ impl Witness {
         requires { MayBeSession self.now.rules.sessions session }
         ensures { result ≡ client_of (history self.now) session }
     {
-        self.core.client(Seat {
-            slot: session,
-            session: session as u64,
-        })
+        self.core.client(Seat::own(session))
     }
 
     /// How many actions were accepted.

@@ -10,7 +10,7 @@ ghost use Rattle.sv_journal.specs.Sessions.{is_end, is_ended};
 ghost use Rattle.sv_journal.specs.Answer.{MayBeSession, is_bad_done};
 ghost use Rattle.sv_journal.specs.Serving.{is_poll, noted_after, polled_after};
 ghost use Rattle.sv_core.specs.Cores.{core_rules, session_at, queue_of, Keeps};
-ghost use Rattle.sv_core.specs.Decisions.{Holds, reply_by, results_in};
+ghost use Rattle.sv_core.specs.Decisions.{DecisionHolds, reply_by, results_in};
 ghost use Rattle.sv_sequencer.specs.Entering.{EnteredReply, NothingEntered};
 ghost use Rattle.sv_journal.specs.History.{end_entry};
 ghost use Rattle.sv_sequencer.specs.Step.{history, GrewByEntry, Stayed};
@@ -102,7 +102,7 @@ fn enter_emptied(
     requires keeps { Keeps core.old h }
     requires seat { session_at core.old decided.session ≡ Some decided.session }
     requires more { is_end request ≡ false }
-    requires holds { Holds (core_rules core.old) h decided.session (emptied request) decided.decision }
+    requires holds { DecisionHolds (core_rules core.old) h decided.session (emptied request) decided.decision }
     ensures ok { IfOk result (EnteredReply core.old core.new journal.old journal.new h decided.session request (emptied request) decided.decision) }
     ensures err { OnErr result (NothingEntered core.old core.new journal.old journal.new h) }
 {
@@ -229,10 +229,7 @@ impl Witness {
         ensures ok { IfOk result (Witnesses self.old self.new session request) }
         ensures err { OnErr result (Stayed self.old self.new) }
     {
-        let seat = Seat {
-            slot: session,
-            session: session as u64,
-        };
+        let seat = Seat::own(session);
         let decision = self.core.decide(seat, &request);
         if let Decision::Note = decision {
             return self.note_results(session, request);
@@ -254,7 +251,7 @@ impl Witness {
         requires past { h ≡ history self.old }
         requires session { MayBeSession self.old.rules.sessions session }
         requires more { is_end request ≡ false }
-        requires holds { Holds self.old.rules (agreed_history h) session (emptied request) decision }
+        requires holds { DecisionHolds self.old.rules (agreed_history h) session (emptied request) decision }
         requires reply { reply_by self.old.rules (agreed_history h) session (emptied request) decision ≡ witnessed_reply self.old.rules h session request }
         requires quiet { is_noted (witnessed_reply self.old.rules h session request) ≡ false }
         ensures ok { IfOk result (Witnesses self.old self.new session request) }
@@ -279,10 +276,7 @@ impl Witness {
         ensures ok { IfOk result (Witnesses self.old self.new session request) }
         ensures err { OnErr result (Stayed self.old self.new) }
     {
-        let seat = Seat {
-            slot: session,
-            session: session as u64,
-        };
+        let seat = Seat::own(session);
         let Some(client) = self.core.client(seat) else {
             unreachable!();
         };
@@ -303,10 +297,7 @@ impl Witness {
         ensures ok { IfOk result (Witnesses self.old self.new session request) }
         ensures err { OnErr result (Stayed self.old self.new) }
     {
-        let seat = Seat {
-            slot: session,
-            session: session as u64,
-        };
+        let seat = Seat::own(session);
         let Some(client) = self.core.client(seat) else {
             unreachable!();
         };

@@ -1,62 +1,25 @@
 -- A world file that was read keeps the limits.
-use Rattle.std.proofs.Common.{◌≡◌, ℕ, ◌≤◌, ◌<◌, nat_le, nat_lt, ℤ, List, [], ◌∷◌, length, Option, Some, None, Result, Ok, Err, IfOk, IfSome, codes, refl, arith}
+use Rattle.std.proofs.Common.{◌≡◌, ℕ, ◌≤◌, ◌<◌, nat_le, nat_lt, List, [], ◌∷◌, length, Option, Some, None, Result, Ok, Err, IfOk, IfSome, codes, refl, arith}
 use Rattle.std.proofs.lemmas.Bool.{leb-true}
-use Rattle.std.proofs.lemmas.List.Elements.{All-from_recursion}
-use Rattle.std.specs.List.{AllByRecursion}
 use Rattle.std.specs.Str.{is_utf8}
 use Rattle.serde_json.specs.Data.{Data}
 use Rattle.serde_json.specs.Find.{get}
 use Rattle.sv_world.specs.declared.rights.NumberRange.{NumberRange}
 use Rattle.sv_world.specs.declared.rights.Right.{Right}
-use Rattle.sv_world.specs.declared.world.World.{World}
-use Rattle.sv_world.specs.Worlds.{IsGoodWorld}
 use Rattle.sv_scenario.specs.declared.fault.ReadFault.{ReadFault}
 use Rattle.sv_scenario.specs.declared.fault.ScenarioCause.TheVariants as causes
 use Rattle.sv_scenario.specs.Faults.{Read, ◌>>=◌, refuse, at_place, each, Gives}
 use Rattle.sv_scenario.specs.Keys.{keys_of, value_at, value_if}
-use Rattle.sv_scenario.specs.Numbers.{number_within, list_within, count_items, value_of}
+use Rattle.sv_scenario.specs.Numbers.{number_within, list_within, count_items}
 use Rattle.sv_scenario.specs.Objects.{not_below, next_object}
-use Rattle.sv_scenario.specs.Scenarios.{world_with, reach_of, value_in}
-use Rattle.sv_scenario.proofs.Kept.{value_ok, next_ok, just, either, IsReach, reach_ok}
+use Rattle.sv_scenario.specs.Scenarios.{world_of, reach_of, value_in}
+use Rattle.sv_scenario.proofs.Kept.{world_ok, next_ok, just, either, IsReach, reach_ok}
 use Rattle.sv_scenario.proofs.Parts.{bound, keyed_ok, chosen, at_key_of, at_key_if, number_ok, list_ok, all_ok}
 use Rattle.sv_worldfile.specs.declared.world_file.Results.TheVariants as results
 use Rattle.sv_worldfile.specs.declared.world_file.WorldFile.{WorldFile}
 use Rattle.sv_worldfile.specs.Limits.{IsGoodRange, IsGoodRight, AreGoodRights, IsGoodWorldFile}
 use Rattle.sv_worldfile.specs.Rights.{next_client, pair_of, clients_of, objects_of, right_of, rights_of}
-use Rattle.sv_worldfile.specs.WorldFiles.{values_of, world_of, results_of, world_file_in, world_file_of}
-
--- ---- the world
-
-values_ok : (attrs : ℕ) (d : Data) (vs : List (List ℤ)) → values_of attrs d ≡ Ok vs → AllByRecursion (λ v. length v ≡ attrs) vs × (1 ≤ length vs) × (length vs ≤ 65535)
-unfolding values_of
-values_ok attrs d vs is =
-    let p = bound (list_within 1 65535 d) (each (value_of attrs) []) vs is in
-    let r = all_ok (value_of attrs) (λ v. length v ≡ attrs) (value_ok attrs) p.0 vs p.2 in
-    let size = list_ok 1 65535 d p.0 p.1 in
-    let count : length vs ≡ count_items p.0 = r.1 in
-    let low : 1 ≤ count_items p.0 = size.0 in
-    let high : count_items p.0 ≤ 65535 = size.1 in
-    (r.0, omega arith, omega arith)
-
-good_world : (attrs : ℕ) (values : List (List ℤ)) → 1 ≤ attrs → attrs ≤ 4 → AllByRecursion (λ v. length v ≡ attrs) values → 1 ≤ length values → length values ≤ 65535
-    → IsGoodWorld (world_with attrs values)
-good_world attrs values some few all some_values few_values =
-    record {
-      shape = record { some_objects = some_values; few_objects = few_values; some_attrs = some; few_attrs = few };
-      objects = refl;
-      attrs = All-from_recursion (λ (v : List ℤ). length v ≡ attrs) values all;
-    }
-
-world_ok : (d : Data) (w : World) → world_of d ≡ Ok w → IsGoodWorld w
-unfolding world_of
-world_ok d w is =
-    let p = bound (value_at (codes "attrs") (number_within 1 4) d) (λ attrs. value_at (codes "objects") (values_of attrs) d >>= λ values. Ok (world_with attrs values)) w is in
-    let q = bound (value_at (codes "objects") (values_of p.0) d) (λ values. Ok (world_with p.0 values)) w p.2 in
-    let a = at_key_of (codes "attrs") (number_within 1 4) d p.0 p.1 in
-    let v = at_key_of (codes "objects") (values_of p.0) d q.0 q.1 in
-    let n = number_ok 1 4 a.0 p.0 a.1 in
-    let m = values_ok p.0 v.0 q.0 v.1 in
-    just IsGoodWorld w (world_with p.0 q.0) (good_world p.0 q.0 n.0 n.1 m.0 m.1 m.2) q.2
+use Rattle.sv_worldfile.specs.WorldFiles.{results_of, world_file_in, world_file_of}
 
 -- ---- rights
 
@@ -119,7 +82,7 @@ file_ok : (d : Data) (f : WorldFile) → world_file_in d ≡ Ok f → IsGoodWorl
 unfolding world_file_in
 file_ok d f is =
     let k = bound (keys_of (codes "attrs" ∷ codes "objects" ∷ codes "bound" ∷ []) (codes "reach" ∷ codes "rights" ∷ codes "results" ∷ []) d) _ f is in
-    let w = bound (world_of d) _ f k.2 in
+    let w = bound (world_of 65535 d) _ f k.2 in
     let b = bound (value_at (codes "bound") (number_within 0 32) d) _ f w.2 in
     let r = bound (value_if (codes "reach") None reach_of d) _ f b.2 in
     let s = bound (value_if (codes "rights") None (rights_of w.0.shape.objects) d) _ f r.2 in
@@ -127,7 +90,7 @@ file_ok d f is =
     let bv = at_key_of (codes "bound") (number_within 0 32) d b.0 b.1 in
     just IsGoodWorldFile f (record { world = w.0; bound = b.0; reach = r.0; rights = s.0; results = t.0 })
     (record {
-      world = world_ok d w.0 w.1;
+      world = (world_ok 65535 (omega arith) d w.0 w.1).0;
       bound = (number_ok 0 32 bv.0 b.0 bv.1).1;
       reach = at_key_if (codes "reach") None reach_of (get (codes "reach") d) r.0 IsReach tt (λ e h. reach_ok e r.0 h) r.1;
       rights = at_key_if (codes "rights") None (rights_of w.0.shape.objects) (get (codes "rights") d) s.0 (AreRights w.0.shape.objects) tt (λ e h. rights_ok w.0.shape.objects e s.0 h) s.1;

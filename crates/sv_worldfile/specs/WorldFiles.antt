@@ -1,29 +1,18 @@
 -- What a world file says, or its first fault.
-use Rattle.std.specs.Prelude.{ℕ, ℤ, cond, nat_lt, List, [], ◌∷◌, length, None, Ok, codes}
+use Rattle.std.specs.Prelude.{ℕ, cond, nat_lt, List, [], ◌∷◌, length, None, Ok, codes}
 use Rattle.std.specs.Str.{bytes_eq, is_utf8}
 use Rattle.serde_json.specs.Data.{Data}
 use Rattle.serde_json.specs.Find.{as_str}
-use Rattle.sv_world.specs.declared.world.World.{World}
-use Rattle.sv_world.specs.Limits.{most_objects, most_attrs, most_bound}
+use Rattle.sv_world.specs.Limits.{most_objects, most_bound}
 use Rattle.sv_scenario.specs.declared.fault.ScenarioCause.TheVariants as causes
-use Rattle.sv_scenario.specs.Faults.{Read, ◌>>=◌, refuse, given, each}
+use Rattle.sv_scenario.specs.Faults.{Read, ◌>>=◌, refuse, given}
 use Rattle.sv_scenario.specs.Keys.{keys_of, value_at, value_if}
-use Rattle.sv_scenario.specs.Numbers.{number_within, list_within, value_of}
-use Rattle.sv_scenario.specs.Scenarios.{world_with, reach_of, value_in}
+use Rattle.sv_scenario.specs.Numbers.{number_within}
+use Rattle.sv_scenario.specs.Scenarios.{world_of, reach_of, value_in}
 use Rattle.sv_worldfile.specs.declared.world_file.Results.{Results}
 use Rattle.sv_worldfile.specs.declared.world_file.Results.TheVariants as results
 use Rattle.sv_worldfile.specs.declared.world_file.WorldFile.{WorldFile}
 use Rattle.sv_worldfile.specs.Rights.{rights_of}
-
--- The values of all objects, of which there may be more than in a scenario.
-unfoldable pub values_of : ℕ → Data → Read (List (List ℤ))
-values_of attrs d = list_within 1 most_objects d >>= each (value_of attrs) []
-
-unfoldable pub world_of : Data → Read World
-world_of d = do
-  attrs ← value_at (codes "attrs") (number_within 1 most_attrs) d
-  values ← value_at (codes "objects") (values_of attrs) d
-  Ok (world_with attrs values)
 
 abbrev pub results_by : List ℕ → Read Results
 results_by word =
@@ -39,7 +28,7 @@ results_of d = given causes.Kind (as_str d) >>= results_by
 unfoldable pub world_file_in : Data → Read WorldFile
 world_file_in d = do
   _ ← keys_of (codes "attrs" ∷ codes "objects" ∷ codes "bound" ∷ []) (codes "reach" ∷ codes "rights" ∷ codes "results" ∷ []) d
-  world ← world_of d
+  world ← world_of most_objects d
   bound ← value_at (codes "bound") (number_within 0 most_bound) d
   reach ← value_if (codes "reach") None reach_of d
   rights ← value_if (codes "rights") None (rights_of world.shape.objects) d

@@ -1,60 +1,23 @@
 //! From the bytes of a file to what they say.
 
-ghost use Rattle.std.specs.Prelude.{◌≡◌, ◌≤◌, codes, vec_len, IfOk, None};
+ghost use Rattle.std.specs.Prelude.{◌≡◌, codes, IfOk, None};
 ghost use Rattle.serde_json.specs.View.{view};
-ghost use Rattle.sv_world.specs.Limits.{most_objects};
 ghost use Rattle.sv_scenario.specs.Faults.{Gives};
-ghost use Rattle.sv_scenario.specs.Keys.{value_at, value_if};
+ghost use Rattle.sv_scenario.specs.Keys.{value_if};
 ghost use Rattle.sv_worldfile.specs.Limits.{IsGoodWorldFile};
 ghost use Rattle.sv_worldfile.specs.Rights.{rights_of};
-ghost use Rattle.sv_worldfile.specs.WorldFiles.{values_of, world_of, results_by, results_of, world_file_in, world_file_of};
+ghost use Rattle.sv_worldfile.specs.WorldFiles.{results_by, results_of, world_file_in, world_file_of};
 
 use crate::rights::rights_of;
 use crate::{ReadFault, Results, ScenarioCause, WorldFile};
 use serde_json::Value;
 use std::alloc::Global;
 use sv_lists::List;
-use sv_scenario::{
-    at_key, each_value, keys_of, list_within, needed, number_of_key, reach_in, refuse, value_in,
-};
-use sv_world::{MOST_ATTRS, MOST_BOUND, MOST_OBJECTS, Right, Shape, Value as ObjectValue, World};
+use sv_scenario::{at_key, keys_of, number_of_key, reach_in, refuse, value_in, world_of};
+use sv_world::{MOST_BOUND, MOST_OBJECTS, Right};
 
 /// The bytes that a file may have.
 pub const MOST_BYTES: usize = 16_777_216;
-
-/// The values of all objects, each of so many numbers.
-#[tactic(auto, unfolding(crate::specs::WorldFiles::values_of))]
-fn values_of(alloc: Global, attrs: u32, value: &Value) -> Result<Vec<ObjectValue>, ReadFault>
-    ensures reads { Gives (λ v. v.items) result (values_of attrs (view value.now)) }
-    ensures count { IfOk result (λ v. vec_len v ≤ most_objects) }
-{
-    let values = list_within(alloc, 1, MOST_OBJECTS as usize, value)?;
-    each_value(alloc, attrs, values)
-}
-
-fn values_in(alloc: Global, attrs: u32, value: &Value) -> Result<Vec<ObjectValue>, ReadFault>
-    ensures reads { Gives (λ v. v.items) result (value_at (codes "objects") (values_of attrs) (view value.now)) }
-    ensures count { IfOk result (λ v. vec_len v ≤ most_objects) }
-{
-    let values = needed(alloc, "objects", value)?;
-    at_key(alloc, "objects", values_of(alloc, attrs, values))
-}
-
-#[tactic(auto, unfolding(crate::specs::WorldFiles::world_of))]
-fn world_of(alloc: Global, value: &Value) -> Result<World, ReadFault>
-    ensures { Gives (λ w. w) result (world_of (view value.now)) }
-{
-    let attrs = number_of_key(alloc, "attrs", 1, MOST_ATTRS as u32, value)?;
-    let values = values_in(alloc, attrs, value)?;
-    let shape = Shape {
-        objects: values.len() as u16,
-        attrs: attrs as u8,
-    };
-    Ok(World {
-        shape,
-        values: List::from_vec(values),
-    })
-}
 
 fn rights_in(alloc: Global, objects: u16, value: &Value) -> Result<Option<List<Right>>, ReadFault>
     ensures { Gives (λ r. r) result (value_if (codes "rights") None (rights_of objects) (view value.now)) }
@@ -106,7 +69,7 @@ fn world_file_in(alloc: Global, value: &Value) -> Result<WorldFile, ReadFault>
         &["reach", "rights", "results"],
         value,
     )?;
-    let world = world_of(alloc, value)?;
+    let world = world_of(alloc, MOST_OBJECTS, value)?;
     let bound = number_of_key(alloc, "bound", 0, MOST_BOUND as u32, value)?;
     let reach = reach_in(alloc, value)?;
     let rights = rights_in(alloc, world.shape.objects, value)?;

@@ -3,7 +3,7 @@
 use std::alloc::{AllocError, Global};
 use std::process::Abort;
 use std::test::Fail;
-use sv_log::{MemFolder, Reading, Refusal, read_log, sum_line};
+use sv_log::{LogRefusal, MemFolder, Reading, read_log, sum_line};
 
 const WORLD: &str = "{\"attrs\":1,\"objects\":[[1]],\"bound\":4}";
 
@@ -35,7 +35,7 @@ fn state_of(alloc: Global, front: &str) -> Result<String, AllocError> {
     Ok(bytes)
 }
 
-fn read(alloc: Global, mut folder: MemFolder) -> Result<Reading, Refusal> {
+fn read(alloc: Global, mut folder: MemFolder) -> Result<Reading, LogRefusal> {
     read_log(alloc, &mut folder, WORLD.as_bytes())
 }
 

@@ -6,7 +6,7 @@ ghost use Rattle.sv_log.specs.Rests.{IsAtRest};
 use std::alloc::{AllocError, Global};
 use std::process::Abort;
 use std::test::Fail;
-use sv_log::{Cause, Folder, Loss, MemFolder, Refusal, open_log, read_log};
+use sv_log::{Cause, Folder, LogRefusal, Loss, MemFolder, open_log, read_log};
 
 const SPARE: usize = 8;
 
@@ -248,7 +248,7 @@ fn folder_of(alloc: Global, files: &[Stored]) -> Result<MemFolder, AllocError>
     folder.crashed(0, Loss::Nothing)
 }
 
-fn is_told(rt: &impl Abort, row: &Row, refusal: &Refusal) {
+fn is_told(rt: &impl Abort, row: &Row, refusal: &LogRefusal) {
     let file = row.file;
     assert!(rt; refusal.file.as_str() == file, "the file of {file}");
     assert!(rt; refusal.line == row.line, "the line of {file}");

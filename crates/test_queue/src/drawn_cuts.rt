@@ -9,7 +9,7 @@ use std::alloc::{AllocError, Global};
 use std::marker::Brand;
 use std::sync::ledger::{Blank, Ledger};
 use std::test::Fail;
-use sv_influence::{Closure, Cut, closure, plain_closure};
+use sv_influence::{Closure, ConsistentCut, closure, plain_closure};
 use sv_lists::List;
 use sv_queue::{Queue, Steps};
 use sv_world::ObjectId;
@@ -74,7 +74,7 @@ fn is_plain<L: Ledger>(
     queue: &mut Queue,
     session: u16,
     objects: u64,
-    cut: &Cut,
+    cut: &ConsistentCut,
     steps: &mut Steps<L>,
 ) -> Result<bool, AllocError> {
     let Some(plain) = plain(alloc, queue, session, objects, steps)? else {
@@ -109,7 +109,7 @@ fn agrees<L: Ledger>(
     queue: &mut Queue,
     session: u16,
     objects: u64,
-    cut: &Cut,
+    cut: &ConsistentCut,
     steps: &mut Steps<L>,
 ) -> Result<bool, AllocError> {
     let above = queue.last().saturating_sub(cut.last);

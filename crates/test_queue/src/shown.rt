@@ -8,7 +8,7 @@ ghost use Rattle.sv_influence.specs.Lacking.{MarksAreClosed};
 
 use std::alloc::{AllocError, Global};
 use std::sync::ledger::Ledger;
-use sv_influence::{Cut, cut};
+use sv_influence::{ConsistentCut, cut};
 use sv_queue::{Queue, Steps};
 use sv_world::{ObjectId, may_be_observed};
 
@@ -47,7 +47,7 @@ fn cut_of_many<L: Ledger>(
     session: u16,
     objects: &[ObjectId],
     steps: &mut Steps<L>,
-) -> Result<Cut, AllocError>
+) -> Result<ConsistentCut, AllocError>
     requires objects { may_be_observed queue.now.shape.objects (numbers_of objects.now) ≡ true }
     requires marks { MarksAreClosed queue.now session }
     requires room { last_position queue.now < 2 ^ 32 - 1 }
@@ -63,7 +63,7 @@ pub fn cut_of<L: Ledger>(
     session: u16,
     objects: &[ObjectId],
     steps: &mut Steps<L>,
-) -> Result<Option<Cut>, AllocError> {
+) -> Result<Option<ConsistentCut>, AllocError> {
     if queue.last() == u32::MAX
         || !may_be_observed(queue.shape().objects, objects)
         || !has_closed_marks(queue, session, steps)

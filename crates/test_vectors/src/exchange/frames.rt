@@ -1,7 +1,7 @@
 //! Tests of frames on a stream, however it is cut.
 use std::process::Abort;
 use std::test::Fail;
-use sv_frame::{FrameReader, GREATEST_FRAME, Next, put_frame};
+use sv_frame::{FrameReader, GREATEST_FRAME, NextFrame, put_frame};
 
 /// Gives the reader a piece, and takes the payloads that are due as far as they have come. Answers how many have come
 /// since the stream began.
@@ -15,7 +15,7 @@ fn read_piece(
     assert!(rt; piece.len() <= reader.spare());
     reader.feed(piece);
     for at in come..due.len() {
-        if reader.next() != Next::Frame(due[at]) {
+        if reader.next() != NextFrame::Frame(due[at]) {
             return at;
         }
     }
@@ -29,7 +29,7 @@ fn read_cut(rt: &impl Abort, reader: &mut FrameReader, stream: &[u8], due: &[&[u
         let come = read_piece(rt, reader, first, due, 0);
         let come = read_piece(rt, reader, second, due, come);
         assert!(rt; come == due.len());
-        assert!(rt; reader.next() == Next::NotYet);
+        assert!(rt; reader.next() == NextFrame::NotYet);
         assert!(rt; reader.spare() == GREATEST_FRAME);
     }
 }
@@ -78,9 +78,9 @@ fn too_long_for_good(rt: HostRuntime) -> Result<(), Fail> {
         let come = read_piece(&rt, &mut reader, first, &[&[4]], 0);
         let come = read_piece(&rt, &mut reader, second, &[&[4]], come);
         assert!(rt; come == 1);
-        assert!(rt; reader.next() == Next::TooLong(65_537));
+        assert!(rt; reader.next() == NextFrame::TooLong(65_537));
         read_piece(&rt, &mut reader, &[0, 0, 0, 0], &[], 0);
-        assert!(rt; reader.next() == Next::TooLong(65_537));
+        assert!(rt; reader.next() == NextFrame::TooLong(65_537));
     }
     Ok(())
 }

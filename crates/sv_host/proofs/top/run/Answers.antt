@@ -26,14 +26,14 @@ returns-clause-why g c =
 
 pub returns-clause-apart : goal.returns-clause-apart
 returns-clause-apart g c =
-    err_as c.serve_prepared.result (λ e why early. absurd (late _ _ _ _ _ _ _ g.S.F.Folder.faults (g.S.Folders.refuses c.args.place.now.folders.now) (g.D.Doors.refuses c.args.place.now.doors.now) e why early))
+    err_as c.serve_prepared.result (λ e why early. absurd (late _ _ _ _ _ _ _ g.S.F.Folder.faults (g.S.Folders.refuses c.args.parts.now.folders.now) (g.D.Doors.refuses c.args.parts.now.doors.now) e why early))
     (c.serve_prepared.ensures.why _ c.in_ok-prepared.ensures.read
     (are_read (asked_by c.args.options.now).keys c.in_ok-keys.keys c.in_ok-staff.staff.keys c.prepared_of.ensures.same c.keys_of.ensures.same
     c.in_ok-keys.ensures.keys c.in_ok-staff.ensures.keys))
 
 pub returns-clause-quiet : goal.returns-clause-quiet
 returns-clause-quiet g c =
-    err_as c.serve_prepared.result (λ e why early. absurd (late _ _ _ _ _ _ _ g.S.F.Folder.faults (g.S.Folders.refuses c.args.place.now.folders.now) (g.D.Doors.refuses c.args.place.now.doors.now) e why early))
+    err_as c.serve_prepared.result (λ e why early. absurd (late _ _ _ _ _ _ _ g.S.F.Folder.faults (g.S.Folders.refuses c.args.parts.now.folders.now) (g.D.Doors.refuses c.args.parts.now.doors.now) e why early))
     (c.serve_prepared.ensures.why _ c.in_ok-prepared.ensures.read
     (are_read (asked_by c.args.options.now).keys c.in_ok-keys.keys c.in_ok-staff.staff.keys c.prepared_of.ensures.same c.keys_of.ensures.same
     c.in_ok-keys.ensures.keys c.in_ok-staff.ensures.keys))

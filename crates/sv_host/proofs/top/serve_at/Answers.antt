@@ -15,7 +15,7 @@ returns-clause-sent g c = wrote_since _ _ c.begin.ensures.goes c.serve_between.e
 
 pub returns-in_err-halted-clause-joins : goal.returns-in_err-halted-clause-joins
 returns-in_err-halted-clause-joins g c =
-    (lets_steward (g.L.Files.contents c.args.place.now.files.now) c.begin.ensures.keys c.begin.ensures.joins).join
+    (lets_steward (g.L.Files.contents c.args.parts.now.files.now) c.begin.ensures.keys c.begin.ensures.joins).join
 
 pub returns-in-Err-clause-joins : goal.returns-in-Err-clause-joins
-returns-in-Err-clause-joins g c = (lets_steward (g.L.Files.contents c.args.place.now.files.now) c.begin.ensures.keys c.begin.ensures.joins).join
+returns-in-Err-clause-joins g c = (lets_steward (g.L.Files.contents c.args.parts.now.files.now) c.begin.ensures.keys c.begin.ensures.joins).join

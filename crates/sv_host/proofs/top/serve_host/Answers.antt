@@ -12,6 +12,6 @@ returns-clause-done g c named held = record {
   begun = λ fresh. begun_since c.requires.order c.requires.ended (c.in_ok-serve_at.ensures.last fresh);
   asked = c.in_ok-serve_at.ensures.asked;
   folder = c.in_ok-folder.ensures;
-  entries = c.entries.ensures c.in_ok-serve_at.ensures.done.settled.sound;
+  entries = c.entries.ensures c.in_ok-serve_at.ensures.done.durable.sound;
   commit = c.commit.ensures;
 }

@@ -11,5 +11,5 @@ host_of-host-requires-clause-trusted g c = trusted_at_first c.args.keeper c.args
 pub returns-clause-broke : goal.returns-clause-broke
 returns-clause-broke g c named held =
     broke_of _ _ c.args.keeper _ _ c.host_of-host.ensures.keeper c.serve_host-served.ensures.goes
-    (c.serve_host-served.ensures.joins.added named (subst (AreHeldFor (g.L.Files.contents c.args.place.now.files.now) named) (sym c.host_of-host.ensures.keys) held))
+    (c.serve_host-served.ensures.joins.added named (subst (AreHeldFor (g.L.Files.contents c.args.parts.now.files.now) named) (sym c.host_of-host.ensures.keys) held))
     c.is_lawful-2.ensures.legal c.is_lawful-2.ensures.order c.serve_host-served.ensures.sent c.is_lawful.ensures.order c.requires.ended

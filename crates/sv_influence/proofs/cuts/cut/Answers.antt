@@ -2,7 +2,7 @@
 use Rattle.std.proofs.Common.{◌≡◌, ℕ, List, ◌∙◌, ap, subst, arith}
 use Rattle.std.specs.Prelude.{IfOk}
 use Rattle.sv_world.specs.Sets.{numbers_of}
-use Rattle.sv_influence.specs.declared.answers.Cut.{Cut}
+use Rattle.sv_influence.specs.declared.answers.ConsistentCut.{ConsistentCut}
 use Rattle.sv_influence.specs.Lacking.{lacking_to_see, bases_to_see}
 use Rattle.sv_influence.proofs.Sights.{bases-low, bases_to_see-all, see-last, latest-bounds, latest-few}
 use Rattle.sv_influence.proofs.cuts.cut.Goals as goal
@@ -16,7 +16,7 @@ cut_at-requires g c =
 pub returns-in-Some-clause-last : goal.returns-in-Some-clause-last
 returns-in-Some-clause-last g c =
     let e = see-last c.args.queue.now c.args.slot c.last-last.result (numbers_of c.args.objects.now) c.last-last.ensures (rw c.in-Some.is at c.in_ok-found.ensures.few) in
-    subst (λ (n : ℕ). IfOk c.cut_at.result (λ (r : Cut). r.last ≡ n)) e c.cut_at.ensures.last
+    subst (λ (n : ℕ). IfOk c.cut_at.result (λ (r : ConsistentCut). r.last ≡ n)) e c.cut_at.ensures.last
 
 pub returns-in-Some-clause-items : goal.returns-in-Some-clause-items
 returns-in-Some-clause-items g c =
@@ -24,7 +24,7 @@ returns-in-Some-clause-items g c =
     let xs = numbers_of c.args.objects.now in
     let e = see-last v c.args.slot c.last-last.result xs c.last-last.ensures (rw c.in-Some.is at c.in_ok-found.ensures.few) in
     let items = rw c.in-Some.is at c.in_ok-found.ensures.items in
-    subst (λ (ks : List ℕ). IfOk c.cut_at.result (λ (r : Cut). r.items ≡ ks)) (items ∙ ap (lacking_to_see v c.args.slot xs) e) c.cut_at.ensures.items
+    subst (λ (ks : List ℕ). IfOk c.cut_at.result (λ (r : ConsistentCut). r.items ≡ ks)) (items ∙ ap (lacking_to_see v c.args.slot xs) e) c.cut_at.ensures.items
 
 pub returns-in-Some-clause-head : goal.returns-in-Some-clause-head
 returns-in-Some-clause-head g c =
@@ -32,7 +32,7 @@ returns-in-Some-clause-head g c =
     let xs = numbers_of c.args.objects.now in
     let e = see-last v c.args.slot c.last-last.result xs c.last-last.ensures (rw c.in-Some.is at c.in_ok-found.ensures.few) in
     let bases = rw c.in-Some.is at c.in_ok-found.ensures.bases in
-    subst (λ (ks : List ℕ). IfOk c.cut_at.result (λ (r : Cut). numbers_of r.head ≡ ks))
+    subst (λ (ks : List ℕ). IfOk c.cut_at.result (λ (r : ConsistentCut). numbers_of r.head ≡ ks))
     (bases_to_see-all v c.args.slot c.last-last.result xs c.in-Some.found.bases c.cut_at.ensures.ascending bases ∙ ap (bases_to_see v c.args.slot xs) e) c.cut_at.ensures.head
 
 -- ---- at the position that was found
@@ -56,6 +56,6 @@ returns-clause-head g c =
     let xs = numbers_of c.args.objects.now in
     let e = c.in_ok-last.ensures.greatest in
     let bases = rw c.in-Some-2.is at c.in_ok-found-2.ensures.bases in
-    subst (λ (ks : List ℕ). IfOk c.cut_at-in-Some-2.result (λ (r : Cut). numbers_of r.head ≡ ks))
+    subst (λ (ks : List ℕ). IfOk c.cut_at-in-Some-2.result (λ (r : ConsistentCut). numbers_of r.head ≡ ks))
     (bases_to_see-all v c.args.slot c.in_ok-last.last xs c.in-Some-2.found.bases c.cut_at-in-Some-2.ensures.ascending bases ∙ ap (bases_to_see v c.args.slot xs) e)
     c.cut_at-in-Some-2.ensures.head

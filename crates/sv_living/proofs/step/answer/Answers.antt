@@ -4,7 +4,7 @@ use Rattle.sv_wire.specs.declared.message.Request.{Request}
 use Rattle.sv_journal.specs.Sessions.{is_end}
 use Rattle.sv_journal.specs.Living.{heeded}
 use Rattle.sv_core.specs.Cores.{core_rules, CarriedOut}
-use Rattle.sv_core.specs.Decisions.{Holds}
+use Rattle.sv_core.specs.Decisions.{DecisionHolds}
 use Rattle.sv_living.specs.Keeping.{CarriedOn}
 use Rattle.sv_living.proofs.Standing.{silenced, heard-whole, carried-on}
 use Rattle.sv_living.proofs.Told.{if-ok}
@@ -18,7 +18,7 @@ carry_out-answer-requires g c =
         c.requires.1.1.0,
         (
           ap is_end c.silent-heard.ensures,
-          subst (λ (x : Request). Holds (core_rules c.args.core.now) (heeded g.g.w g.g.h) s x c.decide-decision.result)
+          subst (λ (x : Request). DecisionHolds (core_rules c.args.core.now) (heeded g.g.w g.g.h) s x c.decide-decision.result)
               (silenced g.g.w g.g.h s c.args.request.now c.silent-heard.result c.silent-heard.ensures (sym c.is_silent.ensures ∙ c.if-is_silent.true)) c.decide-decision.ensures.holds,
         ),
       ),
@@ -42,7 +42,7 @@ carry_out-requires g c = (
     c.requires.1.1.0,
     (
       c.requires.1.1.1,
-      subst (λ (x : Request). Holds (core_rules c.args.core.now) (heeded g.g.w g.g.h) c.args.seat.session x c.decide-decision.result)
+      subst (λ (x : Request). DecisionHolds (core_rules c.args.core.now) (heeded g.g.w g.g.h) c.args.seat.session x c.decide-decision.result)
           (heard-whole g.g.w g.g.h c.args.seat.session c.args.request.now (sym c.is_silent.ensures ∙ c.if-is_silent.false)) c.decide-decision.ensures.holds,
     ),
   ),

@@ -1,7 +1,7 @@
 -- What is proved by hand of `clear_behind`.
 use Rattle.std.proofs.Common.{◌≡◌, ◌∙◌, ◌-◌, true, ℕ, List, length, sym, subst}
 use Rattle.std.proofs.lemmas.List.{length-replicate}
-use Rattle.sv_log.specs.Pictures.{seen, noted, Write, Sync, Makes, HasRoom}
+use Rattle.sv_log.specs.Pictures.{seen, noted, Write, Sync, Makes, FileHasRoom}
 use Rattle.sv_log.proofs.Mended.{calm_tells, clear_only, clear_sync_only, clear_room, clear_stands, clear_rest, clear_others, on_made}
 use Rattle.sv_log.proofs.mending.clear_behind.Goals as goal
 
@@ -9,8 +9,8 @@ pub write_at-requires : goal.write_at-requires
 write_at-requires g c = record {
   within = λ h.
       let room = clear_room (g.F.Folder.disk c.args.folder.now) c.args.name.now c.args.bytes.now c.args.end (c.requires.rest h) (c.requires.file h) c.requires.text c.requires.within in
-      subst (λ (w : List ℕ). HasRoom (seen (g.F.Folder.disk c.args.folder.now)) c.args.name.now c.args.end (length w)) (sym (c.as_slice.ensures.value ∙ c.in_ok-zeros.ensures.zeros))
-      (subst (λ (k : ℕ). HasRoom (seen (g.F.Folder.disk c.args.folder.now)) c.args.name.now c.args.end k) (sym (length-replicate {A = ℕ} (length c.args.bytes.now - c.args.end) 0)) room);
+      subst (λ (w : List ℕ). FileHasRoom (seen (g.F.Folder.disk c.args.folder.now)) c.args.name.now c.args.end (length w)) (sym (c.as_slice.ensures.value ∙ c.in_ok-zeros.ensures.zeros))
+      (subst (λ (k : ℕ). FileHasRoom (seen (g.F.Folder.disk c.args.folder.now)) c.args.name.now c.args.end k) (sym (length-replicate {A = ℕ} (length c.args.bytes.now - c.args.end) 0)) room);
 }
 
 pub returns-in_err-zeros-clause-any_moment : goal.returns-in_err-zeros-clause-any_moment

@@ -3,7 +3,7 @@ use Rattle.std.proofs.Common.{rules, ◌≡◌, ℕ, List, inr, subst, refl}
 use Rattle.sv_log.specs.Pictures.{seen}
 use Rattle.sv_log.specs.Rests.{IsPut}
 use Rattle.sv_log.specs.Names.{rest_name, new_name}
-use Rattle.sv_log.specs.Chains.{Holds}
+use Rattle.sv_log.specs.Chains.{HasLog}
 use Rattle.sv_log.proofs.Moments.{weaker_only, same_only}
 use Rattle.sv_log.proofs.Quiet.{same_log_same, same_same_log, holds_same, rest_put_same}
 use Rattle.sv_log.proofs.opening.keep_rest.Goals as goal
@@ -13,12 +13,12 @@ returns-then-is_empty-clause-same g c = λ h. same_log_same (seen (g.F.Folder.di
 
 pub returns-then-is_empty-clause-any_moment : goal.returns-then-is_empty-clause-any_moment
 returns-then-is_empty-clause-any_moment g c = λ h world state text holds.
-    same_only (g.F.Folder.disk c.args.folder.now) (g.F.Folder.disk c.args.folder.now) (Holds world state text) refl
+    same_only (g.F.Folder.disk c.args.folder.now) (g.F.Folder.disk c.args.folder.now) (HasLog world state text) refl
     (λ p left. holds_same p (seen (g.F.Folder.disk c.args.folder.now)) (same_same_log p (seen (g.F.Folder.disk c.args.folder.now)) ((c.requires.rest h).only p left)) world state text holds)
 
 pub returns-in_default-clause-any_moment : goal.returns-in_default-clause-any_moment
 returns-in_default-clause-any_moment g c = λ h world state text holds.
-    same_only (g.F.Folder.disk c.args.folder.now) (g.F.Folder.disk c.args.folder.now) (Holds world state text) refl
+    same_only (g.F.Folder.disk c.args.folder.now) (g.F.Folder.disk c.args.folder.now) (HasLog world state text) refl
     (λ p left. holds_same p (seen (g.F.Folder.disk c.args.folder.now)) (same_same_log p (seen (g.F.Folder.disk c.args.folder.now)) ((c.requires.rest h).only p left)) world state text holds)
 
 pub returns-in_err-put_whole-clause-any_moment : goal.returns-in_err-put_whole-clause-any_moment
@@ -26,7 +26,7 @@ returns-in_err-put_whole-clause-any_moment g c = λ h world state text holds.
     let p = seen (g.F.Folder.disk c.args.folder.now) in
     let bytes = c.rest_of-rest.result.now in
     let called : c.as_str.result.now ≡ rest_name c.args.next = search rules in
-    weaker_only (g.F.Folder.disk c.args.folder.now) (g.F.Folder.disk c.put_whole.new.folder) (IsPut new_name c.as_str.result.now bytes p) (Holds world state text)
+    weaker_only (g.F.Folder.disk c.args.folder.now) (g.F.Folder.disk c.put_whole.new.folder) (IsPut new_name c.as_str.result.now bytes p) (HasLog world state text)
     (λ d is. holds_same d p (rest_put_same p d c.args.next bytes (subst (λ (n : List ℕ). IsPut new_name n bytes p d) called is)) world state text holds)
     (c.put_whole.ensures.any_moment h)
 
@@ -35,7 +35,7 @@ returns-clause-any_moment g c = λ h world state text holds.
     let p = seen (g.F.Folder.disk c.args.folder.now) in
     let bytes = c.rest_of-rest.result.now in
     let called : c.as_str.result.now ≡ rest_name c.args.next = search rules in
-    weaker_only (g.F.Folder.disk c.args.folder.now) (g.F.Folder.disk c.put_whole.new.folder) (IsPut new_name c.as_str.result.now bytes p) (Holds world state text)
+    weaker_only (g.F.Folder.disk c.args.folder.now) (g.F.Folder.disk c.put_whole.new.folder) (IsPut new_name c.as_str.result.now bytes p) (HasLog world state text)
     (λ d is. holds_same d p (rest_put_same p d c.args.next bytes (subst (λ (n : List ℕ). IsPut new_name n bytes p d) called is)) world state text holds)
     (c.put_whole.ensures.any_moment h)
 

@@ -2,7 +2,7 @@
 use Rattle.std.proofs.Common.{◌≡◌, ◌∙◌, ℕ, List, sym, subst}
 use Rattle.sv_log.specs.Pictures.{Disk, seen}
 use Rattle.sv_log.specs.Crashes.{LeavesOnly}
-use Rattle.sv_log.specs.Chains.{Holds, SameLog}
+use Rattle.sv_log.specs.Chains.{HasLog, SameLog}
 use Rattle.sv_log.specs.Readings.{read_state}
 use Rattle.sv_log.proofs.Opened.{reads_some, reads_holds, rest_only, some_same, ready_some}
 use Rattle.sv_log.proofs.opening.prepare.Goals as goal
@@ -15,7 +15,7 @@ returns-in_default-clause-any_moment g c = λ h.
 pub returns-in_err-bytes-in-Some-clause-any_moment : goal.returns-in_err-bytes-in-Some-clause-any_moment
 returns-in_err-bytes-in-Some-clause-any_moment g c = λ h.
     let m = c.read_file.ensures.honest h in
-    subst (λ (d : Disk). LeavesOnly (g.F.Folder.disk c.args.folder.now) d (Holds c.args.world.now (read_state c.args.reading.now) c.args.reading.now.text.items)) (sym c.read_file.ensures.same)
+    subst (λ (d : Disk). LeavesOnly (g.F.Folder.disk c.args.folder.now) d (HasLog c.args.world.now (read_state c.args.reading.now) c.args.reading.now.text.items)) (sym c.read_file.ensures.same)
     (rest_only (g.F.Folder.disk c.args.folder.now) c.args.world.now (read_state c.args.reading.now) c.args.reading.now.text.items (c.requires.rest m)
     (reads_holds c.args.world.now (seen (g.F.Folder.disk c.args.folder.now)) c.args.reading.now (c.requires.read m)))
 

@@ -3,9 +3,9 @@ use Rattle.std.proofs.Common.{◌≡◌, ◌∙◌, ◌⊎◌, ⊎_elim, ℕ, �
 use Rattle.sv_log.specs.Pictures.{Disk, seen}
 use Rattle.sv_log.specs.declared.names.FileKind.TheVariants as file
 use Rattle.sv_log.specs.declared.reading.Newest.{Newest}
-use Rattle.sv_log.specs.declared.reading.Refusal.{Refusal}
+use Rattle.sv_log.specs.declared.reading.LogRefusal.{LogRefusal}
 use Rattle.sv_log.specs.Chains.{IsNewest, state_at}
-use Rattle.sv_log.specs.Readings.{IsFirst, IsNewestSoFar, Looks}
+use Rattle.sv_log.specs.Readings.{IsFirstNumber, IsNewestSoFar, Looks}
 use Rattle.sv_log.specs.Refusals.{IsWhy, HasNoLog}
 use Rattle.sv_log.proofs.Replays.{if_ok}
 use Rattle.sv_log.proofs.Walked.{newest_more, newest_last, just_why}
@@ -16,7 +16,7 @@ pub returns-in_default-clause-newest : goal.returns-in_default-clause-newest
 returns-in_default-clause-newest g c = λ h.
     let p = seen (g.F.Folder.disk c.args.folder.now) in
     let names = map string_bytes c.args.names.now in
-    let first = subst (IsFirst file.State names (c.loop.newest.seen + 1)) c.in_default.is c.first_from.ensures in
+    let first = subst (IsFirstNumber file.State names (c.loop.newest.seen + 1)) c.in_default.is c.first_from.ensures in
     if_ok c.whole_or_none.result _ _ c.whole_or_none.ensures.ok
     (λ n is. subst (IsNewest p) (ap (λ (x : Newest). x.state) (sym is.0))
     (newest_last p names (c.requires.listed (c.loop.invariant.honest h)) c.loop.newest.state c.loop.newest.seen (c.loop.invariant.so_far h) first is.1))
@@ -30,7 +30,7 @@ pub returns-in_default-clause-refused : goal.returns-in_default-clause-refused
 returns-in_default-clause-refused g c = λ h.
     let p = seen (g.F.Folder.disk c.args.folder.now) in
     let names = map string_bytes c.args.names.now in
-    let first = subst (IsFirst file.State names (c.loop.newest.seen + 1)) c.in_default.is c.first_from.ensures in
+    let first = subst (IsFirstNumber file.State names (c.loop.newest.seen + 1)) c.in_default.is c.first_from.ensures in
     if_err c.whole_or_none.result _ _ c.whole_or_none.ensures.err
     (λ r is world. just_why r.cause
     (no_whole_state p names (c.requires.listed (c.loop.invariant.honest h)) c.loop.newest.seen (subst (λ (s : ℕ). IsNewestSoFar p s c.loop.newest.seen) is.0 (c.loop.invariant.so_far h)) is.1 first world))
@@ -43,7 +43,7 @@ loop-preserved g c =
     let k = c.in-Some.number in
     let s = c.loop.newest.state in
     let t = c.look_at.new.newest.state in
-    let first = subst (IsFirst file.State names (c.loop.newest.seen + 1)) c.in-Some.is c.first_from.ensures in
+    let first = subst (IsFirstNumber file.State names (c.loop.newest.seen + 1)) c.in-Some.is c.first_from.ensures in
     let looked = c.in_ok-look_at.ensures in
     record {
       same = c.look_at.ensures.same ∙ i.same;

@@ -5,7 +5,7 @@ use Rattle.sv_log.specs.Pictures.{Disk, seen}
 use Rattle.sv_log.specs.Reads.{Lists}
 use Rattle.sv_log.specs.Chains.{IsWellNamed}
 use Rattle.sv_log.specs.Refusals.{IsWhy, HasNoLog}
-use Rattle.sv_log.specs.declared.reading.Refusal.{Refusal}
+use Rattle.sv_log.specs.declared.reading.LogRefusal.{LogRefusal}
 use Rattle.sv_log.proofs.Walked.{well_named, just_why}
 use Rattle.sv_log.proofs.Refused.{wrong_name}
 use Rattle.sv_log.proofs.reading.read_log.Goals as goal
@@ -25,4 +25,4 @@ read_named-requires-clause-named g c = λ h.
 
 pub returns-clause-refused : goal.returns-clause-refused
 returns-clause-refused g c = λ h.
-    subst (λ (d : Disk). IfErr c.read_named.result (λ (r : Refusal). IsWhy (HasNoLog c.args.world.now (seen d)) r.cause)) c.names.ensures.same (c.read_named.ensures.refused h)
+    subst (λ (d : Disk). IfErr c.read_named.result (λ (r : LogRefusal). IsWhy (HasNoLog c.args.world.now (seen d)) r.cause)) c.names.ensures.same (c.read_named.ensures.refused h)

@@ -2,7 +2,7 @@
 use Rattle.std.proofs.Common.{◌≡◌, ◌∙◌, ℕ, ◌+◌, Some, None, map, string_bytes, sym, subst}
 use Rattle.sv_log.specs.Pictures.{Disk, seen}
 use Rattle.sv_log.specs.Names.{world_name}
-use Rattle.sv_log.specs.declared.reading.Refusal.{Refusal}
+use Rattle.sv_log.specs.declared.reading.LogRefusal.{LogRefusal}
 use Rattle.sv_log.specs.Chains.{IsNewest}
 use Rattle.sv_log.specs.Readings.{HasWorld}
 use Rattle.sv_log.specs.Refusals.{IsWhy, HasNoLog, HasNoChain}
@@ -15,7 +15,7 @@ returns-in_err-newest-clause-refused g c = λ h.
     let world = c.args.world.now in
     let p = seen (g.F.Folder.disk c.args.folder.now) in
     let e = c.in_err-newest.field-0.0 in
-    err_by (λ (r : Refusal). IsWhy (HasNoLog world p) r.cause) c.from_residual-in_err-newest.result e c.from_residual-in_err-newest.ensures.1
+    err_by (λ (r : LogRefusal). IsWhy (HasNoLog world p) r.cause) c.from_residual-in_err-newest.result e c.from_residual-in_err-newest.ensures.1
     (subst (λ (d : Disk). IsWhy (HasNoLog world (seen d)) e.cause) c.check_world.ensures.same (c.in_err-newest.ensures.refused h world))
 
 pub returns-then-has_nothing-clause-reads : goal.returns-then-has_nothing-clause-reads
@@ -54,5 +54,5 @@ returns-in_err-walk-clause-refused g c = λ h.
     let same = c.newest_state.ensures.same ∙ c.check_world.ensures.same in
     let newest : IsNewest p s = subst (λ (d : Disk). IsNewest (seen d) s) c.check_world.ensures.same (c.in_ok-newest.ensures.newest k) in
     let why : IsWhy (HasNoChain p (s + 1)) e.cause = subst (λ (d : Disk). IsWhy (HasNoChain (seen d) (s + 1)) e.cause) same (c.in_err-walk.ensures.refused h) in
-    err_by (λ (r : Refusal). IsWhy (HasNoLog world p) r.cause) c.from_residual-in_err-walk.result e c.from_residual-in_err-walk.ensures.1
+    err_by (λ (r : LogRefusal). IsWhy (HasNoLog world p) r.cause) c.from_residual-in_err-walk.result e c.from_residual-in_err-walk.ensures.1
     (map_why e.cause (λ (no : HasNoChain p (s + 1)). no_chain_no_log p (map string_bytes c.args.names.now) (c.requires.listed start) world s newest c.if-has_nothing.ensures no) why)

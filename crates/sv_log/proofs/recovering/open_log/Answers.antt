@@ -3,7 +3,7 @@ use Rattle.std.proofs.Common.{◌≡◌, ℕ, List, sym, subst}
 use Rattle.sv_log.specs.Pictures.{Disk, seen}
 use Rattle.sv_log.specs.Crashes.{LeavesOnly}
 use Rattle.sv_log.specs.Rests.{IsAtRest}
-use Rattle.sv_log.specs.Chains.{Holds}
+use Rattle.sv_log.specs.Chains.{HasLog}
 use Rattle.sv_log.specs.Readings.{read_state, Reads}
 use Rattle.sv_log.proofs.Walked.{fault_why}
 use Rattle.sv_log.proofs.Recovered.{recovers, opening_failed, reading_failed}
@@ -31,7 +31,7 @@ returns-in-Ok-open-clause-recovers g c = λ state low high keeps h.
     let m = c.read_log.ensures.honest read in
     recovers world (disk c.args.folder) r state low high (c.in-Ok.ensures.reads read) (keeps m) disk log (c.in-Ok-open.ensures.open h) (c.in-Ok-open.ensures.newest h)
     (c.in-Ok-open.ensures.text h) (c.in-Ok-open.ensures.synced h)
-    (subst (λ (d : Disk). LeavesOnly d (disk log.segment.folder) (Holds world (read_state r) r.text.items)) c.read_log.ensures.same (c.in-Ok-open.ensures.any_moment h))
+    (subst (λ (d : Disk). LeavesOnly d (disk log.segment.folder) (HasLog world (read_state r) r.text.items)) c.read_log.ensures.same (c.in-Ok-open.ensures.any_moment h))
 
 pub returns-in-Err-open-clause-recovers : goal.returns-in-Err-open-clause-recovers
 returns-in-Err-open-clause-recovers g c = λ state low high keeps h.
@@ -42,4 +42,4 @@ returns-in-Err-open-clause-recovers g c = λ state low high keeps h.
     let m = c.read_log.ensures.honest read in
     opening_failed world (disk c.args.folder) r state low high (c.in-Ok.ensures.reads read) (keeps m) (disk c.in-Err-open.folder) c.refuse_fault.result
     (fault_why ⊥ c.in-Err-open.fault c.refuse_fault.result.cause c.refuse_fault.ensures)
-    (subst (λ (d : Disk). LeavesOnly d (disk c.in-Err-open.folder) (Holds world (read_state r) r.text.items)) c.read_log.ensures.same (c.in-Err-open.ensures.any_moment_err h))
+    (subst (λ (d : Disk). LeavesOnly d (disk c.in-Err-open.folder) (HasLog world (read_state r) r.text.items)) c.read_log.ensures.same (c.in-Err-open.ensures.any_moment_err h))

@@ -5,7 +5,7 @@ use Rattle.sv_log.specs.Texts.{whole}
 use Rattle.sv_log.specs.Names.{segment_name}
 use Rattle.sv_log.specs.declared.names.FileKind.TheVariants as file
 use Rattle.sv_log.specs.Chains.{lines}
-use Rattle.sv_log.specs.Readings.{IsFirst}
+use Rattle.sv_log.specs.Readings.{IsFirstNumber}
 use Rattle.sv_log.specs.Walks.{LeadsTo}
 use Rattle.sv_log.proofs.Walked.{way_more, arrived, just_why}
 use Rattle.sv_log.proofs.Refused.{chain_leads}
@@ -19,7 +19,7 @@ returns-in-None-clause-way g c = λ h first way.
     let old = c.args.walk.now in
     let new = c.add_last.new.walk in
     let bytes = c.deref.result.now in
-    let none = subst (IsFirst file.Segment names (old.number + 1)) c.in-None.is c.first_from.ensures in
+    let none = subst (IsFirstNumber file.Segment names (old.number + 1)) c.in-None.is c.first_from.ensures in
     let stored : p (segment_name old.number) ≡ Some bytes =
     ap p (sym (c.as_str.ensures.value ∙ c.in-Ok.ensures)) ∙ c.in-Ok-read_file.ensures.bytes h ∙ ap (λ (b : List ℕ). Some b) (sym c.deref.ensures.value) in
     let closed : new.closed ≡ old.closed = search rules in
@@ -35,7 +35,7 @@ returns-in-Some-closed_fault-clause-refused g c = λ h first way.
     let names = map string_bytes c.args.names.now in
     let old = c.args.walk.now in
     let bytes = c.deref-in-Some.result.now in
-    let next = subst (IsFirst file.Segment names (old.number + 1)) c.in-Some.is c.first_from.ensures in
+    let next = subst (IsFirstNumber file.Segment names (old.number + 1)) c.in-Some.is c.first_from.ensures in
     let stored : p (segment_name old.number) ≡ Some bytes =
     ap p (sym (c.as_str.ensures.value ∙ c.in-Ok.ensures)) ∙ c.in-Ok-read_file.ensures.bytes h ∙ ap (λ (b : List ℕ). Some b) (sym c.deref-in-Some.ensures.value) in
     just_why c.in-Some-closed_fault.refusal.cause
@@ -50,7 +50,7 @@ returns-clause-way g c = λ h first way.
     let new = c.add_closed.new.walk in
     let bytes = c.in-Ok-read_file.bytes.items in
     let following = c.in-Some.following in
-    let next = subst (IsFirst file.Segment names (old.number + 1)) c.in-Some.is c.first_from.ensures in
+    let next = subst (IsFirstNumber file.Segment names (old.number + 1)) c.in-Some.is c.first_from.ensures in
     let stored : p (segment_name old.number) ≡ Some bytes = ap p (sym (c.as_str.ensures.value ∙ c.in-Ok.ensures)) ∙ c.in-Ok-read_file.ensures.bytes h in
     let leads : LeadsTo old.number bytes following = subst (λ (b : List ℕ). LeadsTo old.number b following) c.deref-in-Some.ensures.value c.in_default-closed_fault.ensures.leads in
     let closed : new.closed.items ≡ old.closed.items ++ old.number ∷ [] = search rules in

@@ -1,18 +1,18 @@
 -- What is proved by hand of `put_whole`.
 use Rattle.std.proofs.Common.{◌∙◌, ap, true, sym, subst, length}
-use Rattle.sv_log.specs.Pictures.{Disk, seen, noted, Make, Write, Sync, Rename, SyncFolder, HasRoom}
+use Rattle.sv_log.specs.Pictures.{Disk, seen, noted, Make, Write, Sync, Rename, SyncFolder, FileHasRoom}
 use Rattle.sv_log.proofs.Mended.{on_made}
 use Rattle.sv_log.proofs.Puts.{put_making, put_writing, put_syncing, put_renaming, put_naming, put_rest, first_room, third_room}
 use Rattle.sv_log.proofs.whole.put_whole.Goals as goal
 
 pub write_at-requires : goal.write_at-requires
 write_at-requires g c = record {
-  within = λ h. subst (λ (d : Disk). HasRoom (seen d) c.args.new.now 0 (length c.args.bytes.now)) (sym (c.in_ok-make.ensures.made h)) (first_room (g.F.Folder.disk c.args.folder.now) c.args.name.now c.args.new.now c.args.bytes.now (c.requires.rest (c.make.ensures.honest h)));
+  within = λ h. subst (λ (d : Disk). FileHasRoom (seen d) c.args.new.now 0 (length c.args.bytes.now)) (sym (c.in_ok-make.ensures.made h)) (first_room (g.F.Folder.disk c.args.folder.now) c.args.name.now c.args.new.now c.args.bytes.now (c.requires.rest (c.make.ensures.honest h)));
 }
 
 pub rename-requires : goal.rename-requires
 rename-requires g c = record {
-  there = λ h. subst (λ (d : Disk). HasRoom (seen d) c.args.new.now 0 0) (sym (c.in_ok-sync.ensures.made h ∙ ap (noted (Sync c.args.new.now, true)) (c.in_ok-write_at.ensures.made (c.sync.ensures.honest h) ∙ ap (noted (Write c.args.new.now 0 c.args.bytes.now, true)) (c.in_ok-make.ensures.made (c.write_at.ensures.honest (c.sync.ensures.honest h)))))) (third_room (g.F.Folder.disk c.args.folder.now) c.args.name.now c.args.new.now c.args.bytes.now (c.requires.rest (c.make.ensures.honest (c.write_at.ensures.honest (c.sync.ensures.honest h)))));
+  there = λ h. subst (λ (d : Disk). FileHasRoom (seen d) c.args.new.now 0 0) (sym (c.in_ok-sync.ensures.made h ∙ ap (noted (Sync c.args.new.now, true)) (c.in_ok-write_at.ensures.made (c.sync.ensures.honest h) ∙ ap (noted (Write c.args.new.now 0 c.args.bytes.now, true)) (c.in_ok-make.ensures.made (c.write_at.ensures.honest (c.sync.ensures.honest h)))))) (third_room (g.F.Folder.disk c.args.folder.now) c.args.name.now c.args.new.now c.args.bytes.now (c.requires.rest (c.make.ensures.honest (c.write_at.ensures.honest (c.sync.ensures.honest h)))));
 }
 
 pub returns-in_err-make-clause-any_moment : goal.returns-in_err-make-clause-any_moment

@@ -7,7 +7,7 @@ use Rattle.sv_sequencer.proofs.Sent.{lock-syncs, pass-sends}
 use Rattle.law_traffic.specs.Runs.{IsGoodRun}
 use Rattle.sv_scenario.specs.Sessions.{session_count}
 use Rattle.sv_threads.specs.Given.{setting}
-use Rattle.sv_threads.specs.Left.{JoinedPasses}
+use Rattle.sv_threads.specs.RunRemains.{JoinedPasses}
 use Rattle.sv_threads.specs.Moved.{moved}
 use Rattle.sv_threads.specs.Playing.{TookAllIn}
 use Rattle.sv_threads.proofs.Ready.{services_ready}

@@ -4,7 +4,7 @@ use Rattle.std.specs.List.{AllByRecursion, list_any}
 use Rattle.std.proofs.lemmas.List.Folds.{list_any-append}
 use Rattle.std.proofs.lemmas.List.{map-append}
 use Rattle.std.proofs.Math.Bool.{or-false}
-use Rattle.sv_threads.specs.Left.{is_memory, IsOfLock}
+use Rattle.sv_threads.specs.RunRemains.{is_memory, IsOfLock}
 use Rattle.sv_threads.proofs.Taken.{joined_more}
 use Rattle.sv_serve.specs.Giving.{passage_kept, kept_served, IsServedOf}
 use Rattle.sv_serve.proofs.taking.take_in.Goals as goal

@@ -1,7 +1,7 @@
 -- The sessions that are still to be taken in.
 use Rattle.std.proofs.Common.{◌≡◌, ◌+◌, ◌≤◌, ◌++◌, length}
 use Rattle.std.specs.List.{AllByRecursion, list_any}
-use Rattle.sv_threads.specs.Left.{is_memory, IsOfLock, JoinedPasses}
+use Rattle.sv_threads.specs.RunRemains.{is_memory, IsOfLock, JoinedPasses}
 use Rattle.sv_serve.specs.Giving.{kept_served, IsServedOf}
 use Rattle.sv_serve.proofs.taking.take_in.Given as goal
 

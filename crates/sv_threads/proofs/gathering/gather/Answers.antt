@@ -3,7 +3,7 @@ use Rattle.std.proofs.Common.{◌+◌, ◌≤◌, ◌++◌, [], ◌∷◌, lengt
 use Rattle.std.specs.Vec.{vec_capacity}
 use Rattle.std.specs.List.{AllByRecursion, flat_map}
 use Rattle.sv_threads.specs.Tasks.{serviced_of, played_of}
-use Rattle.sv_threads.specs.Left.{ends_of, HasRoom, HasFewSessions, Gathered, JoinedPasses, IsOfLock}
+use Rattle.sv_threads.specs.RunRemains.{ends_of, RemainsHaveRoom, HasFewSessions, Gathered, JoinedPasses, IsOfLock}
 use Rattle.sv_threads.proofs.Leaving.{ends_count}
 use Rattle.sv_threads.proofs.Taken.{gathered_server, gathered_client, joined_server, joined_client}
 use Rattle.sv_threads.proofs.gathering.gather.Goals as goal
@@ -19,7 +19,7 @@ loop-out-preserved-in-Served g c =
     let rest = c.next.new.self.rest.items in
     let left = c.take_server.new.self in
     let e = s.0 ∙ ap (λ o. o ∷ rest) f.is in
-    let r = subst (λ os. HasRoom (length (serviced_of os)) (length (flat_map ends_of (played_of os))) (length (played_of os)) c.loop-out.left) e i.room in
+    let r = subst (λ os. RemainsHaveRoom (length (serviced_of os)) (length (flat_map ends_of (played_of os))) (length (played_of os)) c.loop-out.left) e i.room in
     let fit = r.servers_fit in
     let size = t.room.0 in
     let room = t.room.1 in
@@ -50,7 +50,7 @@ take_client-requires-clause-clients g c =
     let p = c.in-Played.player in
     let rest = c.next.new.self.rest.items in
     let e = s.0 ∙ ap (λ o. o ∷ rest) c.in-Played.is in
-    let r = subst (λ os. HasRoom (length (serviced_of os)) (length (flat_map ends_of (played_of os))) (length (played_of os)) c.loop-out.left) e i.room in
+    let r = subst (λ os. RemainsHaveRoom (length (serviced_of os)) (length (flat_map ends_of (played_of os))) (length (played_of os)) c.loop-out.left) e i.room in
     let fit = r.ends_fit in
     let both = length-append (ends_of p) (flat_map ends_of (played_of rest)) in
     let own = ends_count p.trace p.trace.first p.ends.items in
@@ -67,7 +67,7 @@ loop-out-preserved g c =
     let rest = c.next.new.self.rest.items in
     let left = c.take_client.new.self in
     let e = s.0 ∙ ap (λ o. o ∷ rest) f.is in
-    let r = subst (λ os. HasRoom (length (serviced_of os)) (length (flat_map ends_of (played_of os))) (length (played_of os)) c.loop-out.left) e i.room in
+    let r = subst (λ os. RemainsHaveRoom (length (serviced_of os)) (length (flat_map ends_of (played_of os))) (length (played_of os)) c.loop-out.left) e i.room in
     let ends_fit = r.ends_fit in
     let traces_fit = r.traces_fit in
     let lines_fit = r.lines_fit in

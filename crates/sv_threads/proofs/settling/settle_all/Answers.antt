@@ -3,7 +3,7 @@ use Rattle.std.proofs.Common.{rules, ◌≡◌, true, [], ◌∷◌, ◌++◌, r
 use Rattle.std.specs.List.{AllZip}
 use Rattle.std.specs.Vec.Iter.{into_iter_items}
 use Rattle.std.proofs.lemmas.List.{nil_from_length}
-use Rattle.sv_threads.specs.Left.{transcripts_of}
+use Rattle.sv_threads.specs.RunRemains.{transcripts_of}
 use Rattle.sv_threads.specs.Pairs.{pairing}
 use Rattle.sv_threads.specs.Settling.{ArePair}
 use Rattle.sv_threads.proofs.Settled.{SettledSoFar, none_settled, one_matched, one_failed, all_settled}

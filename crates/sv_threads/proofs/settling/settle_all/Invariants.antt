@@ -2,7 +2,7 @@
 use Rattle.std.proofs.Common.{◌≡◌, ◌≤◌, true, false, length, ◌++◌}
 use Rattle.std.specs.List.{AllZip}
 use Rattle.std.specs.Vec.Iter.{into_iter_items}
-use Rattle.sv_threads.specs.Left.{transcripts_of, EndsAgree}
+use Rattle.sv_threads.specs.RunRemains.{transcripts_of, EndsAgree}
 use Rattle.sv_threads.specs.Pairs.{pairing}
 use Rattle.sv_threads.proofs.Settled.{SettledSoFar}
 use Rattle.sv_threads.specs.Settling.{SettledCause, ArePair, AreCalm, AnyZip, Differ}

@@ -1,6 +1,6 @@
 -- Some turns were made.
 use Rattle.std.proofs.Common.{◌≡◌}
-use Rattle.sv_ports.specs.Told.{nothing_told}
+use Rattle.sv_ports.specs.Traffic.{nothing_told}
 use Rattle.sv_office.specs.Offices.{session_of}
 use Rattle.sv_host.specs.Joining.{LetsIn}
 use Rattle.sv_host.specs.Inputs.{IsReadTo}

@@ -26,12 +26,12 @@ returns-clause-any_moment g c = λ h world own.
     let disk = g.F.Folder.disk in
     let old = c.args.self.now in
     let mid = c.end_sessions.new.self in
-    let new = c.settle_group.new.self in
+    let new = c.make_group_durable.new.self in
     let log = c.end_sessions.ensures.log in
-    let before = subst (λ (l : Log g.row.F.Denot). g.F.Folder.is_honest l.segment.folder) log (c.settle_group.ensures.honest h) in
+    let before = subst (λ (l : Log g.row.F.Denot). g.F.Folder.is_honest l.segment.folder) log (c.make_group_durable.ensures.honest h) in
     let kept = c.is_lawful.ensures.kept c.requires.sound in
     let on = ended_on c.in_ok-end_sessions.ensures.ended in
-    let only = c.settle_group.ensures.any_moment h c.in_ok-end_sessions.ensures.sound world (ap (λ (l : Log g.row.F.Denot). shown disk l world_name) log ∙ own) in
+    let only = c.make_group_durable.ensures.any_moment h c.in_ok-end_sessions.ensures.sound world (ap (λ (l : Log g.row.F.Denot). shown disk l world_name) log ∙ own) in
     let only_old = subst (λ (l : Log g.row.F.Denot). LeavesOnly (disk l.segment.folder) (disk new.log.segment.folder) (HoldsFirst (footing_of mid.world) world (newest disk l) mid.world.since mid.synced)) log only in
     all_before old.world mid.world old.synced world (newest disk old.log) kept.part (log_synced disk old.log) (kept.on_disk before) on.0 on.1
     (disk old.log.segment.folder) (disk new.log.segment.folder)

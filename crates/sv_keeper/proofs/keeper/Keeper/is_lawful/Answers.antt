@@ -12,7 +12,7 @@ use Rattle.sv_log.specs.OpenLogs.{shown, newest}
 use Rattle.sv_keeper.specs.Histories.{footing_of, HoldsFirst}
 use Rattle.sv_keeper.specs.Views.{KeeperView}
 use Rattle.sv_keeper.specs.Invariant.{view_of}
-use Rattle.sv_keeper.proofs.Settling.{calm}
+use Rattle.sv_keeper.proofs.Durables.{calm}
 use Rattle.sv_keeper.proofs.keeper.Keeper.is_lawful.Goals as goal
 
 pub returns-clause-whole : goal.returns-clause-whole

@@ -57,7 +57,7 @@ returns-in-Ok-end_all-clause-ok g c = λ start taken.
       read = λ h. holds_read world left r (c.requires.read (c.in-Ok.ensures.honest (log_honest h)));
       taken = taken;
       ended = ended;
-      settled = c.in-Ok-end_all.ensures.settled;
+      durable = c.in-Ok-end_all.ensures.durable;
       own = λ h. c.in-Ok-end_all.ensures.own h ∙ ap (λ (k : KeeperView g.row.F.Denot). shown disk k.log world_name) is ∙ c.in-Ok.ensures.world (log_honest h);
       crash = λ h.
           opened_first world left (disk log.segment.folder) (disk new.log.segment.folder) r (newest disk log)

@@ -8,7 +8,7 @@ use Rattle.sv_journal.specs.Serving.{LegalFor}
 use Rattle.sv_journal.specs.Living.{living}
 use Rattle.sv_journal.proofs.Stewards.{living-keeping}
 use Rattle.sv_living.specs.Keeping.{rules_at, stewardship_at, AreAnswered}
-use Rattle.sv_living.specs.Past.{whole}
+use Rattle.sv_living.specs.WorldPast.{whole}
 use Rattle.sv_living.specs.Sessions.{AreInOrder, AreInOrderSince, HaveBegun}
 use Rattle.sv_living.specs.World.{WorldView, entries_in, BeganLawfully}
 use Rattle.sv_living.proofs.Behind.{legal-behind, order-behind, have-begun}

@@ -1,7 +1,7 @@
 -- By the table.
 use Rattle.std.proofs.Common.{◌≡◌, subst}
 use Rattle.sv_living.specs.Sessions.{is_open}
-use Rattle.sv_living.specs.Past.{whole}
+use Rattle.sv_living.specs.WorldPast.{whole}
 use Rattle.sv_living.specs.World.{WorldView}
 use Rattle.sv_living.proofs.living.LivingCore.is_open.Goals as goal
 

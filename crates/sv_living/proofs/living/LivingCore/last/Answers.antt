@@ -3,7 +3,7 @@ use Rattle.std.proofs.Common.{◌≡◌, List, length, subst, ap, ◌∙◌}
 use Rattle.sv_journal.specs.History.{Authored, accepted}
 use Rattle.sv_journal.specs.Living.{heeded}
 use Rattle.sv_living.specs.Keeping.{stewardship_at}
-use Rattle.sv_living.specs.Past.{whole}
+use Rattle.sv_living.specs.WorldPast.{whole}
 use Rattle.sv_living.specs.World.{WorldView}
 use Rattle.sv_living.proofs.Heeding.{accepted_heeded}
 use Rattle.sv_living.proofs.living.LivingCore.last.Goals as goal

@@ -3,7 +3,7 @@ use Rattle.std.proofs.Common.{◌≡◌, ◌+◌, subst}
 use Rattle.sv_journal.specs.History.{next_seq}
 use Rattle.sv_journal.specs.Living.{heeded}
 use Rattle.sv_living.specs.Keeping.{stewardship_at}
-use Rattle.sv_living.specs.Past.{whole}
+use Rattle.sv_living.specs.WorldPast.{whole}
 use Rattle.sv_living.specs.World.{WorldView, heeded_in}
 use Rattle.sv_living.proofs.living.LivingCore.outcome_count.Goals as goal
 

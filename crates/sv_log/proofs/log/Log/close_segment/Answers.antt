@@ -2,7 +2,7 @@
 use Rattle.std.proofs.Common.{◌≡◌, ◌+◌, ◌∙◌, ◌++◌, ◌∷◌, ℕ, List, [], Some, None, length, sym, subst, rules}
 use Rattle.sv_log.specs.Pictures.{seen, zeros}
 use Rattle.sv_log.specs.Texts.{whole_in}
-use Rattle.sv_log.specs.Logs.{Stands}
+use Rattle.sv_log.specs.Logs.{LogStands}
 use Rattle.sv_log.proofs.GoingOn.{log_rest, next_number, onward_file, onward_none, onward_differ, onward_only, onward_empty, onward_text, onward_world, onward_newest, onward_open}
 use Rattle.sv_log.proofs.log.Log.close_segment.Goals as goal
 
@@ -54,7 +54,7 @@ returns-clause-open g c = λ h.
     let pushed : c.push.new.self.items ≡ c.args.self.now.closed.items ++ c.args.self.now.first ∷ [] = search rules in
     onward_open g.F.Folder.disk c.args.self.now is_open (next_number g.F.Folder.disk c.args.self.now is_open c.if-self-ge18446744073709551615.false) c.requires.some c.next_file.new.folder c.in-Ok.name c.push.new.self
     c.in-Ok.ensures pushed
-    (subst (λ (n : List ℕ). Stands (g.F.Folder.disk c.next_file.new.folder) n [] [] c.args.self.now.segment.spare) c.as_str-2.ensures.value (c.in_ok-next_file.ensures.stands h))
+    (subst (λ (n : List ℕ). LogStands (g.F.Folder.disk c.next_file.new.folder) n [] [] c.args.self.now.segment.spare) c.as_str-2.ensures.value (c.in_ok-next_file.ensures.stands h))
     (subst (λ (n : List ℕ). seen (g.F.Folder.disk c.next_file.new.folder) n ≡ Some (whole_in (seen (g.F.Folder.disk c.args.self.now.segment.folder) n))) c.as_str.ensures.value
     (c.in_ok-next_file.ensures.file h))
     (λ n a b. c.in_ok-next_file.ensures.others h n (λ e. a (e ∙ c.as_str.ensures.value)) (λ e. b (e ∙ c.as_str-2.ensures.value)))
@@ -65,7 +65,7 @@ returns-clause-text g c = λ h.
     let pushed : c.push.new.self.items ≡ c.args.self.now.closed.items ++ c.args.self.now.first ∷ [] = search rules in
     onward_text g.F.Folder.disk c.args.self.now is_open (next_number g.F.Folder.disk c.args.self.now is_open c.if-self-ge18446744073709551615.false) c.requires.some c.next_file.new.folder c.in-Ok.name c.push.new.self
     c.in-Ok.ensures pushed
-    (subst (λ (n : List ℕ). Stands (g.F.Folder.disk c.next_file.new.folder) n [] [] c.args.self.now.segment.spare) c.as_str-2.ensures.value (c.in_ok-next_file.ensures.stands h))
+    (subst (λ (n : List ℕ). LogStands (g.F.Folder.disk c.next_file.new.folder) n [] [] c.args.self.now.segment.spare) c.as_str-2.ensures.value (c.in_ok-next_file.ensures.stands h))
     (subst (λ (n : List ℕ). seen (g.F.Folder.disk c.next_file.new.folder) n ≡ Some (whole_in (seen (g.F.Folder.disk c.args.self.now.segment.folder) n))) c.as_str.ensures.value
     (c.in_ok-next_file.ensures.file h))
     (λ n a b. c.in_ok-next_file.ensures.others h n (λ e. a (e ∙ c.as_str.ensures.value)) (λ e. b (e ∙ c.as_str-2.ensures.value)))
@@ -76,7 +76,7 @@ returns-clause-empty g c = λ h.
     let pushed : c.push.new.self.items ≡ c.args.self.now.closed.items ++ c.args.self.now.first ∷ [] = search rules in
     onward_empty g.F.Folder.disk c.args.self.now is_open (next_number g.F.Folder.disk c.args.self.now is_open c.if-self-ge18446744073709551615.false) c.requires.some c.next_file.new.folder c.in-Ok.name c.push.new.self
     c.in-Ok.ensures pushed
-    (subst (λ (n : List ℕ). Stands (g.F.Folder.disk c.next_file.new.folder) n [] [] c.args.self.now.segment.spare) c.as_str-2.ensures.value (c.in_ok-next_file.ensures.stands h))
+    (subst (λ (n : List ℕ). LogStands (g.F.Folder.disk c.next_file.new.folder) n [] [] c.args.self.now.segment.spare) c.as_str-2.ensures.value (c.in_ok-next_file.ensures.stands h))
     (subst (λ (n : List ℕ). seen (g.F.Folder.disk c.next_file.new.folder) n ≡ Some (whole_in (seen (g.F.Folder.disk c.args.self.now.segment.folder) n))) c.as_str.ensures.value
     (c.in_ok-next_file.ensures.file h))
     (λ n a b. c.in_ok-next_file.ensures.others h n (λ e. a (e ∙ c.as_str.ensures.value)) (λ e. b (e ∙ c.as_str-2.ensures.value)))
@@ -87,7 +87,7 @@ returns-clause-newest g c = λ h.
     let pushed : c.push.new.self.items ≡ c.args.self.now.closed.items ++ c.args.self.now.first ∷ [] = search rules in
     onward_newest g.F.Folder.disk c.args.self.now is_open (next_number g.F.Folder.disk c.args.self.now is_open c.if-self-ge18446744073709551615.false) c.requires.some c.next_file.new.folder c.in-Ok.name c.push.new.self
     c.in-Ok.ensures pushed
-    (subst (λ (n : List ℕ). Stands (g.F.Folder.disk c.next_file.new.folder) n [] [] c.args.self.now.segment.spare) c.as_str-2.ensures.value (c.in_ok-next_file.ensures.stands h))
+    (subst (λ (n : List ℕ). LogStands (g.F.Folder.disk c.next_file.new.folder) n [] [] c.args.self.now.segment.spare) c.as_str-2.ensures.value (c.in_ok-next_file.ensures.stands h))
     (subst (λ (n : List ℕ). seen (g.F.Folder.disk c.next_file.new.folder) n ≡ Some (whole_in (seen (g.F.Folder.disk c.args.self.now.segment.folder) n))) c.as_str.ensures.value
     (c.in_ok-next_file.ensures.file h))
     (λ n a b. c.in_ok-next_file.ensures.others h n (λ e. a (e ∙ c.as_str.ensures.value)) (λ e. b (e ∙ c.as_str-2.ensures.value)))
@@ -98,7 +98,7 @@ returns-clause-world g c = λ h.
     let pushed : c.push.new.self.items ≡ c.args.self.now.closed.items ++ c.args.self.now.first ∷ [] = search rules in
     onward_world g.F.Folder.disk c.args.self.now is_open (next_number g.F.Folder.disk c.args.self.now is_open c.if-self-ge18446744073709551615.false) c.requires.some c.next_file.new.folder c.in-Ok.name c.push.new.self
     c.in-Ok.ensures pushed
-    (subst (λ (n : List ℕ). Stands (g.F.Folder.disk c.next_file.new.folder) n [] [] c.args.self.now.segment.spare) c.as_str-2.ensures.value (c.in_ok-next_file.ensures.stands h))
+    (subst (λ (n : List ℕ). LogStands (g.F.Folder.disk c.next_file.new.folder) n [] [] c.args.self.now.segment.spare) c.as_str-2.ensures.value (c.in_ok-next_file.ensures.stands h))
     (subst (λ (n : List ℕ). seen (g.F.Folder.disk c.next_file.new.folder) n ≡ Some (whole_in (seen (g.F.Folder.disk c.args.self.now.segment.folder) n))) c.as_str.ensures.value
     (c.in_ok-next_file.ensures.file h))
     (λ n a b. c.in_ok-next_file.ensures.others h n (λ e. a (e ∙ c.as_str.ensures.value)) (λ e. b (e ∙ c.as_str-2.ensures.value)))

@@ -1,7 +1,7 @@
 -- What is proved by hand of `open`.
 use Rattle.std.proofs.Common.{ap, string_bytes}
 use Rattle.sv_log.specs.Pictures.{Picture, seen}
-use Rattle.sv_log.specs.Chains.{Holds}
+use Rattle.sv_log.specs.Chains.{HasLog}
 use Rattle.sv_log.specs.Readings.{read_state, LastBecomes}
 use Rattle.sv_log.proofs.Moments.{then_only, weaker_only}
 use Rattle.sv_log.proofs.Opened.{last_holds, opened_log, opened_newest, opened_world, opened_all}
@@ -15,8 +15,8 @@ returns-in-Err-open_last-clause-any_moment_err g c = λ h.
     let r = c.args.reading in
     let p = seen (disk c.prepare.new.folder) in
     let name = string_bytes c.in-Ok.name in
-    then_only (disk c.args.folder) (disk c.prepare.new.folder) (disk c.in-Err-open_last.error.1) (Holds world (read_state r) r.text.items) (c.prepare.ensures.any_moment m)
-    (weaker_only (disk c.prepare.new.folder) (disk c.in-Err-open_last.error.1) (LastBecomes r.last p name) (Holds world (read_state r) r.text.items)
+    then_only (disk c.args.folder) (disk c.prepare.new.folder) (disk c.in-Err-open_last.error.1) (HasLog world (read_state r) r.text.items) (c.prepare.ensures.any_moment m)
+    (weaker_only (disk c.prepare.new.folder) (disk c.in-Err-open_last.error.1) (LastBecomes r.last p name) (HasLog world (read_state r) r.text.items)
     (λ d w. last_holds world p d r name (c.in-Ok.ensures.ready m) w) (c.in-Err-open_last.ensures.any_moment_err h))
 
 pub returns-clause-any_moment : goal.returns-clause-any_moment
@@ -27,8 +27,8 @@ returns-clause-any_moment g c = λ h.
     let r = c.args.reading in
     let p = seen (disk c.prepare.new.folder) in
     let name = string_bytes c.in-Ok.name in
-    then_only (disk c.args.folder) (disk c.prepare.new.folder) (disk c.in-Ok-open_last.segment.folder) (Holds world (read_state r) r.text.items) (c.prepare.ensures.any_moment m)
-    (weaker_only (disk c.prepare.new.folder) (disk c.in-Ok-open_last.segment.folder) (LastBecomes r.last p name) (Holds world (read_state r) r.text.items)
+    then_only (disk c.args.folder) (disk c.prepare.new.folder) (disk c.in-Ok-open_last.segment.folder) (HasLog world (read_state r) r.text.items) (c.prepare.ensures.any_moment m)
+    (weaker_only (disk c.prepare.new.folder) (disk c.in-Ok-open_last.segment.folder) (LastBecomes r.last p name) (HasLog world (read_state r) r.text.items)
     (λ d w. last_holds world p d r name (c.in-Ok.ensures.ready m) w) (c.in-Ok-open_last.ensures.any_moment h))
 
 pub returns-clause-open : goal.returns-clause-open

@@ -2,7 +2,7 @@
 use Rattle.std.proofs.Common.{rules, ◌≡◌, ◌≤◌, ◌-◌, [], ℕ, List, Some, length, take, string_bytes, refl, subst}
 use Rattle.sv_log.specs.Pictures.{seen}
 use Rattle.sv_log.specs.Texts.{whole}
-use Rattle.sv_log.specs.Logs.{Stands}
+use Rattle.sv_log.specs.Logs.{LogStands}
 use Rattle.sv_log.proofs.Mended.{quiet_mends}
 use Rattle.sv_log.proofs.Started.{recovered}
 use Rattle.sv_log.proofs.segment.Segment.recover.Goals as goal
@@ -16,9 +16,9 @@ returns-in-Ok-clear_behind-clause-open g c = λ h.
     let found = seen (disk c.args.folder) (string_bytes c.args.name) in
     let is : found ≡ Some bytes =
     subst (λ (n : List ℕ). seen (disk c.args.folder) n ≡ Some bytes) c.as_str.ensures.value (c.in-Ok.ensures.bytes (c.clear_behind.ensures.honest h)) in
-    let stands : Stands (disk folder) (string_bytes c.args.name) (whole bytes) [] (length bytes - end) =
-    subst (λ (b : List ℕ). Stands (disk folder) (string_bytes c.args.name) (whole b) [] (length b - end)) c.deref-2.ensures.value
-    (subst (λ (n : List ℕ). Stands (disk folder) n (whole c.deref-2.result.now) [] (length c.deref-2.result.now - end)) c.as_str-2.ensures.value (c.in-Ok-clear_behind.ensures.stands h)) in
+    let stands : LogStands (disk folder) (string_bytes c.args.name) (whole bytes) [] (length bytes - end) =
+    subst (λ (b : List ℕ). LogStands (disk folder) (string_bytes c.args.name) (whole b) [] (length b - end)) c.deref-2.ensures.value
+    (subst (λ (n : List ℕ). LogStands (disk folder) n (whole c.deref-2.result.now) [] (length c.deref-2.result.now - end)) c.as_str-2.ensures.value (c.in-Ok-clear_behind.ensures.stands h)) in
     let size : c.len.result ≡ length bytes = search rules in
     recovered disk record {
       folder = folder;

@@ -10,8 +10,8 @@ returns-in_err-report_all-clause-added g c =
 
 pub returns-in-Ok-clause-added : goal.returns-in-Ok-clause-added
 returns-in-Ok-clause-added g c =
-    goes_then (stewards_and_reports _ _ _ _ (session_of c.join.new.self.steward) c.join.ensures.added c.join.ensures.session c.report_all.ensures.added) (goes_nowhere c.settle.ensures.world)
+    goes_then (stewards_and_reports _ _ _ _ (session_of c.join.new.self.steward) c.join.ensures.added c.join.ensures.session c.report_all.ensures.added) (goes_nowhere c.make_durable.ensures.world)
 
 pub returns-in-Err-clause-added : goal.returns-in-Err-clause-added
 returns-in-Err-clause-added g c =
-    goes_then (stewards_and_reports _ _ _ _ (session_of c.join.new.self.steward) c.join.ensures.added c.join.ensures.session c.report_all.ensures.added) (goes_nowhere c.settle.ensures.world)
+    goes_then (stewards_and_reports _ _ _ _ (session_of c.join.new.self.steward) c.join.ensures.added c.join.ensures.session c.report_all.ensures.added) (goes_nowhere c.make_durable.ensures.world)

@@ -11,7 +11,7 @@ use Rattle.sv_office.proofs.office.Office.greet.Goals as goal
 pub returns-then-guest-clause-turn : goal.returns-then-guest-clause-turn
 returns-then-guest-clause-turn g c =
     turn_asked c.args.self.now c.take_request.new.self c.args.guest.now c.take_request.new.guest requests.Bad c.take_request.ensures.added c.take_request.ensures.asked
-    c.take_request.ensures.steward c.take_request.ensures.manners c.take_request.ensures.keys c.take_request.ensures.key c.take_request.ensures.spoken
+    c.take_request.ensures.steward c.take_request.ensures.policy c.take_request.ensures.keys c.take_request.ensures.key c.take_request.ensures.spoken
     c.take_request.ensures.may_hold
 
 pub returns-in_default-clause-turn : goal.returns-in_default-clause-turn

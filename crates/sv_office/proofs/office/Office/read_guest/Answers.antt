@@ -12,12 +12,12 @@ end-requires g c = record { served = c.read_and_take-count.ensures.served c.args
 pub returns-in_err-end-clause-turn : goal.returns-in_err-end-clause-turn
 returns-in_err-end-clause-turn g c =
     turn_ended_as _ _ _ c.read_and_take-count.new.guest _ c.read_and_take-count.ensures.guest c.end.ensures.added c.end.ensures.session c.end.ensures.steward
-    c.end.ensures.manners c.end.ensures.keys c.end.ensures.guest
+    c.end.ensures.policy c.end.ensures.keys c.end.ensures.guest
 
 pub returns-then-not-is_open-clause-turn : goal.returns-then-not-is_open-clause-turn
 returns-then-not-is_open-clause-turn g c =
     turn_ended_as _ _ _ c.read_and_take-count.new.guest _ c.read_and_take-count.ensures.guest c.end.ensures.added c.end.ensures.session c.end.ensures.steward
-    c.end.ensures.manners c.end.ensures.keys c.end.ensures.guest
+    c.end.ensures.policy c.end.ensures.keys c.end.ensures.guest
 
 pub returns-then-not-is_open-clause-idle : goal.returns-then-not-is_open-clause-idle
 returns-then-not-is_open-clause-idle g c = yet_shut (end_shut (not_open c.if-not-is_open.true c.is_open.ensures.1) c.end.ensures.open)

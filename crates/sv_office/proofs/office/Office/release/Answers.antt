@@ -23,7 +23,7 @@ answer-requires-clause-asks g c = no_end _ c.in-Some.held.observes
 
 pub returns-in-Some-clause-once : goal.returns-in-Some-clause-once
 returns-in-Some-clause-once g c =
-    released_some c.answer.result (session_of c.args.self.now.steward) c.args.guest.now.session c.answer.new.guest.session c.args.self.now.manners.authority c.args.self.now.keeper.world
+    released_some c.answer.result (session_of c.args.self.now.steward) c.args.guest.now.session c.answer.new.guest.session c.args.self.now.policy.authority c.args.self.now.keeper.world
     c.answer.new.self.keeper.world c.args.guest.now.held c.in-Some.held (sym c.take.ensures.value ∙ c.in-Some.is) c.answer.ensures.answered
 
 pub returns-in-Some-clause-added : goal.returns-in-Some-clause-added

@@ -8,4 +8,4 @@ abbrev pub invariant-loop : goal.invariant-loop
 invariant-loop g l =
     (session_of l.self.steward ≡ session_of l.fn.self.steward)
     × GoesOn (IsReport (session_of l.fn.self.steward)) l.fn.self.keeper.world l.self.keeper.world × (l.self.keys ≡ l.fn.self.keys)
-    × (l.self.manners ≡ l.fn.self.manners)
+    × (l.self.policy ≡ l.fn.self.policy)

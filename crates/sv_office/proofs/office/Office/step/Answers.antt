@@ -34,7 +34,7 @@ take_reply-requires-clause-apart g c = apart_asking c.args.self.now.keeper.world
 pub returns-in-Ok-clause-answered : goal.returns-in-Ok-clause-answered
 returns-in-Ok-clause-answered g c =
     stepped_ok c.take_reply.result (session_of c.args.self.now.steward) (Some c.asking_session-session.result) c.args.guest.now.session c.take_reply.new.guest.session
-    c.args.self.now.manners.authority c.standing_of-before.result.last c.args.self.now.keeper.world c.enter.new.keeper.world c.take_reply.new.self.keeper.world
+    c.args.self.now.policy.authority c.standing_of-before.result.last c.args.self.now.keeper.world c.enter.new.keeper.world c.take_reply.new.self.keeper.world
     c.asking_session-session.result c.args.request.now c.in-Ok.ensures.ok.world c.standing_of-before.ensures refl
     c.asking_session-session.ensures c.take_reply.ensures.followed
 
@@ -117,6 +117,6 @@ returns-in-Err-clause-idle g c =
 
 pub returns-in-Err-clause-answered : goal.returns-in-Err-clause-answered
 returns-in-Err-clause-answered g c =
-    answered_ended c.end.result (session_of c.args.self.now.steward) c.args.self.now.manners.authority c.args.guest.now.session c.leave-in-Err.new.self.session
+    answered_ended c.end.result (session_of c.args.self.now.steward) c.args.self.now.policy.authority c.args.guest.now.session c.leave-in-Err.new.self.session
     c.end.new.guest.session c.args.self.now.keeper.world c.enter.new.keeper.world c.end.new.self.keeper.world c.args.request.now
     (ap (λ (x : Guest). x.session) c.leave-in-Err.ensures) (first_of (grind (arith, common_steps), search rules)) c.end.ensures.ended

@@ -2,7 +2,7 @@
 use Rattle.std.proofs.Common.{◌≡◌}
 use Rattle.sv_office.specs.Guests.{HasYetToAsk, OnlyHeard}
 use Rattle.sv_office.specs.Renewing.{KeepsKeys}
-use Rattle.sv_office.specs.Telling.{IsServed}
+use Rattle.sv_office.specs.Telling.{IsServedGuest}
 use Rattle.sv_office.specs.Turns.{AreLent, TakesTurn}
 use Rattle.sv_office.specs.declared.guest.Standing.TheVariants as standing
 use Rattle.sv_office.proofs.office.Office.take_all.Given as goal
@@ -10,7 +10,7 @@ use Rattle.sv_office.proofs.office.Office.take_all.Given as goal
 abbrev pub invariant-loop : goal.invariant-loop
 invariant-loop g l = record {
   open_still : l.guest.standing ≡ standing.Open;
-  served : IsServed l.self.keeper.world l.guest;
+  served : IsServedGuest l.self.keeper.world l.guest;
   turn : TakesTurn l.fn.self l.self l.fn.guest l.guest;
   kept : KeepsKeys (g.L.Files.contents l.fn.outside.files.now) (g.L.Files.contents l.outside.files.now) l.fn.self.keys l.self.keys;
   idle : HasYetToAsk l.fn.guest l.guest l.fn.self.keeper.world l.self.keeper.world;

@@ -9,12 +9,12 @@ use Rattle.sv_office.proofs.office.Office.take_next.Goals as goal
 pub returns-in_err-end-clause-turn : goal.returns-in_err-end-clause-turn
 returns-in_err-end-clause-turn g c =
     turn_then_ended _ c.take_one.new.self _ _ c.take_one.new.guest _ c.take_one.ensures.turn c.end.ensures.added c.end.ensures.session c.end.ensures.steward
-    c.end.ensures.manners c.end.ensures.keys c.end.ensures.guest
+    c.end.ensures.policy c.end.ensures.keys c.end.ensures.guest
 
 pub returns-then-not-is_open-clause-turn : goal.returns-then-not-is_open-clause-turn
 returns-then-not-is_open-clause-turn g c =
     turn_then_ended _ c.take_one.new.self _ _ c.take_one.new.guest _ c.take_one.ensures.turn c.end.ensures.added c.end.ensures.session c.end.ensures.steward
-    c.end.ensures.manners c.end.ensures.keys c.end.ensures.guest
+    c.end.ensures.policy c.end.ensures.keys c.end.ensures.guest
 
 pub returns-then-not-is_open-clause-idle : goal.returns-then-not-is_open-clause-idle
 returns-then-not-is_open-clause-idle g c = yet_shut (end_shut (not_open c.if-not-is_open.true c.is_open.ensures.1) c.end.ensures.open)

@@ -10,7 +10,7 @@ use Rattle.sv_office.proofs.office.Office.take_one.Goals as goal
 pub returns-in_err-take_request-in-Request-clause-turn : goal.returns-in_err-take_request-in-Request-clause-turn
 returns-in_err-take_request-in-Request-clause-turn g c =
     turn_asked c.args.self.now c.take_request.new.self c.args.guest.now c.take_request.new.guest c.asked.result c.take_request.ensures.added c.take_request.ensures.asked
-    c.take_request.ensures.steward c.take_request.ensures.manners c.take_request.ensures.keys c.take_request.ensures.key c.take_request.ensures.spoken
+    c.take_request.ensures.steward c.take_request.ensures.policy c.take_request.ensures.keys c.take_request.ensures.key c.take_request.ensures.spoken
     c.take_request.ensures.may_hold
 
 pub returns-in-NotYet-clause-turn : goal.returns-in-NotYet-clause-turn
@@ -37,7 +37,7 @@ returns-in-Closed-clause-idle g c = yet_same c.close.ensures.session refl
 pub returns-in_ok-take_request-in-Request-clause-turn : goal.returns-in_ok-take_request-in-Request-clause-turn
 returns-in_ok-take_request-in-Request-clause-turn g c =
     turn_asked c.args.self.now c.take_request.new.self c.args.guest.now c.take_request.new.guest c.asked.result c.take_request.ensures.added c.take_request.ensures.asked
-    c.take_request.ensures.steward c.take_request.ensures.manners c.take_request.ensures.keys c.take_request.ensures.key c.take_request.ensures.spoken
+    c.take_request.ensures.steward c.take_request.ensures.policy c.take_request.ensures.keys c.take_request.ensures.key c.take_request.ensures.spoken
     c.take_request.ensures.may_hold
 
 pub returns-in_err-take_request-in-Request-clause-kept : goal.returns-in_err-take_request-in-Request-clause-kept

@@ -34,7 +34,7 @@ returns-then-is_stopping-clause-added g c =
 pub returns-then-is_stopping-clause-followed : goal.returns-then-is_stopping-clause-followed
 returns-then-is_stopping-clause-followed g c =
     followed_end_ok c.end.result (session_of c.args.self.now.steward) c.args.guest.now.session c.close.new.self.session c.end.new.guest.session
-    c.args.self.now.manners.authority c.args.before.last c.args.self.now.keeper.world.history c.report_at_once.new.self.keeper.world.history
+    c.args.self.now.policy.authority c.args.before.last c.args.self.now.keeper.world.history c.report_at_once.new.self.keeper.world.history
     c.end.new.self.keeper.world.history (c.close.ensures.session ∙ c.tell.ensures.session) c.in_ok-report_at_once.ensures.followed c.end.ensures.ended
 
 pub returns-then-is_stopping-clause-still : goal.returns-then-is_stopping-clause-still

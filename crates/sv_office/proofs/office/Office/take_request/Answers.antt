@@ -3,7 +3,7 @@ use Rattle.std.proofs.Common.{ℕ, Option, refl, sym, ap, ◌∙◌, subst}
 use Rattle.std.specs.Prelude.{OnOk}
 use Rattle.sv_office.specs.Entering.{IsEnded}
 use Rattle.sv_office.specs.Offices.{session_of}
-use Rattle.sv_office.specs.declared.office.Manners.{Manners}
+use Rattle.sv_office.specs.declared.office.Policy.{Policy}
 use Rattle.sv_office.specs.declared.guest.Guest.{Guest}
 use Rattle.sv_office.proofs.Adding.{keeps_then}
 use Rattle.sv_office.proofs.Admitting.{admitted_another}
@@ -67,7 +67,7 @@ returns-in_err-release-clause-held g c = held_none _ c.in_err-release.ensures.he
 
 pub returns-then-not-is_open-clause-taken : goal.returns-then-not-is_open-clause-taken
 returns-then-not-is_open-clause-taken g c = λ yes.
-    taken_nothing (session_of c.args.self.now.steward) c.args.guest.now.session c.release.new.guest.session c.args.self.now.manners.authority c.args.guest.now.held
+    taken_nothing (session_of c.args.self.now.steward) c.args.guest.now.session c.release.new.guest.session c.args.self.now.policy.authority c.args.guest.now.held
     c.args.self.now.keeper.world c.release.new.self.keeper.world c.args.request c.in_ok-release.ensures.once c.release.new.guest.session refl
 
 pub returns-then-not-is_open-clause-refused : goal.returns-then-not-is_open-clause-refused
@@ -78,7 +78,7 @@ returns-then-not-is_open-clause-held g c = held_none _ c.in_ok-release.ensures.h
 
 pub returns-in-Some-clause-taken : goal.returns-in-Some-clause-taken
 returns-in-Some-clause-taken g c = λ yes.
-    taken_nothing (session_of c.args.self.now.steward) c.args.guest.now.session c.release.new.guest.session c.args.self.now.manners.authority c.args.guest.now.held
+    taken_nothing (session_of c.args.self.now.steward) c.args.guest.now.session c.release.new.guest.session c.args.self.now.policy.authority c.args.guest.now.held
     c.args.self.now.keeper.world c.release.new.self.keeper.world c.args.request c.in_ok-release.ensures.once c.release.new.guest.session refl
 
 pub returns-in-Some-clause-refused : goal.returns-in-Some-clause-refused
@@ -86,10 +86,10 @@ returns-in-Some-clause-refused g c = λ no. absurd (clash (sym c.admits.ensures 
 
 pub returns-clause-taken : goal.returns-clause-taken
 returns-clause-taken g c = λ yes.
-    taken_answered (session_of c.args.self.now.steward) c.args.guest.now.session c.release.new.guest.session c.args.self.now.manners.authority c.args.guest.now.held
+    taken_answered (session_of c.args.self.now.steward) c.args.guest.now.session c.release.new.guest.session c.args.self.now.policy.authority c.args.guest.now.held
     c.args.self.now.keeper.world c.release.new.self.keeper.world c.args.request c.in_ok-release.ensures.once c.answer.result (session_of c.release.new.self.steward)
-    c.answer.new.guest.session c.release.new.self.manners.authority c.answer.new.self.keeper.world c.in_ok-release.ensures.steward
-    (ap (λ (m : Manners). m.authority) c.in_ok-release.ensures.manners) c.answer.ensures.answered
+    c.answer.new.guest.session c.release.new.self.policy.authority c.answer.new.self.keeper.world c.in_ok-release.ensures.steward
+    (ap (λ (m : Policy). m.authority) c.in_ok-release.ensures.policy) c.answer.ensures.answered
 
 pub returns-clause-refused : goal.returns-clause-refused
 returns-clause-refused g c = λ no. absurd (clash (sym c.admits.ensures ∙ c.if-not-admits.false) no)

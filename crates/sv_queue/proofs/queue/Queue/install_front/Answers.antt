@@ -2,7 +2,7 @@
 use Rattle.std.proofs.Common.{◌≡◌, suc, ◌*◌, List, length, All, ap, subst, sym, ◌∙◌, arith}
 use Rattle.sv_world.specs.declared.action.Action.{Action}
 use Rattle.sv_world.specs.Sets.{write_set}
-use Rattle.sv_queue.specs.Invariant.{HaveSources, HasRoom, slots_in}
+use Rattle.sv_queue.specs.Invariant.{HaveSources, SetHasRoom, slots_in}
 use Rattle.sv_queue.specs.Marks.{all_queued, marks_of, queued_of}
 use Rattle.sv_queue.specs.Queue.{entry_actions, first_installed}
 use Rattle.sv_queue.specs.Pairs.{pairs_of}
@@ -37,7 +37,7 @@ tell_blocks-requires c =
     let w = c.unwrap-entry.result in
     let items = rw c.unwrap-entry.ensures at c.pop_front.ensures.items in
     let first = ap all_queued items in
-    let has = subst (λ (rs : List SlotSet). All (HasRoom a.room) rs) (ap marks_of items) c.self.invariant.room.marks 0 no_slots (omega arith) in
+    let has = subst (λ (rs : List SlotSet). All (SetHasRoom a.room) rs) (ap marks_of items) c.self.invariant.room.marks 0 no_slots (omega arith) in
     record {
       can = can_write-more a.shape.objects (64 * length a.blocks.items) w.action
           (first_can_write a.shape a.commit a.committed (all_queued a.entries.items) (all_queued c.pop_front.new.self.items) a.writers (slots_in a.given.items) (queued_of w) c.self.invariant.agree first)
@@ -52,7 +52,7 @@ give_written-requires c =
     let items = rw c.unwrap-entry.ensures at c.pop_front.ensures.items in
     let first = ap all_queued items in
     let rows : length a.given.items ≡ a.shape.objects = sym (rows_count a.given.items) ∙ c.self.invariant.agree.given in
-    let has = subst (λ (rs : List SlotSet). All (HasRoom a.room) rs) (ap marks_of items) c.self.invariant.room.marks 0 no_slots (omega arith) in
+    let has = subst (λ (rs : List SlotSet). All (SetHasRoom a.room) rs) (ap marks_of items) c.self.invariant.room.marks 0 no_slots (omega arith) in
     record {
       can = rw rows (first_can_write a.shape a.commit a.committed (all_queued a.entries.items) (all_queued c.pop_front.new.self.items) a.writers (slots_in a.given.items) (queued_of w) c.self.invariant.agree first);
       room = λ k d low s m. (let within = has.within s m in let enough = (c.self.invariant.room.given k d low).enough in omega (arith, within, enough));
@@ -67,7 +67,7 @@ invariant_of-self c =
     let items = rw c.unwrap-entry.ensures at c.pop_front.ensures.items in
     let first = ap all_queued items in
     let next = c.give_written.new.rows.items in
-    let marks = subst (λ (rs : List SlotSet). All (HasRoom a.room) rs) (ap marks_of items) c.self.invariant.room.marks in
+    let marks = subst (λ (rs : List SlotSet). All (SetHasRoom a.room) rs) (ap marks_of items) c.self.invariant.room.marks in
     record {
       agree = rw c.put_values.ensures (agree_install a.shape a.commit a.committed c.unwrap.result e (all_queued a.entries.items) (all_queued rest)
           a.writers c.remove_first.new.self (slots_in a.given.items) (slots_in next) c.self.invariant.agree first c.unwrap.ensures c.remove_first.ensures (rows-given (write_set w.action) a.given.items next w.marks.slots c.give_written.ensures));

@@ -3,8 +3,8 @@ use Rattle.std.proofs.Common.{◌≡◌, ◌-◌, ◌<◌, ◌∙◌, List, leng
 use Rattle.std.proofs.lemmas.List.{length-map}
 use Rattle.sv_world.specs.declared.action.Action.{Action}
 use Rattle.sv_eval.proofs.Lists.{all_set}
-use Rattle.sv_queue.specs.declared.waiting.Waiting.{Waiting}
-use Rattle.sv_queue.specs.Invariant.{HaveSources, HasRoom, IsGoodEntry, model_of}
+use Rattle.sv_queue.specs.declared.waiting.WaitingAction.{WaitingAction}
+use Rattle.sv_queue.specs.Invariant.{HaveSources, SetHasRoom, IsGoodEntry, model_of}
 use Rattle.sv_queue.specs.Marks.{all_queued, marks_of, queued_of}
 use Rattle.sv_queue.specs.Queue.{Queued, QueueView, no_entry, with_mark}
 use Rattle.sv_queue.specs.Slots.{SlotSet, no_slots, with_slot}
@@ -24,7 +24,7 @@ add-requires c =
     let count = ap (λ (v : QueueView). length v.entries) c.self.view_is in
     let within : i < length ws = omega (arith, commit, count, queued_count ws) in
     let is = read_marks ws i c.index_mut-entry.result.now within c.index_mut-entry.ensures.value in
-    let has = c.self.invariant.room.marks i no_slots (omega (arith, within, length-map ws (λ (v : Waiting). v.marks))) in
+    let has = c.self.invariant.room.marks i no_slots (omega (arith, within, length-map ws (λ (v : WaitingAction). v.marks))) in
     let enough = has.enough in
     let same = ap (λ (r : SlotSet). r.room) is in
     omega (arith, room, enough, same, c.requires.slot)
@@ -36,7 +36,7 @@ invariant_of-self c =
     let es = all_queued ws in
     let i = c.args.pos - a.commit - 1 in
     let w = c.index_mut-entry.result.now in
-    let new' : Waiting = record w { marks = c.add.new.self } in
+    let new' : WaitingAction = record w { marks = c.add.new.self } in
     let value = c.index_mut-entry.ensures.value in
     let commit = ap (λ (v : QueueView). v.commit) c.self.view_is in
     let room = ap (λ (v : QueueView). v.room) c.self.view_is in
@@ -46,15 +46,15 @@ invariant_of-self c =
     let good : IsGoodEntry a.shape (queued_of w) = subst (IsGoodEntry a.shape) (sym is) (c.self.invariant.agree.good i no_entry (omega (arith, within, queued_count ws))) in
     let same : w.action ≡ (get_or es i no_entry).action = ap (λ (d : Queued). d.action) is in
     let low : c.args.slot < a.room = omega (arith, room, c.requires.slot) in
-    let had : HasRoom a.room w.marks = subst (HasRoom a.room) (sym (read_marks ws i w within value)) (c.self.invariant.room.marks i no_slots (omega (arith, within, length-map ws (λ (v : Waiting). v.marks)))) in
-    let has : HasRoom a.room c.add.new.self = subst (HasRoom a.room) (sym c.add.ensures) (room_with a.room c.args.slot w.marks had low) in
+    let had : SetHasRoom a.room w.marks = subst (SetHasRoom a.room) (sym (read_marks ws i w within value)) (c.self.invariant.room.marks i no_slots (omega (arith, within, length-map ws (λ (v : WaitingAction). v.marks)))) in
+    let has : SetHasRoom a.room c.add.new.self = subst (SetHasRoom a.room) (sym c.add.ensures) (room_with a.room c.args.slot w.marks had low) in
     record {
       agree = rw (queued-set ws i new') (agree_with_entry a.shape a.commit a.committed es a.writers (slots_in a.given.items) i (queued_of new') c.self.invariant.agree same
           (record { action = good.action; values = good.values; attrs = good.attrs }));
       sources = rw (queued-set ws i new') (subst (λ (bs : List Action). HaveSources a.commit bs a.sources.items) (sym (actions-set es i (queued_of new') same)) c.self.invariant.sources);
       room = record {
         limit = c.self.invariant.room.limit;
-        marks = rw (marks-set ws i new') (all_set (HasRoom a.room) (marks_of ws) i c.add.new.self c.self.invariant.room.marks has);
+        marks = rw (marks-set ws i new') (all_set (SetHasRoom a.room) (marks_of ws) i c.add.new.self c.self.invariant.room.marks has);
         given = c.self.invariant.room.given;
       };
       cover = c.self.invariant.cover;
@@ -67,7 +67,7 @@ returns c =
     let es = all_queued ws in
     let i = c.args.pos - a.commit - 1 in
     let w = c.index_mut-entry.result.now in
-    let new' : Waiting = record w { marks = c.add.new.self } in
+    let new' : WaitingAction = record w { marks = c.add.new.self } in
     let commit = ap (λ (v : QueueView). v.commit) c.self.view_is in
     let count = ap (λ (v : QueueView). length v.entries) c.self.view_is in
     let within : i < length ws = omega (arith, commit, count, queued_count ws) in

@@ -1,7 +1,7 @@
 -- What the check leaves to prove of `Queue::pop`.
 use Rattle.std.proofs.Common.{◌≡◌, [], ◌∷◌, ◌++◌, List, All, sym, ◌∙◌, ap, subst}
 use Rattle.sv_world.specs.declared.action.Action.{Action}
-use Rattle.sv_queue.specs.Invariant.{HaveSources, HasRoom, model_of, slots_in}
+use Rattle.sv_queue.specs.Invariant.{HaveSources, SetHasRoom, model_of, slots_in}
 use Rattle.sv_queue.specs.Marks.{all_queued, marks_of, queued_of}
 use Rattle.sv_queue.specs.Queue.{Queued, entry_actions, without_last}
 use Rattle.sv_queue.specs.Slots.{SlotSet}
@@ -36,7 +36,7 @@ invariant_of-self c =
           (sources-front a.commit (entry_actions (all_queued front)) e.action a.sources.items (subst (λ (bs : List Action). HaveSources a.commit bs a.sources.items) is c.self.invariant.sources));
       room = record {
         limit = c.self.invariant.room.limit;
-        marks = All-front (HasRoom a.room) (marks_of front) (w.marks ∷ []) (subst (λ (rs : List SlotSet). All (HasRoom a.room) rs) (ap marks_of last ∙ marks-push front w) c.self.invariant.room.marks);
+        marks = All-front (SetHasRoom a.room) (marks_of front) (w.marks ∷ []) (subst (λ (rs : List SlotSet). All (SetHasRoom a.room) rs) (ap marks_of last ∙ marks-push front w) c.self.invariant.room.marks);
         given = c.self.invariant.room.given;
       };
       cover = c.self.invariant.cover;

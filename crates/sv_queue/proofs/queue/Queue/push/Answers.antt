@@ -4,8 +4,8 @@ use Rattle.std.proofs.lemmas.List.{length-map}
 use Rattle.sv_world.specs.Control.{blank, last_writer}
 use Rattle.sv_world.specs.Sets.{read_set}
 use Rattle.sv_world.specs.Faults.{IsGoodAction}
-use Rattle.sv_queue.specs.declared.waiting.Waiting.{Waiting}
-use Rattle.sv_queue.specs.Invariant.{HasRoom, slots_in}
+use Rattle.sv_queue.specs.declared.waiting.WaitingAction.{WaitingAction}
+use Rattle.sv_queue.specs.Invariant.{SetHasRoom, slots_in}
 use Rattle.sv_queue.specs.Marks.{all_queued, marks_of, queued_of}
 use Rattle.sv_queue.specs.Queue.{Queued, QueueView, entry_actions, last_position, queue_actions}
 use Rattle.sv_queue.proofs.Kept.{All-push, agree_push, can_write}
@@ -25,7 +25,7 @@ invariant_of-self-2 c =
     let ws = a.entries.items in
     let es = all_queued ws in
     let p = a.commit + c.len.result + 1 in
-    let w : Waiting = record { author = c.args.author; seq = c.args.seq; action = c.args.action; result = None; marks = c.in_ok-marks.marks } in
+    let w : WaitingAction = record { author = c.args.author; seq = c.args.seq; action = c.args.action; result = None; marks = c.in_ok-marks.marks } in
     let added : c.push_back.new.self.items ≡ ws ++ w ∷ [] = c.in-Ok.ensures.items ∙ ap (λ ds. ds ++ w ∷ []) c.in_ok-reserve.ensures.items in
     let good : IsGoodAction a.shape c.args.action = rw (ap (λ (v : QueueView). v.shape) c.self.view_is) c.requires.good in
     let at : p ≡ suc (a.commit + length es) = omega (arith, c.len.ensures, a.entries.ok.0, queued_count ws) in
@@ -41,7 +41,7 @@ invariant_of-self-2 c =
           ∙ ap (λ n. last_writer (replicate a.commit blank ++ entry_actions es) (get_or (read_set c.args.action) k 0) n) (at ∙ ap (λ n. suc (a.commit + n)) (sym (length-map es (λ (d : Queued). d.action))))));
       room = record {
         limit = c.self.invariant.room.limit;
-        marks = rw (added, marks-push ws w) (All-push (HasRoom a.room) (marks_of ws) w.marks c.self.invariant.room.marks (room_empty a.room w.marks c.in_ok-marks.ensures.slots c.in_ok-marks.ensures.room));
+        marks = rw (added, marks-push ws w) (All-push (SetHasRoom a.room) (marks_of ws) w.marks c.self.invariant.room.marks (room_empty a.room w.marks c.in_ok-marks.ensures.slots c.in_ok-marks.ensures.room));
         given = c.self.invariant.room.given;
       };
       cover = c.self.invariant.cover;

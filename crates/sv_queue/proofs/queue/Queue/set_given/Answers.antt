@@ -2,7 +2,7 @@
 use Rattle.std.proofs.Common.{ℕ, ◌/◌, ◌<◌, ◌∙◌, List, length, sym, ap, subst, arith}
 use Rattle.std.proofs.lemmas.List.{get_or_read}
 use Rattle.sv_eval.proofs.Lists.{all_set}
-use Rattle.sv_queue.specs.Invariant.{HasRoom, model_of, slots_in}
+use Rattle.sv_queue.specs.Invariant.{SetHasRoom, model_of, slots_in}
 use Rattle.sv_queue.specs.Marks.{all_queued}
 use Rattle.sv_queue.specs.Queue.{QueueView, with_given}
 use Rattle.sv_queue.specs.Slots.{SlotSet, no_slots, set_with, with_slot}
@@ -48,14 +48,14 @@ invariant_of-self c =
     let there : x / 64 < length blocks = omega (arith, within, c.self.invariant.cover.count) in
     let room = ap (λ (v : QueueView). v.room) c.self.view_is in
     let small : c.args.slot < a.room = omega (arith, room, c.requires.slot) in
-    let has = subst (HasRoom a.room) (sym c.add.ensures) (room_with a.room c.args.slot c.index_mut-row.result.now (room_at a.room rows x c.index_mut-row.result.now c.self.invariant.room.given within c.index_mut-row.ensures.value) small) in
+    let has = subst (SetHasRoom a.room) (sym c.add.ensures) (room_with a.room c.args.slot c.index_mut-row.result.now (room_at a.room rows x c.index_mut-row.result.now c.self.invariant.room.given within c.index_mut-row.ensures.value) small) in
     record {
       agree = rw (rows-set rows x c.add.new.self) (agree_with_row a.shape a.commit a.committed (all_queued a.entries.items) a.writers (slots_in rows) x c.add.new.self.slots c.self.invariant.agree);
       sources = c.self.invariant.sources;
       room = record {
         limit = c.self.invariant.room.limit;
         marks = c.self.invariant.room.marks;
-        given = all_set (HasRoom a.room) rows x c.add.new.self c.self.invariant.room.given has;
+        given = all_set (SetHasRoom a.room) rows x c.add.new.self c.self.invariant.room.given has;
       };
       cover = blocks-with a.room c.args.slot x rows blocks c.add.new.self c.add-2.new.self c.self.invariant.cover c.self.invariant.room.given c.self.invariant.room.limit within
           (c.add.ensures ∙ ap (set_with c.args.slot) (get_or_read rows x c.index_mut-row.result.now within c.index_mut-row.ensures.value no_slots))

@@ -3,7 +3,7 @@ use Rattle.std.proofs.Common.{◌≡◌, ◌-◌, ◌<◌, ◌∙◌, List, leng
 use Rattle.sv_world.specs.Sets.{write_set}
 use Rattle.sv_world.specs.declared.action.Action.{Action}
 use Rattle.sv_world.specs.Worlds.{HaveAttrs}
-use Rattle.sv_queue.specs.declared.waiting.Waiting.{Waiting}
+use Rattle.sv_queue.specs.declared.waiting.WaitingAction.{WaitingAction}
 use Rattle.sv_queue.specs.Invariant.{HaveSources, IsGoodEntry, model_of, slots_in}
 use Rattle.sv_queue.specs.Marks.{all_queued, queued_of}
 use Rattle.sv_queue.specs.Queue.{Queued, QueueView, entry_at, no_entry, with_result}
@@ -20,7 +20,7 @@ invariant_of-self c =
     let i = c.args.pos - a.commit - 1 in
     let w = c.index_mut-entry.result.now in
     let values = c.from_vec.result in
-    let new' : Waiting = record w { result = Some values } in
+    let new' : WaitingAction = record w { result = Some values } in
     let commit = ap (λ (v : QueueView). v.commit) c.self.view_is in
     let many = ap (λ (v : QueueView). length v.entries) c.self.view_is in
     let within : i < length ws = omega (arith, commit, many, queued_count ws) in
@@ -50,7 +50,7 @@ returns c =
     let es = all_queued ws in
     let i = c.args.pos - a.commit - 1 in
     let w = c.index_mut-entry.result.now in
-    let new' : Waiting = record w { result = Some c.from_vec.result } in
+    let new' : WaitingAction = record w { result = Some c.from_vec.result } in
     let commit = ap (λ (v : QueueView). v.commit) c.self.view_is in
     let many = ap (λ (v : QueueView). length v.entries) c.self.view_is in
     let within : i < length ws = omega (arith, commit, many, queued_count ws) in

@@ -1,7 +1,7 @@
 -- What the check leaves to prove of `SessionLoop::serve`.
 use Rattle.std.proofs.Common.{refl, ap, ◌∙◌}
 use Rattle.sv_link.specs.Ends.{Told}
-use Rattle.sv_session.specs.Rounds.{stand, Onward}
+use Rattle.sv_session.specs.Rounds.{stand, LoopGoesOn}
 use Rattle.sv_session.proofs.Joined.{may_go_on, onward_self, onward_twice, halts_later}
 use Rattle.sv_session.proofs.server.SessionLoop.serve.Goals as goal
 
@@ -19,7 +19,7 @@ loop-init g c = record {
 pub loop-preserved : goal.loop-preserved
 loop-preserved g c =
     let so_far = c.loop.invariant in
-    let next : Onward (stand (g.E.End.told c.loop.end) c.loop.pass c.loop.buffers.inbox c.loop.buffers.outbox) (stand (g.E.End.told c.round.new.end) c.round.new.pass c.round.new.buffers.inbox c.round.new.buffers.outbox) =
+    let next : LoopGoesOn (stand (g.E.End.told c.loop.end) c.loop.pass c.loop.buffers.inbox c.loop.buffers.outbox) (stand (g.E.End.told c.round.new.end) c.round.new.pass c.round.new.buffers.inbox c.round.new.buffers.outbox) =
     c.in-None-round.ensures.round in
     record {
       can_next = tt;

@@ -3,7 +3,7 @@ use Rattle.std.proofs.Common.{◌≡◌, List, sym, ◌∙◌, ap, subst}
 use Rattle.sv_journal.specs.declared.entry.Entry.{Entry}
 use Rattle.sv_journal.specs.Answer.{MayBeSession, reply_to_request}
 use Rattle.sv_core.specs.Cores.{Keeps}
-use Rattle.sv_core.specs.Decisions.{reply_by, Holds}
+use Rattle.sv_core.specs.Decisions.{reply_by, DecisionHolds}
 use Rattle.sv_sequencer.specs.Step.{SequencerView, history}
 use Rattle.sv_witness.specs.Reports.{agreed_history}
 use Rattle.sv_witness.proofs.Decided.{note-done, note-good, note-reply, poll-asked, poll-reply, keep-holds, keep-reply, keep-quiet}
@@ -22,7 +22,7 @@ note_results-requires g c =
     let q = c.args.request in
     let d = c.decide-decision.result in
     let told = subst (λ (v : SequencerView). reply_by v.rules (agreed_history g.h) s q d ≡ reply_to_request v.rules (agreed_history g.h) s q) c.self.view_is c.decide-decision.ensures.reply in
-    let holds = subst (λ (v : SequencerView). Holds v.rules (agreed_history g.h) s q d) c.self.view_is c.decide-decision.ensures.holds in
+    let holds = subst (λ (v : SequencerView). DecisionHolds v.rules (agreed_history g.h) s q d) c.self.view_is c.decide-decision.ensures.holds in
     let more = c.requires.1.1 in (
       c.requires.0,
       (
@@ -49,7 +49,7 @@ keep-requires g c =
     let q = c.args.request in
     let d = c.decide-decision.result in
     let told = subst (λ (v : SequencerView). reply_by v.rules (agreed_history g.h) s q d ≡ reply_to_request v.rules (agreed_history g.h) s q) c.self.view_is c.decide-decision.ensures.reply in
-    let holds = subst (λ (v : SequencerView). Holds v.rules (agreed_history g.h) s q d) c.self.view_is c.decide-decision.ensures.holds in
+    let holds = subst (λ (v : SequencerView). DecisionHolds v.rules (agreed_history g.h) s q d) c.self.view_is c.decide-decision.ensures.holds in
     let more = c.requires.1.1 in
     let asks_not = sym c.answers_poll.ensures ∙ c.if-answers_poll.false in
     let other = c.in_default.not-Note in (

@@ -4,7 +4,7 @@ use Rattle.std.proofs.lemmas.Result.{IfOk-weaker, on_err_weaker}
 use Rattle.sv_journal.specs.Answer.{MayBeSession}
 use Rattle.sv_journal.specs.declared.entry.Entry.{Entry}
 use Rattle.sv_core.specs.Cores.{Keeps}
-use Rattle.sv_core.specs.Decisions.{Holds}
+use Rattle.sv_core.specs.Decisions.{DecisionHolds}
 use Rattle.sv_sequencer.specs.Entering.{NothingEntered}
 use Rattle.sv_sequencer.specs.Step.{SequencerView, history}
 use Rattle.sv_witness.specs.Reports.{agreed_history}
@@ -19,7 +19,7 @@ enter_emptied-requires g c = (
     c.self.invariant.seats.seats c.args.session (subst (λ (v : SequencerView). MayBeSession v.rules.sessions c.args.session) (sym c.self.view_is) c.requires.1.0),
     (
       c.requires.1.1.0,
-      subst (λ (v : SequencerView). Holds v.rules (agreed_history g.h) c.args.session (emptied c.args.request) c.args.decision) (sym c.self.view_is) c.requires.1.1.1.0,
+      subst (λ (v : SequencerView). DecisionHolds v.rules (agreed_history g.h) c.args.session (emptied c.args.request) c.args.decision) (sym c.self.view_is) c.requires.1.1.1.0,
     ),
   ),
 )

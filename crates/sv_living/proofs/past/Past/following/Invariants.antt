@@ -1,5 +1,0 @@
--- The entries that the caller names.
-use Rattle.sv_living.proofs.past.Past.following.Given as goal
-
-abbrev pub ghost-named : goal.ghost-named
-ghost-named g a = g.h
