@@ -132,7 +132,7 @@ only_read left now world same rest text holds =
     subst (λ (d : Disk). LeavesOnly left d (HasAll world no_state text)) (sym same)
     (weaker_only left left (HasLog world no_state text) (HasAll world no_state text) (λ p held. just_all world no_state p text held) (rest_only left world no_state text rest holds))
 
--- ---- Sessions end, and all is settled
+-- ---- Sessions end, and all is durable
 
 module _ (old mid : WorldView) (synced : ℕ) (world : List ℕ) (state : StateFile) (few : synced ≤ length old.since) (text : List ℕ)
     (is : text ≡ history_text (footing_of old) (first_entries synced old.since)) (footing : footing_of mid ≡ footing_of old) (on : GoesOn old.since mid.since) where
@@ -181,7 +181,7 @@ module _ {F : Type 0} (disk : F → Disk) (is_honest : F → Type 0) where
     read = λ h. subst (λ (d : Disk). HasLog world no_state is.text (seen d)) same (subst (λ (s : StateFile). HasLog world s is.text (seen mid)) (none h) (is.read h));
     taken = is.taken;
     ended = is.ended;
-    settled = is.settled;
+    durable = is.durable;
     own = is.own;
     crash = λ h.
         subst (λ (d : Disk). LeavesOnly d (disk keeper.log.segment.folder) (HoldsFirst (footing_of keeper.world) world no_state keeper.world.since (length is.reached.since))) same

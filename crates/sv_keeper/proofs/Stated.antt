@@ -140,7 +140,7 @@ module _ {F : Type 0} (disk : F → Disk) (is_honest : F → Type 0) where
         sizes = sizes;
         lines = is.lines;
         part = omega arith;
-        settled = λ _. refl;
+        durable = λ _. refl;
         opened = opened;
         number = λ honest. by_case honest (put_state honest);
         text = λ honest. ap (λ (t : List ℕ). t ++ old.group) (none honest) ∙ all.none;
@@ -150,7 +150,7 @@ module _ {F : Type 0} (disk : F → Disk) (is_honest : F → Type 0) where
       pub put_settled : (b : Bool) → b ≡ false → AreDurable disk is_honest (record { world = behind_all v; log = log; group = old.group; synced = 0; is_broken = b })
       put_settled b sound = record { sound = sound; none = all.none; all = refl; on_disk = λ honest. nothing_synced log (none honest) }
 
-  -- First the lines are settled, and then the state is put.
+  -- First the lines are made durable, and then the state is put.
   pub settled_then : (f : Footing) (world : List ℕ) (state later : StateFile) (h : List Entry) (n m number : ℕ) (bytes : List ℕ) (a b c : Disk) → later ≡ state → n ≤ m
       → LeavesOnly a b (HoldsFirst f world state h n) → LeavesOnly b c (HoldsFirstOrState f world later h m number bytes)
       → LeavesOnly a c (HoldsFirstOrState f world state h n number bytes)

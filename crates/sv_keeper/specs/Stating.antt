@@ -16,10 +16,10 @@ abbrev pub HoldsFirstOrState : Footing → List ℕ → StateFile → List Entry
 HoldsFirstOrState f world state h least number bytes p = HoldsFirst f world state h least p ⊎ ((state.0 < number) × HasLog world (summed number bytes) [] p)
 
 module _ {F : Type 0} (disk : F → Disk) (is_honest : F → Type 0) where
-  -- All lines are settled, and behind them stands a state with these bytes, or the newest one that was, where no line was behind it. The world goes on
+  -- All lines are durable, and behind them stands a state with these bytes, or the newest one that was, where no line was behind it. The world goes on
   -- behind all its entries.
   pub record HasPut (old new : KeeperView F) (bytes : List ℕ) : Type 0 where
     pub world : new.world ≡ behind_all old.world
-    pub settled : AreDurable disk is_honest new
+    pub durable : AreDurable disk is_honest new
     pub state : is_honest new.log.segment.folder → IsPutState (newest disk old.log) (entries_in old.world) bytes (newest disk new.log)
     pub own : is_honest new.log.segment.folder → shown disk new.log world_name ≡ shown disk old.log world_name

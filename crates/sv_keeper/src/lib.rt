@@ -8,7 +8,6 @@ mod keeper;
 mod opening;
 mod place;
 mod putting;
-mod settled;
 mod stating;
 mod walking;
 

@@ -96,7 +96,7 @@ fn stated(alloc: Global, reading: &Reading) -> OpenFault
         Ok(file) => OpenFault::Line {
             file,
             line: 1,
-            cause: LineCause::LineFault,
+            cause: LineCause::Unread,
         },
         Err(_) => OpenFault::Memory,
     }

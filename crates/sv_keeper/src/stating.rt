@@ -14,7 +14,7 @@ use crate::keeper::Keeper;
 use sv_log::Folder;
 
 impl<F: Folder> Keeper<F> {
-    /// Settles, and puts a state with these bytes behind the log: the segment is cut off behind its text and the next one made, and then the state
+    /// Makes all lines durable, and puts a state with these bytes behind the log: the segment is cut off behind its text and the next one made, and then the state
     /// is written with the line of its sum, synced, and given its name. No state is written where no line stands behind the newest one.
     ///
     /// After an `Err` the keeper is broken.
@@ -36,9 +36,9 @@ impl<F: Folder> Keeper<F> {
         }
     }
 
-    // Puts a state behind a log that is settled.
+    // Puts a state behind a log that is durable.
     fn put_behind(&mut self, bytes: &[u8]) -> Result<(), KeepFault>
-        requires settled { AreDurable F.disk F.is_honest self.old }
+        requires durable { AreDurable F.disk F.is_honest self.old }
         ensures ok { OnOk result (HasPut F.disk F.is_honest self.old self.new bytes.now) }
         ensures err { IfErr result (λ e. (e ≡ faults.Broken) × (self.new.is_broken ≡ true)) }
         ensures any_moment { F.is_honest self.new.log.segment.folder → (world : List ℕ) → shown F.disk self.old.log world_name ≡ Some world
