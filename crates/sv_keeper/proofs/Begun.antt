@@ -22,7 +22,7 @@ use Rattle.sv_keeper.specs.Opened.{HasAll, IsWrongLine, HasState, IsFirstWrong, 
 use Rattle.sv_keeper.specs.Views.{KeeperView}
 use Rattle.sv_keeper.specs.declared.fault.OpenFault.{OpenFault}
 use Rattle.sv_keeper.specs.declared.fault.OpenFault.TheVariants as faults
-use Rattle.sv_keeper.proofs.Taken.{taken_nothing}
+use Rattle.sv_keeper.proofs.Taken.{taken_nothing, taken_number}
 use Rattle.sv_keeper.proofs.Placed.{stands_at}
 use Rattle.sv_keeper.proofs.Ended.{GoesOn, goes_on_first}
 use Rattle.sv_keeper.proofs.Grown.{holds_first, has_all, just_all}
@@ -37,14 +37,20 @@ module _ (world : List ℕ) (left : Disk) (r : Reading) (reads : Reads world (se
   holds_read = reads_holds world p r reads
 
   -- The line that is wrong stands where it is said to.
-  module _ (start : WorldView) (file : List ℕ) (line : ℕ) (is : IsFirstWrong start r file line) where
+  module _ (start : WorldView) (told : start.number ≡ r.state) (file : List ℕ) (line : ℕ) (is : IsFirstWrong start r file line) where
+    behind : r.state < is.number
+    behind =
+        let same = taken_number is.wrong.right in
+        let number = is.wrong.number_is in
+        omega (arith, told, same, number)
+
     no_text : r.text.items ≡ [] → ⊥
     no_text none = is.wrong.more (taken_nothing is.wrong.right none)
 
     stands_by : (o : Option ℕ) → r.last ≡ o → ReadsLast world p r o → StandsAt p is.number file line
     stands_by None e n = absurd (no_text n.0.text)
     stands_by (Some last) e n =
-        stands_at p r.state r.closed.items last n.log is.number is.first line file is.behind
+        stands_at p r.state r.closed.items last n.log is.number is.first line file behind
         (subst (λ (o : Option ℕ). IsFirstOf r.closed.items o is.number is.first) e is.begins) is.place
 
     pub wrong_line : IsWrongLine left world (read_state r) start file line
@@ -149,12 +155,12 @@ module _ (old mid : WorldView) (synced : ℕ) (world : List ℕ) (state : StateF
 
 -- ---- Why it is not opened
 
-pub why_not : (left now : Disk) (world : List ℕ) (start : WorldView) (r : Reading) → now ≡ left → Reads world (seen left) r → (e : OpenFault) → WhyNotWalked start r e
+pub why_not : (left now : Disk) (world : List ℕ) (start : WorldView) (r : Reading) → start.number ≡ r.state → now ≡ left → Reads world (seen left) r → (e : OpenFault) → WhyNotWalked start r e
     → WhyNotResumed left now world (read_state r) start e
-why_not left now world start r same reads (faults.Line file line cause) is = (same, wrong_line world left r reads start (string_bytes file) line is)
-why_not left now world start r same reads faults.Memory is = tt
-why_not left now world start r same reads faults.Disk is = absurd is
-why_not left now world start r same reads (faults.Refused refusal) is = absurd is
+why_not left now world start r told same reads (faults.Line file line cause) is = (same, wrong_line world left r reads start told (string_bytes file) line is)
+why_not left now world start r told same reads faults.Memory is = tt
+why_not left now world start r told same reads faults.Disk is = absurd is
+why_not left now world start r told same reads (faults.Refused refusal) is = absurd is
 
 pub why_fault : (left now : Disk) (world : List ℕ) (state : StateFile) (start : WorldView) (fault : FileFault) (e : OpenFault) → IsFaultOf fault e → WhyNotResumed left now world state start e
 why_fault left now world state start causes.Failed e is = subst (λ (x : OpenFault). WhyNotResumed left now world state start x) (sym is) tt

@@ -102,7 +102,6 @@ OpenCause before now _ = now ≡ before
 pub record IsFirstWrong (start : WorldView) (reading : Reading) (file : List ℕ) (line : ℕ) : Type 0 where
   pub number : ℕ
   pub first : ℕ
-  pub behind : reading.state < number
   pub wrong : IsWrong start reading.text.items number
   pub begins : IsFirstOf reading.closed.items reading.last number first
   pub place : IsPlaceIn first number file line

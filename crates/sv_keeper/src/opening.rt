@@ -104,7 +104,7 @@ fn stated(alloc: Global, reading: &Reading) -> OpenFault
 
 // The line of this number is wrong.
 fn wrong_line(alloc: Global, reading: &Reading, number: u64, cause: LineCause) -> OpenFault
-    requires behind { reading.now.state < number }
+    requires some { 1 ≤ number }
     ensures { (start : WorldView) → IsWrong start reading.now.text.items number → WhyNotWalked start reading.now result }
 {
     let first = first_of(&reading.closed, reading.last, number);
