@@ -73,7 +73,6 @@ fn walked(
     requires none { core.since ≡ [] }
     requires number { core.number ≡ reading.now.state }
     ensures walk { IfOk result IsWalk }
-    ensures number { IfOk result (λ walk. walk.core.number ≡ reading.now.state) }
     ensures taken { IfOk result (λ walk. TakesLines core walk.core reading.now.text.items []) }
     ensures why { IfErr result (WhyNotWalked core reading.now) }
 {

@@ -65,3 +65,6 @@ returns-in-Ok-end_all-clause-ok g c = λ start taken.
           (subst (λ (k : KeeperView g.row.F.Denot). LeavesOnly (disk k.log.segment.folder) (disk new.log.segment.folder) (HoldsFirst (footing_of new.world) world (newest disk k.log) new.world.since k.synced)) is
           (c.in-Ok-end_all.ensures.any_moment_ok h world (ap (λ (k : KeeperView g.row.F.Denot). shown disk k.log world_name) is ∙ c.in-Ok.ensures.world (log_honest h))));
     }
+
+pub joined-keeper-requires-clause-number : goal.joined-keeper-requires-clause-number
+joined-keeper-requires-clause-number g c = c.in-Ok.ensures.state ∙ sym c.requires.number

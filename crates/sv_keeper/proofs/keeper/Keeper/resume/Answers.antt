@@ -1,6 +1,6 @@
 -- Why it does not go on, and what a crash leaves then.
-use Rattle.std.proofs.Common.{refl}
-use Rattle.sv_keeper.proofs.Taken.{taken_all}
+use Rattle.std.proofs.Common.{refl, ◌∙◌}
+use Rattle.sv_keeper.proofs.Taken.{taken_all, taken_number}
 use Rattle.sv_keeper.proofs.Begun.{read_only, why_not}
 use Rattle.sv_keeper.proofs.keeper.Keeper.resume.Goals as goal
 
@@ -16,3 +16,6 @@ returns-in-Err-clause-any_moment_err g c = λ h.
 
 pub over-requires-clause-text : goal.over-requires-clause-text
 over-requires-clause-text g c = taken_all c.is_lawful.ensures.whole c.requires.none c.in-Ok.ensures.taken
+
+pub over-requires-clause-number : goal.over-requires-clause-number
+over-requires-clause-number g c = taken_number c.in-Ok.ensures.taken ∙ c.requires.number
