@@ -170,6 +170,9 @@ opened-living c r rules endless seats count keeps table next = record {
   }));
   next = next;
 }
+  where
+    nobody : (s : ℕ) → ◌≡◌ {A = Option ℕ} None (Some s) → ⊥
+    nobody s is = cc
 
 -- What is live where some entries lead.
 pub resumed-living : (c : Live) (h : List Entry) → (rules_at c).sessions ≡ None → Keeps c.core (heeded (stewardship_at c) h) → AreOpen c.core h c.table c.next → c.next ≤ most_session → KeepsLiving c h
@@ -179,9 +182,6 @@ resumed-living c h endless keeps table few = record {
   table = table;
   next = sym (next-counted h c.next few table.entries);
 }
-  where
-    nobody : (s : ℕ) → ◌≡◌ {A = Option ℕ} None (Some s) → ⊥
-    nobody s is = cc
 
 -- A session may make a request where it is open, and where it is the next one and may begin.
 pub may-open : (h : List Entry) (s : ℕ) → is_open h s ≡ true → may_ask h s ≡ true

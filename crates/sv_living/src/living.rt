@@ -111,6 +111,7 @@ impl LivingCore {
         requires { number ≡ entries_in self.old }
         ensures { self.new ≡ behind_all self.old }
     {
+        let _ = &self.live;
         self.past.close();
         self.number = number;
     }
@@ -181,6 +182,7 @@ impl LivingCore {
         ensures some { IfSome result (λ reply. IsQuietReply self.now.rules self.now.stewardship self.now.history session request.now (Some reply)) }
         ensures lawful { BeganLawfully self.now → IsQuietReply self.now.rules self.now.stewardship self.now.history session request.now result }
     {
+        let _ = &self.live;
         self.answer_quietly(session, request)
     }
 

@@ -2,7 +2,6 @@
 ghost use Rattle.std.specs.Prelude.{◌≡◌, List, [], ◌∷◌};
 ghost use Rattle.sv_journal.specs.declared.entry.Entry.{Entry};
 ghost use Rattle.sv_journal.specs.History.{entry_of};
-ghost use Rattle.sv_living.specs.WorldPast.{whole};
 
 use crate::before::Before;
 use http_server::Log;
@@ -55,9 +54,10 @@ impl WorldPast {
         self.replied = self.replied.and(&session, reply);
     }
 
-    /// All of them stand before what comes.
+    /// These entries stand before what comes: `h`.
     pub fn close(&mut self)
-        ensures { self.new ≡ record { before = whole self.old; since = [] } }
+        ghost h: { List Entry }
+        ensures { self.new ≡ record { before = h; since = [] } }
     {
         *self = WorldPast::following();
     }

@@ -28,11 +28,11 @@ pub named_spec : {M : Type 1} → statement M
 named_spec 𝓤 𝓛 𝓜 𝓡 wired =
     let c = f.clauses 𝓛 𝓜.mem 𝓡.returns in let 𝓣 = tables 𝓤 𝓛.H 𝓜 𝓡 𝓡.env in
     proved 𝓛 f.ended stayed c 𝓜 𝓡 tt f.Key.name code.function (code.unfolded 𝓤 𝓛.H 𝓜 𝓡 wired) (λ κs. tt) (λ κs. tt) (λ κs qs bounds a n are.
-    let O : Fml = (type_at f.ended.signature.result κs).own_val (record { marker = record {}; entries = n.h }) (token ∷ []) in
+    let O : Fml = (type_at f.ended.signature.result κs).own_val (record { marker = record {}; entries = n }) (token ∷ []) in
     qed 𝓛 (raw (on_entry 𝓛 f.ended.signature κs qs a tt) ∷ raw ((c κs a).requires n) ∷ []) ∵ keep ! [] $
     enter ! 𝓣.C 𝓣.Λ code.function [] _ $ alloc_all ! (λ l. pass_all ! refl tt $
     sets ! (agg ! (no_more !)) refl (tt, tt) $ sets ! (agg ! (and_then ! (get ! refl) (no_more !))) refl (tt, (tt, tt)) $
     returns ! (look_at ! 0 refl) $ free_all ! refl $
-    suffices ! _ (ends_at 𝓛 f.ended stayed c ((κs, qs, bounds, a, tt), n) token (record { marker = record {}; entries = n.h }) tt tt) $
+    suffices ! _ (ends_at 𝓛 f.ended stayed c ((κs, qs, bounds, a, tt), n) token (record { marker = record {}; entries = n }) tt tt) $
     use0 𝓛 (‵ O) (makes_shadow 𝓛 O (λ vss. (tt, ((λ uss. (tt, tt)), tt)), tt) (((vstruct vnil ∷ [], tt), (refl, ((tt, (refl, tt)), tt))), tt)) $
     nothing ! $ join ! $ nothing ! $ join ! $ frame ! $ by ! (fact_i 𝓤 _ _ refl)))

@@ -1,5 +1,5 @@
 -- What is live stands there.
-use Rattle.std.proofs.Common.{List, sym, subst}
+use Rattle.std.proofs.Common.{List, sym, subst, arith}
 use Rattle.sv_core.specs.declared.seats.Seat.{Seat}
 use Rattle.sv_living.specs.Keeping.{AreOpen}
 use Rattle.sv_living.proofs.Standing.{resumed-living}

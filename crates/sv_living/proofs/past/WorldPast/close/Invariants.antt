@@ -1,6 +1,5 @@
--- All of them.
-use Rattle.sv_living.specs.WorldPast.{whole}
+-- The entries that the caller names.
 use Rattle.sv_living.proofs.past.WorldPast.close.Given as goal
 
 abbrev pub ghost-following : goal.ghost-following
-ghost-following a = whole a.self.now
+ghost-following g a = g.h
