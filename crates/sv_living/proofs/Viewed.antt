@@ -84,9 +84,6 @@ pub living-behind : (live : Live) (past : PastView) (number : ℕ) (h : List Ent
 living-behind live past number h same keeps =
     subst (λ (p : PastView). IsLiving (record { live = live; past = p; number = number })) (sym same) (record { keeps = keeps; answered = tt; order = tt })
 
-pub closed : (a : Inside) (v : WorldView) → world_of a ≡ v → (past : PastView) → past ≡ record { before = v.history; since = [] } → past ≡ record { before = whole a.past; since = [] }
-closed a v is past same = same ∙ ap (λ (u : WorldView). record { before = u.history; since = [] }) (sym is)
-
 -- All entries stand before.
 pub all-behind : (a : Inside) (past : PastView) (number : ℕ) → IsLiving a → past ≡ record { before = whole a.past; since = [] } → IsLiving (record a { past = past; number = number })
 all-behind a past number was same =
