@@ -10,6 +10,7 @@ use Rattle.sv_living.specs.World.{WorldView, entries_in, behind_all}
 use Rattle.sv_log.specs.Pictures.{Picture, Disk}
 use Rattle.sv_log.specs.Crashes.{LeavesOnly}
 use Rattle.sv_log.specs.Logs.{HasSizes, appended}
+use Rattle.sv_log.specs.Names.{world_name}
 use Rattle.sv_log.specs.Chains.{StateFile, lines, text_at, text_of as segments_text, IsClosed, HasLog, KeepsLog}
 use Rattle.sv_log.specs.States.{summed, IsPutState, KeepsOrPuts}
 use Rattle.sv_log.specs.OpenLogs.{IsOpenLog, shown, newest, log_text, log_synced}
@@ -163,3 +164,32 @@ module _ {F : Type 0} (disk : F → Disk) (is_honest : F → Type 0) where
       fewer p (inl held) =
           inl (held.0, omega (arith, held.1, less), held.2, subst (λ (s : StateFile). HasLog world s (history_text f (first_entries held.0 h)) p) same held.3)
       fewer p (inr put) = inr (subst (λ (s : StateFile). s.0 < number) same put.0, put.1)
+
+-- A keeper behind whose lines a state was put.
+module _ {F : Type 0} (disk : F → Disk) (is_honest : F → Type 0) (k : Inside F) (is : IsKeeper disk is_honest k) (all : AreDurable disk is_honest (view_of k))
+    (core : WorldView) (own : core ≡ behind_all k.core) (log : Log F) (bytes : List ℕ) (sizes : HasSizes log.segment)
+    (before : is_honest log.segment.folder → is_honest k.log.segment.folder)
+    (opened : is_honest log.segment.folder → IsOpenLog disk log)
+    (none : is_honest log.segment.folder → log_text disk log ≡ [])
+    (put : is_honest log.segment.folder → IsPutState (newest disk k.log) (k.log.next - 1) bytes (newest disk log)) where
+  kept : IsKeptWorld disk is_honest (view_of k)
+  kept = is.kept all.sound
+
+  pub put_on : IsKeeper disk is_honest (record k { core = core; log = log; synced = 0 })
+  put_on =
+      subst (λ (v : WorldView). IsKeeper disk is_honest (record k { core = v; log = log; synced = 0 })) (sym own) (record {
+        shape = is.shape;
+        whole = refl;
+        next = λ sound. (let next = is.next sound in omega (arith, next));
+        kept = λ _. put_kept disk is_honest (view_of k) kept all log bytes sizes before opened none put k.is_broken;
+      })
+
+  pub put_has : (is_honest log.segment.folder → shown disk log world_name ≡ shown disk k.log world_name)
+      → HasPut disk is_honest (view_of k) (view_of (record k { core = core; log = log; synced = 0 })) bytes
+  put_has same = record {
+    world = own;
+    durable = subst (λ (v : WorldView). AreDurable disk is_honest (record { world = v; log = log; group = k.group; synced = 0; is_broken = k.is_broken })) (sym own)
+        (put_settled disk is_honest (view_of k) kept all log bytes sizes before opened none put k.is_broken all.sound);
+    state = put_state disk is_honest (view_of k) kept all log bytes sizes before opened none put;
+    own = same;
+  }

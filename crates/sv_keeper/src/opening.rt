@@ -189,13 +189,13 @@ impl<F: Folder> Keeper<F> {
         requires number { core.number ≡ reading.state }
         requires read { F.is_honest folder → Reads world.now (seen (F.disk folder)) reading }
         requires rest { F.is_honest folder → IsAtRest (F.disk folder) }
-        ensures ok { IfOk result (IsResumed F.disk F.is_honest (F.disk folder) world.now (read_state reading.entry) core) }
+        ensures ok { IfOk result (IsResumed F.disk F.is_honest (F.disk folder) world.now (read_state reading) core) }
         ensures honest { IfOk result (λ keeper. F.is_honest keeper.log.segment.folder → F.is_honest folder) }
         ensures calm { IfOk result (λ keeper. F.faults keeper.log.segment.folder ≡ F.faults folder) }
         ensures err { IfErr result (λ e. F.is_honest e.1
-            → WhyNotResumed (F.disk folder) (F.disk e.1) world.now (read_state reading.entry) core e.0) }
+            → WhyNotResumed (F.disk folder) (F.disk e.1) world.now (read_state reading) core e.0) }
         ensures any_moment_err { IfErr result (λ e. F.is_honest e.1
-            → LeavesOnly (F.disk folder) (F.disk e.1) (HasAll world.now (read_state reading.entry) reading.entry.text.items)) }
+            → LeavesOnly (F.disk folder) (F.disk e.1) (HasAll world.now (read_state reading) reading.text.items)) }
         ensures honest_err { IfErr result (λ e. F.is_honest e.1 → F.is_honest folder) }
         ensures cause { IfErr result (λ e. OpenCause (F.faults folder) (F.faults e.1) e.0) }
     {

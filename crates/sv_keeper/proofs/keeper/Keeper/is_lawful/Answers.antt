@@ -1,5 +1,5 @@
 -- What a keeper keeps.
-use Rattle.std.proofs.Common.{◌≡◌, false, List, ℕ, Some, subst}
+use Rattle.std.proofs.Common.{◌≡◌, false, List, ℕ, Some, subst, length}
 use Rattle.sv_journal.specs.Serving.{LegalFor}
 use Rattle.sv_journal.specs.Living.{living}
 use Rattle.sv_living.specs.Keeping.{AreAnswered}

@@ -30,9 +30,9 @@ pub invariant_of-self : goal.invariant_of-self
 invariant_of-self g c =
     let k = c.self.inside in
     let next = c.self.invariant.next c.if-self.false in
-    durable_on g.F.Folder.disk g.F.Folder.is_honest k c.self.invariant c.put_group.new.log c.clear.new.self c.saturating_sub-saturating_sub.result
+    durable_on g.F.Folder.disk g.F.Folder.is_honest k c.self.invariant c.put_group.new.log c.clear.new.self c.saturating_sub-self-inside.result
     c.saturating_add-self-inside-in-Ok.result c.saturating_add-self-inside.result c.if-self.false c.clear.ensures c.put_group.ensures.sizes
-    (omega (arith, c.saturating_sub-self-inside.ensures, next)) c.put_group.ensures.honest c.in-Ok.ensures.open c.in-Ok.ensures.newest
+    (omega (arith, c.saturating_sub.ensures, c.number.ensures, c.saturating_sub-self-inside.ensures, next)) c.put_group.ensures.honest c.in-Ok.ensures.open c.in-Ok.ensures.newest
     (λ h. c.in-Ok.ensures.text h ∙ ap (λ (t : List ℕ). log_text g.F.Folder.disk k.log ++ t) c.as_bytes.ensures) c.in-Ok.ensures.synced
 
 pub returns-in-Ok-clause-any_moment : goal.returns-in-Ok-clause-any_moment
