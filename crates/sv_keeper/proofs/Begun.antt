@@ -1,5 +1,5 @@
 -- A world that is opened over what was read of its log.
-use Rattle.std.proofs.Common.{◌≡◌, inl, inr, ℕ, ◌<◌, ◌≤◌, List, [], length, Option, Some, None, refl, sym, subst, ap, ◌∙◌, arith}
+use Rattle.std.proofs.Common.{◌≡◌, inl, inr, ℕ, ◌<◌, ◌≤◌, List, [], length, Option, Some, None, Result, Ok, Err, IfOk, IfErr, refl, sym, subst, ap, ◌∙◌, arith}
 use Rattle.std.specs.String.{string_bytes}
 use Rattle.sv_journal.specs.declared.entry.Entry.{Entry}
 use Rattle.sv_bytes.specs.declared.reading.FileFault.{FileFault}
@@ -193,3 +193,13 @@ module _ {F : Type 0} (disk : F → Disk) (is_honest : F → Type 0) where
         subst (λ (d : Disk). LeavesOnly d (disk keeper.log.segment.folder) (HoldsFirst (footing_of keeper.world) world no_state keeper.world.since (length is.reached.since))) same
         (subst (λ (s : StateFile). LeavesOnly mid (disk keeper.log.segment.folder) (HoldsFirst (footing_of keeper.world) world s keeper.world.since (length is.reached.since))) (none h) (is.crash h));
   }
+
+-- ---- Results
+
+pub if_ok_both : {T E : Type 0} (P Q R : T → Type 0) (o : Result T E) → ((t : T) → P t → Q t → R t) → IfOk o P → IfOk o Q → IfOk o R
+if_ok_both P Q R (Ok t) both p q = both t p q
+if_ok_both P Q R (Err e) both p q = tt
+
+pub if_err_both : {T E : Type 0} (P Q R : E → Type 0) (o : Result T E) → ((e : E) → P e → Q e → R e) → IfErr o P → IfErr o Q → IfErr o R
+if_err_both P Q R (Ok t) both p q = tt
+if_err_both P Q R (Err e) both p q = both e p q

@@ -71,10 +71,10 @@ take_none (suc n) = refl
 module _ {F : Type 0} (disk : F → Disk) (is_honest : F → Type 0) where
   -- The next line has the number behind those of the state and of the lines behind it.
   pub next_is : (log : Log F) → IsOpenLog disk log → log.next ≡ log.state + 1 + lines (log_text disk log)
-  next_is log open =
-      let first = last_is (shown disk log) (log.state + 1) log.closed.items log.first open.chain in
+  next_is log opened =
+      let first = last_is (shown disk log) (log.state + 1) log.closed.items log.first opened.chain in
       let both = lines-append (segments_text (shown disk log) log.closed.items) (appended disk log.segment) in
-      let next = open.next in
+      let next = opened.next in
       omega (arith, first, both, next)
 
   nothing_synced : (log : Log F) → log_text disk log ≡ [] → log_synced disk log ≡ []
