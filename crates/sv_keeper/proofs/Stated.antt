@@ -34,7 +34,8 @@ shown_lines [] shown = refl
 shown_lines (c ∷ s) shown =
     let parts = and_parts (is_shown c) (all_pass is_shown s) shown in
     let high : 10 < c = ltb-true 10 c parts.0 in
-    ap (λ (b : Bool). cond b 1 0 + lines s) (ne_eqb c 10 (λ e. omega (arith, e, high))) ∙ shown_lines s parts.1
+    let rest = shown_lines s parts.1 in
+    ap (λ (b : Bool). cond b 1 0 + lines s) (ne_eqb c 10 (λ e. omega (arith, e, high))) ∙ omega (arith, rest)
 
 one_line : (shape : Shape) (A : List Authored) (n : ℕ) (e : Entry) → lines (entry_line shape A n e) ≡ 1
 one_line shape A n e =
@@ -64,7 +65,7 @@ none_left : (a b : List ℕ) → a ++ b ≡ [] → (a ≡ []) × (b ≡ [])
 none_left [] b none = (refl, none)
 none_left (x ∷ a) b none = absurd cc
 
-take_none : (n : ℕ) → take n ([] {A = ℕ}) ≡ []
+take_none : (n : ℕ) → ◌≡◌ {A = List ℕ} (take n []) []
 take_none zero = refl
 take_none (suc n) = refl
 
@@ -72,7 +73,7 @@ module _ {F : Type 0} (disk : F → Disk) (is_honest : F → Type 0) where
   -- The next line has the number behind those of the state and of the lines behind it.
   pub next_is : (log : Log F) → IsOpenLog disk log → log.next ≡ log.state + 1 + lines (log_text disk log)
   next_is log opened =
-      let first = last_is (shown disk log) (log.state + 1) log.closed.items log.first opened.chain in
+      let first = last_is (shown disk log) (log.state + 1) log.closed.items log.first opened.chain.chain in
       let both = lines-append (segments_text (shown disk log) log.closed.items) (appended disk log.segment) in
       let next = opened.next in
       omega (arith, first, both, next)
