@@ -172,7 +172,7 @@ pub why_stateless : (left mid now : Disk) (world : List ℕ) (state : StateFile)
 why_stateless left mid now world state start same none (faults.Line file line cause) is = (
   is.0 ∙ same,
   inl (subst (λ (d : Disk). IsWrongLine d world no_state start (string_bytes file) line) same
-  (subst (λ (s : StateFile). IsWrongLine mid world s start (string_bytes file) line) none is.1)),
+      (subst (λ (s : StateFile). IsWrongLine mid world s start (string_bytes file) line) none is.1)),
 )
 why_stateless left mid now world state start same none faults.Memory is = tt
 why_stateless left mid now world state start same none faults.Disk is = tt

@@ -151,7 +151,10 @@ impl<F: Folder> Keeper<F> {
                 self.log_bytes = self.log_bytes.saturating_add(self.group.len() as u64);
                 self.syncs = self.syncs.saturating_add(1);
                 self.group.clear();
-                self.synced = self.next.saturating_sub(1).saturating_sub(self.core.number());
+                self.synced = self
+                    .next
+                    .saturating_sub(1)
+                    .saturating_sub(self.core.number());
                 Ok(())
             }
             Err(fault) => {

@@ -45,8 +45,13 @@ still-living a live past s q answer was moved asks before since =
     all : past.since ≡ living_entry (stewardship_at a.live) (rules_at a.live) (whole a.past) s q ∷ a.past.since
     all = since ∙ ap (λ (x : Logged). entry_of s q x ∷ a.past.since) moved.logged
 
-    here : IsLiving (record a { live = live; past = record { before = a.past.before;
-        since = living_entry (stewardship_at a.live) (rules_at a.live) (whole a.past) s q ∷ a.past.since } })
+    here : IsLiving (record a {
+      live = live;
+      past = record {
+        before = a.past.before;
+        since = living_entry (stewardship_at a.live) (rules_at a.live) (whole a.past) s q ∷ a.past.since;
+      };
+    })
     here = record {
       keeps = moved.keeps;
       answered = subst (λ (w : Stewardship). AreAnswered (living w) (rules_at live) a.past.before
