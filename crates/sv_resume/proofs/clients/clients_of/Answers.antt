@@ -13,4 +13,4 @@ use Rattle.sv_resume.proofs.clients.clients_of.Goals as goal
 pub loop-place-init : goal.loop-place-init
 loop-place-init c =
     let cs = c.args.clients.now in
-    λ k. c.new.ensures k ∙ ap (λ xs. row_in (client_with k xs)) (sym (drop_all (length cs - 0) cs (omega arith)))
+    λ k. c.new-rows.ensures k ∙ ap (λ xs. row_in (client_with k xs)) (sym (drop_all (length cs - 0) cs (omega arith)))

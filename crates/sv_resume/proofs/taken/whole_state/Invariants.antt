@@ -5,4 +5,4 @@ abbrev pub ghosts-raised_of : goal.ghosts-raised_of
 ghosts-raised_of a = record { name = a.blank.name; parts = a.blank.parts }
 
 abbrev pub ghosts-members_of : goal.ghosts-members_of
-ghosts-members_of a = record { name = a.blank-2.name; parts = a.blank-2.parts }
+ghosts-members_of a = record { name = a.blank.name; parts = a.blank.parts }
