@@ -1,13 +1,8 @@
 -- What the check leaves to prove of `clients_of`.
-use Rattle.std.proofs.Common.{◌≡◌, ℕ, ◌+◌, ◌-◌, ◌<◌, length, drop, get_or, sym, ◌∙◌, ap, subst, arith}
+use Rattle.std.proofs.Common.{◌-◌, length, sym, ◌∙◌, ap, arith}
 use Rattle.std.proofs.lemmas.List.{drop_all}
-use Rattle.sv_clients.specs.Clients.{client_row, outcome_value}
-use Rattle.sv_journal.specs.History.{Outcome}
-use Rattle.sv_state.specs.declared.state.ClientState.{ClientState}
 use Rattle.sv_state.specs.WellFormed.{client_with}
 use Rattle.law_state.specs.OfState.{row_in}
-use Rattle.sv_resume.specs.Resumed.{CanBegin}
-use Rattle.sv_resume.proofs.ClientRows.{row-more}
 use Rattle.sv_resume.proofs.clients.clients_of.Goals as goal
 
 pub loop-place-init : goal.loop-place-init

@@ -1,5 +1,5 @@
 -- What the check leaves to prove of `queue_of`.
-use Rattle.std.proofs.Common.{◌≡◌, ◌≤◌, List, All, length, sym, ◌∙◌, ap, subst, arith}
+use Rattle.std.proofs.Common.{◌≡◌, List, All, length, sym, ◌∙◌, ap, subst, arith}
 use Rattle.sv_world.specs.declared.world.Shape.{Shape}
 use Rattle.sv_world.specs.Worlds.{HaveAttrs}
 use Rattle.sv_queue.specs.Queue.{QueueView, last_position}

@@ -1,5 +1,5 @@
 -- What the check leaves to prove of `standing`.
-use Rattle.std.proofs.Common.{◌≡◌, All, map, length, sym, ◌∙◌, ap, subst}
+use Rattle.std.proofs.Common.{◌≡◌, All, map, sym, ◌∙◌, ap, subst}
 use Rattle.sv_world.specs.declared.world.Shape.{Shape}
 use Rattle.sv_world.specs.declared.world.World.{World}
 use Rattle.sv_queue.specs.Queue.{QueueView}

@@ -1,5 +1,5 @@
 -- What the check leaves to prove of `seat`.
-use Rattle.std.proofs.Common.{◌≡◌, ◌<◌, All, sym, ◌∙◌, ap, subst, arith}
+use Rattle.std.proofs.Common.{◌<◌, All, sym, ◌∙◌, ap, subst, arith}
 use Rattle.sv_world.specs.declared.world.ObjectId.{ObjectId}
 use Rattle.sv_world.specs.declared.world.Shape.{Shape}
 use Rattle.sv_queue.specs.Queue.{QueueView}

@@ -1,5 +1,5 @@
 -- What the check leaves to prove of `seat_all`.
-use Rattle.std.proofs.Common.{◌≡◌, sym, subst}
+use Rattle.std.proofs.Common.{sym, subst}
 use Rattle.sv_resume.specs.Queues.{CanSit}
 use Rattle.sv_resume.proofs.Marks.{IsLike, like-then}
 use Rattle.sv_resume.proofs.Seating.{like-session, can_sit-one, sessions-more}

@@ -1,5 +1,5 @@
 -- What the check leaves to prove of `clients_in`.
-use Rattle.std.proofs.Common.{◌≡◌, ◌+◌, true, false, cond, nat_lt, [], ◌∷◌, ◌++◌, sym, ◌∙◌, ap, arith, append-nil}
+use Rattle.std.proofs.Common.{◌≡◌, true, false, cond, nat_lt, [], ◌∷◌, ◌++◌, sym, ◌∙◌, ap, arith, append-nil}
 use Rattle.std.proofs.lemmas.Bool.{lt-ltb, le-ltb}
 use Rattle.sv_clients.specs.Clients.{client_row}
 use Rattle.sv_resume.specs.Taken.{client_by, clients_below}

@@ -1,8 +1,7 @@
 -- What the check leaves to prove of `members_of`.
-use Rattle.std.proofs.Common.{◌≡◌, ◌<◌, ◌≤◌, List, length, get_or, sym, subst, arith}
+use Rattle.std.proofs.Common.{◌<◌, ◌≤◌, List, length, get_or, sym, subst, arith}
 use Rattle.sv_clients.specs.declared.clients.Clients.{Clients}
 use Rattle.sv_clients.specs.Clients.{client_row}
-use Rattle.sv_core.specs.declared.seats.Seat.{Seat}
 use Rattle.sv_core.specs.declared.sessions.SessionRow.{SessionRow}
 use Rattle.sv_core.specs.Cores.{rows_of}
 use Rattle.sv_core.proofs.Seating.{seat-low}

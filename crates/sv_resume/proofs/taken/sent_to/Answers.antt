@@ -1,5 +1,5 @@
 -- What the check leaves to prove of `sent_to`.
-use Rattle.std.proofs.Common.{◌≡◌, ◌+◌, ◌<◌, true, false, cond, List, [], ◌∷◌, ◌++◌, length, take, ℕ, sym, ◌∙◌, ap, arith, append-nil}
+use Rattle.std.proofs.Common.{◌≡◌, ◌+◌, ◌<◌, cond, List, [], ◌∷◌, ◌++◌, length, take, ℕ, sym, ◌∙◌, ap, arith, append-nil}
 use Rattle.sv_world.specs.Control.{is_in}
 use Rattle.sv_queue.specs.Queue.{entry_at, marked_above}
 use Rattle.sv_resume.proofs.TakenLists.{sent_next}
